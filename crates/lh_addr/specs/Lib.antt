@@ -1,0 +1,7 @@
+pub mod Config
+pub mod Extent
+pub mod Fnv
+pub mod Growth
+pub mod Limits
+pub mod Root
+pub mod Settings

@@ -1,0 +1,22 @@
+//! Where a record stands in a linear hash file: the code of a key, the root of a file, the address
+//! and the local levels of its buckets, and the configuration with its split policy.
+//!
+//! W. Litwin, "Linear Hashing: a new tool for file and table addressing", VLDB 1980, gives the hash
+//! functions, the address rule and the order of splits. That buckets keep local levels is an idea
+//! of C. S. Ellis, "Concurrency in Linear Hashing", ACM TODS 12(2), 1987.
+#![tactic(auto)]
+
+mod config;
+mod fnv;
+mod hash;
+pub mod laws;
+pub mod limits;
+mod root;
+
+pub use config::{Config, Range};
+pub use fnv::fnv1a;
+pub use hash::hash_at;
+pub use root::Root;
+
+#[cfg(test)]
+mod tests;
