@@ -1,5 +1,5 @@
 //! The configuration of a file, and the split policy.
-ghost use Rattle.std.specs.Prelude.{◌≡◌, IfOk, IfErr};
+ghost use Rattle.std.specs.Prelude.{◌≡◌, IfOk, IfErr, Some};
 
 use crate::limits::{
     MAX_BUCKETS, MAX_CAPACITY, MAX_INITIAL, MAX_LOAD, MIN_CAPACITY, MIN_INITIAL, MIN_LOAD,
@@ -23,6 +23,10 @@ pub enum Range {
 }
 
 impl fmt::Display for Range {
+    ghost use Rattle.lh_addr.specs.Config.{range_text};
+
+    ghost output = { λ range. Some (range_text range) };
+
     fn fmt<W: fmt::Write>(&self, f: &mut fmt::Formatter<W>) -> fmt::Result {
         match self {
             Range::Initial => write!(f, "initial is out of range"),
