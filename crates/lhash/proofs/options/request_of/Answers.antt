@@ -1,0 +1,34 @@
+use Rattle.std.proofs.Common.{map}
+use Rattle.std.proofs.lemmas.Result.{IfOk-weaker}
+use Rattle.clap.specs.Words.{found_of, rows_of}
+use Rattle.lhash.proofs.Requests.{asked-answers, entered-from, failed-from, refusal-answers}
+use Rattle.lhash.proofs.options.request_of.Goals as goal
+
+pub asked-requires-clause-named : goal.asked-requires-clause-named
+asked-requires-clause-named c =
+    let words = map (λ s. s.now) c.args.words.now in
+    let entered = entered-from _ c.in-Ok.matches words c.in-Some.name.now (rows_of (found_of c.in-Some.matches.now))
+    c.in_ok-program.ensures.0 c.in-Ok.ensures.kinds c.in-Ok.ensures.matches c.in-Some.ensures.name c.in-Some.ensures.rows in
+    entered.asked.0
+
+pub asked-requires-clause-settings : goal.asked-requires-clause-settings
+asked-requires-clause-settings c =
+    let words = map (λ s. s.now) c.args.words.now in
+    let entered = entered-from _ c.in-Ok.matches words c.in-Some.name.now (rows_of (found_of c.in-Some.matches.now))
+    c.in_ok-program.ensures.0 c.in-Ok.ensures.kinds c.in-Ok.ensures.matches c.in-Some.ensures.name c.in-Some.ensures.rows in
+    entered.asked.1
+
+pub returns-in-Err : goal.returns-in-Err
+returns-in-Err c =
+    let words = map (λ s. s.now) c.args.words.now in
+    let failed = failed-from _ words c.in-Err.error c.in_ok-program.ensures.0 c.in-Err.ensures.kinds in
+    IfOk-weaker c.refusal.result _ _ (λ r h. refusal-answers words c.in-Err.error r failed h) c.refusal.ensures
+
+pub returns-in-Some : goal.returns-in-Some
+returns-in-Some c =
+    let words = map (λ s. s.now) c.args.words.now in
+    let name = c.in-Some.name.now in
+    let rows = rows_of (found_of c.in-Some.matches.now) in
+    let entered = entered-from _ c.in-Ok.matches words name rows
+    c.in_ok-program.ensures.0 c.in-Ok.ensures.kinds c.in-Ok.ensures.matches c.in-Some.ensures.name c.in-Some.ensures.rows in
+    asked-answers words name rows c.asked.result entered c.asked.ensures

@@ -1,0 +1,11 @@
+use Rattle.lhash.proofs.Serving.{serves_settings, refuses_below, turns_away}
+use Rattle.lhash.proofs.program.run.Goals as goal
+
+pub returns-in-Ok-clause-served : goal.returns-in-Ok-clause-served
+returns-in-Ok-clause-served g c = serves_settings _ c.in-Ok.request _ _ _ _ _ c.in-Ok.ensures c.serve.ensures
+
+pub returns-in-Ok-clause-max_below_initial : goal.returns-in-Ok-clause-max_below_initial
+returns-in-Ok-clause-max_below_initial g c = refuses_below _ c.in-Ok.request _ _ _ _ _ c.in-Ok.ensures c.serve.ensures
+
+pub returns-in-Ok-clause-turned_away : goal.returns-in-Ok-clause-turned_away
+returns-in-Ok-clause-turned_away g c = turns_away _ c.in-Ok.request _ _ _ _ _ c.in-Ok.ensures c.serve.ensures

@@ -1,0 +1,40 @@
+-- Words that are written out, and what they give
+use Rattle.std.specs.Prelude.{◌≡◌, List, [], ◌∷◌, Some, codes}
+use Rattle.clap.specs.Walk.{Text}
+use Rattle.lh_addr.specs.Settings.{Settings}
+use Rattle.lhash.specs.Options.{Accepts, Asks, settings_given}
+
+abbrev pub no_options : List Text
+no_options = codes "lhash" ∷ codes "commands" ∷ []
+
+abbrev pub max_given : List Text
+max_given = codes "lhash" ∷ codes "commands" ∷ codes "--initial" ∷ codes "3" ∷ codes "--max=7" ∷ []
+
+abbrev pub no_subcommand : List Text
+no_subcommand = codes "lhash" ∷ []
+
+abbrev pub initial_zero : List Text
+initial_zero = codes "lhash" ∷ codes "commands" ∷ codes "--initial" ∷ codes "0" ∷ []
+
+abbrev pub max_over_limit : List Text
+max_over_limit = codes "lhash" ∷ codes "commands" ∷ codes "--max=65537" ∷ []
+
+abbrev pub max_below_initial : List Text
+max_below_initial = codes "lhash" ∷ codes "commands" ∷ codes "--max" ∷ codes "7" ∷ codes "--initial" ∷ codes "+8" ∷ []
+
+abbrev pub initial_twice : List Text
+initial_twice = codes "lhash" ∷ codes "commands" ∷ codes "--initial=3" ∷ codes "--initial=3" ∷ []
+
+abbrev pub unknown_option : List Text
+unknown_option = codes "lhash" ∷ codes "commands" ∷ codes "--threads" ∷ codes "3" ∷ []
+
+abbrev pub help_asked : List Text
+help_asked = codes "lhash" ∷ codes "commands" ∷ codes "--help" ∷ []
+
+-- the words are accepted, name `commands`, and give these settings
+abbrev pub Gives : List Text → Settings → Type 0
+Gives words s = Asks words (codes "commands") × (settings_given words ≡ Some s)
+
+-- the words are not accepted
+abbrev pub Refuses : List Text → Type 0
+Refuses words = ¬ Accepts words

@@ -1,0 +1,65 @@
+//! The program `lhash`: scripts of commands on a linear hash file.
+//!
+//! `lhash commands` reads a command script, answers its calls and writes their replies. `run` does
+//! it from words and bytes to bytes and a status; `main` gives it the process's own.
+#![tactic(auto)]
+
+mod answer;
+mod call;
+mod commands;
+mod device;
+mod fault;
+mod hexadecimal;
+mod key;
+mod lines;
+mod lists;
+mod operands;
+mod option_laws;
+mod options;
+mod output;
+mod program;
+mod script;
+mod status;
+mod texts;
+mod value;
+
+use program::refuse;
+pub use program::run;
+use status::Status;
+use std::env;
+use std::io::ErrorKind;
+use std::process::ExitCode;
+
+/// The words that the process was started with, or how the run ends without them.
+fn process_words(rt: &HostRuntime) -> Result<Vec<String>, Status> {
+    match env::args(rt) {
+        Ok(words) => words.collect(rt.alloc()).map_err(|_| Status::Memory),
+        Err(error) if error.kind() == ErrorKind::OutOfMemory => Err(Status::Memory),
+        Err(_) => Err(refuse(rt.alloc(), "an argument is not UTF-8")),
+    }
+}
+
+/// Runs on the words, the input and the output of the process.
+fn run_process(rt: &HostRuntime) -> Status {
+    let words = match process_words(rt) {
+        Ok(words) => words,
+        Err(status) => return status,
+    };
+    let texts: Result<Vec<&str>, _> = words.iter().map(|word| word.as_str()).collect(rt.alloc());
+    match texts {
+        Ok(texts) => run(rt, texts.as_slice(), &mut rt.stdin(), &mut rt.stdout()),
+        Err(_) => Status::Memory,
+    }
+}
+
+fn main(rt: HostRuntime) -> ExitCode {
+    let status = run_process(&rt);
+    let code = status.code();
+    if code != 0 {
+        let _ = eprintln!(rt; "lhash: {status}");
+    }
+    ExitCode::from(code)
+}
+
+#[cfg(test)]
+mod tests;

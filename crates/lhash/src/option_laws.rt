@@ -1,0 +1,29 @@
+//! What the options give, at words that are written out.
+ghost use Rattle.lhash.specs.OptionLaws.{
+  Gives,
+  help_asked,
+  initial_twice,
+  initial_zero,
+  max_below_initial,
+  max_given,
+  max_over_limit,
+  no_options,
+  no_subcommand,
+  Refuses,
+  unknown_option,
+};
+ghost use Rattle.lhash.specs.Options.{AsksForHelp};
+
+/// The words give the options the numbers that stand in them, and an option that is left out its
+/// default. A number out of its range, an option given twice and an unknown one are refused.
+pub fn words_give_options()
+    ensures left_out { Gives no_options (record { initial = 1; capacity = 14; load = 100; max = 65536 }) }
+    ensures given { Gives max_given (record { initial = 3; capacity = 14; load = 100; max = 7 }) }
+    ensures below { Gives max_below_initial (record { initial = 8; capacity = 14; load = 100; max = 7 }) }
+    ensures none { Refuses no_subcommand }
+    ensures too_small { Refuses initial_zero }
+    ensures too_great { Refuses max_over_limit }
+    ensures twice { Refuses initial_twice }
+    ensures unknown { Refuses unknown_option }
+    ensures help { AsksForHelp help_asked }
+{}

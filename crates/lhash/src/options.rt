@@ -1,0 +1,136 @@
+//! The command line.
+ghost use Rattle.std.specs.Prelude.{◌≡◌, IfOk, IfSome, IfNone, Some, codes, false, map};
+ghost use Rattle.lh_addr.specs.Settings.{IsInRange};
+ghost use Rattle.clap.specs.Words.{found_of, kind_of, rows_of, rule_of};
+ghost use Rattle.lhash.specs.Options.{Answers, IsMaxBelowInitial, commands_app, number_in, option_rule, program_app};
+ghost use Rattle.lhash.specs.OptionSteps.{HasNumber, HasSettings, IsAskedBy, IsRefusal, Reads, settings_in};
+
+use clap::error::ErrorKind;
+use clap::{Arg, ArgAction, ArgMatches, Command, Error};
+use lh_addr::{Config, Range};
+use std::alloc::{AllocError, Global};
+
+/// What the words ask for.
+#[derive(Debug, Drop)]
+pub enum Request {
+    /// The subcommand `commands`, with the configuration that its options give.
+    Commands(Config),
+    /// Help, and its text.
+    Help(String),
+    /// Words that are refused, and why, in one line.
+    Refused(String),
+    /// `--max` is less than `--initial`.
+    MaxBelowInitial,
+}
+
+/// An option with a whole number, from `least` to `most`.
+fn option<'a>(alloc: Global, name: &'a str, default: &'a str, least: u16, most: u32) -> Arg<'a>
+    ensures local { result.global ≡ false }
+    ensures rule { rule_of result ≡ option_rule name.now default.now least most }
+{
+    Arg::new(alloc, name)
+        .long(name)
+        .action(ArgAction::Set)
+        .value_parser(clap::value_parser!(u32).range(i64::from(least)..=i64::from(most)))
+        .default_value(default)
+}
+
+/// The subcommand `commands`.
+fn commands<'a>(alloc: Global) -> Result<Command<'a>, AllocError>
+    ensures { IfOk result (Reads commands_app) }
+{
+    Command::new(alloc, "commands")
+        .about("Run a script of commands")
+        .arg(option(alloc, "initial", "1", 1, 256).help("Initial number of buckets"))?
+        .arg(option(alloc, "capacity", "14", 1, 14).help("Records that a page holds"))?
+        .arg(option(alloc, "load", "100", 10, 200).help("Load threshold in percent"))?
+        .arg(option(alloc, "max", "65536", 1, 65_536).help("Greatest number of buckets"))
+}
+
+/// The program's command.
+fn program<'a>(alloc: Global) -> Result<Command<'a>, AllocError>
+    ensures { IfOk result (Reads program_app) }
+{
+    Command::new(alloc, "lhash")
+        .about("A linear hash file")
+        .subcommand_required(true)
+        .subcommand(commands(alloc)?)
+}
+
+/// The number of an option.
+fn number(matches: &ArgMatches<'_>, name: &str) -> u32
+    requires { HasNumber (rows_of (found_of matches.now)) name.now 0 4294967295 }
+    ensures { number_in (rows_of (found_of matches.now)) name.now ≡ Some result }
+{
+    match matches.get_one::<u32>(name) {
+        Some(number) => number,
+        None => unreachable!(),
+    }
+}
+
+/// The configuration that the options give, or `None` where `--max` is less than `--initial`.
+fn config_of(matches: &ArgMatches<'_>) -> Option<Config>
+    requires { HasSettings (rows_of (found_of matches.now)) }
+    ensures some { IfSome result (λ config. settings_in (rows_of (found_of matches.now)) ≡ Some config) }
+    ensures in_range { IfSome result IsInRange }
+    ensures none { IfNone result (IsMaxBelowInitial (settings_in (rows_of (found_of matches.now)))) }
+{
+    let initial = number(matches, "initial");
+    let capacity = number(matches, "capacity");
+    let load = number(matches, "load");
+    let max = number(matches, "max");
+    match Config::new(initial, capacity, load, max) {
+        Ok(config) => Some(config),
+        Err(Range::Max) => None,
+        Err(_) => unreachable!(),
+    }
+}
+
+/// What a subcommand asks for.
+fn asked(name: &str, matches: &ArgMatches<'_>) -> Request
+    requires named { name.now ≡ codes "commands" }
+    requires settings { HasSettings (rows_of (found_of matches.now)) }
+    ensures { IsAskedBy name.now (rows_of (found_of matches.now)) result }
+{
+    match name {
+        "commands" => match config_of(matches) {
+            Some(config) => Request::Commands(config),
+            None => Request::MaxBelowInitial,
+        },
+        _ => unreachable!(),
+    }
+}
+
+/// The first line of the error's text, which says what is wrong.
+fn first_line(alloc: Global, error: &Error) -> Result<String, AllocError> {
+    let text = error.to_string(alloc)?;
+    let line = text.as_str().lines().next().unwrap_or("");
+    String::from_str(alloc, line.strip_prefix("error: ").unwrap_or(line))
+}
+
+/// What is left of words that clap does not take.
+fn refusal(alloc: Global, error: &Error) -> Result<Request, AllocError>
+    ensures { IfOk result (IsRefusal (kind_of error.now)) }
+{
+    match error.kind() {
+        ErrorKind::OutOfMemory => Err(AllocError),
+        ErrorKind::DisplayHelp => Ok(Request::Help(error.to_string(alloc)?)),
+        _ => Ok(Request::Refused(first_line(alloc, error)?)),
+    }
+}
+
+/// What the words ask for, of which the first is the program's name.
+pub fn request_of<'a>(alloc: Global, words: &'a [&'a str]) -> Result<Request, AllocError>
+    ensures { IfOk result (Answers (map (λ s. s.now) words.now)) }
+{
+    match program(alloc)?.try_get_matches_from(words) {
+        Err(error) => refusal(alloc, &error),
+        Ok(matches) => match matches.subcommand() {
+            Some((name, matches)) => Ok(asked(name, matches)),
+            None => unreachable!(),
+        },
+    }
+}
+
+#[cfg(test)]
+mod tests;

@@ -1,0 +1,77 @@
+//! Lines on their way to a writer: they wait until there are enough of them for one write.
+ghost use Rattle.std.specs.Prelude.{◌≡◌, ◌++◌, ℕ, List, Option, OnOk, OnErr, IfOk, IfSome, flat_map, Some, []};
+ghost use Rattle.std.specs.String.{string_bytes};
+ghost use Rattle.std.specs.Io.KnownBytes.{Appends};
+ghost use Rattle.lhash.specs.Devices.{TakesBeginning, Sends};
+ghost use Rattle.lhash.specs.Texts.{commands_text, line, reply_text, size_text};
+
+use crate::call::Reply;
+use crate::device::{WriteFailed, write_all};
+use crate::texts::{ReplyText, SizeText};
+use std::alloc::{AllocError, Global};
+use std::fmt::Display;
+use std::io::Write;
+
+/// How many bytes are written at once.
+const CHUNK: usize = 65_536;
+
+/// No line is longer.
+const LONGEST_LINE: usize = 256;
+
+/// Room for the lines that wait, so that none of them needs memory later.
+pub fn room(alloc: Global) -> Result<String, AllocError>
+    ensures { IfOk result (λ waiting. string_bytes waiting ≡ []) }
+{
+    String::with_capacity(alloc, CHUNK + LONGEST_LINE)
+}
+
+/// Writes what waits where it is enough.
+#[tactic(auto, using(crate::proofs::Sending::sends_now, crate::proofs::Sending::stops_within))]
+fn send_enough<W: Write>(writer: &mut W, waiting: &mut String) -> Result<(), WriteFailed>
+    ensures ok { (before : Option (List ℕ)) (text : List ℕ) → Sends before (W.contents writer.old) (string_bytes waiting.old) text
+        → OnOk result (Sends before (W.contents writer.new) (string_bytes waiting.new) text) }
+    ensures err { (before : Option (List ℕ)) (text : List ℕ) → Sends before (W.contents writer.old) (string_bytes waiting.old) text
+        → OnErr result (TakesBeginning before (W.contents writer.new) text) }
+{
+    if waiting.len() >= CHUNK {
+        write_all(writer, waiting.as_bytes())?;
+        waiting.clear();
+    }
+    Ok(())
+}
+
+/// Adds a line to those that wait, and writes them where they are enough. A line that cannot be
+/// made counts as a failed write; with the room that [`room`] makes there is none.
+fn put_line<W: Write, D: Display + Drop>(
+    writer: &mut W,
+    waiting: &mut String,
+    text: D,
+) -> Result<(), WriteFailed>
+    ensures ok { (before : Option (List ℕ)) (sent : List ℕ) → Sends before (W.contents writer.old) (string_bytes waiting.old) sent
+        → OnOk result (IfSome (D.output text) (λ bytes. Sends before (W.contents writer.new) (string_bytes waiting.new) (sent ++ line bytes))) }
+    ensures err { (before : Option (List ℕ)) (sent : List ℕ) → Sends before (W.contents writer.old) (string_bytes waiting.old) sent
+        → OnErr result (IfSome (D.output text) (λ bytes. TakesBeginning before (W.contents writer.new) (sent ++ line bytes))) }
+{
+    if waiting.writeln(text).is_err() {
+        return Err(WriteFailed);
+    }
+    send_enough(writer, waiting)
+}
+
+/// Writes a line for each reply, and one for the number of buckets.
+pub fn write_replies<W: Write>(
+    writer: &mut W,
+    waiting: &mut String,
+    replies: &[Reply],
+    buckets: u32,
+) -> Result<(), WriteFailed>
+    requires { string_bytes waiting.old ≡ [] }
+    ensures ok { OnOk result (Appends (W.contents writer.old) (W.contents writer.new) (commands_text replies.now buckets)) }
+    ensures err { OnErr result (TakesBeginning (W.contents writer.old) (W.contents writer.new) (commands_text replies.now buckets)) }
+{
+    for reply in replies {
+        put_line(writer, waiting, ReplyText(reply))?;
+    }
+    put_line(writer, waiting, SizeText(buckets))?;
+    write_all(writer, waiting.as_bytes())
+}

@@ -1,0 +1,72 @@
+//! How a run of the program ended.
+ghost use Rattle.std.specs.Prelude.{◌≡◌, Some};
+ghost use Rattle.lhash.specs.Status.{code_of, status_text};
+
+use crate::fault::ScriptFault;
+use std::fmt;
+
+/// Which device failed.
+#[derive(Clone, Copy, Debug, PartialEq, Eq)]
+pub enum DeviceFault {
+    /// A read of the input failed.
+    Read,
+    /// A write or a flush of the output failed, or a write took no byte.
+    Write,
+}
+
+/// How a run of the program ended. Its text is empty where it was done.
+#[derive(Debug, Drop)]
+pub enum Status {
+    /// All was read, done and written.
+    Done,
+    /// The script is at fault, and nothing was written.
+    Input(ScriptFault),
+    /// The words are refused, nothing was read and nothing was written.
+    Words(String),
+    /// The input was not read, or the output not written to its end.
+    Device(DeviceFault),
+    /// Memory ran out, and nothing was written.
+    Memory,
+}
+
+impl Status {
+    /// The exit status: 0 done, 1 a fault in the input, 2 the words, 3 a device, 4 want of memory.
+    pub fn code(&self) -> u8
+        ensures { result ≡ code_of self.now }
+    {
+        match self {
+            Status::Done => 0,
+            Status::Input(_) => 1,
+            Status::Words(_) => 2,
+            Status::Device(_) => 3,
+            Status::Memory => 4,
+        }
+    }
+}
+
+impl fmt::Display for DeviceFault {
+    ghost use Rattle.lhash.specs.Status.{device_text};
+
+    ghost output = { λ fault. Some (device_text fault) };
+
+    fn fmt<W: fmt::Write>(&self, f: &mut fmt::Formatter<W>) -> fmt::Result {
+        match self {
+            DeviceFault::Read => write!(f, "read failed"),
+            DeviceFault::Write => write!(f, "write failed"),
+        }
+    }
+}
+
+impl fmt::Display for Status {
+    ghost output = { λ status. Some (status_text status) };
+
+    fn fmt<W: fmt::Write>(&self, f: &mut fmt::Formatter<W>) -> fmt::Result {
+        match self {
+            Status::Done => Ok(()),
+            Status::Input(fault) => write!(f, "{fault}"),
+            Status::Words(text) => write!(f, "{text}"),
+            Status::Device(fault) => write!(f, "{fault}"),
+            Status::Memory => write!(f, "no memory"),
+        }
+    }
+}
