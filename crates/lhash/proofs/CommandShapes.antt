@@ -17,12 +17,10 @@ pub required-reads : (old new : Command) (app : App) → out-Command new ≡ rec
     → Reads (with_subcommand_required app) new
 required-reads old new app is k = (ap app_of_fields is ∙ ap with_subcommand_required k.0, ap (λ f. f.has_globals) is ∙ k.1)
 
--- an option, with a text for help
-pub option-reads : (old new : Command) (plain a : Arg) (app : App) (rule : Rule) (text : Option (Bor Text)) → AddsArg old a new → a ≡ record plain { help = text }
-    → plain.global ≡ false → rule_of plain ≡ rule → Reads app old → Reads (with_rule app rule) new
-option-reads old new plain a app rule text h is local r k =
-    let same : a.global ≡ false = ap (λ (x : Arg). x.global) is ∙ local in
-    (h.shape same ∙ ap₂ with_rule k.0 (ap rule_of is ∙ r), h.globals ∙ ap₂ (λ x y. x || y) k.1 same)
+-- an option
+pub option-reads : (old new : Command) (a : Arg) (app : App) (rule : Rule) → AddsArg old a new → a.global ≡ false → rule_of a ≡ rule
+    → Reads app old → Reads (with_rule app rule) new
+option-reads old new a app rule h local r k = (h.shape local ∙ ap₂ with_rule k.0 r, h.globals ∙ ap₂ (λ x y. x || y) k.1 local)
 
 pub subcommand-reads : (old sub new : Command) (app below : App) → AddsSubcommand old sub new → Reads app old → Reads below sub
     → Reads (with_subcommand app below.top) new

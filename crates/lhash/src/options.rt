@@ -7,6 +7,9 @@ ghost use Rattle.lhash.specs.OptionSteps.{HasNumber, HasSettings, IsAskedBy, IsR
 
 use clap::error::ErrorKind;
 use clap::{Arg, ArgAction, ArgMatches, Command, Error};
+use lh_addr::limits::{
+    MAX_BUCKETS, MAX_CAPACITY, MAX_INITIAL, MAX_LOAD, MIN_CAPACITY, MIN_INITIAL, MIN_LOAD,
+};
 use lh_addr::{Config, Range};
 use std::alloc::{AllocError, Global};
 
@@ -24,30 +27,64 @@ pub enum Request {
 }
 
 /// An option with a whole number, from `least` to `most`.
-fn option<'a>(alloc: Global, name: &'a str, default: &'a str, least: u16, most: u32) -> Arg<'a>
+fn option<'a>(
+    alloc: Global,
+    name: &'a str,
+    help: &'a str,
+    default: &'a str,
+    least: u32,
+    most: u32,
+) -> Arg<'a>
     ensures local { result.global ≡ false }
     ensures rule { rule_of result ≡ option_rule name.now default.now least most }
 {
     Arg::new(alloc, name)
         .long(name)
+        .help(help)
         .action(ArgAction::Set)
         .value_parser(clap::value_parser!(u32).range(i64::from(least)..=i64::from(most)))
         .default_value(default)
 }
 
-/// The subcommand `commands`.
 fn commands<'a>(alloc: Global) -> Result<Command<'a>, AllocError>
     ensures { IfOk result (Reads commands_app) }
 {
     Command::new(alloc, "commands")
         .about("Run a script of commands")
-        .arg(option(alloc, "initial", "1", 1, 256).help("Initial number of buckets"))?
-        .arg(option(alloc, "capacity", "14", 1, 14).help("Records that a page holds"))?
-        .arg(option(alloc, "load", "100", 10, 200).help("Load threshold in percent"))?
-        .arg(option(alloc, "max", "65536", 1, 65_536).help("Greatest number of buckets"))
+        .arg(option(
+            alloc,
+            "initial",
+            "Initial number of buckets",
+            "1",
+            MIN_INITIAL,
+            MAX_INITIAL,
+        ))?
+        .arg(option(
+            alloc,
+            "capacity",
+            "Records that a page holds",
+            "14",
+            MIN_CAPACITY,
+            MAX_CAPACITY,
+        ))?
+        .arg(option(
+            alloc,
+            "load",
+            "Load threshold in percent",
+            "100",
+            MIN_LOAD,
+            MAX_LOAD,
+        ))?
+        .arg(option(
+            alloc,
+            "max",
+            "Greatest number of buckets",
+            "65536",
+            MIN_INITIAL,
+            MAX_BUCKETS,
+        ))
 }
 
-/// The program's command.
 fn program<'a>(alloc: Global) -> Result<Command<'a>, AllocError>
     ensures { IfOk result (Reads program_app) }
 {
