@@ -1,10 +1,7 @@
 -- The operands of a verb, by the number of words and by what each word stands for.
-use Rattle.std.proofs.Common.{◌≡◌, ◌≢◌, ℕ, List, [], ◌∷◌, ◌++◌, length, refl, ap, sym, ◌∙◌, append-nil}
-use Rattle.std.specs.Prelude.{Result, Ok, Err}
-use Rattle.lhash.specs.Commands.{said}
+use Rattle.std.proofs.Common.{◌≡◌, ◌≢◌, ℕ, List, [], ◌∷◌, length, refl}
+use Rattle.std.specs.Prelude.{Ok, Err}
 use Rattle.lhash.specs.Operands.{key, value, key_alone, key_and_value}
-use Rattle.lhash.specs.Scripts.{added, verdict}
-use Rattle.lhash.specs.declared.call.Call.{Call}
 use Rattle.lhash.specs.declared.fault.LineFault.{LineFault}
 use Rattle.lhash.specs.declared.fault.LineFault.TheVariants.{WordCount}
 
@@ -36,11 +33,3 @@ value_bad ws k v bytes fault e f g = rw (e, f, g) refl
 pub both_good : (ws : List (List ℕ)) (k v bytes more : List ℕ) → ws ≡ k ∷ v ∷ [] → key k ≡ Ok bytes → value v ≡ Ok more → key_and_value ws ≡ Ok (bytes, more)
 unfolding key_and_value
 both_good ws k v bytes more e f g = rw (e, f, g) refl
-
--- a call that is a fault adds nothing
-pub faulty : (r : Result Call LineFault) (fault : LineFault) (before : List Call) → r ≡ Err fault → (Err fault ≡ verdict (said r)) × (before ≡ before ++ added (said r))
-faulty r fault before e = (ap (λ q. verdict (said q)) (sym e), sym (ap (λ q. before ++ added (said q)) e ∙ append-nil before))
-
--- a call is added
-pub good : (r : Result Call LineFault) (call : Call) (before after : List Call) → r ≡ Ok call → after ≡ before ++ call ∷ [] → (Ok tt ≡ verdict (said r)) × (after ≡ before ++ added (said r))
-good r call before after e f = (ap (λ q. verdict (said q)) (sym e), f ∙ ap (λ q. before ++ added (said q)) (sym e))

@@ -20,10 +20,16 @@ pub trait Statement: Copy {
         ensures added { statements.new.items ≡ statements.old.items ++ added (reads (words line.now)) };
 }
 
-/// The most bytes that a script has.
+/// The most bytes that a script may have.
 pub const MOST_BYTES: usize = 16_777_216;
 
-/// The statements of a script, or its first fault.
+/// The statements of a script, in their order, or its first fault.
+///
+/// Lines end with LF, before which one CR is dropped, and are numbered from 1. Spaces and tabs separate words. A line
+/// without words, and one whose first word begins with `#`, says nothing. So of the three lines `# none`, `search 61`
+/// and `frob` a command script is at fault by the third: `line 3: unknown word`.
+///
+/// Besides the text it takes memory for the statements alone.
 #[tactic(auto, using(crate::proofs::Scripts::script_starts, crate::proofs::Scripts::script_ends, crate::proofs::Scripts::line_faulty, crate::proofs::Scripts::line_read))]
 pub fn parse<S: Statement>(alloc: Global, text: &[u8]) -> Result<Vec<S>, ParseError>
     ensures { Gives (λ v. v.items) result (script S.reads text.now) }
