@@ -1,0 +1,13 @@
+pub mod Places
+pub mod Distinct
+pub mod Marking
+pub mod Pieces
+pub mod Dividing
+pub mod Padding
+pub mod Fields
+pub mod WrittenPages
+pub mod ReadPages
+pub mod SlotText
+pub mod ShownPages
+pub mod PageText
+pub mod Words

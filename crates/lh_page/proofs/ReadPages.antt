@@ -1,0 +1,94 @@
+-- Reading a page slot by slot.
+use Rattle.std.proofs.Common.{◌≡◌, ℕ, ◌+◌, ◌<◌, ◌≤◌, Bool, true, false, not, List, [], ◌∷◌, ◌++◌, length, get_or, map, Some, None, refl, sym, ap, ◌∙◌, inl, inr, arith, zero-add}
+use Rattle.std.specs.List.{find, range_with_len, position_or_len, slice_get}
+use Rattle.std.specs.Prelude.{if◌then◌else◌}
+use Rattle.std.proofs.lemmas.Bool.{cases_lt, lt-ltb, le-ltb, not_from_true, not_from_false}
+use Rattle.std.proofs.lemmas.List.Folds.{find_at}
+use Rattle.std.proofs.lemmas.List.FromFn.{get_or-range_with_len, length-range_with_len, map-range_with_len_more}
+use Rattle.std.proofs.lemmas.List.{length_push}
+use Rattle.std.proofs.lemmas.List.Sums.{position_or_len_is}
+use Rattle.std.proofs.lemmas.Option.{slice_get-get_or, slice_get_past}
+use Rattle.lh_page.specs.declared.pair.Pair.{Pair}
+use Rattle.lh_page.specs.PageFields.{all_zero, used_of, pair_of, pairs_of, is_bad_record, is_bad_slot, bad_slot, UnusedAreZero, FirstFilled}
+use Rattle.lh_page.specs.PageTable.{slot}
+
+-- ---- the first of some numbers
+
+at_range : (p : ℕ → Bool) (n k : ℕ) (b : Bool) → k < n → p k ≡ b → p (get_or (range_with_len 0 n) k 0) ≡ b
+at_range p n k b low e = ap p (get_or-range_with_len 0 n k 0 low ∙ zero-add k) ∙ e
+
+pub find-first : (p : ℕ → Bool) (n i : ℕ) → i < n → ((k : ℕ) → k < i → p k ≡ false) → p i ≡ true → find p (range_with_len 0 n) ≡ Some i
+find-first p n i low before here =
+    let long : length (range_with_len 0 n) ≡ n = length-range_with_len 0 n in
+    let first : position_or_len p (range_with_len 0 n) ≡ i =
+    position_or_len_is p (range_with_len 0 n) i 0 (omega arith) (λ k less. at_range p n k false (omega arith) (before k less)) (λ _. at_range p n i true low here) in
+    find_at p (range_with_len 0 n) ∙ ap (slice_get (range_with_len 0 n)) first ∙ slice_get-get_or (range_with_len 0 n) i 0 (omega arith)
+    ∙ ap Some (get_or-range_with_len 0 n i 0 low ∙ zero-add i)
+
+pub find-none : (p : ℕ → Bool) (n : ℕ) → ((k : ℕ) → k < n → p k ≡ false) → find p (range_with_len 0 n) ≡ None
+find-none p n none =
+    let long : length (range_with_len 0 n) ≡ n = length-range_with_len 0 n in
+    let past : position_or_len p (range_with_len 0 n) ≡ length (range_with_len 0 n) =
+    position_or_len_is p (range_with_len 0 n) (length (range_with_len 0 n)) 0 (omega arith) (λ k less. at_range p n k false (omega arith) (none k (omega arith))) (λ less. absurd (omega arith)) in
+    find_at p (range_with_len 0 n) ∙ ap (slice_get (range_with_len 0 n)) past ∙ slice_get_past (range_with_len 0 n) (length (range_with_len 0 n)) (omega arith)
+
+-- ---- slots
+
+pub is_bad_slot-used : (bytes : List ℕ) (i : ℕ) → i < used_of bytes → is_bad_slot bytes i ≡ is_bad_record (slot bytes i)
+unfolding is_bad_slot
+is_bad_slot-used bytes i used = rw (lt-ltb i (used_of bytes) used) refl
+
+pub is_bad_slot-unused : (bytes : List ℕ) (i : ℕ) → used_of bytes ≤ i → is_bad_slot bytes i ≡ not (all_zero (slot bytes i))
+unfolding is_bad_slot
+is_bad_slot-unused bytes i unused = rw (le-ltb i (used_of bytes) unused) refl
+
+chosen_some : (b : Bool) (x y : Pair) → Some y ≡ (if b then None else Some x) → (b ≡ false) × (y ≡ x)
+chosen_some true x y e = cc
+chosen_some false x y e = (refl, cc)
+
+chosen_none : (b : Bool) (x : Pair) → None ≡ (if b then None else Some x) → b ≡ true
+chosen_none true x e = refl
+chosen_none false x e = cc
+
+-- the slots before place n have no fault, and these are their records
+pub record IsReadTo (bytes : List ℕ) (pairs : List Pair) (n : ℕ) : Type 0 where
+  pub good : (i : ℕ) → i < n → is_bad_slot bytes i ≡ false
+  pub long : length pairs ≡ n
+  pub read : pairs ≡ map (λ i. pair_of (slot bytes i)) (range_with_len 0 n)
+
+pub read_more : (bytes s : List ℕ) (pairs : List Pair) (n : ℕ) (pair : Pair) → n < used_of bytes → s ≡ slot bytes n → Some pair ≡ (if is_bad_record s then None else Some (pair_of s)) → IsReadTo bytes pairs n → IsReadTo bytes (pairs ++ pair ∷ []) (n + 1)
+read_more bytes s pairs n pair used is read h =
+    let e = chosen_some (is_bad_record s) (pair_of s) pair read in
+    record {
+      good = λ i below. elim (cases_lt i n) [
+        | inl before ↦ h.good i before
+        | inr there ↦ let same : i ≡ n = omega arith in rw same (is_bad_slot-used bytes n used ∙ ap is_bad_record (sym is) ∙ e.0)
+      ];
+      long = omega (arith, h.long, length_push pairs pair);
+      read = ap (λ ps. ps ++ pair ∷ []) h.read ∙ ap (λ p. map (λ i. pair_of (slot bytes i)) (range_with_len 0 n) ++ p ∷ []) (e.1 ∙ ap pair_of is)
+          ∙ sym (map-range_with_len_more (λ i. pair_of (slot bytes i)) 0 n n (zero-add n));
+    }
+
+pub bad_slot-read : (bytes s : List ℕ) (pairs : List Pair) (n : ℕ) → n < 14 → n < used_of bytes → s ≡ slot bytes n → None ≡ (if is_bad_record s then None else Some (pair_of s)) → IsReadTo bytes pairs n → bad_slot bytes ≡ Some n
+unfolding bad_slot
+bad_slot-read bytes s pairs n low used is read h =
+    find-first (is_bad_slot bytes) 14 n low h.good (is_bad_slot-used bytes n used ∙ ap is_bad_record (sym is) ∙ chosen_none (is_bad_record s) (pair_of s) read)
+
+good_to : (bytes : List ℕ) (pairs : List Pair) (n to : ℕ) → n ≡ used_of bytes → UnusedAreZero bytes n to → IsReadTo bytes pairs n → (i : ℕ) → i < to → is_bad_slot bytes i ≡ false
+good_to bytes pairs n to same zero h i below = elim (cases_lt i n) [
+  | inl before ↦ h.good i before
+  | inr behind ↦ is_bad_slot-unused bytes i (omega arith) ∙ not_from_true _ (zero i behind below)
+]
+
+pub bad_slot-filled : (bytes : List ℕ) (pairs : List Pair) (n i : ℕ) → n ≡ used_of bytes → FirstFilled bytes n i → IsReadTo bytes pairs n → bad_slot bytes ≡ Some i
+unfolding bad_slot
+bad_slot-filled bytes pairs n i same f h =
+    find-first (is_bad_slot bytes) 14 i f.1 (good_to bytes pairs n i same f.2 h) (is_bad_slot-unused bytes i (omega (arith, f.0)) ∙ not_from_false _ f.3)
+
+pub bad_slot-none : (bytes : List ℕ) (pairs : List Pair) (n : ℕ) → n ≡ used_of bytes → UnusedAreZero bytes n 14 → IsReadTo bytes pairs n → bad_slot bytes ≡ None
+unfolding bad_slot
+bad_slot-none bytes pairs n same zero h = find-none (is_bad_slot bytes) 14 (good_to bytes pairs n 14 same zero h)
+
+pub pairs_of-read : (bytes : List ℕ) (pairs : List Pair) (n : ℕ) → n ≡ used_of bytes → IsReadTo bytes pairs n → pairs ≡ pairs_of bytes
+unfolding pairs_of
+pairs_of-read bytes pairs n same h = h.read ∙ ap (λ m. map (λ i. pair_of (slot bytes i)) (range_with_len 0 m)) same

@@ -1,0 +1,52 @@
+-- Rows of 30 bytes that agree in four words are the same.
+use Rattle.std.proofs.Common.{◌≡◌, ◌≢◌, ℕ, zero, suc, ◌+◌, ◌*◌, ◌<◌, ◌≤◌, Bool, true, false, eqb, List, length, take, sym, ap, ◌∙◌, inl, inr, arith}
+use Rattle.std.specs.Prelude.{slice_index}
+use Rattle.std.proofs.lemmas.Bool.{and_parts, and_from, cases_lt, eqb-true, eq-eqb}
+use Rattle.std.proofs.lemmas.List.{ext_get_or}
+use Rattle.std.specs.Bool.{OnTrue, OnFalse}
+use Rattle.std.specs.Str.{bytes_eq}
+use Rattle.byteorder.specs.Endian.{little_from}
+use Rattle.lh_page.specs.Mark.{padded, word_at, same_words}
+use Rattle.lh_page.proofs.Places.{bytes_eq-same, bytes_eq-other}
+
+first_digit : (x y m n : ℕ) → x < 256 → y < 256 → x + 256 * m ≡ y + 256 * n → x ≡ y
+first_digit x y m n low small e = omega arith
+
+other_digits : (x y m n : ℕ) → x < 256 → y < 256 → x + 256 * m ≡ y + 256 * n → m ≡ n
+other_digits x y m n low small e = omega arith
+
+-- equal numbers have equal bytes
+bytes_from_number : (n k : ℕ) (xs ys : List ℕ) → ((i : ℕ) → slice_index xs i < 256) → ((i : ℕ) → slice_index ys i < 256) → little_from k n xs ≡ little_from k n ys →
+    (i : ℕ) → k ≤ i → i < k + n → slice_index xs i ≡ slice_index ys i
+bytes_from_number zero k xs ys fit small e i low high = absurd (omega arith)
+bytes_from_number (suc n) k xs ys fit small e i low high = elim (cases_lt k i) [
+  | inl later ↦ bytes_from_number n (suc k) xs ys fit small (other_digits (slice_index xs k) (slice_index ys k) _ _ (fit k) (small k) e) i (omega arith) (omega arith)
+  | inr here ↦ let same : i ≡ k = omega arith in rw same (first_digit (slice_index xs k) (slice_index ys k) (little_from (suc k) n xs) (little_from (suc k) n ys) (fit k) (small k) e)
+]
+
+pub same_from_words : (a b : List ℕ) → length a ≡ 30 → length b ≡ 30 → ((i : ℕ) → slice_index a i < 256) → ((i : ℕ) → slice_index b i < 256) → same_words a b ≡ true → a ≡ b
+unfolding word_at
+same_from_words a b long whole fit small e =
+    let p = and_parts _ _ e in
+    let q = and_parts _ _ p.0 in
+    let r = and_parts _ _ q.0 in
+    ext_get_or 0 a b (long ∙ sym whole) (λ i low. elim (cases_lt i 8) [
+      | inl first ↦ bytes_from_number 8 0 a b fit small (eqb-true _ _ r.0) i (omega arith) first
+      | inr more ↦ elim (cases_lt i 16) [
+        | inl second ↦ bytes_from_number 8 8 a b fit small (eqb-true _ _ r.1) i more second
+        | inr rest ↦ elim (cases_lt i 24) [
+          | inl third ↦ bytes_from_number 8 16 a b fit small (eqb-true _ _ q.1) i rest third
+          | inr last ↦ bytes_from_number 8 22 a b fit small (eqb-true _ _ p.1) i (omega arith) (omega arith)
+        ]
+      ]
+    ])
+
+pub words_from_same : (a b : List ℕ) → a ≡ b → same_words a b ≡ true
+words_from_same a b e = and_from _ _ (and_from _ _ (and_from _ _ (at 0) (at 8)) (at 16)) (at 22) where
+  at : (place : ℕ) → eqb (word_at a place) (word_at b place) ≡ true
+  at place = eq-eqb (word_at a place) (word_at b place) (ap (λ bytes. word_at bytes place) e)
+
+-- rows with zeros behind their first bytes are the same where these are
+pub eq_told : (r : Bool) (n : ℕ) (a b v w : List ℕ) → OnTrue r (a ≡ b) → OnFalse r (a ≢ b) → take n a ≡ v → take n b ≡ w → padded 30 v ≡ a → padded 30 w ≡ b → r ≡ bytes_eq v w
+eq_told true n a b v w same other front behind whole all = sym (bytes_eq-same v w (sym front ∙ ap (take n) same ∙ behind))
+eq_told false n a b v w same other front behind whole all = sym (bytes_eq-other v w (λ e. other (sym whole ∙ ap (padded 30) e ∙ all)))

@@ -1,0 +1,10 @@
+use Rattle.std.proofs.Common.{refl, ap, length, arith}
+use Rattle.lh_page.proofs.Distinct.{distinct_none}
+use Rattle.lh_page.proofs.chain.Chain.new.Goals as goal
+
+pub invariant_of-result : goal.invariant_of-result
+invariant_of-result c = record {
+  list = record { capacity = c.requires; distinct = distinct_none c.new.result.items c.new.ensures.items };
+  room = refl;
+  marked = λ i low below. absurd (omega (arith, ap length c.new.ensures.items));
+}

@@ -1,0 +1,17 @@
+use Rattle.std.proofs.Common.{◌≡◌, ◌++◌, ◌∷◌, [], ap, ◌∙◌, length, arith}
+use Rattle.lh_page.proofs.Distinct.{distinct_push}
+use Rattle.lh_page.proofs.Marking.{marked_push}
+use Rattle.lh_page.proofs.chain.Chain.push.Goals as goal
+
+pub invariant_of-self-2 : goal.invariant_of-self-2
+invariant_of-self-2 c =
+    let k = c.self.inside in
+    let h = c.self.invariant in
+    let items : c.push_reserved.new.self.items ≡ k.pairs.items ++ c.args.pair ∷ [] = c.push_reserved.ensures.items ∙ ap (λ xs. xs ++ c.args.pair ∷ []) c.make_room.ensures.items in
+    let last : c.len-place.result ≡ length k.pairs.items = omega arith in
+    let absent = rw (← c.self.view_is) at c.requires in
+    record {
+      list = record { capacity = h.list.capacity; distinct = rw items (distinct_push k.pairs.items c.args.pair h.list.distinct absent) };
+      room = c.mark_at.ensures.room ∙ h.room;
+      marked = rw items (marked_push k.marks c.mark_at.new.marks k.pairs.items c.args.pair c.len-place.result last h.marked (rw (c.deref.ensures.value, items) at c.mark_at.ensures));
+    }

@@ -1,0 +1,12 @@
+use Rattle.std.proofs.Common.{sym, ap, ◌∙◌, arith}
+use Rattle.lh_page.specs.Mark.{mixed, padded}
+use Rattle.lh_page.proofs.Padding.{padded-take}
+use Rattle.lh_page.proofs.key.Key.mark.Goals as goal
+
+pub returns : goal.returns
+returns c =
+    let k = c.self.inside in
+    let h = c.self.invariant in
+    c.mix.ensures
+    ∙ ap mixed (sym (padded-take 30 k.len k.bytes (omega (arith, h.1, h.2)) h.3))
+    ∙ ap (λ bytes. mixed (padded 30 bytes)) c.self.view_is

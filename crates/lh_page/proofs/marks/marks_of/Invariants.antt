@@ -1,0 +1,11 @@
+use Rattle.std.proofs.Common.{◌≡◌, ℕ, ◌<◌, length}
+use Rattle.std.specs.Prelude.{slice_index}
+use Rattle.lh_page.specs.Mark.{mark_of}
+use Rattle.lh_page.specs.Records.{key_at}
+use Rattle.lh_page.proofs.marks.marks_of.Given as goal
+
+abbrev pub invariant-loop-place : goal.invariant-loop-place
+invariant-loop-place l = record {
+  room : length l.marks ≡ 32;
+  marked : (i : ℕ) → i < l.place → i < length l.pairs → slice_index l.marks i ≡ mark_of (key_at l.pairs i);
+}

@@ -1,0 +1,6 @@
+use Rattle.std.proofs.Common.{arith}
+use Rattle.lh_page.proofs.Fields.{writes_slot}
+use Rattle.lh_page.proofs.writing.write_at.Goals as goal
+
+pub returns : goal.returns
+returns c = writes_slot c.args.bytes.now c.write_slot.new.bytes c.args.place _ c.args.pair.now c.requires c.told-bytes (omega arith) c.write_slot.ensures.size c.write_slot.ensures.text

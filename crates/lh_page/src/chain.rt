@@ -1,0 +1,163 @@
+//! Packed chains of records.
+ghost use Rattle.std.specs.Prelude.{not, ◌≡◌, ◌+◌, ◌<◌, [], ◌∷◌, ◌++◌, length, slice_get, Some, None, IsOk, IfOk, IfSome, IfNone, OnOk, OnErr};
+ghost use Rattle.std.specs.List.{filter, swap_remove};
+ghost use Rattle.lh_page.specs.Limits.{IsCapacity};
+ghost use Rattle.lh_page.specs.PackedList.{IsPackedList, pages_of};
+ghost use Rattle.lh_page.specs.Records.{place_of, value_at, with_value, AbsentBelow, StandsFirst};
+
+use crate::division::{chosen, keep_others, make_room};
+use crate::key::Key;
+use crate::key_set::KeySet;
+use crate::marks::{MARKED, find_marked, mark_at, marks_of};
+use crate::memory::Memory;
+use crate::pair::Pair;
+use crate::value::Value;
+use std::alloc::Global;
+use std::marker::Model;
+use std::mem;
+
+/// The records of one bucket, in a primary page and overflow pages of `capacity` records each.
+///
+/// The record at place `i` stands in page `i / capacity`, so every page but the last is full and only the primary
+/// page may be empty. No key stands twice. Memory is taken by whole pages, and none before the first record.
+#[derive(Debug, Drop)]
+pub struct Chain {
+    capacity: u32,
+    // The marks of the first records, so that a look-up touches few others.
+    marks: [u8; MARKED],
+    pairs: Vec<Pair>,
+}
+
+impl Model for Chain {
+    ghost use Rattle.lh_page.specs.PackedList.{PackedList};
+    ghost use Rattle.lh_page.specs.Marks.{IsChain};
+
+    ghost Value = { PackedList };
+
+    ghost view = { λ c. record { capacity = c.capacity; pairs = c.pairs.items } };
+
+    ghost invariant = { λ c. IsChain c.capacity c.marks c.pairs.items };
+}
+
+impl Chain {
+    /// An empty chain, with pages of 1 to 14 records.
+    pub fn new(alloc: Global, capacity: u32) -> Result<Self, Memory>
+        requires { IsCapacity capacity }
+        ensures succeeds { IsOk result }
+        ensures empty { IfOk result (λ chain. chain ≡ record { capacity = capacity; pairs = [] }) }
+    {
+        Ok(Chain {
+            capacity,
+            marks: [0; MARKED],
+            pairs: Vec::new(alloc),
+        })
+    }
+
+    /// The number of records that a page holds.
+    pub fn capacity(&self) -> u32
+        ensures { result ≡ self.now.capacity }
+    {
+        self.capacity
+    }
+
+    /// The number of records.
+    pub fn len(&self) -> usize
+        ensures length { result ≡ length self.now.pairs }
+        ensures kept { IsPackedList self.now }
+    {
+        self.pairs.len()
+    }
+
+    /// The number of pages, the primary page counted.
+    pub fn pages(&self) -> usize
+        ensures { result ≡ length (pages_of self.now.capacity self.now.pairs) }
+    {
+        let last = self.pairs.len().saturating_sub(1);
+        last / self.capacity as usize + 1
+    }
+
+    /// The place of the record with a key.
+    pub fn find(&self, key: &Key) -> Option<usize>
+        ensures place { result ≡ place_of self.now.pairs key.now }
+        ensures found { IfSome result (λ place. StandsFirst self.now.pairs place key.now) }
+        ensures absent { IfNone result (AbsentBelow self.now.pairs (length self.now.pairs) key.now) }
+    {
+        let pairs = self.pairs.as_slice();
+        match find_marked(&self.marks, pairs, key) {
+            Some(place) => Some(place),
+            None => find_unmarked(pairs, key),
+        }
+    }
+
+    /// The record at a place.
+    pub fn pair_at(&self, place: usize) -> Pair
+        requires { place < length self.now.pairs }
+        ensures { slice_get self.now.pairs place ≡ Some result }
+    {
+        self.pairs[place]
+    }
+
+    /// Appends a record whose key is not there yet. After an error the chain is as it was.
+    pub fn push(&mut self, pair: Pair) -> Result<(), Memory>
+        requires { place_of self.old.pairs pair.key ≡ None }
+        ensures ok { OnOk result (self.new ≡ record self.old { pairs = self.old.pairs ++ pair ∷ [] }) }
+        ensures err { OnErr result (self.new ≡ self.old) }
+    {
+        let place = self.pairs.len();
+        make_room(&mut self.pairs, self.capacity)?;
+        self.pairs.push_reserved(pair);
+        mark_at(&mut self.marks, &self.pairs, place);
+        Ok(())
+    }
+
+    /// Takes the record at a place out, and moves the last record into the hole.
+    pub fn remove(&mut self, place: usize) -> Pair
+        requires { place < length self.old.pairs }
+        ensures removed { slice_get self.old.pairs place ≡ Some result }
+        ensures left { self.new ≡ record self.old { pairs = swap_remove self.old.pairs place result } }
+    {
+        let removed = self.pairs.swap_remove(place);
+        mark_at(&mut self.marks, &self.pairs, place);
+        removed
+    }
+
+    /// Takes the records whose keys are in a set out, into a chain of their own. Both parts keep their order.
+    /// All growth comes first: after an error the chain is as it was.
+    pub fn split_off<S: KeySet>(&mut self, keys: &S) -> Result<Self, Memory>
+        ensures gone { IfOk result (λ gone. gone ≡ record self.old { pairs = filter (λ p. S.member keys.now p.key) self.old.pairs }) }
+        ensures kept { OnOk result (self.new ≡ record self.old { pairs = filter (λ p. not (S.member keys.now p.key)) self.old.pairs }) }
+        ensures err { OnErr result (self.new ≡ self.old) }
+    {
+        let gone = chosen(*self.pairs.allocator(), &self.pairs, keys, self.capacity)?;
+        keep_others(&mut self.pairs, &gone);
+        self.marks = marks_of(&self.pairs);
+        Ok(Chain {
+            capacity: self.capacity,
+            marks: marks_of(&gone),
+            pairs: gone,
+        })
+    }
+
+    /// Puts a value in the place of the one under a record's key, which is handed out.
+    pub fn replace_at(&mut self, place: usize, value: Value) -> Value
+        requires { place < length self.old.pairs }
+        ensures replaced { result ≡ value_at self.old.pairs place }
+        ensures changed { self.new ≡ record self.old { pairs = with_value self.old.pairs place value } }
+    {
+        mem::replace(&mut self.pairs[place].value, value)
+    }
+}
+
+/// The place of the first record with a key, which stands behind those with marks.
+fn find_unmarked(pairs: &[Pair], key: &Key) -> Option<usize>
+    requires { AbsentBelow pairs.now MARKED key.now }
+    ensures found { IfSome result (λ place. StandsFirst pairs.now place key.now) }
+    ensures absent { IfNone result (AbsentBelow pairs.now (length pairs.now) key.now) }
+{
+    for i in MARKED..pairs.len() {
+        if pairs[i].key == *key {
+            return Some(i);
+        }
+    }
+    None
+}

@@ -1,0 +1,49 @@
+//! The head of a page: what stands before its slots.
+ghost use Rattle.std.specs.Prelude.{◌≡◌};
+ghost use Rattle.lh_page.specs.PageFields.{kind_of, used_of, level_of, bucket_of, next_of, is_clear, all_zero};
+
+use byteorder::{ByteOrder, LittleEndian};
+
+/// The fields before a page's slots, as they stand there.
+#[derive(Clone, Copy, Debug, PartialEq, Eq)]
+pub struct PageHead {
+    /// 1 for a primary page, 2 for an overflow page.
+    pub kind: u8,
+    /// The number of records in the page.
+    pub used: u8,
+    /// The local level of the bucket.
+    pub level: u8,
+    /// Whether the reserved bytes are zero.
+    pub clear: bool,
+    /// The number of the bucket.
+    pub bucket: u32,
+    /// The number of the next page of the chain, 0 for none.
+    pub next: u32,
+}
+
+/// The head of a page, whatever its bytes are.
+#[tactic(auto, unfolding(crate::specs::PageFields::bucket_of, crate::specs::PageFields::next_of, crate::specs::PageFields::is_clear))]
+pub fn page_head(bytes: &[u8; 1024]) -> PageHead
+    ensures kind { result.kind ≡ kind_of bytes.now }
+    ensures used { result.used ≡ used_of bytes.now }
+    ensures level { result.level ≡ level_of bytes.now }
+    ensures clear { result.clear ≡ is_clear bytes.now }
+    ensures bucket { result.bucket ≡ bucket_of bytes.now }
+    ensures next { result.next ≡ next_of bytes.now }
+{
+    PageHead {
+        kind: bytes[0],
+        used: bytes[1],
+        level: bytes[2],
+        clear: is_zero(&bytes[3..4]) && is_zero(&bytes[12..16]),
+        bucket: LittleEndian::read_u32(&bytes[4..8]),
+        next: LittleEndian::read_u32(&bytes[8..12]),
+    }
+}
+
+/// Whether every byte is zero.
+pub(crate) fn is_zero(bytes: &[u8]) -> bool
+    ensures { result ≡ all_zero bytes.now }
+{
+    bytes.iter().all(|byte| *byte == 0)
+}

@@ -1,0 +1,184 @@
+//! Keys: short byte strings that are kept in place and copied freely.
+ghost use Rattle.std.specs.Prelude.{◌≡◌, ◌≢◌, ℕ, ◌≤◌, ◌↔◌, List, [], ◌∷◌, length, Some, IsOk, IfOk, IfErr, nat_eq, refl};
+ghost use Rattle.std.specs.Ordering.{nat_cmp};
+ghost use Rattle.std.specs.Bool.{OnTrue, OnFalse};
+ghost use Rattle.std.specs.Cmp.{partial_equiv_from_equiv};
+ghost use Rattle.std.specs.Cmp.Lexicographic.{pointwise, slice_cmp, nat_list_eq_equiv, nat_list_cmp_total, texts_po, texts_ties};
+ghost use Rattle.lh_page.specs.Limits.{IsKey};
+ghost use Rattle.lh_page.specs.Mark.{mark_of, mixed, padded, same_words, word_at};
+
+use crate::limits::LONGEST_KEY;
+use byteorder::{ByteOrder, LittleEndian};
+use std::cmp::Ordering;
+use std::marker::Model;
+use thiserror::Error;
+
+/// A key of 1 to 30 bytes. Keys are compared and ordered by their bytes, a key before its longer extensions.
+#[derive(Clone, Copy, Debug)]
+pub struct Key {
+    // Zeros stand behind the key's bytes.
+    bytes: [u8; LONGEST_KEY],
+    len: u8,
+}
+
+impl Model for Key {
+    ghost use Rattle.std.specs.Prelude.{◌≡◌, ◌≢◌, ℕ, ◌≤◌, ◌-◌, ◌++◌, List, length, take, drop, replicate};
+    ghost use Rattle.std.proofs.Common.{ap, ◌∙◌, sym, arith, take-append-drop, length-take-le};
+
+    ghost Value = { List ℕ };
+
+    ghost view = { λ k. take k.len k.bytes };
+
+    ghost invariant = { λ k. (1 ≤ k.len) × (k.len ≤ 30) × (length k.bytes ≡ 30) × (drop k.len k.bytes ≡ replicate (30 - k.len) 0) };
+
+    ghost inverse = { λ b. record { bytes = b ++ replicate (30 - length b) 0; len = length b } };
+
+    ghost inverse_ok = { λ k h i. record {
+      bytes = (ap (λ n. take k.len k.bytes ++ replicate (30 - n) 0) (length-take-le k.len k.bytes (omega (arith, h.1, h.2))) ∙ (ap (λ r. take k.len k.bytes ++ r) (sym h.3) ∙ take-append-drop k.len k.bytes)) i;
+      len = length-take-le k.len k.bytes (omega (arith, h.1, h.2)) i;
+    } };
+}
+
+/// A length that no key has: 0, or more than 30 bytes (P1).
+#[derive(Clone, Copy, Debug, PartialEq, Eq, Error)]
+#[error("key length {length}")]
+pub struct KeyLength {
+    pub length: usize,
+}
+
+impl Key {
+    /// The key with these bytes.
+    pub fn new(bytes: &[u8]) -> Result<Self, KeyLength>
+        ensures variant { IsOk result ↔ IsKey bytes.now }
+        ensures ok { IfOk result (λ key. key ≡ bytes.now) }
+        ensures err { IfErr result (λ error. error.length ≡ length bytes.now) }
+    {
+        let length = bytes.len();
+        if length < 1 || length > LONGEST_KEY {
+            return Err(KeyLength { length });
+        }
+        let mut padded = [0; LONGEST_KEY];
+        for (i, byte) in bytes.iter().enumerate() {
+            padded[i] = *byte;
+        }
+        Ok(Key {
+            bytes: padded,
+            len: length as u8,
+        })
+    }
+
+    pub fn bytes(&self) -> &[u8]
+        ensures value { result.now ≡ self.now }
+        ensures kept { IsKey self.now }
+    {
+        &self.bytes[..self.len as usize]
+    }
+
+    /// The key's bytes, with zeros behind them.
+    pub(crate) fn padded(&self) -> &[u8; LONGEST_KEY]
+        ensures { result.now ≡ padded 30 self.now }
+    {
+        &self.bytes
+    }
+
+    /// A key for places that hold none.
+    pub(crate) fn placeholder() -> Self
+        ensures { result ≡ 0 ∷ [] }
+    {
+        Key {
+            bytes: [0; LONGEST_KEY],
+            len: 1,
+        }
+    }
+
+    /// A byte that tells most keys apart, made of all of the key's bytes.
+    pub(crate) fn mark(&self) -> u8
+        ensures { result ≡ mark_of self.now }
+    {
+        mix(&self.bytes)
+    }
+}
+
+/// The high byte of a sum of odd multiples of the four words.
+#[inline]
+fn mix(bytes: &[u8; LONGEST_KEY]) -> u8
+    ensures { result ≡ mixed bytes.now }
+{
+    let first = word(bytes, 0).wrapping_mul(0x9e37_79b9_7f4a_7c15);
+    let second = word(bytes, 8).wrapping_mul(0xc2b2_ae3d_27d4_eb4f);
+    let third = word(bytes, 16).wrapping_mul(0x1656_67b1_9e37_79f9);
+    let last = word(bytes, 22).wrapping_mul(0x85eb_ca77_c2b2_ae63);
+    let sum = first
+        .wrapping_add(second)
+        .wrapping_add(third)
+        .wrapping_add(last);
+    (sum >> 56) as u8
+}
+
+/// The number in the 8 bytes from a place.
+#[inline]
+#[tactic(auto, unfolding(crate::specs::Mark::word_at))]
+fn word(bytes: &[u8; LONGEST_KEY], place: usize) -> u64
+    requires { place ≤ 22 }
+    ensures { result ≡ word_at bytes.now place }
+{
+    LittleEndian::read_u64(&bytes[place..place + 8])
+}
+
+impl PartialEq for Key {
+    ghost eq = { pointwise nat_eq };
+
+    ghost laws = { partial_equiv_from_equiv nat_list_eq_equiv };
+
+    fn eq(&self, other: &Self) -> bool {
+        self.len == other.len && is_same(&self.bytes, &other.bytes)
+    }
+}
+
+/// Whether two rows of bytes are the same.
+#[inline]
+fn is_same(a: &[u8; LONGEST_KEY], b: &[u8; LONGEST_KEY]) -> bool
+    ensures same { OnTrue result (a.now ≡ b.now) }
+    ensures other { OnFalse result (a.now ≢ b.now) }
+{
+    agree(a, b)
+}
+
+/// Whether two rows of bytes have the same words: eight bytes at a time.
+#[inline]
+fn agree(a: &[u8; LONGEST_KEY], b: &[u8; LONGEST_KEY]) -> bool
+    ensures { result ≡ same_words a.now b.now }
+{
+    word(a, 0) == word(b, 0)
+        && word(a, 8) == word(b, 8)
+        && word(a, 16) == word(b, 16)
+        && word(a, 22) == word(b, 22)
+}
+
+impl Eq for Key {
+    ghost laws = { nat_list_eq_equiv };
+}
+
+impl PartialOrd for Key {
+    ghost partial_cmp = { λ s t. Some (slice_cmp nat_cmp s t) };
+
+    ghost laws = { texts_po };
+
+    fn partial_cmp(&self, other: &Self) -> Option<Ordering> {
+        Some(self.cmp(other))
+    }
+}
+
+impl Ord for Key {
+    ghost cmp = { slice_cmp nat_cmp };
+
+    ghost total = { nat_list_cmp_total };
+
+    ghost matches_partial_cmp = { λ s t. refl };
+
+    ghost matches_eq = { texts_ties };
+
+    fn cmp(&self, other: &Self) -> Ordering {
+        self.bytes().cmp(other.bytes())
+    }
+}

@@ -1,0 +1,44 @@
+//! Keys, values and records, packed chains of them, and the 1,024 bytes of a page.
+//!
+//! ```
+//! let mut chain = Chain::new(rt.alloc(), 14)?;
+//! let key = Key::new(b"name")?;
+//! if chain.find(&key).is_none() {
+//!     chain.push(Pair { key, value: Value::new(b"Ada")? })?;
+//! }
+//! ```
+#![tactic(auto)]
+
+mod chain;
+mod division;
+mod fault;
+mod head;
+mod key;
+mod key_set;
+pub mod laws;
+pub mod limits;
+mod marks;
+mod memory;
+mod page;
+mod pair;
+mod pairs;
+mod reading;
+mod slot;
+mod value;
+mod writing;
+
+pub use chain::Chain;
+pub use fault::PageFault;
+pub use head::{PageHead, page_head};
+pub use key::{Key, KeyLength};
+pub use key_set::KeySet;
+pub use memory::Memory;
+pub use page::{Page, PageKind};
+pub use pair::Pair;
+pub use pairs::Pairs;
+pub use reading::page_from_bytes;
+pub use value::{Value, ValueLength};
+pub use writing::page_to_bytes;
+
+#[cfg(test)]
+mod tests;

@@ -1,0 +1,85 @@
+//! The row of one-byte marks in the head of a chain. A look-up reads the records of its key's mark alone.
+ghost use Rattle.std.specs.Prelude.{◌≡◌, ◌≢◌, ◌↔◌, ℕ, ◌<◌, length, slice_index, IfSome, IfNone};
+ghost use Rattle.std.specs.Int.{bit_at};
+ghost use Rattle.lh_page.specs.Marks.{IsMarked, IsMarkedAt};
+ghost use Rattle.lh_page.specs.Records.{AbsentBelow, StandsFirst};
+
+use crate::key::Key;
+use crate::pair::Pair;
+use std::simd::prelude::*;
+
+/// How many records of a chain have marks.
+pub const MARKED: usize = 32;
+
+/// Marks the record at a place, where one stands there and its mark has room.
+pub fn mark_at(marks: &mut [u8; MARKED], pairs: &[Pair], place: usize)
+    ensures { IsMarkedAt marks.old marks.new pairs.now place }
+{
+    if place < MARKED && place < pairs.len() {
+        marks[place] = pairs[place].key.mark();
+    }
+}
+
+/// The marks of the first records.
+pub fn marks_of(pairs: &[Pair]) -> [u8; MARKED]
+    ensures marked { IsMarked result pairs.now }
+    ensures room { length result ≡ MARKED }
+{
+    let mut marks = [0; MARKED];
+    for place in 0..MARKED {
+        mark_at(&mut marks, pairs, place);
+    }
+    marks
+}
+
+/// The place of the first record with a key among those with marks.
+pub fn find_marked(marks: &[u8; MARKED], pairs: &[Pair], key: &Key) -> Option<usize>
+    requires { IsMarked marks.now pairs.now }
+    ensures found { IfSome result (λ place. StandsFirst pairs.now place key.now) }
+    ensures absent { IfNone result (AbsentBelow pairs.now MARKED key.now) }
+{
+    let mut left = places_of(marks, key.mark());
+    while left != 0 {
+        let place = lowest(left);
+        if place >= MARKED || place >= pairs.len() {
+            return None;
+        }
+        if pairs[place].key == *key {
+            return Some(place);
+        }
+        left = without(left, place);
+    }
+    None
+}
+
+/// The places of a mark, as the bits that are set.
+#[inline]
+fn places_of(marks: &[u8; MARKED], mark: u8) -> u64
+    ensures { (i : ℕ) → i < MARKED → (bit_at result i ≡ 1) ↔ (slice_index marks.now i ≡ mark) }
+{
+    u8x32::from_array(*marks)
+        .simd_eq(u8x32::splat(mark))
+        .to_bitmask()
+}
+
+/// The lowest bit that is set.
+#[inline]
+fn lowest(bits: u64) -> usize
+    requires { bits ≢ 0 }
+    ensures within { result < 64 }
+    ensures set { bit_at bits result ≡ 1 }
+    ensures below { (i : ℕ) → i < result → bit_at bits i ≡ 0 }
+{
+    bits.trailing_zeros() as usize
+}
+
+/// The bits without one of them.
+#[inline]
+fn without(bits: u64, place: usize) -> u64
+    requires within { place < 64 }
+    requires set { bit_at bits place ≡ 1 }
+    ensures fewer { result < bits }
+    ensures others { (i : ℕ) → i < 64 → i ≢ place → bit_at result i ≡ bit_at bits i }
+{
+    bits & !(1 << place)
+}

@@ -1,0 +1,88 @@
+//! Reading a page from bytes.
+ghost use Rattle.std.specs.Prelude.{◌≡◌, ◌<◌, ◌≤◌, IfOk, IfSome, IfNone, option_map, length};
+ghost use Rattle.std.specs.Result.{result_err};
+ghost use Rattle.lh_page.specs.Limits.{IsCapacity};
+ghost use Rattle.lh_page.specs.PageFields.{page_of, pairs_of, used_of, bad_slot, fault_of, FirstFilled, UnusedAreZero};
+ghost use Rattle.lh_page.specs.PageTable.{slot};
+
+use crate::fault::PageFault;
+use crate::head::{is_zero, page_head};
+use crate::limits::LARGEST_PAGE;
+use crate::page::{Page, PageKind};
+use crate::pairs::Pairs;
+use crate::slot::read_slot;
+
+/// The page that 1,024 bytes show, with room for `capacity` records (1 to 14), or the first fault of the bytes.
+///
+/// All 14 slots are looked at, whatever the capacity is.
+#[tactic(auto, unfolding(crate::specs::PageFields::fault_of, crate::specs::PageFields::has_bad_kind))]
+pub fn page_from_bytes(bytes: &[u8; 1024], capacity: u32) -> Result<Page, PageFault>
+    requires { IsCapacity capacity }
+    ensures page { IfOk result (λ page. page ≡ page_of bytes.now) }
+    ensures fault { result_err result ≡ fault_of bytes.now capacity }
+{
+    let head = page_head(bytes);
+    let kind = match head.kind {
+        1 => PageKind::Primary,
+        2 => PageKind::Overflow,
+        _ => return Err(PageFault::Kind),
+    };
+    if !head.clear {
+        return Err(PageFault::Kind);
+    }
+    if head.used as u32 > capacity {
+        return Err(PageFault::Used);
+    }
+    let pairs = read_pairs(bytes, head.used as usize)?;
+    Ok(Page {
+        kind,
+        level: head.level,
+        bucket: head.bucket,
+        next: head.next,
+        pairs,
+    })
+}
+
+/// The records in the used slots, or the first faulty slot of all.
+fn read_pairs(bytes: &[u8; 1024], used: usize) -> Result<Pairs, PageFault>
+    requires few { used ≤ LARGEST_PAGE }
+    requires used { used ≡ used_of bytes.now }
+    ensures pairs { IfOk result (λ pairs. pairs ≡ pairs_of bytes.now) }
+    ensures fault { result_err result ≡ option_map PageFault.Slot (bad_slot bytes.now) }
+{
+    let mut pairs = Pairs::new();
+    for place in 0..used {
+        match read_slot(slot_at(bytes, place)) {
+            Some(pair) => pairs.push(pair),
+            None => return Err(PageFault::Slot(place)),
+        }
+    }
+    match first_filled(bytes, used) {
+        Some(place) => Err(PageFault::Slot(place)),
+        None => Ok(pairs),
+    }
+}
+
+/// The first slot from a place on that isn't all zeros.
+fn first_filled(bytes: &[u8; 1024], used: usize) -> Option<usize>
+    requires { used ≤ LARGEST_PAGE }
+    ensures found { IfSome result (λ place. FirstFilled bytes.now used place) }
+    ensures absent { IfNone result (UnusedAreZero bytes.now used LARGEST_PAGE) }
+{
+    for place in used..LARGEST_PAGE {
+        if !is_zero(slot_at(bytes, place)) {
+            return Some(place);
+        }
+    }
+    None
+}
+
+/// One of the slots.
+fn slot_at(bytes: &[u8; 1024], place: usize) -> &[u8]
+    requires { place < LARGEST_PAGE }
+    ensures slot { result.now ≡ slot bytes.now place }
+    ensures size { length result.now ≡ 72 }
+{
+    let start = 16 + 72 * place;
+    &bytes[start..start + 72]
+}

@@ -1,0 +1,129 @@
+//! Values: short byte strings that are kept in place and copied freely.
+ghost use Rattle.std.specs.Prelude.{◌≡◌, ℕ, ◌≤◌, ◌↔◌, List, [], length, Some, IsOk, IfOk, IfErr, nat_eq, refl};
+ghost use Rattle.std.specs.Ordering.{nat_cmp};
+ghost use Rattle.std.specs.Cmp.{partial_equiv_from_equiv};
+ghost use Rattle.std.specs.Cmp.Lexicographic.{pointwise, slice_cmp, nat_list_eq_equiv, nat_list_cmp_total, texts_po, texts_ties};
+ghost use Rattle.lh_page.specs.Limits.{IsValue};
+ghost use Rattle.lh_page.specs.Mark.{padded};
+
+use crate::limits::LONGEST_VALUE;
+use std::cmp::Ordering;
+use std::marker::Model;
+use thiserror::Error;
+
+/// A value of 0 to 40 bytes. Values are compared and ordered by their bytes, a value before its longer extensions.
+#[derive(Clone, Copy, Debug)]
+pub struct Value {
+    // Zeros stand behind the value's bytes.
+    bytes: [u8; LONGEST_VALUE],
+    len: u8,
+}
+
+impl Model for Value {
+    ghost use Rattle.std.specs.Prelude.{◌≡◌, ℕ, ◌≤◌, ◌-◌, ◌++◌, List, length, take, drop, replicate};
+    ghost use Rattle.std.proofs.Common.{ap, ◌∙◌, sym, arith, take-append-drop, length-take-le};
+
+    ghost Value = { List ℕ };
+
+    ghost view = { λ v. take v.len v.bytes };
+
+    ghost invariant = { λ v. (v.len ≤ 40) × (length v.bytes ≡ 40) × (drop v.len v.bytes ≡ replicate (40 - v.len) 0) };
+
+    ghost inverse = { λ b. record { bytes = b ++ replicate (40 - length b) 0; len = length b } };
+
+    ghost inverse_ok = { λ v h i. record {
+      bytes = (ap (λ n. take v.len v.bytes ++ replicate (40 - n) 0) (length-take-le v.len v.bytes (omega (arith, h.0, h.1))) ∙ (ap (λ r. take v.len v.bytes ++ r) (sym h.2) ∙ take-append-drop v.len v.bytes)) i;
+      len = length-take-le v.len v.bytes (omega (arith, h.0, h.1)) i;
+    } };
+}
+
+/// A length that no value has: more than 40 bytes (P2).
+#[derive(Clone, Copy, Debug, PartialEq, Eq, Error)]
+#[error("value length {length}")]
+pub struct ValueLength {
+    pub length: usize,
+}
+
+impl Value {
+    /// The value with these bytes.
+    pub fn new(bytes: &[u8]) -> Result<Self, ValueLength>
+        ensures variant { IsOk result ↔ IsValue bytes.now }
+        ensures ok { IfOk result (λ value. value ≡ bytes.now) }
+        ensures err { IfErr result (λ error. error.length ≡ length bytes.now) }
+    {
+        let length = bytes.len();
+        if length > LONGEST_VALUE {
+            return Err(ValueLength { length });
+        }
+        let mut padded = [0; LONGEST_VALUE];
+        for (i, byte) in bytes.iter().enumerate() {
+            padded[i] = *byte;
+        }
+        Ok(Value {
+            bytes: padded,
+            len: length as u8,
+        })
+    }
+
+    /// The value's bytes, with zeros behind them.
+    pub(crate) fn padded(&self) -> &[u8; LONGEST_VALUE]
+        ensures { result.now ≡ padded 40 self.now }
+    {
+        &self.bytes
+    }
+
+    /// The value without bytes.
+    pub(crate) fn empty() -> Self
+        ensures { result ≡ [] }
+    {
+        Value {
+            bytes: [0; LONGEST_VALUE],
+            len: 0,
+        }
+    }
+
+    pub fn bytes(&self) -> &[u8]
+        ensures value { result.now ≡ self.now }
+        ensures kept { IsValue self.now }
+    {
+        &self.bytes[..self.len as usize]
+    }
+}
+
+impl PartialEq for Value {
+    ghost eq = { pointwise nat_eq };
+
+    ghost laws = { partial_equiv_from_equiv nat_list_eq_equiv };
+
+    fn eq(&self, other: &Self) -> bool {
+        self.bytes() == other.bytes()
+    }
+}
+
+impl Eq for Value {
+    ghost laws = { nat_list_eq_equiv };
+}
+
+impl PartialOrd for Value {
+    ghost partial_cmp = { λ s t. Some (slice_cmp nat_cmp s t) };
+
+    ghost laws = { texts_po };
+
+    fn partial_cmp(&self, other: &Self) -> Option<Ordering> {
+        Some(self.cmp(other))
+    }
+}
+
+impl Ord for Value {
+    ghost cmp = { slice_cmp nat_cmp };
+
+    ghost total = { nat_list_cmp_total };
+
+    ghost matches_partial_cmp = { λ s t. refl };
+
+    ghost matches_eq = { texts_ties };
+
+    fn cmp(&self, other: &Self) -> Ordering {
+        self.bytes().cmp(other.bytes())
+    }
+}

@@ -1,0 +1,126 @@
+//! The same look-ups in each layout.
+use crate::layouts::Layout;
+use crate::record::{Record, key_of};
+use std::alloc::{AllocError, Global};
+use std::io;
+use std::time::Instant;
+
+/// How much is looked up in what.
+#[derive(Clone, Copy)]
+pub struct Size {
+    pub records: usize,
+    pub queries: usize,
+    /// Bytes in a key.
+    pub key: usize,
+    /// Records in a chain.
+    pub chain: usize,
+}
+
+#[derive(Drop)]
+struct Query<K> {
+    chain: usize,
+    key: K,
+}
+
+fn chains<L: Layout>(alloc: Global, size: Size) -> Result<Vec<L>, AllocError> {
+    let mut all = Vec::new(alloc);
+    let count = size.records.checked_div(size.chain).unwrap_or(1).max(1);
+    for _ in 0..count {
+        all.push(L::empty(alloc)?)?;
+    }
+    // Chains grow side by side, as in a file.
+    for place in 0..size.chain {
+        for (i, chain) in all.iter_mut().enumerate() {
+            let number = i.wrapping_mul(size.chain).wrapping_add(place);
+            chain.add(Record {
+                key: key_of(number, size.key),
+                value: [1; 41],
+            })?;
+        }
+    }
+    Ok(all)
+}
+
+/// Look-ups at random places: of keys that are there, or of none.
+fn queries<L: Layout>(
+    alloc: Global,
+    size: Size,
+    present: bool,
+) -> Result<Vec<Query<L::Sought>>, AllocError> {
+    let mut all = Vec::new(alloc);
+    let count = size.records.checked_div(size.chain).unwrap_or(1).max(1);
+    let mut state = 88172645463325252u64;
+    for _ in 0..size.queries {
+        state ^= state << 13;
+        state ^= state >> 7;
+        state ^= state << 17;
+        let chain = (state >> 33) as usize % count;
+        let place = (state >> 3) as usize & 63;
+        let number = chain
+            .wrapping_mul(size.chain)
+            .wrapping_add(place.checked_rem(size.chain).unwrap_or(0));
+        let shift = if present { 0 } else { 50_000_000 };
+        all.push(Query {
+            chain,
+            key: L::sought(&key_of(number.wrapping_add(shift), size.key)),
+        })?;
+    }
+    Ok(all)
+}
+
+#[inline(never)]
+fn found<L: Layout>(chains: &[L], queries: &[Query<L::Sought>]) -> usize {
+    let mut count = 0usize;
+    for query in queries {
+        if query.chain < chains.len() && chains[query.chain].find(&query.key).is_some() {
+            count = count.wrapping_add(1);
+        }
+    }
+    count
+}
+
+fn nanoseconds<L: Layout>(
+    rt: &HostRuntime,
+    chains: &[L],
+    queries: &[Query<L::Sought>],
+) -> io::Result<(usize, u64)> {
+    let mut least = u64::MAX;
+    let mut count = 0;
+    for _ in 0..5 {
+        let start = Instant::now(rt)?;
+        count = found(chains, queries);
+        let taken = u64::try_from(start.elapsed(rt)?.as_nanos()).unwrap_or(u64::MAX);
+        least = least.min(taken);
+    }
+    Ok((count, least))
+}
+
+/// Looks keys up in one layout and prints a line.
+pub fn run<L: Layout>(
+    rt: &HostRuntime,
+    place: &str,
+    name: &str,
+    size: Size,
+    timed: bool,
+) -> io::Result<()> {
+    let chains = chains::<L>(rt.alloc(), size)?;
+    let hits = queries::<L>(rt.alloc(), size, true)?;
+    let misses = queries::<L>(rt.alloc(), size, false)?;
+    if !timed {
+        let hit = found(&chains, &hits);
+        let miss = found(&chains, &misses);
+        return println!(rt; "{name}: {hit} found, {miss} found of none");
+    }
+    let (hit, hit_time) = nanoseconds(rt, &chains, &hits)?;
+    let (miss, miss_time) = nanoseconds(rt, &chains, &misses)?;
+    let queries = (size.queries as u64).max(1);
+    let tenths = hit_time.saturating_mul(10) / queries;
+    let miss_tenths = miss_time.saturating_mul(10) / queries;
+    let key = size.key;
+    let chain = size.chain;
+    let (a, b) = (tenths / 10, tenths % 10);
+    let (c, d) = (miss_tenths / 10, miss_tenths % 10);
+    println!(rt;
+        "{place} key {key} chain {chain} {name}: hit {a}.{b} ns, miss {c}.{d} ns ({hit}, {miss})"
+    )
+}
