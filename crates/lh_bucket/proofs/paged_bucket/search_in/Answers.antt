@@ -1,0 +1,10 @@
+use Rattle.std.proofs.Common.{sym, ap}
+use Rattle.lh_bucket.specs.PlainMap.{found}
+use Rattle.lh_bucket.proofs.Chained.{found_there, stands_nowhere}
+use Rattle.lh_bucket.proofs.paged_bucket.search_in.Goals as goal
+
+pub returns-in-Some : goal.returns-in-Some
+returns-in-Some c = sym (ap found (found_there c.args.chain.now.pairs c.args.key.now c.in-Some.place c.pair_at.result c.in-Some.ensures.place c.pair_at.ensures))
+
+pub returns-in-None : goal.returns-in-None
+returns-in-None c = sym (ap found (stands_nowhere c.args.chain.now.pairs c.args.key.now c.in-None.ensures.place))

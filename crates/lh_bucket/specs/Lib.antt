@@ -1,0 +1,11 @@
+pub mod Answer
+pub mod Bucket
+pub mod Laws
+pub mod Leaving
+pub mod Listing
+pub mod ListingFault
+pub mod PagedBucket
+pub mod PlainBucket
+pub mod PlainMap
+pub mod Records
+pub mod Verdict

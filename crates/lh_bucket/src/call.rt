@@ -1,0 +1,44 @@
+//! What a caller asks of a file, and what it is told.
+ghost use Rattle.std.specs.Prelude.{◌≡◌};
+ghost use Rattle.lh_bucket.specs.PlainMap.{key_of};
+
+use lh_page::{Key, Value};
+
+/// A call.
+#[derive(Clone, Copy, Debug, PartialEq, Eq)]
+pub enum Call {
+    /// Looks a key up.
+    Search(Key),
+    /// Adds a key with its value, unless the key is there.
+    Insert(Key, Value),
+    /// Removes a key with its value.
+    Delete(Key),
+}
+
+/// The reply to a call.
+#[derive(Clone, Copy, Debug, PartialEq, Eq)]
+pub enum Reply {
+    /// A search met this value.
+    Found(Value),
+    /// A search or a delete met no such key.
+    Absent,
+    /// An insert added its record.
+    Inserted,
+    /// An insert met its key, and changed nothing.
+    Exists,
+    /// A delete removed a record.
+    Deleted,
+}
+
+impl Call {
+    /// The key that the call is about.
+    pub fn key(&self) -> Key
+        ensures { result ≡ key_of self.now }
+    {
+        match self {
+            Call::Search(key) => *key,
+            Call::Insert(key, _) => *key,
+            Call::Delete(key) => *key,
+        }
+    }
+}

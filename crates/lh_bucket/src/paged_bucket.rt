@@ -1,0 +1,195 @@
+//! A bucket that is a packed chain of pages.
+ghost use Rattle.std.specs.Prelude.{not, ◌≡◌, ◌≤◌, IsOk, IfOk, OnOk, OnErr};
+ghost use Rattle.std.specs.List.{filter};
+ghost use Rattle.std.specs.FinMap.{get, retain_keys};
+ghost use Rattle.lh_addr.specs.Fnv.{code_of};
+ghost use Rattle.lh_bucket.specs.declared.call.Call.TheVariants.{Insert, Delete};
+ghost use Rattle.lh_bucket.specs.declared.verdict.Verdict.TheVariants.{Here};
+ghost use Rattle.lh_bucket.specs.PlainMap.{found, reply, after, key_of, IsInsert};
+ghost use Rattle.lh_bucket.specs.Records.{map_of};
+ghost use Rattle.lh_bucket.specs.PagedBucket.{served};
+
+use crate::answer::Answer;
+use crate::bucket::Bucket;
+use crate::call::{Call, Reply};
+use crate::leaving::Leaving;
+use crate::memory::Memory;
+use crate::verdict::{Verdict, verdict_of};
+use lh_addr::laws::hashes_are_nested;
+use lh_page::{Chain, Key, Pair, Value};
+use std::alloc::Global;
+use std::marker::Model;
+
+/// A bucket that is a packed chain of pages: its places are those of the chain. An insert puts its
+/// record last, a delete moves the last record into the hole, and a split keeps the order of the
+/// records that stay and of those that go.
+#[derive(Debug, Drop)]
+pub struct PagedBucket {
+    number: u32,
+    initial: u32,
+    level: Option<u8>,
+    chain: Chain,
+}
+
+impl Model for PagedBucket {
+    ghost use Rattle.lh_bucket.specs.Bucket.{Head, Seen, IsKept};
+
+    ghost Value = { Seen };
+
+    ghost view = { λ b. record { head = record { number = b.number; initial = b.initial; capacity = b.chain.capacity; level = b.level }; pairs = b.chain.pairs } };
+
+    ghost invariant = { λ b. IsKept (record { head = record { number = b.number; initial = b.initial; capacity = b.chain.capacity; level = b.level }; pairs = b.chain.pairs }) };
+}
+
+/// Answers a search at a chain.
+fn search_in(chain: &Chain, key: &Key) -> Reply
+    ensures { result ≡ found (get (map_of chain.now.pairs) key.now) }
+{
+    match chain.find(key) {
+        Some(place) => Reply::Found(chain.pair_at(place).value),
+        None => Reply::Absent,
+    }
+}
+
+/// Serves an insert at a chain.
+fn insert_into(chain: &mut Chain, key: Key, value: Value) -> Result<Reply, Memory>
+    ensures reply { IfOk result (λ r. r ≡ reply (map_of chain.old.pairs) (Insert key value)) }
+    ensures list { OnOk result (chain.new ≡ record chain.old { pairs = served chain.old.pairs (Insert key value) }) }
+    ensures err { OnErr result (chain.new ≡ chain.old) }
+{
+    match chain.find(&key) {
+        Some(_) => Ok(Reply::Exists),
+        None => {
+            chain.push(Pair { key, value })?;
+            Ok(Reply::Inserted)
+        }
+    }
+}
+
+/// Serves a delete at a chain.
+fn delete_from(chain: &mut Chain, key: &Key) -> Reply
+    ensures reply { result ≡ reply (map_of chain.old.pairs) (Delete key.now) }
+    ensures list { chain.new ≡ record chain.old { pairs = served chain.old.pairs (Delete key.now) } }
+{
+    match chain.find(key) {
+        Some(place) => {
+            chain.remove(place);
+            Reply::Deleted
+        }
+        None => Reply::Absent,
+    }
+}
+
+/// Serves a call at a chain.
+fn serve_at(chain: &mut Chain, call: &Call) -> Result<Reply, Memory>
+    ensures reply { IfOk result (λ r. r ≡ reply (map_of chain.old.pairs) call.now) }
+    ensures list { OnOk result (chain.new ≡ record chain.old { pairs = served chain.old.pairs call.now }) }
+    ensures no_memory { ¬ (IsInsert call.now) → IsOk result }
+    ensures err { OnErr result (chain.new ≡ chain.old) }
+{
+    match call {
+        Call::Search(key) => Ok(search_in(chain, key)),
+        Call::Insert(key, value) => insert_into(chain, *key, *value),
+        Call::Delete(key) => Ok(delete_from(chain, key)),
+    }
+}
+
+impl Bucket for PagedBucket {
+    ghost use Rattle.lh_bucket.specs.Bucket.{CanSplit, content, verdict, answer, raised, stays};
+
+    ghost seen = { λ b. b };
+
+    fn make(
+        alloc: Global,
+        initial: u32,
+        capacity: u32,
+        number: u32,
+        level: Option<u8>,
+    ) -> Result<Self, Memory> {
+        let chain = Chain::new(alloc, capacity)?;
+        Ok(PagedBucket {
+            number,
+            initial,
+            level,
+            chain,
+        })
+    }
+
+    fn number(&self) -> u32 {
+        self.number
+    }
+
+    fn initial(&self) -> u32 {
+        self.initial
+    }
+
+    fn capacity(&self) -> u32 {
+        self.chain.capacity()
+    }
+
+    fn level(&self) -> Option<u8> {
+        self.level
+    }
+
+    fn len(&self) -> usize {
+        self.chain.len()
+    }
+
+    fn pair_at(&self, place: usize) -> Pair {
+        self.chain.pair_at(place)
+    }
+
+    fn compare(&self, c: u64, k: u8) -> Verdict {
+        verdict_of(self.number, self.initial, self.level, c, k)
+    }
+
+    fn look(&self, call: &Call, k: u8) -> Answer {
+        let reply = search_in(&self.chain, &call.key());
+        Answer::new(*call, reply, self.number, k, self.initial)
+    }
+
+    fn serve(&mut self, call: &Call, k: u8) -> Result<Answer, Memory>
+        requires low { k ≤ 16 }
+        requires here { verdict self.old.head (code_of (key_of call.now)) k ≡ Here }
+        ensures answer { IfOk result (λ a. a ≡ answer self.old call.now k) }
+        ensures head { self.new.head ≡ self.old.head }
+        ensures content { OnOk result (content self.new ≡ after (content self.old) call.now) }
+        ensures order { OnOk result (self.new.pairs ≡ served self.old.pairs call.now) }
+        ensures no_memory { ¬ (IsInsert call.now) → IsOk result }
+        ensures err { OnErr result (self.new ≡ self.old) }
+    {
+        let reply = serve_at(&mut self.chain, call)?;
+        let _ = self.chain.len();
+        Ok(Answer::new(*call, reply, self.number, k, self.initial))
+    }
+
+    fn split_into(&mut self, new: &mut Self) -> Result<(), Memory>
+        requires { CanSplit self.old.head new.old.head }
+        ensures old_head { OnOk result (self.new.head ≡ raised self.old.head self.old.head) }
+        ensures new_head { OnOk result (new.new.head ≡ raised self.old.head new.old.head) }
+        ensures old_content { OnOk result (content self.new ≡ retain_keys (content self.old) (stays self.old.head)) }
+        ensures new_content { OnOk result (content new.new ≡ retain_keys (content self.old) (λ key. not (stays self.old.head key))) }
+
+        // Each keeps the order of its records.
+        ensures old_order { OnOk result (self.new.pairs ≡ filter (λ p. stays self.old.head p.key) self.old.pairs) }
+        ensures new_order { OnOk result (new.new.pairs ≡ filter (λ p. not (stays self.old.head p.key)) self.old.pairs) }
+
+        ensures old_unchanged { OnErr result (self.new ≡ self.old) }
+        ensures new_unchanged { OnErr result (new.new ≡ new.old) }
+    {
+        hashes_are_nested();
+        let level = self.level.unwrap_or(0) + 1;
+        let leaving = Leaving {
+            initial: self.initial,
+            level,
+            number: self.number,
+        };
+        let gone = self.chain.split_off(&leaving)?;
+        let _ = self.chain.len();
+        let _ = gone.len();
+        self.level = Some(level);
+        new.chain = gone;
+        new.level = Some(level);
+        Ok(())
+    }
+}
