@@ -1,5 +1,4 @@
 -- Keys that stand twice in a list, and places in lists of lists.
-use Rattle.std.specs.Prelude.{sum_by}
 use Rattle.std.proofs.Common.{◌≡◌, ℕ, zero, suc, ◌+◌, ◌<◌, ◌≤◌, Bool, true, false, cond, ◌⊎◌, inl, inr, ⊎_elim, List, [], ◌∷◌, map, length, get_or, refl, sym, ap, subst, ◌∙◌, arith}
 use Rattle.std.specs.Bool.{IsTrue}
 use Rattle.std.specs.Ordering.{nat_cmp}
@@ -9,13 +8,13 @@ use Rattle.std.proofs.lemmas.Bool.{cases_lt, false≢true, false_from_ne_true}
 use Rattle.std.proofs.lemmas.List.{get_or_default, length-map, length-replicate}
 use Rattle.std.proofs.Math.ListN.{get_or-map, replicate}
 use Rattle.std.proofs.lemmas.Map.Keys.{IsDistinct-from_apart}
-use Rattle.std.specs.List.{IsDistinct, fold}
+use Rattle.std.specs.List.{IsDistinct}
 use Rattle.std.specs.Str.{bytes_eq}
 use Rattle.lh_addr.specs.Settings.{Settings, IsInRange}
 use Rattle.std.proofs.lemmas.Slice.Eq.{bytes_eq-Decides}
 use Rattle.lh_page.specs.declared.pair.Pair.{Pair}
 use Rattle.lh_page.specs.Records.{keys_of, key_at, no_pair}
-use Rattle.lh_bucket.specs.Listing.{PlaceFact, IsNew, IsHome, IsShape, IsListing, EachPlace, count_of, list_at}
+use Rattle.lh_bucket.specs.Listing.{PlaceFact, IsNew, IsHome, IsShape, IsListing, EachPlace, list_at}
 use Rattle.lh_bucket.proofs.MapOf.{equals}
 
 -- the key of a record that a loop reads
@@ -123,11 +122,3 @@ listing_empty config range =
       home = λ b p within. nowhere config.initial b p within;
       distinct = λ b. distinct_new (list_at (replicate config.initial []) b) (λ p within. nowhere config.initial b p within);
     }
-
-counted_from : {V : Type 0} (f : V → List Pair) (n : ℕ) (vs : List V) → fold (λ a ps. a + length ps) n (map f vs) ≡ fold (λ a v. a + length (f v)) n vs
-counted_from f n [] = refl
-counted_from f n (v ∷ vs) = counted_from f (n + length (f v)) vs
-
--- the number of records, counted over what holds the lists
-pub count_of-map : {V : Type 0} (f : V → List Pair) (vs : List V) → count_of (map f vs) ≡ sum_by (λ v. length (f v)) vs
-count_of-map f vs = counted_from f 0 vs

@@ -224,8 +224,9 @@ fn split_again<B: Bucket>(rt: &impl Abort, old: &mut B, new: &mut B) -> Result<(
 fn growth_may_be_refused<B: Bucket>(rt: &impl Abort, alloc: Global) -> Result<(), Fail> {
     let mut old = B::make(alloc, 1, 1, 0, Some(0))?;
     let mut new = B::make(alloc, 1, 1, 1, None)?;
-    fill(&mut old, b"abcde", 0)?;
-    insert_again(rt, &mut old, pair(b"f", b"1")?)?;
+    for key in b"abcdef" {
+        insert_again(rt, &mut old, pair(&[*key], b"1")?)?;
+    }
     split_again(rt, &mut old, &mut new)?;
     assert_eq!(rt; old.len(), 3);
     assert_eq!(rt; new.len(), 3);

@@ -1,0 +1,14 @@
+pub mod Steps
+pub mod Tied
+pub mod Spans
+pub mod Aiming
+pub mod Histories
+pub mod PlainMaps
+pub mod Placing
+pub mod Begin
+pub mod Stepping
+pub mod Leading
+pub mod Running
+pub mod Alone
+pub mod Serving
+pub mod Listed

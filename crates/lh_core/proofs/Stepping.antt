@@ -1,0 +1,143 @@
+-- One step of the world, put together
+use Rattle.std.proofs.Common.{◌≡◌, ℕ, ◌+◌, ◌<◌, true, List, Option, Some, None, Result, Ok, Err, refl, sym, ap, subst, ◌∙◌, inl, inr}
+use Rattle.std.specs.Result.{IsOk, OnErr}
+use Rattle.lh_addr.specs.Settings.{Settings, IsInRange}
+use Rattle.lh_addr.specs.Extent.{Extent}
+use Rattle.lh_bucket.specs.declared.call.Call.{Call}
+use Rattle.lh_bucket.specs.declared.call.Call.TheVariants.{Search, Insert, Delete}
+use Rattle.lh_bucket.specs.declared.call.Reply.{Reply}
+use Rattle.lh_bucket.specs.Bucket.{Seen}
+use Rattle.lh_bucket.specs.PlainMap.{Records, reply, after, IsInsert}
+use Rattle.lh_core.specs.declared.control.Control.{Control}
+use Rattle.lh_core.specs.declared.control.Act.{Act}
+use Rattle.lh_core.specs.declared.state.SplitState.{SplitState}
+use Rattle.lh_core.specs.declared.state.SplitState.TheVariants as split
+use Rattle.lh_core.specs.declared.effect.Effect.{Effect}
+use Rattle.lh_core.specs.declared.effect.Effect.TheVariants as effect
+use Rattle.lh_core.specs.declared.effect.Refusal.{Refusal}
+use Rattle.lh_core.specs.declared.effect.Refusal.TheVariants.{Memory}
+use Rattle.lh_core.specs.declared.event.Event.{Event}
+use Rattle.lh_core.specs.declared.event.Event.TheVariants as event
+use Rattle.lh_core.specs.State.{State, with_moved}
+use Rattle.lh_core.specs.Rules.{allowed}
+use Rattle.lh_core.specs.Log.{reply_of}
+use Rattle.lh_core.specs.History.{outline, call_held, served_by, is_insert}
+use Rattle.lh_core.specs.Sound.{IsSound, IsPhase}
+use Rattle.lh_core.specs.Kept.{IsRow, IsWorld}
+use Rattle.lh_core.specs.Control.{IsControl, KeepsFile, IsActOf, IsTold, IsQuiet, state_of, step_to, acted as acted_state, world_of}
+use Rattle.lh_core.specs.Laws.{LinearHashing}
+use Rattle.lh_core.specs.World.{WorldSeen, IsPlaced, IsStep, StandsFor, reply_to, map_after}
+use Rattle.lh_core.proofs.Aiming.{sound_ok}
+
+told_outline : (f : Effect) → IsTold f → Some f ≡ outline f
+told_outline effect.Called t = refl
+told_outline (effect.Aim k m) t = refl
+told_outline (effect.Locked m l) t = refl
+told_outline (effect.Answered r) t = absurd t
+told_outline effect.Released t = refl
+told_outline effect.GivenUp t = refl
+told_outline (effect.Begun n m) t = refl
+told_outline (effect.Both n m) t = refl
+told_outline (effect.Moved n m) t = refl
+told_outline effect.Freed t = refl
+told_outline (effect.Point n) t = refl
+told_outline effect.Dropped t = refl
+
+told_reply : (f : Effect) → IsTold f → reply_of f ≡ None
+told_reply effect.Called t = refl
+told_reply (effect.Aim k m) t = refl
+told_reply (effect.Locked m l) t = refl
+told_reply (effect.Answered r) t = absurd t
+told_reply effect.Released t = refl
+told_reply effect.GivenUp t = refl
+told_reply (effect.Begun n m) t = refl
+told_reply (effect.Both n m) t = refl
+told_reply (effect.Moved n m) t = refl
+told_reply effect.Freed t = refl
+told_reply (effect.Point n) t = refl
+told_reply effect.Dropped t = refl
+
+serves_none : (a : State) (e : Event) → IsQuiet e → served_by a e ≡ None
+serves_none a (event.Call w c) q = refl
+serves_none a (event.Read w) q = refl
+serves_none a (event.Lock w) q = refl
+serves_none a (event.Rehash w) q = refl
+serves_none a (event.Act w) q = absurd q
+serves_none a (event.Release w) q = refl
+serves_none a event.SplitBegin q = refl
+serves_none a event.SplitLock q = refl
+serves_none a event.SplitMove q = absurd q
+serves_none a event.SplitRelease q = refl
+serves_none a event.SplitPoint q = refl
+serves_none a event.SplitDrop q = refl
+
+pub refused : (v : WorldSeen) (e : Event) (r : Refusal) → allowed v.config v.state e ≡ Err r → IsStep v e (Err r) v
+refused v e r h = record { config = refl; ruled = (refl, inl h); follows = λ m p. p }
+
+-- want of memory
+is_ok : {X E : Type 0} {r : Result X E} {x : X} → r ≡ Ok x → IsOk r
+is_ok e = subst IsOk (sym e) refl
+
+insert_is : (c : Call) → IsInsert c → is_insert (Some c) ≡ true
+insert_is (Search k) h = absurd h
+insert_is (Insert k v) h = refl
+insert_is (Delete k) h = absurd h
+
+module _ (c d : Control) (row : List Seen) where
+  pub after_step : LinearHashing → (rows : List Seen) (e : Event) (o : Option Effect) → IsControl c → IsWorld (world_of c row) → KeepsFile c d → allowed c.config (state_of c) e ≡ Ok (o, state_of d) → IsRow c.config d.filled.buckets rows → IsControl d × IsWorld (world_of d rows)
+  after_step g rows e o h w r ok q =
+      let sound : IsSound d.config (state_of d) = subst (λ s. IsSound s (state_of d)) (sym r.config) (sound_ok g c.config (state_of c) h.sound o (state_of d) e ok) in (
+        record { root = r.root ∙ h.root ∙ ap (λ (s : Settings). s.initial) (sym r.config); filled = r.filled ∙ h.filled ∙ ap (λ (s : Settings). s.initial) (sym r.config); sound = sound },
+        record { range = subst (λ (s : Settings). IsInRange s) (sym r.config) w.range; sound = sound; row = subst (λ (s : Settings). IsRow s d.filled.buckets rows) (sym r.config) q },
+      )
+
+  pub after_turn : LinearHashing → (e : Event) (x : Result Effect Refusal) → IsControl c → IsWorld (world_of c row) → KeepsFile c d → d.filled ≡ c.filled → step_to x d ≡ allowed c.config (state_of c) e → OnErr x (d ≡ c) → IsControl d × IsWorld (world_of d row)
+  after_turn g e (Ok f) h w r same ok err = after_step g row e (Some f) h w r (sym ok) (subst (λ (x : Extent). IsRow c.config x.buckets row) (sym same) w.row)
+  after_turn g e (Err f) h w r same ok err = subst (λ (x : Control). IsControl x × IsWorld (world_of x row)) (sym err) (h, w)
+
+  placed_same : (m : Records) (rows : List Seen) → KeepsFile c d → d.filled ≡ c.filled → IsPlaced c.config.initial c.filled.buckets m rows → StandsFor (world_of d rows) m
+  placed_same m rows r f p = subst (λ (s : Settings). IsPlaced s.initial d.filled.buckets m rows) (sym r.config) (subst (λ (x : Extent). IsPlaced c.config.initial x.buckets m rows) (sym f) p)
+
+  pub turned : (e : Event) (f : Effect) → IsQuiet e → IsTold f → KeepsFile c d → d.filled ≡ c.filled → Ok (Some f, state_of d) ≡ allowed c.config (state_of c) e → IsStep (world_of c row) e (Ok f) (world_of d row)
+  turned e f q t r same ok = record {
+    config = r.config;
+    ruled = sym ok ∙ ap (λ o. Ok (o, state_of d)) (told_outline f t);
+    follows = λ m p. (
+      told_reply f t ∙ ap (reply_to m) (sym (serves_none (state_of c) e q)),
+      subst (StandsFor (world_of d row)) (ap (map_after m) (sym (serves_none (state_of c) e q))) (placed_same m row r same p),
+    );
+  }
+
+  pub acted : (w : ℕ) (act : Act) (y : Reply) (rows : List Seen) → IsActOf c w act → KeepsFile c d → d.filled ≡ c.filled → allowed c.config (state_of c) (event.Act w) ≡ Ok (None, acted_state (state_of c) w act) → state_of d ≡ acted_state (state_of c) w act → ((m : Records) → StandsFor (world_of c row) m → y ≡ reply m act.call) → ((m : Records) → StandsFor (world_of c row) m → IsPlaced c.config.initial c.filled.buckets (after m act.call) rows) → IsStep (world_of c row) (event.Act w) (Ok (effect.Answered y)) (world_of d rows)
+  acted w act y rows i r same ok state told stands =
+      let calls : served_by (state_of c) (event.Act w) ≡ Some act.call = ap call_held i.held in
+      record {
+        config = r.config;
+        ruled = ok ∙ ap (λ b. Ok (None, b)) (sym state);
+        follows = λ m p. (
+          ap Some (told m p) ∙ ap (reply_to m) (sym calls),
+          subst (StandsFor (world_of d rows)) (ap (map_after m) (sym calls)) (placed_same (after m act.call) rows r same (stands m p)),
+        );
+      }
+
+  pub act_wanted : (w : ℕ) (act : Act) → IsActOf c w act → allowed c.config (state_of c) (event.Act w) ≡ Ok (None, acted_state (state_of c) w act) → IsInsert act.call → IsStep (world_of c row) (event.Act w) (Err Memory) (world_of c row)
+  act_wanted w act i ok insert =
+      let calls : served_by (state_of c) (event.Act w) ≡ Some act.call = ap call_held i.held in
+      record { config = refl; ruled = (refl, inr (refl, ap is_insert calls ∙ insert_is act.call insert, is_ok ok)); follows = λ m p. p }
+
+  pub moved : (f : Effect) (rows : List Seen) → IsTold f → KeepsFile c d → state_of d ≡ with_moved (state_of c) → allowed c.config (state_of c) event.SplitMove ≡ Ok (Some f, with_moved (state_of c)) → ((m : Records) → StandsFor (world_of c row) m → IsPlaced c.config.initial (c.root.buckets + 1) m rows) → IsStep (world_of c row) event.SplitMove (Ok f) (world_of d rows)
+  moved f rows t r state ok stands = record {
+    config = r.config;
+    ruled = ok ∙ ap (λ o. Ok (o, with_moved (state_of c))) (told_outline f t) ∙ ap (λ b. Ok (outline f, b)) (sym state);
+    follows = λ m p. (
+      told_reply f t,
+      subst (λ (s : Settings). IsPlaced s.initial d.filled.buckets m rows) (sym r.config) (subst (λ n. IsPlaced c.config.initial n m rows) (sym (ap (λ (z : State). z.filled) state)) (stands m p)),
+    );
+  }
+
+  pub move_wanted : (f : Effect) → allowed c.config (state_of c) event.SplitMove ≡ Ok (Some f, with_moved (state_of c)) → IsStep (world_of c row) event.SplitMove (Err Memory) (world_of c row)
+  move_wanted f ok = record { config = refl; ruled = (refl, inr (refl, refl, is_ok ok)); follows = λ m p. p }
+
+-- before a move, the root counts the filled buckets, and there may be more
+pub locked_phase : (s : Settings) (n f : ℕ) (x : SplitState) → x ≡ split.Locked → IsPhase s n f x → (f ≡ n) × (n < s.max)
+locked_phase s n f x e p = let q : IsPhase s n f split.Locked = subst (IsPhase s n f) e p in q

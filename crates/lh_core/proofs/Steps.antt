@@ -1,0 +1,97 @@
+-- Steps that were accepted, and the places that they leave alone
+use Rattle.std.proofs.Common.{◌≡◌, ℕ, ◌<◌, ◌≢◌, Bool, true, false, cond, List, Option, Some, None, Result, Ok, Err, length, set, nat_eq, sym, ap, subst, ◌∙◌, arith, eq-eqb, refl}
+use Rattle.std.specs.Prelude.{slice_get}
+use Rattle.std.specs.List.{All}
+use Rattle.std.proofs.lemmas.Option.{slice_get-get_or, slice_get_within, get_or_from_slice_get}
+use Rattle.std.proofs.lemmas.List.{length-set, get_or-set_same, get_or-set_other}
+use Rattle.std.proofs.lemmas.Bool.Decides.{nat_tests}
+use Rattle.lh_core.specs.declared.effect.Effect.{Effect}
+use Rattle.lh_core.specs.declared.effect.Effect.TheVariants as effect
+use Rattle.lh_core.specs.declared.event.Event.{Event}
+use Rattle.lh_core.specs.declared.event.Event.TheVariants as event
+use Rattle.lh_core.specs.declared.state.WorkerState.{WorkerState}
+use Rattle.lh_core.specs.State.{State, with_place}
+use Rattle.lh_core.specs.Rules.{Moved, put, put_at}
+use Rattle.lh_core.specs.History.{outline}
+
+pub err_ok : {X E G : Type 0} {r : E} {x : X} → ◌≡◌ {A = Result X E} (Err r) (Ok x) → G
+err_ok e = cc
+
+pub ok_same : {X E : Type 0} {x y : X} → ◌≡◌ {A = Result X E} (Ok x) (Ok y) → x ≡ y
+ok_same e = cc
+
+pub some_same : {X : Type 0} {x y : X} → Some x ≡ Some y → x ≡ y
+some_same e = cc
+
+pub none_some : {X G : Type 0} {x : X} → None ≡ Some x → G
+none_some e = cc
+
+-- what an accepted step became, and what it told
+pub became : {X Y E : Type 0} {p q : X × Y} → ◌≡◌ {A = Result (X × Y) E} (Ok p) (Ok q) → p.1 ≡ q.1
+became e = ap (λ z. z.1) (ok_same e)
+
+pub told : {X Y E : Type 0} {p q : X × Y} → ◌≡◌ {A = Result (X × Y) E} (Ok p) (Ok q) → p.0 ≡ q.0
+told e = ap (λ z. z.0) (ok_same e)
+
+-- past a test that could refuse
+pub passed : {X E : Type 0} (b : Bool) (r : E) (x y : X) → ◌≡◌ {A = Result X E} (cond b (Err r) (Ok x)) (Ok y) → (b ≡ false) × (◌≡◌ {A = Result X E} (Ok x) (Ok y))
+passed true r x y e = err_ok e
+passed false r x y e = (refl, e)
+
+step_put : (a : State) (w : ℕ) (p : Moved) (o : Option Effect) (b : State) → put a w p ≡ Ok (o, b) → (y : WorkerState) × (p ≡ Ok (o, y)) × (b ≡ with_place a w y)
+step_put a w (Ok p) o b e = (p.1, ap (λ z. Ok (z, p.1)) (told e), sym (became e))
+step_put a w (Err r) o b e = err_ok e
+
+-- an accepted step of a place
+pub step_at : (a : State) (w : ℕ) (step : WorkerState → Moved) (z : Option WorkerState) (o : Option Effect) (b : State) → put_at a w step z ≡ Ok (o, b) → (x : WorkerState) × (y : WorkerState) × (z ≡ Some x) × (step x ≡ Ok (o, y)) × (b ≡ with_place a w y)
+step_at a w step None o b e = err_ok e
+step_at a w step (Some x) o b e = let h = step_put a w (step x) o b e in (x, h.0, refl, h.1, h.2)
+
+-- an effect that isn't a reply is the one told
+pub outlined : (f g : Effect) → Some g ≡ outline f → f ≡ g
+outlined effect.Called g e = cc
+outlined (effect.Aim k m) g e = cc
+outlined (effect.Locked k m) g e = cc
+outlined (effect.Answered r) g e = cc
+outlined effect.Released g e = cc
+outlined effect.GivenUp g e = cc
+outlined (effect.Begun k m) g e = cc
+outlined (effect.Both k m) g e = cc
+outlined (effect.Moved k m) g e = cc
+outlined effect.Freed g e = cc
+outlined (effect.Point k) g e = cc
+outlined effect.Dropped g e = cc
+
+-- an event that isn't of a place
+abbrev pub IsOther : ℕ → Event → Type 0
+IsOther w (event.Call v c) = v ≢ w
+IsOther w (event.Read v) = v ≢ w
+IsOther w (event.Lock v) = v ≢ w
+IsOther w (event.Rehash v) = v ≢ w
+IsOther w (event.Act v) = v ≢ w
+IsOther w (event.Release v) = v ≢ w
+IsOther w _ = Unit {0}
+
+pub other_eq : (v w : ℕ) → v ≢ w → nat_eq v w ≡ false
+other_eq v w d = grind (arith, nat_tests)
+
+pub same_eq : (v w : ℕ) → nat_eq v w ≡ true → v ≡ w
+same_eq v w e = grind (arith, nat_tests)
+
+pub other_cond : {X : Type 0} (v w : ℕ) (x y : X) → v ≢ w → cond (nat_eq v w) x y ≡ y
+other_cond v w x y d = ap (λ b. cond b x y) (other_eq v w d)
+
+pub same_cond : {X : Type 0} (v : ℕ) (x y : X) → cond (nat_eq v v) x y ≡ x
+same_cond v x y = ap (λ b. cond b x y) (eq-eqb v v refl)
+
+pub all_at : {X : Type 0} (P : X → Type 0) (xs : List X) (i : ℕ) (x : X) → All P xs → slice_get xs i ≡ Some x → P x
+all_at P xs i x h e = subst P (get_or_from_slice_get xs i x x e) (h i x (slice_get_within xs i x e))
+
+-- a place that was written, and the others
+pub written : {X : Type 0} (xs : List X) (w : ℕ) (y x : X) → w < length xs → slice_get (set xs w y) w ≡ Some x → y ≡ x
+written xs w y x lt e = some_same (sym (slice_get-get_or (set xs w y) w y (subst (λ n. w < n) (sym (length-set xs w y)) lt) ∙ ap Some (get_or-set_same xs w y y lt)) ∙ e)
+
+pub unwritten : {X : Type 0} (xs : List X) (w v : ℕ) (y x : X) → v ≢ w → slice_get (set xs w y) v ≡ Some x → slice_get xs v ≡ Some x
+unwritten xs w v y x d e =
+    let lt : v < length xs = subst (λ n. v < n) (length-set xs w y) (slice_get_within (set xs w y) v x e) in
+    slice_get-get_or xs v x lt ∙ ap Some (sym (get_or-set_other xs w v y x d) ∙ get_or_from_slice_get (set xs w y) v x x e)

@@ -1,0 +1,16 @@
+pub mod Aims
+pub mod Control
+pub mod Headline
+pub mod History
+pub mod Holds
+pub mod Kept
+pub mod Laws
+pub mod Log
+pub mod Rises
+pub mod Rules
+pub mod Serial
+pub mod Sound
+pub mod Spans
+pub mod Splits
+pub mod State
+pub mod World

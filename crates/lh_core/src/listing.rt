@@ -1,0 +1,64 @@
+//! The listing of a world.
+ghost use Rattle.std.specs.Prelude.{◌≡◌, ℕ, ◌<◌, map, length, IfOk, OnOk};
+ghost use Rattle.lh_bucket.specs.Bucket.{IsKept};
+ghost use Rattle.lh_core.specs.declared.state.SplitState.TheVariants as split;
+ghost use Rattle.lh_core.specs.World.{bucket_at};
+
+use crate::laws::linear_hashing;
+use crate::memory::Memory;
+use crate::world::World;
+use lh_bucket::{Bucket, Listing, ListingFault};
+use lh_page::Pair;
+use std::alloc::Global;
+
+/// The records of a bucket, in the order of their places.
+fn pairs_of<B: Bucket>(alloc: Global, bucket: &B) -> Result<Vec<Pair>, Memory>
+    ensures pairs { IfOk result (λ pairs. pairs.items ≡ (B.seen bucket.now).pairs) }
+    ensures kept { IsKept (B.seen bucket.now) }
+{
+    let count = bucket.len();
+    let mut pairs = Vec::with_capacity(alloc, count)?;
+    for place in 0..count {
+        pairs.push(bucket.pair_at(place))?;
+    }
+    Ok(pairs)
+}
+
+/// The records of each bucket of a row.
+fn lists_of<B: Bucket>(alloc: Global, buckets: &[B]) -> Result<Vec<Vec<Pair>>, Memory>
+    ensures lists { IfOk result (λ lists. map (λ v. v.items) lists.items ≡ map (λ b. (B.seen b).pairs) buckets.now) }
+    ensures kept { OnOk result ((i : ℕ) → i < length buckets.now → IsKept (bucket_at (map B.seen buckets.now) i)) }
+{
+    let mut lists = Vec::with_capacity(alloc, buckets.len())?;
+    for bucket in buckets {
+        let pairs = pairs_of(alloc, bucket)?;
+        lists.push(pairs)?;
+    }
+    Ok(lists)
+}
+
+impl<B: Bucket> World<B> {
+    /// The whole file, where no split is under way: its configuration, and the records of each
+    /// bucket in the order of their places. A place that has a call doesn't stand in the way.
+    pub fn listing(&self) -> Result<Listing, Memory>
+        requires { self.now.state.splitter ≡ split.Idle }
+        ensures { IfOk result (λ listing. listing ≡ record { config = self.now.config; lists = map (λ b. b.pairs) self.now.buckets }) }
+    {
+        linear_hashing();
+        self.is_kept();
+        let alloc = *self.buckets.allocator();
+        let lists = lists_of(alloc, &self.buckets)?;
+        match Listing::new(
+            alloc,
+            self.control.config,
+            self.control.root.buckets(),
+            lists,
+        ) {
+            Ok(listing) => Ok(listing),
+            Err(fault) => match fault {
+                ListingFault::Memory => Err(Memory),
+                _ => unreachable!(),
+            },
+        }
+    }
+}

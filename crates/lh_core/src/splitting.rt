@@ -1,0 +1,201 @@
+//! The steps of the splitter, and the choice among all quiet steps.
+ghost use Rattle.std.specs.Prelude.{◌≡◌, ◌+◌, ◌<◌, Ok, Err, Some, IfOk, IfErr, OnErr};
+ghost use Rattle.lh_core.specs.declared.event.Event.TheVariants as event;
+ghost use Rattle.lh_core.specs.declared.state.SplitState.TheVariants as split;
+ghost use Rattle.lh_core.specs.State.{with_splitter, with_moved};
+ghost use Rattle.lh_core.specs.Rules.{begin_split, lock_both, free_both, point, drop_split, allowed};
+ghost use Rattle.lh_core.specs.Control.{IsControl, IsTold, IsQuiet, KeepsFile, state_of, step_to};
+
+use crate::control::Control;
+use crate::effect::{Effect, Refusal};
+use crate::event::Event;
+use crate::state::SplitState;
+use lh_addr::Root;
+
+impl Control {
+    fn begin_split(&mut self) -> Result<Effect, Refusal>
+        requires { IsControl self.old }
+        ensures value { step_to result self.new ≡ begin_split self.old.config (state_of self.old) self.old.splitter }
+        ensures told { IfOk result IsTold }
+        ensures keeps { KeepsFile self.old self.new }
+        ensures filled { self.new.filled ≡ self.old.filled }
+        ensures err { OnErr result (self.new ≡ self.old) }
+    {
+        match self.splitter {
+            SplitState::Idle => {
+                if self.root.buckets() == self.config.max() {
+                    Err(Refusal::FileFull)
+                } else {
+                    let old = self.root.pointer();
+                    let new = self.root.buckets();
+                    self.splitter = SplitState::Begun;
+                    Ok(Effect::Begun { old, new })
+                }
+            }
+            _ => Err(Refusal::SplitBusy),
+        }
+    }
+
+    fn lock_both(&mut self) -> Result<Effect, Refusal>
+        requires { IsControl self.old }
+        ensures value { step_to result self.new ≡ lock_both self.old.config (state_of self.old) self.old.splitter }
+        ensures told { IfOk result IsTold }
+        ensures keeps { KeepsFile self.old self.new }
+        ensures filled { self.new.filled ≡ self.old.filled }
+        ensures err { OnErr result (self.new ≡ self.old) }
+    {
+        match self.splitter {
+            SplitState::Begun => {
+                let old = self.root.pointer();
+                let new = self.root.buckets();
+                if self.is_held(old) {
+                    Err(Refusal::Held)
+                } else {
+                    self.splitter = SplitState::Locked;
+                    Ok(Effect::Both { old, new })
+                }
+            }
+            _ => Err(Refusal::WrongState),
+        }
+    }
+
+    /// The effect of dividing the records of a split, if that is allowed now.
+    pub(crate) fn moving(&self) -> Result<Effect, Refusal>
+        requires { IsControl self.now }
+        ensures allowed { IfOk result (λ effect. allowed self.now.config (state_of self.now) event.SplitMove ≡ Ok (Some effect, with_moved (state_of self.now))) }
+        ensures told { IfOk result IsTold }
+        ensures locked { IfOk result (λ _. self.now.splitter ≡ split.Locked) }
+        ensures refused { IfErr result (λ r. allowed self.now.config (state_of self.now) event.SplitMove ≡ Err r) }
+    {
+        match self.splitter {
+            SplitState::Locked => {
+                let old = self.root.pointer();
+                let new = self.root.buckets();
+                Ok(Effect::Moved { old, new })
+            }
+            _ => Err(Refusal::WrongState),
+        }
+    }
+
+    /// The root of a file with one bucket more.
+    fn grown(&self) -> Root
+        requires control { IsControl self.now }
+        requires room { self.now.root.buckets < self.now.config.max }
+        ensures buckets { result.buckets ≡ self.now.root.buckets + 1 }
+        ensures initial { result.initial ≡ self.now.config.initial }
+    {
+        let _ = self.config.max();
+        match Root::new(self.config.initial(), self.root.buckets() + 1) {
+            Some(root) => root,
+            None => unreachable!(),
+        }
+    }
+
+    /// Notes that the records of a split are divided.
+    pub(crate) fn note_move(&mut self)
+        requires control { IsControl self.old }
+        requires room { self.old.root.buckets < self.old.config.max }
+        ensures state { state_of self.new ≡ with_moved (state_of self.old) }
+        ensures keeps { KeepsFile self.old self.new }
+    {
+        self.filled = self.grown();
+        self.splitter = SplitState::LockedMoved;
+    }
+
+    fn free_both(&mut self) -> Result<Effect, Refusal>
+        ensures value { step_to result self.new ≡ free_both (state_of self.old) self.old.splitter }
+        ensures told { IfOk result IsTold }
+        ensures keeps { KeepsFile self.old self.new }
+        ensures filled { self.new.filled ≡ self.old.filled }
+        ensures err { OnErr result (self.new ≡ self.old) }
+    {
+        match self.splitter {
+            SplitState::Locked => {
+                self.splitter = SplitState::Begun;
+                Ok(Effect::Freed)
+            }
+            SplitState::LockedMoved => {
+                self.splitter = SplitState::Moved;
+                Ok(Effect::Freed)
+            }
+            _ => Err(Refusal::WrongState),
+        }
+    }
+
+    fn point(&mut self) -> Result<Effect, Refusal>
+        requires { IsControl self.old }
+        ensures value { step_to result self.new ≡ point (state_of self.old) self.old.splitter }
+        ensures told { IfOk result IsTold }
+        ensures keeps { KeepsFile self.old self.new }
+        ensures filled { self.new.filled ≡ self.old.filled }
+        ensures err { OnErr result (self.new ≡ self.old) }
+    {
+        match self.splitter {
+            SplitState::Moved => {
+                self.root = self.filled;
+                self.splitter = SplitState::Idle;
+                Ok(Effect::Point {
+                    buckets: self.filled.buckets(),
+                })
+            }
+            _ => Err(Refusal::WrongState),
+        }
+    }
+
+    fn drop_split(&mut self) -> Result<Effect, Refusal>
+        ensures value { step_to result self.new ≡ drop_split (state_of self.old) self.old.splitter }
+        ensures told { IfOk result IsTold }
+        ensures keeps { KeepsFile self.old self.new }
+        ensures filled { self.new.filled ≡ self.old.filled }
+        ensures err { OnErr result (self.new ≡ self.old) }
+    {
+        match self.splitter {
+            SplitState::Begun => {
+                self.splitter = SplitState::Idle;
+                Ok(Effect::Dropped)
+            }
+            _ => Err(Refusal::WrongState),
+        }
+    }
+
+    /// Takes a step that leaves the records where they are, unless it is refused.
+    pub(crate) fn turn(&mut self, event: Event) -> Result<Effect, Refusal>
+        requires control { IsControl self.old }
+        requires quiet { IsQuiet event }
+        ensures value { step_to result self.new ≡ allowed self.old.config (state_of self.old) event }
+        ensures told { IfOk result IsTold }
+        ensures keeps { KeepsFile self.old self.new }
+        ensures filled { self.new.filled ≡ self.old.filled }
+        ensures err { OnErr result (self.new ≡ self.old) }
+    {
+        match event {
+            Event::Call(place, call) => match self.doing_at(place) {
+                Some(doing) => self.put(place, Self::called(call, doing)),
+                None => Err(Refusal::WrongState),
+            },
+            Event::Read(place) => match self.doing_at(place) {
+                Some(doing) => self.put(place, self.read(doing)),
+                None => Err(Refusal::WrongState),
+            },
+            Event::Lock(place) => match self.doing_at(place) {
+                Some(doing) => self.put(place, self.lock(doing)),
+                None => Err(Refusal::WrongState),
+            },
+            Event::Rehash(place) => match self.doing_at(place) {
+                Some(doing) => self.put(place, self.rehash(doing)),
+                None => Err(Refusal::WrongState),
+            },
+            Event::Release(place) => match self.doing_at(place) {
+                Some(doing) => self.put(place, Self::released(doing)),
+                None => Err(Refusal::WrongState),
+            },
+            Event::SplitBegin => self.begin_split(),
+            Event::SplitLock => self.lock_both(),
+            Event::SplitRelease => self.free_both(),
+            Event::SplitPoint => self.point(),
+            Event::SplitDrop => self.drop_split(),
+            Event::Act(_) => unreachable!(),
+            Event::SplitMove => unreachable!(),
+        }
+    }
+}
