@@ -5,8 +5,8 @@ use Rattle.std.proofs.lemmas.Slice.Eq.{bytes_eq-Decides}
 use Rattle.clap.specs.Walk.{Row, Text, nothing_held, rows_after}
 use Rattle.clap.specs.Simple.{Shape, argument_words, built, subcommand_of}
 use Rattle.clap.specs.Faults.{level_fault}
-use Rattle.lhash.specs.Options.{Accepts, commands_app, program_app}
-use Rattle.lhash.specs.OptionSteps.{HasSettings}
+use Rattle.lhash.specs.Options.{Accepts, commands_app, program_app, steps_app}
+use Rattle.lhash.specs.OptionSteps.{HasSettings, IsFileCommand}
 use Rattle.lhash.proofs.Levels.{entered-some}
 use Rattle.lhash.proofs.RowLemmas.{Every, HasTarget, IsTarget, level-row}
 use Rattle.lhash.proofs.NumberLemmas.{number-fits}
@@ -39,8 +39,24 @@ first-shape d (s ∷ rest) = s
 abbrev commands_built : Shape
 commands_built = first-shape commands_app.top (built program_app).subs
 
+abbrev shapes-behind : List Shape → List Shape
+shapes-behind [] = []
+shapes-behind (s ∷ rest) = rest
+
+-- and the subcommand `steps`
+abbrev steps_built : Shape
+steps_built = first-shape steps_app.top (shapes-behind (built program_app).subs)
+
 commands-options : HasOptions commands_built
 commands-options = record {
+  initial = (((λ _. refl), ((λ h. cc), ((λ h. cc), ((λ h. cc), ((λ h. cc), tt))))), inl refl);
+  capacity = (((λ h. cc), ((λ _. refl), ((λ h. cc), ((λ h. cc), ((λ h. cc), tt))))), inr (inl refl));
+  load = (((λ h. cc), ((λ h. cc), ((λ _. refl), ((λ h. cc), ((λ h. cc), tt))))), inr (inr (inl refl)));
+  max = (((λ h. cc), ((λ h. cc), ((λ h. cc), ((λ _. refl), ((λ h. cc), tt))))), inr (inr (inr (inl refl))));
+}
+
+steps-options : HasOptions steps_built
+steps-options = record {
   initial = (((λ _. refl), ((λ h. cc), ((λ h. cc), ((λ h. cc), ((λ h. cc), tt))))), inl refl);
   capacity = (((λ h. cc), ((λ _. refl), ((λ h. cc), ((λ h. cc), ((λ h. cc), tt))))), inr (inl refl));
   load = (((λ h. cc), ((λ h. cc), ((λ _. refl), ((λ h. cc), ((λ h. cc), tt))))), inr (inr (inl refl)));
@@ -56,11 +72,13 @@ is_help t e = (bytes_eq-Decides t (codes "help")).1 (sym ((bytes_eq-Decides (cod
 
 -- the subcommands that the words may name, and what holds of their rows
 abbrev pub IsEntered : Text → List Row → Type 0
-IsEntered name rows = (name ≡ codes "commands") × HasSettings rows
+IsEntered name rows = IsFileCommand name × HasSettings rows
 
 -- accepted words name such a subcommand
 pub accepted-rows : (words : List Text) → Accepts words → (e : Text × List Row) × (subcommand_of program_app words ≡ Some e) × IsEntered e.0 e.1
 unfolding Accepts
-accepted-rows words e = entered-some (built program_app) IsEntered
-    ((λ t is other ws f. (refl, settings-after commands_built commands-options ws f)), ((λ t is other ws f. let same = is_help t is in cc), tt))
+accepted-rows words e = entered-some (built program_app) IsEntered (
+  (λ t is other ws f. (inl refl, settings-after commands_built commands-options ws f)),
+  ((λ t is other ws f. (inr refl, settings-after steps_built steps-options ws f)), ((λ t is other ws f. let same = is_help t is in cc), tt)),
+)
     refl refl (argument_words (built program_app) words) e

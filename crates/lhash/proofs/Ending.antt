@@ -1,11 +1,19 @@
 -- What was read gives what the input gives.
-use Rattle.std.proofs.Common.{◌≡◌, inl, inr, ℕ, List, Option, ap, arith}
+use Rattle.std.proofs.Common.{◌≡◌, refl, false, inl, inr, ℕ, List, Option, ap, arith}
 use Rattle.std.proofs.KnownBytes.{Keeps-refl}
-use Rattle.std.specs.Io.KnownBytes.{Keeps}
+use Rattle.std.specs.Io.KnownBytes.{Appends, Keeps}
+use Rattle.std.specs.List.{list_any}
 use Rattle.std.proofs.lemmas.Bool.Decides.{nat_tests}
-use Rattle.std.specs.Prelude.{Result, Err}
-use Rattle.lhash.specs.Devices.{IsReadOf}
-use Rattle.lhash.specs.Run.{Ends, ReadsScript, due}
+use Rattle.std.specs.Prelude.{Result, Ok, Err}
+use Rattle.lh_addr.specs.Settings.{Settings}
+use Rattle.lh_core.specs.Headline.{IsHeadline}
+use Rattle.lh_core.specs.Log.{Entry}
+use Rattle.lh_core.specs.World.{WorldSeen}
+use Rattle.lh_core.specs.declared.event.Event.{Event}
+use Rattle.lhash.specs.Devices.{IsReadOf, TakesBeginning}
+use Rattle.lhash.specs.Run.{Ends, EndsSteps, ReadsScript, due, is_want}
+use Rattle.lhash.specs.StepTexts.{steps_text}
+use Rattle.lhash.specs.Steps.{step}
 use Rattle.lhash.specs.declared.fault.ScriptFault.{ScriptFault}
 use Rattle.lhash.specs.declared.status.DeviceFault.TheVariants.{Read, Write}
 use Rattle.lhash.specs.declared.status.Status.{Status}
@@ -21,6 +29,38 @@ unread (Words text) given output a h = absurd h
 unread (Device Read) given output a h = Keeps-refl a
 unread (Device Write) given output a h = absurd h
 unread Memory given output a h = Keeps-refl a
+
+-- a run that read no step script ends without a write
+pub no_steps : (settings : Settings) (status : Status) (input : List ℕ) (a : Option (List ℕ)) →
+    ReadsScript {A = Event} (Err status) (script step input) → EndsSteps settings input status a a
+unfolding EndsSteps
+no_steps settings Done input a h = absurd h
+no_steps settings (Input fault) input a h = (h, Keeps-refl a)
+no_steps settings (Words text) input a h = absurd h
+no_steps settings (Device Read) input a h = Keeps-refl a
+no_steps settings (Device Write) input a h = absurd h
+no_steps settings Memory input a h = Keeps-refl a
+
+-- a run in which memory was wanting ends without a write
+pub no_memory : (settings : Settings) (input : List ℕ) (a : Option (List ℕ)) → EndsSteps settings input Memory a a
+unfolding EndsSteps
+no_memory settings input a = Keeps-refl a
+
+-- the lines of all entries were written
+pub steps_told : (settings : Settings) (input : List ℕ) (events : List Event) (entries : List Entry) (world : WorldSeen) (before now : Option (List ℕ)) →
+    IsHeadline settings events entries world → script step input ≡ Ok events → list_any is_want entries ≡ false →
+    Appends before now (steps_text entries) → EndsSteps settings input Done before now
+unfolding EndsSteps
+steps_told settings input events entries world before now headline given memory written =
+    (events, steps_text entries, given, record { entries = entries; world = world; headline = headline; memory = memory; lines = refl }, written)
+
+-- a beginning of the lines of all entries was written
+pub steps_begun : (settings : Settings) (input : List ℕ) (events : List Event) (entries : List Entry) (world : WorldSeen) (before now : Option (List ℕ)) →
+    IsHeadline settings events entries world → script step input ≡ Ok events → list_any is_want entries ≡ false →
+    TakesBeginning before now (steps_text entries) → EndsSteps settings input (Device Write) before now
+unfolding EndsSteps
+steps_begun settings input events entries world before now headline given memory written =
+    (events, steps_text entries, given, record { entries = entries; world = world; headline = headline; memory = memory; lines = refl }, written)
 
 pub keeps : (a : Option (List ℕ)) → Keeps a a
 keeps a = Keeps-refl a

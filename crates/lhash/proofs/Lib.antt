@@ -1,13 +1,10 @@
 pub mod Accepted
-pub mod Answering
 pub mod CommandShapes
 pub mod Devices
 pub mod Digits
 pub mod Ending
-pub mod Keys
 pub mod Levels
 pub mod NumberLemmas
-pub mod Padding
 pub mod Pairs
 pub mod ReplyLines
 pub mod Requests
@@ -16,5 +13,6 @@ pub mod Scripts
 pub mod Sending
 pub mod Serving
 pub mod Splitting
+pub mod StepLines
 pub mod StopLemmas
 pub mod Verbs

@@ -103,6 +103,8 @@ asked : (words : List Text) (name : Text) (rows : List Row) (r : Request) → Ac
 unfolding subcommand_named
 asked words name rows (request.Commands config) accepts is h =
     ((accepts, ap (option_map (λ s. s.0)) is ∙ ap (λ (n : Text). Some n) h.0), settings-at words name rows is ∙ h.1, h.2)
+asked words name rows (request.Steps config) accepts is h =
+    ((accepts, ap (option_map (λ s. s.0)) is ∙ ap (λ (n : Text). Some n) h.0), settings-at words name rows is ∙ h.1, h.2)
 asked words name rows request.MaxBelowInitial accepts is h =
     (accepts, subst IsMaxBelowInitial (sym (settings-at words name rows is)) h)
 asked words name rows (request.Help text) accepts is h = absurd h
@@ -119,6 +121,7 @@ refusal-answers words e (request.Help text) (inr among) h = (none-among (kind_of
 refusal-answers words e (request.Refused text) (inl memory) h = absurd (h.1 memory)
 refusal-answers words e (request.Refused text) (inr among) h = (none-among (kind_of e) _ among, (kind_of e, among, h.0))
 refusal-answers words e (request.Commands config) among h = absurd h
+refusal-answers words e (request.Steps config) among h = absurd h
 refusal-answers words e request.MaxBelowInitial among h = absurd h
 
 -- what a parse that succeeds says of the words, and of the subcommand that it entered

@@ -1,12 +1,13 @@
 -- What serving a request says of the words that asked for it.
-use Rattle.std.proofs.Common.{◌≡◌, ℕ, ◌<◌, ◌≤◌, List, Option, Some, IfSome, sym, subst, ◌∙◌, arith, codes}
+use Rattle.std.proofs.Common.{◌≡◌, ℕ, ◌<◌, ◌≤◌, List, Option, None, Some, IfSome, sym, subst, ◌∙◌, arith, codes}
 use Rattle.std.specs.Io.KnownBytes.{Keeps}
 use Rattle.clap.specs.Walk.{Text}
 use Rattle.lh_addr.specs.Settings.{Settings}
 use Rattle.lhash.specs.Options.{Accepts, AsksForHelp, Answers, Asks, IsMaxBelowInitial, settings_given}
-use Rattle.lhash.specs.Run.{Ends, IsHelped, IsTurnedAway, IsWordsOf, Serves, below_initial, commands_due}
+use Rattle.lhash.specs.Run.{Ends, EndsSteps, IsHelped, IsTurnedAway, IsWordsOf, Serves, below_initial, commands_due}
+use Rattle.lhash.proofs.Ending.{no_memory}
 use Rattle.lhash.specs.declared.options.Request.{Request}
-use Rattle.lhash.specs.declared.options.Request.TheVariants.{Commands, Help, Refused, MaxBelowInitial}
+use Rattle.lhash.specs.declared.options.Request.TheVariants.{Commands, Steps, Help, Refused, MaxBelowInitial}
 use Rattle.lhash.specs.declared.status.DeviceFault.TheVariants.{Read, Write}
 use Rattle.lhash.specs.declared.status.Status.{Status}
 use Rattle.lhash.specs.declared.status.Status.TheVariants.{Done, Input, Words, Device, Memory}
@@ -17,6 +18,10 @@ same_settings a b given e f = let k : Some a ≡ Some b = sym e ∙ f in cc
 not_below : (settings : Settings) (given : Option Settings) → given ≡ Some settings → settings.initial ≤ settings.max → IsMaxBelowInitial given → ⊥
 not_below settings given e within below = let low : settings.max < settings.initial = subst IsMaxBelowInitial e below in omega arith
 
+-- words ask for one subcommand
+one_name : (words : List Text) (first second : Text) → Asks words first → Asks words second → (first ≡ second → ⊥) → ⊥
+one_name words first second one other apart = let same : Some first ≡ Some second = sym one.1 ∙ other.1 in apart cc
+
 -- accepted words with settings in order are served by their settings
 pub serves_settings : (words : List Text) (request : Request) (status : Status) (left rest before now : Option (List ℕ)) →
     Answers words request → Serves request status left rest before now →
@@ -24,10 +29,31 @@ pub serves_settings : (words : List Text) (request : Request) (status : Status) 
     IfSome left (λ input. Ends status (commands_due settings input) before now)
 serves_settings words (Commands config) status left rest before now answers serves settings asks given within =
     subst (λ (s : Settings). IfSome left (λ input. Ends status (commands_due s input) before now)) (same_settings config settings (settings_given words) answers.1 given) serves
+serves_settings words (Steps config) status left rest before now answers serves settings asks given within =
+    absurd (one_name words (codes "commands") (codes "steps") asks answers.0 (λ e. cc))
 serves_settings words (Help text) status left rest before now answers serves settings asks given within = absurd (answers.0 asks.0)
 serves_settings words (Refused text) status left rest before now answers serves settings asks given within = absurd (answers.0 asks.0)
 serves_settings words MaxBelowInitial status left rest before now answers serves settings asks given within =
     absurd (not_below settings (settings_given words) given within answers.1)
+
+-- and so are words that ask for steps
+pub serves_steps : (words : List Text) (request : Request) (status : Status) (left rest before now : Option (List ℕ)) →
+    Answers words request → Serves request status left rest before now →
+    (settings : Settings) → Asks words (codes "steps") → settings_given words ≡ Some settings → settings.initial ≤ settings.max →
+    IfSome left (λ input. EndsSteps settings input status before now)
+serves_steps words (Commands config) status left rest before now answers serves settings asks given within =
+    absurd (one_name words (codes "commands") (codes "steps") answers.0 asks (λ e. cc))
+serves_steps words (Steps config) status left rest before now answers serves settings asks given within =
+    subst (λ (s : Settings). IfSome left (λ input. EndsSteps s input status before now)) (same_settings config settings (settings_given words) answers.1 given) serves
+serves_steps words (Help text) status left rest before now answers serves settings asks given within = absurd (answers.0 asks.0)
+serves_steps words (Refused text) status left rest before now answers serves settings asks given within = absurd (answers.0 asks.0)
+serves_steps words MaxBelowInitial status left rest before now answers serves settings asks given within =
+    absurd (not_below settings (settings_given words) given within answers.1)
+
+-- and where memory ran out before
+pub without_memory : (settings : Settings) (left a : Option (List ℕ)) → IfSome left (λ input. EndsSteps settings input Memory a a)
+without_memory settings None a = tt
+without_memory settings (Some input) a = no_memory settings input a
 
 -- accepted words whose greatest number of buckets is below the initial one are refused
 pub refuses_below : (words : List Text) (request : Request) (status : Status) (left rest before now : Option (List ℕ)) →
@@ -35,6 +61,9 @@ pub refuses_below : (words : List Text) (request : Request) (status : Status) (l
     (settings : Settings) → Accepts words → settings_given words ≡ Some settings → settings.max < settings.initial →
     IsWordsOf below_initial status × Keeps left rest × Keeps before now
 refuses_below words (Commands config) status left rest before now answers serves settings accepts given below =
+    let same : config ≡ settings = same_settings config settings (settings_given words) answers.1 given in
+    let within : settings.initial ≤ settings.max = subst (λ (s : Settings). s.initial ≤ s.max) same answers.2.max.0 in absurd (omega arith)
+refuses_below words (Steps config) status left rest before now answers serves settings accepts given below =
     let same : config ≡ settings = same_settings config settings (settings_given words) answers.1 given in
     let within : settings.initial ≤ settings.max = subst (λ (s : Settings). s.initial ≤ s.max) same answers.2.max.0 in absurd (omega arith)
 refuses_below words (Help text) status left rest before now answers serves settings accepts given below = absurd (answers.0 accepts)
@@ -54,6 +83,7 @@ pub turns_away : (words : List Text) (request : Request) (status : Status) (left
     Answers words request → Serves request status left rest before now → ¬ Accepts words →
     IsTurnedAway words status before now × Keeps left rest
 turns_away words (Commands config) status left rest before now answers serves refused = absurd (refused answers.0.0)
+turns_away words (Steps config) status left rest before now answers serves refused = absurd (refused answers.0.0)
 turns_away words (Help text) status left rest before now answers serves refused = (helped words status before now answers.1 serves.0, serves.1)
 turns_away words (Refused text) status left rest before now answers serves refused =
     (subst (λ (s : Status). IsTurnedAway words s before now) (sym serves.0) (answers.1, serves.2), serves.1)

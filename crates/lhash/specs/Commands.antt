@@ -3,8 +3,8 @@ use Rattle.std.specs.Prelude.{ℕ, if◌then◌else◌, List, [], ◌∷◌, Opt
 use Rattle.lhash.specs.Lines.{is_word, is_comment}
 use Rattle.lhash.specs.Operands.{◌>>=◌, key_alone, key_and_value}
 use Rattle.lhash.specs.Scripts.{Reading}
-use Rattle.lhash.specs.declared.call.Call.{Call}
-use Rattle.lhash.specs.declared.call.Call.TheVariants.{Search, Insert, Delete}
+use Rattle.lh_bucket.specs.declared.call.Call.{Call}
+use Rattle.lh_bucket.specs.declared.call.Call.TheVariants.{Search, Insert, Delete}
 use Rattle.lhash.specs.declared.fault.LineFault.{LineFault}
 use Rattle.lhash.specs.declared.fault.LineFault.TheVariants.{UnknownWord}
 

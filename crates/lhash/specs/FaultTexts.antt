@@ -2,7 +2,7 @@
 use Rattle.std.specs.Prelude.{ℕ, List, ◌++◌, codes}
 use Rattle.std.specs.Fmt.{decimal}
 use Rattle.lhash.specs.declared.fault.LineFault.{LineFault}
-use Rattle.lhash.specs.declared.fault.LineFault.TheVariants.{UnknownWord, WordCount, BadHexadecimal, KeyLength, ValueLength}
+use Rattle.lhash.specs.declared.fault.LineFault.TheVariants.{UnknownWord, WordCount, BadHexadecimal, KeyLength, ValueLength, WorkerNumber}
 use Rattle.lhash.specs.declared.fault.ScriptFault.{ScriptFault}
 use Rattle.lhash.specs.declared.fault.ScriptFault.TheVariants.{TooLong, AtLine}
 
@@ -13,6 +13,7 @@ line_fault_text WordCount = codes "wrong number of words"
 line_fault_text BadHexadecimal = codes "bad hexadecimal"
 line_fault_text (KeyLength n) = codes "key length " ++ decimal n
 line_fault_text (ValueLength n) = codes "value length " ++ decimal n
+line_fault_text WorkerNumber = codes "bad worker number"
 
 -- the text of a script's fault
 abbrev pub script_fault_text : ScriptFault → List ℕ

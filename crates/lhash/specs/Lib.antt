@@ -2,15 +2,14 @@ pub mod Commands
 pub mod Devices
 pub mod FaultTexts
 pub mod Hexadecimal
-pub mod Limits
 pub mod Lines
-pub mod Lists
 pub mod Operands
 pub mod OptionLaws
 pub mod OptionSteps
 pub mod Options
-pub mod PlainMap
 pub mod Run
 pub mod Scripts
 pub mod Status
+pub mod Steps
+pub mod StepTexts
 pub mod Texts

@@ -10,6 +10,9 @@ no_options = codes "lhash" ∷ codes "commands" ∷ []
 abbrev pub max_given : List Text
 max_given = codes "lhash" ∷ codes "commands" ∷ codes "--initial" ∷ codes "3" ∷ codes "--max=7" ∷ []
 
+abbrev pub steps_given : List Text
+steps_given = codes "lhash" ∷ codes "steps" ∷ codes "--capacity=2" ∷ codes "--load" ∷ codes "200" ∷ []
+
 abbrev pub no_subcommand : List Text
 no_subcommand = codes "lhash" ∷ []
 
@@ -34,6 +37,10 @@ help_asked = codes "lhash" ∷ codes "commands" ∷ codes "--help" ∷ []
 -- the words are accepted, name `commands`, and give these settings
 abbrev pub Gives : List Text → Settings → Type 0
 Gives words s = Asks words (codes "commands") × (settings_given words ≡ Some s)
+
+-- the words are accepted, name `steps`, and give these settings
+abbrev pub GivesSteps : List Text → Settings → Type 0
+GivesSteps words s = Asks words (codes "steps") × (settings_given words ≡ Some s)
 
 -- the words are not accepted
 abbrev pub Refuses : List Text → Type 0

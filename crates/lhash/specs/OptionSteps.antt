@@ -1,5 +1,5 @@
 -- What the functions on the way from the words to a request say of commands, rows and errors
-use Rattle.std.specs.Prelude.{◌≡◌, ◌≤◌, ℕ, List, Option, Some, codes, true, false}
+use Rattle.std.specs.Prelude.{◌≡◌, ◌≤◌, ◌⊎◌, ℕ, List, Option, Some, codes, true, false}
 use Rattle.std.specs.Str.Parse.{digits_value, without_leading_plus}
 use Rattle.clap.specs.ValueTests.{is_numeral}
 use Rattle.clap.specs.Words.{App, Row, Text, app_of, first_of, one_of}
@@ -38,10 +38,16 @@ settings_in rows = settings_from
     (number_in rows (codes "initial")) (number_in rows (codes "capacity"))
     (number_in rows (codes "load")) (number_in rows (codes "max"))
 
+-- the name of a subcommand with the options of a file's settings
+abbrev pub IsFileCommand : Text → Type 0
+IsFileCommand name = (name ≡ codes "commands") ⊎ (name ≡ codes "steps")
+
 -- what a request says of the subcommand's name and rows
 abbrev pub IsAskedBy : Text → List Row → Request → Type 0
 IsAskedBy name rows (request.Commands config) =
     (name ≡ codes "commands") × (settings_in rows ≡ Some config) × IsInRange config
+IsAskedBy name rows (request.Steps config) =
+    (name ≡ codes "steps") × (settings_in rows ≡ Some config) × IsInRange config
 IsAskedBy name rows request.MaxBelowInitial = IsMaxBelowInitial (settings_in rows)
 IsAskedBy name rows _ = ⊥
 

@@ -1,6 +1,7 @@
 -- What a run did, from the bytes that it read to the bytes that it wrote
-use Rattle.std.specs.Prelude.{◌≡◌, ℕ, List, Option, Result, Ok, Err, Vec, IfSome, codes}
+use Rattle.std.specs.Prelude.{◌≡◌, ℕ, Bool, true, false, List, Option, Result, Ok, Err, Vec, IfSome, codes}
 use Rattle.std.specs.declared.alloc.Global.{Global}
+use Rattle.std.specs.List.{list_any}
 use Rattle.std.specs.String.{string_bytes}
 use Rattle.std.specs.FinMap.{empty}
 use Rattle.std.specs.Io.KnownBytes.{Keeps, Appends}
@@ -9,12 +10,20 @@ use Rattle.lh_addr.specs.Settings.{Settings}
 use Rattle.lhash.specs.Commands.{command}
 use Rattle.lhash.specs.Devices.{TakesBeginning}
 use Rattle.lhash.specs.Options.{AsksForHelp, IsRefused}
-use Rattle.lhash.specs.PlainMap.{replies}
+use Rattle.lh_bucket.specs.PlainMap.{replies}
+use Rattle.lh_core.specs.Serial.{size_of}
+use Rattle.lh_core.specs.Headline.{IsHeadline}
+use Rattle.lh_core.specs.Log.{Entry}
+use Rattle.lh_core.specs.World.{WorldSeen}
+use Rattle.lh_core.specs.declared.effect.Refusal.TheVariants as refusal
+use Rattle.lh_core.specs.declared.event.Event.{Event}
 use Rattle.lhash.specs.Scripts.{script}
+use Rattle.lhash.specs.StepTexts.{steps_text}
+use Rattle.lhash.specs.Steps.{step}
 use Rattle.lhash.specs.Texts.{commands_text}
 use Rattle.lhash.specs.declared.fault.ScriptFault.{ScriptFault}
 use Rattle.lhash.specs.declared.options.Request.{Request}
-use Rattle.lhash.specs.declared.options.Request.TheVariants.{Commands, Help, Refused, MaxBelowInitial}
+use Rattle.lhash.specs.declared.options.Request.TheVariants.{Commands, Steps, Help, Refused, MaxBelowInitial}
 use Rattle.lhash.specs.declared.status.DeviceFault.TheVariants.{Read, Write}
 use Rattle.lhash.specs.declared.status.Status.{Status}
 use Rattle.lhash.specs.declared.status.Status.TheVariants.{Done, Input, Words, Device, Memory}
@@ -32,9 +41,9 @@ abbrev pub due : {A : Type 0} → (List A → List ℕ) → Result (List A) Scri
 due output (Ok statements) = Ok (output statements)
 due output (Err fault) = Err fault
 
--- what `commands` is to write for an input: the replies of one plain map to the script's calls, then the number of buckets
+-- what `commands` is to write for an input: the replies of one plain map to the script's calls, then the number of buckets to which the split policy has the file grow
 unfoldable pub commands_due : Settings → List ℕ → Result (List ℕ) ScriptFault
-commands_due settings input = due (λ calls. commands_text (replies empty calls) settings.initial) (script command input)
+commands_due settings input = due (λ calls. commands_text (replies empty calls) (size_of settings calls)) (script command input)
 
 -- a status, and what the writer took, where this is due:
 -- done, and it took just the output; a fault, the script's first, and it took nothing;
@@ -46,6 +55,36 @@ Ends (Device Write) due before now = (output : List ℕ) × (due ≡ Ok output) 
 Ends (Device Read) due before now = Keeps before now
 Ends Memory due before now = Keeps before now
 Ends (Words text) due before now = ⊥
+
+-- whether an event was refused for want of memory
+abbrev pub is_want : Entry → Bool
+is_want (Err refusal.Memory) = true
+is_want _ = false
+
+-- What `steps` may write for events: with some world, the headline holds of the settings, the events and some entries; none of these is want of memory, and the output is a line for each.
+pub record IsTold (settings : Settings) (events : List Event) (output : List ℕ) : Type 0 where
+  pub entries : List Entry
+  pub world : WorldSeen
+  pub headline : IsHeadline settings events entries world
+  pub memory : list_any is_want entries ≡ false
+  pub lines : output ≡ steps_text entries
+
+-- a status, and what the writer took, where a script gives this, and its statements may have any output that is told of them:
+-- done, and it took just such an output; a fault, the script's first, and it took nothing;
+-- a failed write, and it took a beginning of such an output; a failed read or want of memory, and it took nothing
+abbrev pub EndsTelling : {A : Type 0} → (List A → List ℕ → Type 0) → Status → Result (List A) ScriptFault → Option (List ℕ) → Option (List ℕ) → Type 0
+EndsTelling {A} IsOutput Done given before now =
+    (statements : List A) × (output : List ℕ) × (given ≡ Ok statements) × IsOutput statements output × Appends before now output
+EndsTelling IsOutput (Input fault) given before now = (given ≡ Err fault) × Keeps before now
+EndsTelling {A} IsOutput (Device Write) given before now =
+    (statements : List A) × (output : List ℕ) × (given ≡ Ok statements) × IsOutput statements output × TakesBeginning before now output
+EndsTelling IsOutput (Device Read) given before now = Keeps before now
+EndsTelling IsOutput Memory given before now = Keeps before now
+EndsTelling IsOutput (Words text) given before now = ⊥
+
+-- how `steps` ends on an input: with what the headline tells of the events of its script
+unfoldable pub EndsSteps : Settings → List ℕ → Status → Option (List ℕ) → Option (List ℕ) → Type 0
+EndsSteps settings input status before now = EndsTelling (IsTold settings) status (script step input) before now
 
 -- the words are refused for this reason, unless memory ran out
 abbrev pub IsWordsOf : List ℕ → Status → Type 0
@@ -66,6 +105,7 @@ below_initial = codes "max is less than initial"
 -- what a request led to, with what the reader had left and has, and what the writer held and holds
 abbrev pub Serves : Request → Status → Option (List ℕ) → Option (List ℕ) → Option (List ℕ) → Option (List ℕ) → Type 0
 Serves (Commands config) status left rest before now = IfSome left (λ input. Ends status (commands_due config input) before now)
+Serves (Steps config) status left rest before now = IfSome left (λ input. EndsSteps config input status before now)
 Serves (Help text) status left rest before now = IsHelped status × Keeps left rest
 Serves (Refused text) status left rest before now = (status ≡ Words text) × Keeps left rest × Keeps before now
 Serves MaxBelowInitial status left rest before now = IsWordsOf below_initial status × Keeps left rest × Keeps before now

@@ -1,17 +1,18 @@
-//! The subcommand `commands`, from the bytes of a script to the bytes of its replies.
+//! The subcommands `commands` and `steps`, from the bytes of a script to the bytes of what is told.
 ghost use Rattle.std.specs.Prelude.{◌≡◌, IfSome};
+ghost use Rattle.std.specs.List.{list_any};
 ghost use Rattle.lhash.specs.Commands.{command};
-ghost use Rattle.lhash.specs.Run.{Ends, ReadsScript, commands_due};
+ghost use Rattle.lhash.specs.Run.{Ends, EndsSteps, ReadsScript, commands_due, is_want};
 ghost use Rattle.lhash.specs.Scripts.{script};
 
-use crate::call::Call;
-use crate::device::{ReadError, read_up_to};
+use crate::device::{ReadError, WriteFailed, read_up_to};
 use crate::fault::ParseError;
-use crate::lists::replies_to;
-use crate::output::{room, write_replies};
+use crate::output::{room, write_entries, write_replies};
 use crate::script::{MOST_BYTES, Statement, parse};
 use crate::status::{DeviceFault, Status};
 use lh_addr::Config;
+use lh_bucket::{Call, PagedBucket};
+use lh_core::{Effect, Event, Refusal, run, serial};
 use std::alloc::Global;
 use std::io::{Read, Write};
 
@@ -47,14 +48,62 @@ pub fn answer_commands<R: Read, W: Write>(
         Ok(calls) => calls,
         Err(status) => return status,
     };
-    let Ok(replies) = replies_to(alloc, &config, calls.as_slice()) else {
+    let Ok(ran) = serial::<PagedBucket>(alloc, config, calls.as_slice()) else {
         return Status::Memory;
     };
+    let buckets = ran.world.root().buckets();
     let Ok(mut waiting) = room(alloc) else {
         return Status::Memory;
     };
-    match write_replies(writer, &mut waiting, replies.as_slice(), config.initial()) {
+    match write_replies(writer, &mut waiting, ran.replies.as_slice(), buckets) {
         Ok(()) => Status::Done,
         Err(_) => Status::Device(DeviceFault::Write),
+    }
+}
+
+/// Whether an event was refused for want of memory.
+fn is_want_of_memory(entry: &Result<Effect, Refusal>) -> bool
+    ensures { result ≡ is_want entry.now }
+{
+    match entry {
+        Err(Refusal::Memory) => true,
+        _ => false,
+    }
+}
+
+/// Whether memory was wanting for one of some events.
+fn wanted_memory(entries: &[Result<Effect, Refusal>]) -> bool
+    ensures { result ≡ list_any is_want entries.now }
+{
+    entries.iter().any(|entry| is_want_of_memory(entry))
+}
+
+/// Reads a step script whole, takes its steps in turn from an empty file, and writes what is told
+/// of each. Nothing is written where memory was wanting for one of them.
+#[tactic(auto, using(crate::proofs::Ending::no_steps, crate::proofs::Ending::steps_told, crate::proofs::Ending::steps_begun))]
+pub fn answer_steps<R: Read, W: Write>(
+    alloc: Global,
+    config: Config,
+    reader: &mut R,
+    writer: &mut W,
+) -> Status
+    ensures { IfSome (R.remaining reader.old) (λ input. EndsSteps config input result (W.contents writer.old) (W.contents writer.new)) }
+{
+    let events: Vec<Event> = match read_script(alloc, reader) {
+        Ok(events) => events,
+        Err(status) => return status,
+    };
+    let Ok(ran) = run::<PagedBucket>(alloc, config, events.as_slice()) else {
+        return Status::Memory;
+    };
+    if wanted_memory(ran.entries.as_slice()) {
+        return Status::Memory;
+    }
+    let Ok(mut waiting) = room(alloc) else {
+        return Status::Memory;
+    };
+    match write_entries(writer, &mut waiting, ran.entries.as_slice()) {
+        Ok(()) => Status::Done,
+        Err(WriteFailed) => Status::Device(DeviceFault::Write),
     }
 }

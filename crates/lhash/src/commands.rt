@@ -4,13 +4,12 @@ ghost use Rattle.lhash.specs.Lines.{words, is_word};
 ghost use Rattle.lhash.specs.Scripts.{added, verdict};
 ghost use Rattle.lhash.specs.Commands.{call, command, said, search_of, insert_of, delete_of};
 
-use crate::call::Call;
 use crate::fault::LineFault;
-use crate::key::Key;
 use crate::lines::{first_word, is_comment_word, one_word, two_words};
 use crate::operands::{read_key, read_value};
 use crate::script::Statement;
-use crate::value::Value;
+use lh_bucket::Call;
+use lh_page::{Key, Value};
 
 #[cfg(test)]
 mod tests;

@@ -17,6 +17,8 @@ pub enum LineFault {
     KeyLength(usize),
     /// A value of this many bytes, which is more than 40.
     ValueLength(usize),
+    /// A worker's number isn't one or two decimal digits of a value up to 15.
+    WorkerNumber,
 }
 
 /// What is wrong with a script.
@@ -47,6 +49,7 @@ impl fmt::Display for LineFault {
             LineFault::BadHexadecimal => write!(f, "bad hexadecimal"),
             LineFault::KeyLength(length) => write!(f, "key length {length}"),
             LineFault::ValueLength(length) => write!(f, "value length {length}"),
+            LineFault::WorkerNumber => write!(f, "bad worker number"),
         }
     }
 }

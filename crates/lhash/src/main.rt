@@ -1,18 +1,16 @@
-//! The program `lhash`: scripts of commands on a linear hash file.
+//! The program `lhash`: scripts of commands and of steps on a linear hash file.
 //!
-//! `lhash commands` reads a command script, answers its calls and writes their replies. `run` does
-//! it from words and bytes to bytes and a status; `main` gives it the process's own.
+//! `lhash commands` reads a command script, answers its calls and writes their replies. `lhash
+//! steps` reads a step script, takes its steps and writes what is told of each. `run` does it from
+//! words and bytes to bytes and a status; `main` gives it the process's own.
 #![tactic(auto)]
 
 mod answer;
-mod call;
 mod commands;
 mod device;
 mod fault;
 mod hexadecimal;
-mod key;
 mod lines;
-mod lists;
 mod operands;
 mod option_laws;
 mod options;
@@ -20,8 +18,9 @@ mod output;
 mod program;
 mod script;
 mod status;
+mod step_texts;
+mod steps;
 mod texts;
-mod value;
 
 use program::refuse;
 pub use program::run;

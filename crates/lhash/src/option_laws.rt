@@ -1,6 +1,7 @@
 //! What the options give, at words that are written out.
 ghost use Rattle.lhash.specs.OptionLaws.{
   Gives,
+  GivesSteps,
   help_asked,
   initial_twice,
   initial_zero,
@@ -10,6 +11,7 @@ ghost use Rattle.lhash.specs.OptionLaws.{
   no_options,
   no_subcommand,
   Refuses,
+  steps_given,
   unknown_option,
 };
 ghost use Rattle.lhash.specs.Options.{AsksForHelp};
@@ -20,6 +22,7 @@ pub fn words_give_options()
     ensures left_out { Gives no_options (record { initial = 1; capacity = 14; load = 100; max = 65536 }) }
     ensures given { Gives max_given (record { initial = 3; capacity = 14; load = 100; max = 7 }) }
     ensures below { Gives max_below_initial (record { initial = 8; capacity = 14; load = 100; max = 7 }) }
+    ensures steps { GivesSteps steps_given (record { initial = 1; capacity = 2; load = 200; max = 65536 }) }
     ensures none { Refuses no_subcommand }
     ensures too_small { Refuses initial_zero }
     ensures too_great { Refuses max_over_limit }

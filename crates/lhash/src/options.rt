@@ -1,9 +1,9 @@
 //! The command line.
-ghost use Rattle.std.specs.Prelude.{◌≡◌, IfOk, IfSome, IfNone, Some, codes, false, map};
+ghost use Rattle.std.specs.Prelude.{◌≡◌, IfOk, IfSome, IfNone, Some, false, map};
 ghost use Rattle.lh_addr.specs.Settings.{IsInRange};
-ghost use Rattle.clap.specs.Words.{found_of, kind_of, rows_of, rule_of};
-ghost use Rattle.lhash.specs.Options.{Answers, IsMaxBelowInitial, commands_app, number_in, option_rule, program_app};
-ghost use Rattle.lhash.specs.OptionSteps.{HasNumber, HasSettings, IsAskedBy, IsRefusal, Reads, settings_in};
+ghost use Rattle.clap.specs.Words.{found_of, kind_of, new_app, rows_of, rule_of};
+ghost use Rattle.lhash.specs.Options.{Answers, IsMaxBelowInitial, number_in, option_rule, program_app, with_settings};
+ghost use Rattle.lhash.specs.OptionSteps.{HasNumber, HasSettings, IsAskedBy, IsFileCommand, IsRefusal, Reads, settings_in};
 
 use clap::error::ErrorKind;
 use clap::{Arg, ArgAction, ArgMatches, Command, Error};
@@ -18,6 +18,8 @@ use std::alloc::{AllocError, Global};
 pub enum Request {
     /// The subcommand `commands`, with the configuration that its options give.
     Commands(Config),
+    /// The subcommand `steps`, with the configuration that its options give.
+    Steps(Config),
     /// Help, and its text.
     Help(String),
     /// Words that are refused, and why, in one line.
@@ -46,11 +48,12 @@ fn option<'a>(
         .default_value(default)
 }
 
-fn commands<'a>(alloc: Global) -> Result<Command<'a>, AllocError>
-    ensures { IfOk result (Reads commands_app) }
+/// A subcommand with the options of a file's configuration.
+fn file_command<'a>(alloc: Global, name: &'a str, about: &'a str) -> Result<Command<'a>, AllocError>
+    ensures { IfOk result (Reads (with_settings (new_app name.now))) }
 {
-    Command::new(alloc, "commands")
-        .about("Run a script of commands")
+    Command::new(alloc, name)
+        .about(about)
         .arg(option(
             alloc,
             "initial",
@@ -91,7 +94,8 @@ fn program<'a>(alloc: Global) -> Result<Command<'a>, AllocError>
     Command::new(alloc, "lhash")
         .about("A linear hash file")
         .subcommand_required(true)
-        .subcommand(commands(alloc)?)
+        .subcommand(file_command(alloc, "commands", "Run a script of commands")?)?
+        .subcommand(file_command(alloc, "steps", "Run a script of steps")?)
 }
 
 /// The number of an option.
@@ -125,13 +129,17 @@ fn config_of(matches: &ArgMatches<'_>) -> Option<Config>
 
 /// What a subcommand asks for.
 fn asked(name: &str, matches: &ArgMatches<'_>) -> Request
-    requires named { name.now ≡ codes "commands" }
+    requires named { IsFileCommand name.now }
     requires settings { HasSettings (rows_of (found_of matches.now)) }
     ensures { IsAskedBy name.now (rows_of (found_of matches.now)) result }
 {
     match name {
         "commands" => match config_of(matches) {
             Some(config) => Request::Commands(config),
+            None => Request::MaxBelowInitial,
+        },
+        "steps" => match config_of(matches) {
+            Some(config) => Request::Steps(config),
             None => Request::MaxBelowInitial,
         },
         _ => unreachable!(),

@@ -3,11 +3,14 @@ ghost use Rattle.std.specs.Prelude.{◌≡◌, ◌++◌, ℕ, List, Option, OnOk
 ghost use Rattle.std.specs.String.{string_bytes};
 ghost use Rattle.std.specs.Io.KnownBytes.{Appends};
 ghost use Rattle.lhash.specs.Devices.{TakesBeginning, Sends};
+ghost use Rattle.lhash.specs.StepTexts.{steps_text};
 ghost use Rattle.lhash.specs.Texts.{commands_text, line, reply_text, size_text};
 
-use crate::call::Reply;
 use crate::device::{WriteFailed, write_all};
+use crate::step_texts::EntryText;
 use crate::texts::{ReplyText, SizeText};
+use lh_bucket::Reply;
+use lh_core::{Effect, Refusal};
 use std::alloc::{AllocError, Global};
 use std::fmt::Display;
 use std::io::Write;
@@ -73,5 +76,21 @@ pub fn write_replies<W: Write>(
         put_line(writer, waiting, ReplyText(reply))?;
     }
     put_line(writer, waiting, SizeText(buckets))?;
+    write_all(writer, waiting.as_bytes())
+}
+
+/// Writes a line for what is told of each event.
+pub fn write_entries<W: Write>(
+    writer: &mut W,
+    waiting: &mut String,
+    entries: &[Result<Effect, Refusal>],
+) -> Result<(), WriteFailed>
+    requires { string_bytes waiting.old ≡ [] }
+    ensures ok { OnOk result (Appends (W.contents writer.old) (W.contents writer.new) (steps_text entries.now)) }
+    ensures err { OnErr result (TakesBeginning (W.contents writer.old) (W.contents writer.new) (steps_text entries.now)) }
+{
+    for entry in entries {
+        put_line(writer, waiting, EntryText(entry))?;
+    }
     write_all(writer, waiting.as_bytes())
 }

@@ -3,9 +3,9 @@ ghost use Rattle.std.specs.Prelude.{◌≡◌, ◌≤◌, ◌<◌, IfSome, codes
 ghost use Rattle.std.specs.Io.KnownBytes.{Keeps};
 ghost use Rattle.lh_addr.specs.Settings.{Settings};
 ghost use Rattle.lhash.specs.Options.{Accepts, Asks, settings_given};
-ghost use Rattle.lhash.specs.Run.{Ends, IsHelped, IsTurnedAway, IsWordsOf, Serves, below_initial, commands_due};
+ghost use Rattle.lhash.specs.Run.{Ends, EndsSteps, IsHelped, IsTurnedAway, IsWordsOf, Serves, below_initial, commands_due};
 
-use crate::answer::answer_commands;
+use crate::answer::{answer_commands, answer_steps};
 use crate::device::write_all;
 use crate::options::{Request, request_of};
 use crate::status::{DeviceFault, Status};
@@ -44,6 +44,7 @@ fn serve<R: Read, W: Write>(
 {
     match request {
         Request::Commands(config) => answer_commands(alloc, config, reader, writer),
+        Request::Steps(config) => answer_steps(alloc, config, reader, writer),
         Request::Help(text) => write_help(writer, text.as_str()),
         Request::Refused(text) => Status::Words(text),
         Request::MaxBelowInitial => refuse(alloc, "max is less than initial"),
@@ -60,6 +61,9 @@ pub fn run<'a, A: AllocGlobal, R: Read, W: Write>(
     ensures served { let texts = map (λ s. s.now) words.now in
         (settings : Settings) → Asks texts (codes "commands") → settings_given texts ≡ Some settings → settings.initial ≤ settings.max →
         IfSome (R.remaining reader.old) (λ input. Ends result (commands_due settings input) (W.contents writer.old) (W.contents writer.new)) }
+    ensures served_steps { let texts = map (λ s. s.now) words.now in
+        (settings : Settings) → Asks texts (codes "steps") → settings_given texts ≡ Some settings → settings.initial ≤ settings.max →
+        IfSome (R.remaining reader.old) (λ input. EndsSteps settings input result (W.contents writer.old) (W.contents writer.new)) }
     ensures max_below_initial { let texts = map (λ s. s.now) words.now in
         (settings : Settings) → Accepts texts → settings_given texts ≡ Some settings → settings.max < settings.initial →
         IsWordsOf below_initial result × Keeps (R.remaining reader.old) (R.remaining reader.new) × Keeps (W.contents writer.old) (W.contents writer.new) }

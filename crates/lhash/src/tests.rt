@@ -4,6 +4,8 @@ use std::io::{self, Error, Read, Write};
 use std::process::Abort;
 use std::test::Fail;
 
+mod steps;
+
 /// Bytes that are read so many at a time, and a read that fails.
 #[derive(Drop)]
 struct Source<'a> {
@@ -131,6 +133,21 @@ fn records_of_many_buckets_are_found(rt: HostRuntime) -> Result<(), Fail> {
         "insert 61 31\ninsert 62 32\ninsert 63 -\nsearch 61\nsearch 62\nsearch 63\nsearch 64";
     let output = "inserted\ninserted\ninserted\nfound 31\nfound 32\nfound -\nabsent\nbuckets 3\n";
     writes(&rt, words.as_slice(), script, output)
+}
+
+#[test]
+fn a_file_grows_past_its_threshold(rt: HostRuntime) -> Result<(), Fail> {
+    let script = "insert 61 31\ninsert 62 32\ninsert 63 33\ninsert 64 34\ninsert 65 35\n";
+    let told = "inserted\ninserted\ninserted\ninserted\ninserted\n";
+    let words = ["lhash", "commands", "--capacity", "2"];
+    let output = format!(in rt.alloc(); "{told}buckets 3\n")?;
+    writes(&rt, words.as_slice(), script, output.as_str())?;
+    let words = ["lhash", "commands", "--capacity", "2", "--load", "200"];
+    let output = format!(in rt.alloc(); "{told}buckets 2\n")?;
+    writes(&rt, words.as_slice(), script, output.as_str())?;
+    let words = ["lhash", "commands", "--capacity", "2", "--max", "1"];
+    let output = format!(in rt.alloc(); "{told}buckets 1\n")?;
+    writes(&rt, words.as_slice(), script, output.as_str())
 }
 
 #[test]

@@ -2,8 +2,8 @@
 ghost use Rattle.std.specs.Prelude.{◌≡◌, ◌≤◌, length, Some};
 ghost use Rattle.lhash.specs.Texts.{hexadecimal_text, reply_text, size_text};
 
-use crate::call::Reply;
-use crate::value::Value;
+use lh_bucket::Reply;
+use lh_page::Value;
 use std::fmt;
 
 /// The bytes of a value as a script writes them: pairs of lower-case hexadecimal digits, or `-` for

@@ -1,11 +1,10 @@
 //! Command scripts from end to end: calls, and the texts of faults.
 ghost use Rattle.std.specs.Prelude.{◌≡◌, IfOk, vec_len};
 
-use crate::call::Call;
 use crate::fault::ParseError;
-use crate::key::Key;
 use crate::script::parse;
-use crate::value::Value;
+use lh_bucket::Call;
+use lh_page::{Key, Value};
 use std::alloc::{AllocError, Global};
 use std::test::Fail;
 

@@ -9,7 +9,7 @@ use std::process::Abort;
 fn answer(rt: &(impl Abort + AllocGlobal), words: &[&str]) -> Result<String, AllocError> {
     let alloc = rt.alloc();
     match request_of(alloc, words)? {
-        Request::Commands(config) => settings(rt, &config),
+        Request::Commands(config) | Request::Steps(config) => settings(rt, &config),
         Request::Help(text) => {
             assert!(rt;
                 text.as_str().starts_with("Usage: lhash")

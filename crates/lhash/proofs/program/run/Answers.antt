@@ -1,8 +1,14 @@
-use Rattle.lhash.proofs.Serving.{serves_settings, refuses_below, turns_away}
+use Rattle.lhash.proofs.Serving.{serves_settings, serves_steps, without_memory, refuses_below, turns_away}
 use Rattle.lhash.proofs.program.run.Goals as goal
 
 pub returns-in-Ok-clause-served : goal.returns-in-Ok-clause-served
 returns-in-Ok-clause-served g c = serves_settings _ c.in-Ok.request _ _ _ _ _ c.in-Ok.ensures c.serve.ensures
+
+pub returns-in-Ok-clause-served_steps : goal.returns-in-Ok-clause-served_steps
+returns-in-Ok-clause-served_steps g c = serves_steps _ c.in-Ok.request _ _ _ _ _ c.in-Ok.ensures c.serve.ensures
+
+pub returns-in-Err-clause-served_steps : goal.returns-in-Err-clause-served_steps
+returns-in-Err-clause-served_steps g c settings asks given within = without_memory settings _ _
 
 pub returns-in-Ok-clause-max_below_initial : goal.returns-in-Ok-clause-max_below_initial
 returns-in-Ok-clause-max_below_initial g c = refuses_below _ c.in-Ok.request _ _ _ _ _ c.in-Ok.ensures c.serve.ensures

@@ -1,0 +1,206 @@
+//! Step scripts, from words and bytes to bytes and a status.
+use super::{Sink, fails, ran, writes};
+use crate::run;
+use std::process::Abort;
+use std::test::Fail;
+
+/// The steps of these lines tell these lines.
+fn tells(
+    rt: &(impl Abort + AllocGlobal),
+    options: &[&str],
+    lines: &[(&str, &str)],
+) -> Result<(), Fail> {
+    let mut words = Vec::new(rt.alloc());
+    words.push("lhash")?;
+    words.push("steps")?;
+    for option in options {
+        words.push(*option)?;
+    }
+    let mut script = String::new(rt.alloc());
+    let mut output = String::new(rt.alloc());
+    for (line, told) in lines {
+        script.push_str(line)?;
+        script.push_str("\n")?;
+        output.push_str(told)?;
+        output.push_str("\n")?;
+    }
+    writes(rt, words.as_slice(), script.as_str(), output.as_str())
+}
+
+#[test]
+fn an_old_root_by_one_split(rt: HostRuntime) -> Result<(), Fail> {
+    let lines = [
+        ("call 0 insert 62 31", "called"),
+        ("read 0", "aim 0 0"),
+        ("split-begin", "begun 0 1"),
+        ("split-lock", "both 0 1"),
+        ("split-move", "moved 0 1"),
+        ("split-release", "freed"),
+        ("split-point", "point 2"),
+        ("lock 0", "locked 0 1"),
+        ("act 0", "refused C3"),
+        ("rehash 0", "aim 1 1"),
+        ("lock 0", "locked 1 1"),
+        ("act 0", "inserted"),
+        ("release 0", "released"),
+    ];
+    tells(&rt, [].as_slice(), lines.as_slice())
+}
+
+#[test]
+fn an_old_root_by_four_splits(rt: HostRuntime) -> Result<(), Fail> {
+    let lines = [
+        ("call 0 search 68", "called"),
+        ("read 0", "aim 0 0"),
+        ("split-begin", "begun 0 1"),
+        ("split-lock", "both 0 1"),
+        ("split-move", "moved 0 1"),
+        ("split-release", "freed"),
+        ("split-point", "point 2"),
+        ("split-begin", "begun 0 2"),
+        ("split-lock", "both 0 2"),
+        ("split-move", "moved 0 2"),
+        ("split-release", "freed"),
+        ("split-point", "point 3"),
+        ("split-begin", "begun 1 3"),
+        ("split-lock", "both 1 3"),
+        ("split-move", "moved 1 3"),
+        ("split-release", "freed"),
+        ("split-point", "point 4"),
+        ("split-begin", "begun 0 4"),
+        ("split-lock", "both 0 4"),
+        ("split-move", "moved 0 4"),
+        ("split-release", "freed"),
+        ("split-point", "point 5"),
+        ("lock 0", "locked 0 3"),
+        ("rehash 0", "aim 1 1"),
+        ("lock 0", "locked 1 2"),
+        ("rehash 0", "aim 2 3"),
+        ("lock 0", "locked 3 2"),
+        ("act 0", "absent"),
+    ];
+    tells(&rt, [].as_slice(), lines.as_slice())
+}
+
+#[test]
+fn between_move_and_pointer(rt: HostRuntime) -> Result<(), Fail> {
+    let lines = [
+        ("call 0 insert 62 31", "called"),
+        ("read 0", "aim 0 0"),
+        ("lock 0", "locked 0 0"),
+        ("act 0", "inserted"),
+        ("release 0", "released"),
+        ("split-begin", "begun 0 1"),
+        ("split-lock", "both 0 1"),
+        ("split-move", "moved 0 1"),
+        ("split-release", "freed"),
+        ("call 1 search 62", "called"),
+        ("read 1", "aim 0 0"),
+        ("lock 1", "locked 0 1"),
+        ("act 1", "refused C3"),
+        ("rehash 1", "aim 1 1"),
+        ("lock 1", "locked 1 1"),
+        ("act 1", "found 31"),
+        ("release 1", "released"),
+        ("split-drop", "refused C1"),
+        ("split-point", "point 2"),
+    ];
+    tells(&rt, [].as_slice(), lines.as_slice())
+}
+
+#[test]
+fn lock_modes(rt: HostRuntime) -> Result<(), Fail> {
+    let lines = [
+        ("call 0 search 61", "called"),
+        ("read 0", "aim 0 0"),
+        ("lock 0", "locked 0 0"),
+        ("call 1 insert 61 31", "called"),
+        ("read 1", "aim 0 0"),
+        ("lock 1", "refused C2"),
+        ("call 2 search 61", "called"),
+        ("read 2", "aim 0 0"),
+        ("lock 2", "locked 0 0"),
+        ("split-begin", "begun 0 1"),
+        ("split-lock", "refused C2"),
+        ("rehash 0", "refused C4"),
+        ("release 2", "given up"),
+    ];
+    tells(&rt, [].as_slice(), lines.as_slice())
+}
+
+#[test]
+fn one_split_at_a_time(rt: HostRuntime) -> Result<(), Fail> {
+    let lines = [("split-begin", "begun 0 1"), ("split-begin", "refused C5")];
+    tells(&rt, [].as_slice(), lines.as_slice())?;
+    let lines = [("split-begin", "refused C6")];
+    tells(&rt, ["--max", "1"].as_slice(), lines.as_slice())?;
+    let lines = [("split-begin", "begun 0 1"), ("split-move", "refused C1")];
+    tells(&rt, [].as_slice(), lines.as_slice())?;
+    let lines = [
+        ("split-begin", "begun 0 1"),
+        ("split-drop", "dropped"),
+        ("split-begin", "begun 0 1"),
+    ];
+    tells(&rt, [].as_slice(), lines.as_slice())
+}
+
+#[test]
+fn workers_have_numbers_up_to_15(rt: HostRuntime) -> Result<(), Fail> {
+    tells(&rt, [].as_slice(), [("read 0", "refused C1")].as_slice())?;
+    tells(
+        &rt,
+        [].as_slice(),
+        [("call 15 search 61", "called")].as_slice(),
+    )?;
+    let steps = ["lhash", "steps"];
+    let steps = steps.as_slice();
+    fails(
+        &rt,
+        steps,
+        "call 16 search 61",
+        1,
+        "line 1: bad worker number",
+    )?;
+    fails(&rt, steps, "call 0", 1, "line 1: wrong number of words")?;
+    fails(&rt, steps, "call 0 frob", 1, "line 1: unknown word")?;
+    fails(
+        &rt,
+        steps,
+        "call 007 search 61",
+        1,
+        "line 1: bad worker number",
+    )?;
+    fails(&rt, steps, "# x\n\nfrob", 1, "line 3: unknown word")?;
+    fails(&rt, steps, "read 0\nsearch 61", 1, "line 2: unknown word")
+}
+
+#[test]
+fn an_empty_script_tells_nothing(rt: HostRuntime) -> Result<(), Fail> {
+    tells(&rt, [].as_slice(), [].as_slice())?;
+    let words = ["lhash", "steps", "--initial", "3", "--max", "2"];
+    fails(&rt, words.as_slice(), "frob", 2, "max is less than initial")?;
+    let (code, written, _) = ran(&rt, ["lhash", "steps", "--help"].as_slice(), b"frob")?;
+    assert_eq!(rt; code, 0);
+    assert!(rt; !written.is_empty());
+    Ok(())
+}
+
+#[test]
+fn a_failed_write_ends_the_steps(rt: HostRuntime) -> Result<(), Fail> {
+    let words = ["lhash", "steps"];
+    let whole = b"refused C1\n".as_slice();
+    for failing_write in 1..14 {
+        let mut input = b"read 0\n".as_slice();
+        let mut sink = Sink::new(rt.alloc(), 1, failing_write);
+        let status = run(&rt, words.as_slice(), &mut input, &mut sink);
+        if failing_write < 13 {
+            assert_eq!(rt; status.code(), 3);
+            assert_eq!(rt; status.to_string(rt.alloc())?.as_str(), "write failed");
+            assert!(rt; whole.starts_with(sink.bytes.as_slice()));
+        } else {
+            assert_eq!(rt; status.code(), 0);
+            assert_eq!(rt; sink.bytes.as_slice(), whole);
+        }
+    }
+    Ok(())
+}
