@@ -1,9 +1,8 @@
 -- The lines of a step script.
-use Rattle.std.specs.Prelude.{ℕ, ◌+◌, ◌-◌, ◌*◌, ◌&&◌, Bool, if◌then◌else◌, nat_le, List, [], ◌∷◌, Option, None, Some, Result, Ok, Err, codes}
+use Rattle.std.specs.Prelude.{ℕ, ◌+◌, ◌-◌, ◌*◌, ◌&&◌, Bool, if◌then◌else◌, nat_le, List, [], ◌∷◌, None, Some, Result, Ok, Err, codes}
 use Rattle.lhash.specs.Lines.{is_word, is_comment}
 use Rattle.lhash.specs.Operands.{◌>>=◌, key, value}
 use Rattle.lhash.specs.Scripts.{Reading}
-use Rattle.lh_bucket.specs.declared.call.Call.{Call}
 use Rattle.lh_bucket.specs.declared.call.Call.TheVariants.{Search, Insert, Delete}
 use Rattle.lh_core.specs.declared.event.Event.{Event}
 use Rattle.lh_core.specs.declared.event.Event.TheVariants as event
