@@ -10,9 +10,8 @@ ghost use Rattle.lh_bucket.specs.PlainMap.{after, key_of, IsInsert, IsSearch};
 
 use crate::answer::Answer;
 use crate::call::Call;
-use crate::memory::Memory;
 use crate::verdict::Verdict;
-use lh_page::Pair;
+use lh_page::{Memory, Pair};
 use std::alloc::Global;
 
 /// A bucket of a linear hash file: a finite map from keys to values, with a number and a local

@@ -4,9 +4,8 @@ ghost use Rattle.lh_addr.specs.Growth.{address};
 ghost use Rattle.lh_page.specs.Records.{key_at};
 ghost use Rattle.lh_bucket.specs.Listing.{IsHome, IsAway, IsNew, IsAgain, EachPlace, IsFirst};
 
-use crate::memory::Memory;
 use lh_addr::{Config, Root, fnv1a};
-use lh_page::Pair;
+use lh_page::{Memory, Pair};
 use std::alloc::Global;
 use std::collections::BTreeSet;
 use std::marker::Model;

@@ -13,10 +13,9 @@ use crate::answer::Answer;
 use crate::bucket::Bucket;
 use crate::call::{Call, Reply};
 use crate::leaving::Leaving;
-use crate::memory::Memory;
 use crate::verdict::{Verdict, verdict_of};
 use lh_addr::laws::hashes_are_nested;
-use lh_page::{Chain, Key, Pair, Value};
+use lh_page::{Chain, Key, Memory, Pair, Value};
 use std::alloc::Global;
 use std::marker::Model;
 

@@ -11,7 +11,6 @@ mod effect;
 mod event;
 pub mod laws;
 mod listing;
-mod memory;
 mod ran;
 mod row;
 mod serial_ran;
@@ -22,7 +21,7 @@ mod world;
 
 pub use effect::{Effect, Refusal};
 pub use event::Event;
-pub use memory::Memory;
+pub use lh_bucket::Memory;
 pub use ran::{Ran, run};
 pub use serial_ran::{SerialRan, serial};
 pub use state::{SplitState, WorkerState};

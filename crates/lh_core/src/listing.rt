@@ -5,9 +5,8 @@ ghost use Rattle.lh_core.specs.declared.state.SplitState.TheVariants as split;
 ghost use Rattle.lh_core.specs.World.{bucket_at};
 
 use crate::laws::linear_hashing;
-use crate::memory::Memory;
 use crate::world::World;
-use lh_bucket::{Bucket, Listing, ListingFault};
+use lh_bucket::{Bucket, Listing, ListingFault, Memory};
 use lh_page::Pair;
 use std::alloc::Global;
 

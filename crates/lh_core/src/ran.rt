@@ -4,10 +4,9 @@ ghost use Rattle.lh_core.specs.Headline.{HasLedTo, IsHeadline};
 
 use crate::effect::{Effect, Refusal};
 use crate::event::Event;
-use crate::memory::Memory;
 use crate::world::World;
 use lh_addr::Config;
-use lh_bucket::Bucket;
+use lh_bucket::{Bucket, Memory};
 use std::alloc::Global;
 
 /// What a list of events was told, an entry for each, and the world that it left.

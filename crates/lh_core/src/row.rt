@@ -10,9 +10,8 @@ ghost use Rattle.lh_core.specs.World.{IsPlaced, StandsFor, bucket_at};
 
 use crate::control::{Act, Control};
 use crate::laws::linear_hashing;
-use crate::memory::Memory;
 use lh_addr::Config;
-use lh_bucket::{Bucket, Reply};
+use lh_bucket::{Bucket, Memory, Reply};
 use std::alloc::Global;
 
 /// The empty buckets that a file begins with.

@@ -10,10 +10,9 @@ ghost use Rattle.lh_core.specs.World.{IsStep, StandsFor};
 
 use crate::effect::{Effect, Refusal};
 use crate::event::Event;
-use crate::memory::Memory;
 use crate::world::World;
 use lh_addr::Config;
-use lh_bucket::{Bucket, Call, Reply};
+use lh_bucket::{Bucket, Call, Memory, Reply};
 use std::alloc::Global;
 
 /// What calls were told, a reply for each, and the world that they left.

@@ -16,11 +16,10 @@ use crate::control::Control;
 use crate::effect::{Effect, Refusal};
 use crate::event::Event;
 use crate::laws::linear_hashing;
-use crate::memory::Memory;
 use crate::row::{divide, first_row, serve};
 use crate::state::{SplitState, WorkerState};
 use lh_addr::{Config, Root};
-use lh_bucket::Bucket;
+use lh_bucket::{Bucket, Memory};
 use std::alloc::Global;
 use std::marker::Model;
 

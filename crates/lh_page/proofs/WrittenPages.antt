@@ -43,17 +43,17 @@ written_more old new page pair n low is h w = record {
 pub written_all : (bytes : List ℕ) (page : Page) → IsPartlyWritten bytes page (length page.pairs) → IsPage bytes page
 written_all bytes page h = record {
   size = h.size;
-  kind = row 0 1 (omega arith);
-  used = row 1 1 (omega arith);
-  level = row 2 1 (omega arith);
-  reserved = row 3 1 (omega arith);
-  bucket = row 4 4 (omega arith);
-  next = row 8 4 (omega arith);
-  padding = row 12 4 (omega arith);
+  kind = field_of_head 0 1 (omega arith);
+  used = field_of_head 1 1 (omega arith);
+  level = field_of_head 2 1 (omega arith);
+  reserved = field_of_head 3 1 (omega arith);
+  bucket = field_of_head 4 4 (omega arith);
+  next = field_of_head 8 4 (omega arith);
+  padding = field_of_head 12 4 (omega arith);
   slots = λ i low. elim (cases_lt i (length page.pairs)) [
     | inl used ↦ h.written i low used
     | inr past ↦ h.left i low past ∙ ap slot_text (sym (slice_get_past page.pairs i past))
   ];
 } where
-  row : (offset size : ℕ) → offset + size ≤ 16 → field bytes offset size ≡ field (head_text page) offset size
-  row offset size within = sym (field-take offset size 16 bytes within) ∙ ap (λ head. field head offset size) h.head
+  field_of_head : (offset size : ℕ) → offset + size ≤ 16 → field bytes offset size ≡ field (head_text page) offset size
+  field_of_head offset size within = sym (field-take offset size 16 bytes within) ∙ ap (λ head. field head offset size) h.head
