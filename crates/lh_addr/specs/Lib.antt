@@ -5,3 +5,4 @@ pub mod Growth
 pub mod Limits
 pub mod Root
 pub mod Settings
+pub mod RootWord

@@ -1,5 +1,6 @@
 //! Where a record stands in a linear hash file: the code of a key, the root of a file, the address
-//! and the local levels of its buckets, and the configuration with its split policy.
+//! and the local levels of its buckets, the configuration with its split policy, and the word in
+//! which threads that run on one file share its root.
 //!
 //! W. Litwin, "Linear Hashing: a new tool for file and table addressing", VLDB 1980, gives the hash
 //! functions, the address rule and the order of splits. That buckets keep local levels is an idea
@@ -12,11 +13,13 @@ mod hash;
 pub mod laws;
 pub mod limits;
 mod root;
+mod root_word;
 
 pub use config::{Config, Range};
 pub use fnv::fnv1a;
 pub use hash::hash_at;
 pub use root::Root;
+pub use root_word::RootWord;
 
 #[cfg(test)]
 mod tests;

@@ -80,3 +80,11 @@ fn a_split_is_wanted_above_the_threshold(rt: HostRuntime) -> Result<(), Fail> {
     assert!(rt; !config.wants_split(u64::MAX, 3));
     Ok(())
 }
+
+#[test]
+fn root_word_codes_buckets_and_right(rt: HostRuntime) {
+    assert_eq!(rt; RootWord::new(5, true), 11);
+    assert_eq!(rt; RootWord::buckets_of(11), 5);
+    assert_eq!(rt; RootWord::split_of(11), true);
+    assert_eq!(rt; RootWord::new(65536, false), 131_072);
+}
