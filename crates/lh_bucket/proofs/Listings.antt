@@ -5,15 +5,15 @@ use Rattle.std.specs.Ordering.{nat_cmp}
 use Rattle.std.specs.Cmp.Lexicographic.{slice_cmp, texts_ties}
 use Rattle.std.specs.BTreeMap.{is_at}
 use Rattle.std.proofs.lemmas.Bool.{cases_lt, false≢true, false_from_ne_true}
-use Rattle.std.proofs.lemmas.List.{get_or_default, length-map, length-replicate}
+use Rattle.std.proofs.lemmas.List.{get_or_default, get_or_past, length-map, length-replicate}
 use Rattle.std.proofs.Math.ListN.{get_or-map, replicate}
 use Rattle.std.proofs.lemmas.Map.Keys.{IsDistinct-from_apart}
-use Rattle.std.specs.List.{IsDistinct}
+use Rattle.std.specs.List.{IsDistinct, All}
 use Rattle.std.specs.Str.{bytes_eq}
 use Rattle.lh_addr.specs.Settings.{Settings, IsInRange}
 use Rattle.std.proofs.lemmas.Slice.Eq.{bytes_eq-Decides}
 use Rattle.lh_page.specs.declared.pair.Pair.{Pair}
-use Rattle.lh_page.specs.Records.{keys_of, key_at, no_pair}
+use Rattle.lh_page.specs.Records.{keys_of, key_at, no_pair, IsRecord}
 use Rattle.lh_bucket.specs.Listing.{PlaceFact, IsNew, IsHome, IsShape, IsListing, EachPlace, list_at}
 use Rattle.lh_bucket.proofs.MapOf.{equals}
 
@@ -83,6 +83,20 @@ each_more Good lists n ps is good before b p below within = ⊎_elim
     subst (λ (qs : List Pair). Good b qs p) (sym at) (subst (λ m. Good m ps p) (sym last) (good p within')))
     (last_or_before b n below)
 
+-- what holds of the lists before a bucket, and of its list, holds of one list more
+pub all_more : (P : Pair → Type 0) (lists : List (List Pair)) (n : ℕ) (ps : List Pair) → list_at lists n ≡ ps → All P ps → ((b : ℕ) → b < n → All P (list_at lists b)) → (b : ℕ) → b < n + 1 → All P (list_at lists b)
+all_more P lists n ps is all before b below = ⊎_elim
+    (λ (earlier : b < n). before b earlier)
+    (λ (last : b ≡ n). subst (All P) (sym (ap (list_at lists) last ∙ is)) all)
+    (last_or_before b n below)
+
+-- what holds of the lists holds of every list, since there is none behind them
+pub all_lists : (P : Pair → Type 0) (lists : List (List Pair)) (n : ℕ) → length lists ≤ n → ((b : ℕ) → b < n → All P (list_at lists b)) → (b : ℕ) → All P (list_at lists b)
+all_lists P lists n many before b p d within = ⊎_elim
+    (λ (low : b < n). before b low p d within)
+    (λ (high : n ≤ b). absurd (omega (arith, within, ap length (get_or_past lists b [] (omega arith)))))
+    (cases_lt b n)
+
 -- a list without a key twice
 pub distinct_new : (ps : List Pair) → ((p : ℕ) → p < length ps → IsNew 0 ps p) → IsDistinct bytes_eq (keys_of ps)
 distinct_new ps new = IsDistinct-from_apart bytes_eq (keys_of ps) (λ i j d lt below.
@@ -96,10 +110,11 @@ distinct_new ps new = IsDistinct-from_apart bytes_eq (keys_of ps) (λ i j d lt b
     ∙ sym (get_or_default (keys_of ps) j [] d below) ∙ get_or-map (λ (p : Pair). p.key) ps j no_pair)))
 
 -- lists without a fault
-pub listing_made : (config : Settings) (buckets : ℕ) (lists : List (List Pair)) → IsInRange config → IsShape config buckets lists → EachPlace (IsHome config.initial buckets) lists → EachPlace IsNew lists → IsListing (record { config = config; lists = lists })
-listing_made config buckets lists range shape home new = record {
+pub listing_made : (config : Settings) (buckets : ℕ) (lists : List (List Pair)) → IsInRange config → IsShape config buckets lists → EachPlace (IsHome config.initial buckets) lists → ((bucket : ℕ) → All IsRecord (list_at lists bucket)) → EachPlace IsNew lists → IsListing (record { config = config; lists = lists })
+listing_made config buckets lists range shape home records new = record {
   config = range;
   shape = record { from_initial = omega (arith, shape.from_initial, shape.each); to_max = omega (arith, shape.to_max, shape.each); each = refl };
+  records = records;
   home = subst (λ n. EachPlace (IsHome config.initial n) lists) (sym shape.each) home;
   distinct = λ bucket. distinct_new (list_at lists bucket) (λ p within. new bucket p within);
 }
@@ -119,6 +134,7 @@ listing_empty config range =
     record {
       config = range;
       shape = record { from_initial = omega arith; to_max = omega (arith, range.max.0); each = refl };
+      records = λ b p _ within. nowhere config.initial b p within;
       home = λ b p within. nowhere config.initial b p within;
       distinct = λ b. distinct_new (list_at (replicate config.initial []) b) (λ p within. nowhere config.initial b p within);
     }

@@ -1,12 +1,12 @@
 -- A whole file as lists of records, one for each bucket
 use Rattle.std.specs.Prelude.{◌≡◌, ◌≢◌, ℕ, ◌<◌, ◌≤◌, List, [], ◌∷◌, ◌++◌, length, sum_by, slice_index_or}
-use Rattle.std.specs.List.{IsDistinct}
+use Rattle.std.specs.List.{IsDistinct, All}
 use Rattle.std.specs.Str.{bytes_eq}
 use Rattle.lh_addr.specs.Fnv.{code_of}
 use Rattle.lh_addr.specs.Growth.{address}
 use Rattle.lh_addr.specs.Settings.{Settings, IsInRange}
 use Rattle.lh_page.specs.declared.pair.Pair.{Pair}
-use Rattle.lh_page.specs.Records.{keys_of, key_at}
+use Rattle.lh_page.specs.Records.{keys_of, key_at, IsRecord}
 
 -- the configuration of a file, and the records of each of its buckets, in the order of their places
 pub record Lists : Type 0 where
@@ -67,9 +67,10 @@ pub record IsFirst (Good Bad : PlaceFact) (lists : List (List Pair)) (bucket pla
   pub here : (p : ℕ) → p < place → Good bucket (list_at lists bucket) p
   pub before : (b p : ℕ) → b < bucket → p < length (list_at lists b) → Good b (list_at lists b) p
 
--- what holds of every listing: each record stands in the list of its bucket, and no key twice
+-- what holds of every listing: keys and values have the lengths that they may have, each record stands in the list of its bucket, and no key twice
 pub record IsListing (listing : Lists) : Type 0 where
   pub config : IsInRange listing.config
   pub shape : IsShape listing.config (size listing) listing.lists
+  pub records : (bucket : ℕ) → All IsRecord (list_at listing.lists bucket)
   pub home : EachPlace (IsHome listing.config.initial (size listing)) listing.lists
   pub distinct : (bucket : ℕ) → IsDistinct bytes_eq (keys_of (list_at listing.lists bucket))

@@ -1,8 +1,9 @@
 //! Listings: whole files as lists of records.
 ghost use Rattle.std.specs.Prelude.{◌≡◌, ℕ, ◌+◌, ◌-◌, ◌^◌, ◌<◌, ◌≤◌, [], ◌∷◌, length, map, min, replicate, slice_get, Some, IsOk, IfOk, IfErr, IfSome, IfNone, MatchOption};
 ghost use Rattle.lh_addr.specs.Growth.{address};
-ghost use Rattle.lh_page.specs.Records.{key_at};
-ghost use Rattle.lh_bucket.specs.Listing.{IsHome, IsAway, IsNew, IsAgain, EachPlace, IsFirst};
+ghost use Rattle.std.specs.List.{All};
+ghost use Rattle.lh_page.specs.Records.{key_at, IsRecord};
+ghost use Rattle.lh_bucket.specs.Listing.{IsHome, IsAway, IsNew, IsAgain, EachPlace, IsFirst, list_at};
 
 use lh_addr::{Config, Root, fnv1a};
 use lh_page::{Memory, Pair};
@@ -52,11 +53,13 @@ impl Model for Listing {
 /// The place of the first record that belongs to another bucket than this one.
 fn away_in(root: &Root, bucket: u32, pairs: &[Pair]) -> Option<usize>
     ensures none { IfNone result ((p : ℕ) → p < length pairs.now → IsHome root.now.initial root.now.buckets bucket pairs.now p) }
+    ensures records { IfNone result (All IsRecord pairs.now) }
     ensures within { IfSome result (λ place. place < length pairs.now) }
     ensures away { IfSome result (λ place. IsAway root.now.initial root.now.buckets bucket pairs.now place) }
     ensures before { IfSome result (λ place. (p : ℕ) → p < place → IsHome root.now.initial root.now.buckets bucket pairs.now p) }
 {
     for (place, pair) in pairs.iter().enumerate() {
+        let _ = pair.value.bytes();
         if root.address(fnv1a(pair.key.bytes())) != bucket {
             return Some(place);
         }
@@ -84,6 +87,7 @@ fn again_in(alloc: Global, pairs: &[Pair]) -> Result<Option<usize>, Memory>
 fn first_away(root: &Root, lists: &[Vec<Pair>]) -> Option<(u32, usize)>
     requires { length lists.now ≤ 65536 }
     ensures none { IfNone result (EachPlace (IsHome root.now.initial root.now.buckets) (map (λ v. v.items) lists.now)) }
+    ensures records { IfNone result ((bucket : ℕ) → All IsRecord (list_at (map (λ v. v.items) lists.now) bucket)) }
     ensures first { IfSome result (λ f. IsFirst (IsHome root.now.initial root.now.buckets) (IsAway root.now.initial root.now.buckets) (map (λ v. v.items) lists.now) f.0 f.1) }
 {
     for (bucket, list) in lists.iter().enumerate() {

@@ -1,10 +1,10 @@
 -- How many pieces a list is cut into.
-use Rattle.std.proofs.Common.{◌≡◌, ℕ, zero, suc, ◌+◌, ◌-◌, ◌/◌, ◌<◌, ◌≤◌, leb, List, [], ◌∷◌, ◌++◌, length, take, drop, refl, sym, ap, ◌∙◌, inl, inr, arith}
+use Rattle.std.proofs.Common.{◌≡◌, ℕ, zero, suc, ◌+◌, ◌-◌, ◌*◌, ◌/◌, ◌<◌, ◌≤◌, leb, List, [], ◌∷◌, get_or, ◌++◌, length, take, drop, refl, sym, ap, ◌∙◌, inl, inr, arith}
 use Rattle.std.proofs.Math.Nat.{div-eq_of_lt, add-div_right}
 use Rattle.std.proofs.lemmas.Bool.{leb-true, leb-false, le-leb, lt-leb, cases_Bool}
-use Rattle.std.proofs.lemmas.List.{append-nil, length-append, length-drop, length-take, length-take-le, take-append-drop, take_at, drop_at}
+use Rattle.std.proofs.lemmas.List.{append-nil, drop-drop, length-append, length-drop, length-take, length-take-le, take-append-drop, take_all, take_at, drop_at}
 use Rattle.lh_page.specs.declared.pair.Pair.{Pair}
-use Rattle.lh_page.specs.PackedList.{pieces, IsPacked, joined, PackingLaw}
+use Rattle.lh_page.specs.PackedList.{pieces, pages_of, IsPacked, joined, PackingLaw, PiecesLaw}
 
 one_page : (n b : ℕ) → 1 ≤ b → n ≤ b → 1 ≡ (n - 1) / b + 1
 one_page n b some few = let e : (n - 1) / b ≡ 0 = div-eq_of_lt (omega arith) in omega arith
@@ -92,3 +92,39 @@ packing b pairs pages some = (
   λ h. sym (pieces-joined (length pairs) b pages some h.0 (omega (arith, ap length h.1))) ∙ ap (pieces (length pairs) b) h.1,
   λ e. rw e (packed-pieces (length pairs) b pairs some (omega arith), joined-pieces (length pairs) b pairs),
 )
+
+-- ---- the records of one page
+
+Starts : (b k : ℕ) (pairs : List Pair) → List Pair → Type 0
+Starts b k pairs page = (k * b ≤ length pairs) × (page ≡ take b (drop (k * b) pairs))
+
+only_page : (b k : ℕ) (pairs : List Pair) → length pairs ≤ b → k < 1 → Starts b k pairs (get_or (pairs ∷ []) k [])
+unfolding Starts
+only_page b zero pairs fits low =
+    let e : 0 * b ≡ 0 = omega arith in
+    (omega arith, rw (e, take_all b pairs fits) refl)
+only_page b (suc k) pairs fits low = absurd (omega arith)
+
+piece_at : (n b k : ℕ) (pairs : List Pair) → 1 ≤ b → length pairs ≤ n → k < length (pieces n b pairs) → Starts b k pairs (get_or (pieces n b pairs) k [])
+unfolding pieces Starts
+piece_at zero b k pairs some few low = only_page b k pairs (omega arith) (omega arith)
+piece_at (suc n) b zero pairs some few low =
+    let e : 0 * b ≡ 0 = omega arith in
+    elim (cases_Bool (leb (length pairs) b)) [
+      | inl fits ↦ rw fits (only_page b zero pairs (leb-true _ _ fits) (omega arith))
+      | inr more ↦ rw more (omega arith, rw e refl)
+    ]
+piece_at (suc n) b (suc k) pairs some few low = elim (cases_Bool (leb (length pairs) b)) [
+  | inl fits ↦ absurd (let one : length (pieces (suc n) b pairs) ≡ 1 = ap length (one-piece (suc n) b pairs (leb-true _ _ fits)) in omega (arith, one, low))
+  | inr more ↦
+      let many : b < length pairs = leb-false _ _ more in
+      let less : length (drop b pairs) ≡ length pairs - b = length-drop b pairs in
+      let count : length (pieces (suc n) b pairs) ≡ suc (length (pieces n b (drop b pairs))) = rw more refl in
+      let h = piece_at n b k (drop b pairs) some (omega arith) (omega (arith, count, low)) in
+      let e : suc k * b ≡ b + k * b = omega arith in
+      rw more (omega (arith, h.0), h.1 ∙ ap (take b) (drop-drop (k * b) b pairs ∙ ap (λ m. drop m pairs) (sym e)))
+]
+
+pub all_pieces : PiecesLaw
+unfolding Starts
+all_pieces b pairs some = (length-pieces (length pairs) b pairs some (omega arith), λ k low. piece_at (length pairs) b k pairs some (omega arith) low)

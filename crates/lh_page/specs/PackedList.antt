@@ -1,5 +1,5 @@
 -- A chain as its callers see it: records in their order, cut into pages.
-use Rattle.std.specs.Prelude.{◌≡◌, ℕ, ◌≤◌, ◌↔◌, zero, suc, List, [], ◌∷◌, length, take, drop, nat_le, if◌then◌else◌}
+use Rattle.std.specs.Prelude.{◌≡◌, ℕ, ◌+◌, ◌-◌, ◌*◌, ◌/◌, ◌<◌, ◌≤◌, ◌↔◌, zero, suc, List, [], ◌∷◌, length, take, drop, slice_index_or, nat_le, if◌then◌else◌}
 use Rattle.std.specs.List.{IsDistinct, flat_map}
 use Rattle.std.specs.Str.{bytes_eq}
 use Rattle.lh_page.specs.declared.pair.Pair.{Pair}
@@ -38,3 +38,9 @@ joined pages = flat_map (λ page. page) pages
 -- The pages of a list are the one row of packed pages that hold its records in their order.
 abbrev pub PackingLaw : Type 0
 PackingLaw = (b : ℕ) (pairs : List Pair) (pages : List (List Pair)) → 1 ≤ b → (IsPacked b pages × (joined pages ≡ pairs)) ↔ (pages ≡ pages_of b pairs)
+
+-- Page k of a list holds the records from place k * b on, and there are as many pages as that takes, but at least one.
+abbrev pub PiecesLaw : Type 0
+PiecesLaw = (b : ℕ) (pairs : List Pair) → 1 ≤ b →
+    (length (pages_of b pairs) ≡ (length pairs - 1) / b + 1)
+    × ((k : ℕ) → k < length (pages_of b pairs) → (k * b ≤ length pairs) × (slice_index_or (pages_of b pairs) k [] ≡ take b (drop (k * b) pairs)))

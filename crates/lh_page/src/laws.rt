@@ -1,10 +1,15 @@
 //! Laws over the definitions that the contracts cite.
-ghost use Rattle.lh_page.specs.PackedList.{PackingLaw};
+ghost use Rattle.lh_page.specs.PackedList.{PackingLaw, PiecesLaw};
 ghost use Rattle.lh_page.specs.PageLaws.{PageTextLaw, ReadBackLaw, FaultlessLaw};
 
 /// The pages of a chain are its records cut into full pieces, and there is no other way to pack them.
 pub fn pages_are_packed()
     ensures { PackingLaw }
+{}
+
+/// How many pages a chain has, and which records each of them holds.
+pub fn pages_are_pieces()
+    ensures { PiecesLaw }
 {}
 
 /// The table of a page is one row of bytes, and no other row has it.

@@ -1,7 +1,12 @@
-use Rattle.std.proofs.Common.{map}
-use Rattle.lh_bucket.specs.Listing.{IsHome}
+use Rattle.std.proofs.Common.{ℕ, ◌<◌, map}
+use Rattle.std.specs.List.{All}
+use Rattle.lh_page.specs.Records.{IsRecord}
+use Rattle.lh_bucket.specs.Listing.{IsHome, list_at}
 use Rattle.lh_bucket.proofs.Listings.{EachBefore}
 use Rattle.lh_bucket.proofs.listing.first_away.Given as goal
 
 abbrev pub invariant-loop-bucket : goal.invariant-loop-bucket
-invariant-loop-bucket l = EachBefore (IsHome l.root.initial l.root.buckets) (map (λ v. v.items) l.lists) l.bucket
+invariant-loop-bucket l = record {
+  home : EachBefore (IsHome l.root.initial l.root.buckets) (map (λ v. v.items) l.lists) l.bucket;
+  records : (b : ℕ) → b < l.bucket → All IsRecord (list_at (map (λ v. v.items) l.lists) b);
+}

@@ -1,9 +1,11 @@
-use Rattle.std.proofs.Common.{◌≡◌, ◌∙◌, List, ap, length, map, subst, arith}
+use Rattle.std.proofs.Common.{◌≡◌, ◌∙◌, ℕ, List, ap, length, map, subst, arith}
 use Rattle.std.specs.Option.{IfNone}
 use Rattle.std.proofs.lemmas.List.{length-map}
 use Rattle.lh_addr.specs.Extent.{Extent}
+use Rattle.std.specs.List.{All}
 use Rattle.lh_page.specs.declared.pair.Pair.{Pair}
-use Rattle.lh_bucket.specs.Listing.{IsHome, IsNew, IsShape, EachPlace}
+use Rattle.lh_page.specs.Records.{IsRecord}
+use Rattle.lh_bucket.specs.Listing.{IsHome, IsNew, IsShape, EachPlace, list_at}
 use Rattle.lh_bucket.proofs.Listings.{listing_made}
 use Rattle.lh_bucket.proofs.listing.Listing.new.Goals as goal
 
@@ -19,7 +21,8 @@ invariant_of-result c =
     let home : EachPlace (IsHome c.args.config.initial c.args.buckets) lists =
     subst (EachPlace (IsHome c.args.config.initial c.args.buckets)) same
     (subst (λ (e : Extent). EachPlace (IsHome e.initial e.buckets) (map (λ v. v.items) c.deref.result.now)) root c.in_default.ensures.none) in
-    listing_made c.args.config c.args.buckets lists c.initial.ensures.in_range shape home (subst (EachPlace IsNew) same-2 (subst (λ r. IfNone r (EachPlace IsNew (map (λ v. v.items) c.deref-2.result.now))) c.in-Ok-None.field-0-is c.in-Ok-None.ensures.none))
+    let records : (bucket : ℕ) → All IsRecord (list_at lists bucket) = subst (λ (xs : List (List Pair)). (bucket : ℕ) → All IsRecord (list_at xs bucket)) same c.in_default.ensures.records in
+    listing_made c.args.config c.args.buckets lists c.initial.ensures.in_range shape home records (subst (EachPlace IsNew) same-2 (subst (λ r. IfNone r (EachPlace IsNew (map (λ v. v.items) c.deref-2.result.now))) c.in-Ok-None.field-0-is c.in-Ok-None.ensures.none))
 
 pub returns-in-Ok-None-clause-kept : goal.returns-in-Ok-None-clause-kept
 returns-in-Ok-None-clause-kept c = invariant_of-result c
