@@ -1,0 +1,36 @@
+-- A filled buffer has the front of what was left.
+use Rattle.std.proofs.Common.{◌≡◌, ℕ, ◌+◌, ◌-◌, ◌<◌, ◌≤◌, inl, inr, List, [], ◌∷◌, ◌++◌, length, take, drop, Option, Some, None, refl, sym, ap, ◌∙◌, arith, length-append}
+use Rattle.std.specs.Prelude.{min, IfSome}
+use Rattle.std.proofs.lemmas.Bool.{cases_lt}
+use Rattle.std.proofs.lemmas.List.{take_at, drop_at, length-take-le, append-nil, take_all, drop_all}
+use Rattle.lh_image.specs.Filling.{Fills, IsFilled}
+
+whole : (xs ys buffer : List ℕ) (n : ℕ) → n ≤ length buffer → xs ≡ take n buffer ++ ys → length xs ≡ n + length ys
+whole xs ys buffer n within e = omega (arith, ap length e, length-append (take n buffer) ys, length-take-le n buffer within)
+
+full : (xs ys buffer : List ℕ) (n : ℕ) → n ≡ length buffer → n ≤ length buffer → xs ≡ take n buffer ++ ys → IsFilled xs n buffer (Some ys)
+full xs ys buffer n all within e =
+    let size : length (take n buffer) ≡ length buffer = omega (arith, length-take-le n buffer within) in
+    record {
+      count = omega (arith, whole xs ys buffer n within e);
+      front = sym (take_at (take n buffer) ys (length buffer) size) ∙ ap (take (length buffer)) (sym e);
+      rest = ap Some (sym (drop_at (take n buffer) ys (length buffer) size) ∙ ap (drop (length buffer)) (sym e));
+    }
+
+ended : (xs ys buffer : List ℕ) (n : ℕ) → n < length buffer → ys ≡ [] → xs ≡ take n buffer ++ ys → IsFilled xs n buffer (Some ys)
+ended xs ys buffer n less none e =
+    let short : length xs ≤ length buffer = omega (arith, whole xs ys buffer n (omega arith) e, ap length none) in
+    let is : xs ≡ take n buffer = e ∙ ap (λ (r : List ℕ). take n buffer ++ r) none ∙ append-nil (take n buffer) in
+    record {
+      count = omega (arith, whole xs ys buffer n (omega arith) e, ap length none);
+      front = sym is ∙ sym (take_all (length buffer) xs short);
+      rest = ap Some (none ∙ sym (drop_all (length buffer) xs short));
+    }
+
+pub filled : (old new : Option (List ℕ)) (n : ℕ) (buffer : List ℕ) → Fills old new n buffer → IfSome old (λ bytes. IsFilled bytes n buffer new)
+filled None new n buffer fills = tt
+filled (Some xs) None n buffer fills = absurd fills.bytes
+filled (Some xs) (Some ys) n buffer fills = elim (cases_lt n (length buffer)) [
+  | inl less ↦ ended xs ys buffer n less (fills.end less) fills.bytes
+  | inr all ↦ full xs ys buffer n (omega (arith, fills.within)) fills.within fills.bytes
+]

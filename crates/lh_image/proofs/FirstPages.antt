@@ -1,0 +1,33 @@
+-- The table of the header alone
+use Rattle.std.proofs.Common.{◌≡◌, ℕ, zero, suc, ◌+◌, ◌-◌, ◌*◌, ◌<◌, ◌≤◌, List, [], ◌∷◌, length, Option, None, refl, sym, ap, ◌∙◌, arith}
+use Rattle.lh_page.specs.declared.pair.Pair.{Pair}
+use Rattle.lh_image.specs.declared.first_page.Header.{Header}
+use Rattle.lh_image.specs.declared.page_checks.PageFaults.{PageFaults}
+use Rattle.lh_image.specs.declared.table.Entry.{Entry}
+use Rattle.lh_image.specs.Header.{HasHeader}
+use Rattle.lh_image.specs.Layout.{next}
+use Rattle.lh_image.specs.Pages.{HaveCome}
+use Rattle.lh_image.specs.Table.{no_entry, entry_at, next_in, AreWithin}
+
+first_entry : (p : ℕ) → entry_at (no_entry ∷ []) p ≡ no_entry
+first_entry zero = refl
+first_entry (suc p) = refl
+
+pub within_first : (entries : List Entry) (pairs : List Pair) → entries ≡ no_entry ∷ [] → AreWithin entries pairs
+within_first entries pairs e p = rw (e, first_entry p) (omega arith)
+
+pub come_first : (bytes : List ℕ) (header : Header) (entries : List Entry) (pairs : List Pair) (faults : PageFaults) (now : Option (List ℕ)) → entries ≡ no_entry ∷ [] →
+    faults ≡ record { kind = None; bucket = None; level = None; used = None; slot = None; sum = 0 } → HasHeader header bytes now → HaveCome bytes header 1 entries pairs faults
+unfolding next next_in
+come_first bytes header entries pairs faults now first none has = record {
+  fields = has.fields;
+  kept = record {
+    size = rw first refl;
+    next = λ p less. let at : p ≡ 0 = omega arith in rw (at, first) refl;
+    bucket = λ p from less. absurd (omega arith);
+    records = λ p from less sound. absurd (omega arith);
+  };
+  noted = rw none (record { sum = refl; kind = refl; bucket = refl; level = refl; used = refl; slot = refl });
+  enough = has.size;
+  each_byte = has.each_byte;
+}

@@ -1,0 +1,105 @@
+-- The header page is spelled by its fields exactly where it begins with the magic bytes and ends with zeros.
+use Rattle.std.proofs.Common.{◌≡◌, inl, inr, ℕ, zero, suc, ◌+◌, ◌*◌, ◌≤◌, true, false, eqb, List, [], ◌∷◌, ◌++◌, length, take, drop, replicate, refl, sym, ap, ◌∙◌, arith, rules}
+use Rattle.std.specs.List.{list_all}
+use Rattle.std.proofs.lemmas.Bool.{and_parts, not-false, not_from_true, eqb-true, cases_lt}
+use Rattle.std.proofs.lemmas.Slice.Eq.{bytes_eq-Decides}
+use Rattle.std.proofs.lemmas.List.{places, same_lists, drop-drop, length-take, length-drop, get_or-take, get_or-drop, get_or_past, take-take, drop-take}
+use Rattle.std.proofs.lemmas.Nat.{le_bytes_4, le_bytes_8}
+use Rattle.byteorder.specs.Numbers.{little_from-take, little_from-cons}
+use Rattle.std.specs.Int.{w32, w64, from_le_bytes}
+use Rattle.byteorder.specs.Endian.{little_from, little_bytes}
+use Rattle.lh_page.specs.PageFields.{all_zero}
+use Rattle.lh_page.specs.PageLaws.{AreBytes}
+use Rattle.lh_image.specs.Layout.{magic, initial, capacity, load, buckets, max, page_count, record_count, header_of, header_text, page}
+use Rattle.lh_image.specs.Faults.{no_magic}
+
+-- no bytes give zeros from any offset
+pub from_none : (k j n : ℕ) → little_from k n [] ≡ little_from j n []
+from_none k j zero = refl
+from_none k j (suc n) = ap (λ (x : ℕ). 0 + 256 * x) (from_none (suc k) (suc j) n)
+
+-- a number at an offset is that at the start of what stands behind
+pub from_drop : (k n : ℕ) (xs : List ℕ) → little_from k n xs ≡ little_from 0 n (drop k xs)
+from_drop zero n xs = refl
+from_drop (suc k) n [] = from_none (suc k) 0 n
+from_drop (suc k) n (x ∷ xs) = little_from-cons k n x xs ∙ from_drop k n xs
+
+-- ---- bytes of a part
+
+-- each byte of a part of some bytes is a byte
+pub part_bytes : (xs : List ℕ) (k n : ℕ) → AreBytes xs → AreBytes (take n (drop k xs))
+part_bytes xs k n b i = elim (cases_lt i n) [
+  | inl low ↦ rw (get_or-take n (drop k xs) i 0 low, get_or-drop k xs i 0) (b (k + i))
+  | inr high ↦ rw (get_or_past (take n (drop k xs)) i 0 (omega (arith, length-take n (drop k xs)))) (omega arith)
+]
+
+length-part : (xs : List ℕ) (k n : ℕ) → k + n ≤ length xs → length (take n (drop k xs)) ≡ n
+length-part xs k n l = omega (arith, length-take n (drop k xs), length-drop k xs)
+
+field4 : (xs : List ℕ) (k : ℕ) → AreBytes xs → k + 4 ≤ length xs → take 4 (drop k xs) ≡ little_bytes 4 (little_from k 4 xs)
+field4 xs k b l =
+    let e : little_from k 4 xs ≡ little_from 0 4 (take 4 (drop k xs)) = from_drop k 4 xs ∙ sym (little_from-take 0 4 4 (drop k xs) (omega arith)) in
+    let f : little_from 0 4 (take 4 (drop k xs)) ≡ from_le_bytes w32 (take 4 (drop k xs)) = omega arith in
+    sym (le_bytes_4 (take 4 (drop k xs)) (little_from k 4 xs) (length-part xs k 4 l) (part_bytes xs k 4 b) (e ∙ f))
+
+field8 : (xs : List ℕ) (k : ℕ) → AreBytes xs → k + 8 ≤ length xs → take 8 (drop k xs) ≡ little_bytes 8 (little_from k 8 xs)
+field8 xs k b l =
+    let e : little_from k 8 xs ≡ little_from 0 8 (take 8 (drop k xs)) = from_drop k 8 xs ∙ sym (little_from-take 0 8 8 (drop k xs) (omega arith)) in
+    let f : little_from 0 8 (take 8 (drop k xs)) ≡ from_le_bytes w64 (take 8 (drop k xs)) = omega arith in
+    sym (le_bytes_8 (take 8 (drop k xs)) (little_from k 8 xs) (length-part xs k 8 l) (part_bytes xs k 8 b) (e ∙ f))
+
+-- a part in two
+stretch : (m n : ℕ) (xs : List ℕ) → take (m + n) xs ≡ take m xs ++ take n (drop m xs)
+stretch m n xs = same_lists _ _ (search (rules, places)) (λ k d h. grind (arith, places))
+
+cut : (m n k : ℕ) (xs : List ℕ) → take (m + n) (drop k xs) ≡ take m (drop k xs) ++ take n (drop (k + m) xs)
+cut m n k xs = rw (← drop-drop m k xs) (stretch m n (drop k xs))
+
+-- ---- zeros
+
+zeros_are : (xs : List ℕ) → all_zero xs ≡ true → xs ≡ replicate (length xs) 0
+zeros_are [] e = refl
+zeros_are (x ∷ xs) e =
+    let p = and_parts (eqb x 0) (list_all (λ b. eqb b 0) xs) e in
+    let a : x ≡ 0 = eqb-true x 0 p.0 in
+    let r = zeros_are xs p.1 in
+    cc
+
+zeros_all : (n : ℕ) → all_zero (replicate n 0) ≡ true
+zeros_all zero = refl
+zeros_all (suc n) = zeros_all n
+
+-- ---- the header
+
+module _ (bytes : List ℕ) (fit : AreBytes bytes) (long : 1024 ≤ length bytes) where
+  header_parts : page bytes 0 ≡ take 4 bytes ++ (take 4 (drop 4 bytes) ++ (take 4 (drop 8 bytes) ++ (take 4 (drop 12 bytes) ++ (take 4 (drop 16 bytes) ++ (take 4 (drop 20 bytes) ++ (take 4 (drop 24 bytes) ++ (take 8 (drop 28 bytes) ++ take 988 (drop 36 bytes))))))))
+  unfolding page
+  header_parts =
+      cut 4 1020 0 bytes ∙ ap (λ x. take 4 bytes ++ x) (cut 4 1016 4 bytes ∙ ap (λ x. take 4 (drop 4 bytes) ++ x) (cut 4 1012 8 bytes ∙ ap (λ x. take 4 (drop 8 bytes) ++ x)
+      (cut 4 1008 12 bytes ∙ ap (λ x. take 4 (drop 12 bytes) ++ x) (cut 4 1004 16 bytes ∙ ap (λ x. take 4 (drop 16 bytes) ++ x) (cut 4 1000 20 bytes ∙ ap (λ x. take 4 (drop 20 bytes) ++ x)
+      (cut 4 996 24 bytes ∙ ap (λ x. take 4 (drop 24 bytes) ++ x) (cut 8 988 28 bytes)))))))
+
+  -- bytes that pass the header's own tests begin with a header
+  pub header_spelled : no_magic bytes ≡ false → all_zero (take 988 (drop 36 bytes)) ≡ true → page bytes 0 ≡ header_text (header_of bytes)
+  unfolding no_magic initial capacity load buckets max page_count record_count
+  header_spelled m z =
+      let a : take 4 bytes ≡ magic = (bytes_eq-Decides (take 4 bytes) magic).0 (not-false _ m) in
+      let e : take 988 (drop 36 bytes) ≡ replicate 988 0 = zeros_are (take 988 (drop 36 bytes)) z ∙ ap (λ n. replicate n 0) (length-part bytes 36 988 (omega arith)) in
+      header_parts ∙ rw (a, e, field4 bytes 4 fit (omega arith), field4 bytes 8 fit (omega arith), field4 bytes 12 fit (omega arith), field4 bytes 16 fit (omega arith), field4 bytes 20 fit (omega arith), field4 bytes 24 fit (omega arith), field8 bytes 28 fit (omega arith)) refl
+
+header_magic : (bytes : List ℕ) → page bytes 0 ≡ header_text (header_of bytes) → no_magic bytes ≡ false
+unfolding no_magic page
+header_magic bytes e =
+    let a : take 4 bytes ≡ magic = sym (take-take 4 1024 bytes (omega arith)) ∙ ap (take 4) e in
+    not_from_true _ ((bytes_eq-Decides (take 4 bytes) magic).1 a)
+
+header_zeros : (bytes : List ℕ) → page bytes 0 ≡ header_text (header_of bytes) → all_zero (take 988 (drop 36 bytes)) ≡ true
+unfolding page
+header_zeros bytes e =
+    let a : take 988 (drop 36 bytes) ≡ drop 36 (take 1024 bytes) = sym (drop-take 36 988 bytes) in
+    let b : drop 36 (take 1024 bytes) ≡ replicate 988 0 = ap (drop 36) e in
+    rw (a ∙ b) (zeros_all 988)
+
+-- a header passes its own tests
+pub header_tests : (bytes : List ℕ) → page bytes 0 ≡ header_text (header_of bytes) → (no_magic bytes ≡ false) × (all_zero (take 988 (drop 36 bytes)) ≡ true)
+header_tests bytes e = (header_magic bytes e, header_zeros bytes e)

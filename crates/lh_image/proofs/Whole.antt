@@ -1,0 +1,134 @@
+-- The answer of the whole, by how far the bytes were read
+use Rattle.std.proofs.Common.{◌≡◌, ℕ, ◌+◌, ◌-◌, ◌*◌, ◌<◌, ◌≤◌, Bool, true, false, ◌||◌, ltb, List, [], ◌∷◌, ◌++◌, length, take, drop, get_or, inl, inr, Option, Some, None, Result, Ok, Err, refl, sym, ap, ◌∙◌, arith, length-drop}
+use Rattle.std.specs.Prelude.{IfSome, IfOk}
+use Rattle.std.specs.Io.KnownBytes.{Consumes, IsAtEnd}
+use Rattle.std.proofs.lemmas.Bool.Decides.{nat_tests}
+use Rattle.std.proofs.lemmas.Bool.{cases_lt}
+use Rattle.std.proofs.lemmas.List.{take-append-drop, drop-drop, get_or_past}
+use Rattle.lh_page.specs.PageLaws.{AreBytes}
+use Rattle.lh_image.specs.Image.{ImageLaw, IsImage, listing_of}
+use Rattle.lh_bucket.specs.Listing.{Lists}
+use Rattle.lh_page.specs.declared.pair.Pair.{Pair}
+use Rattle.lh_image.specs.declared.fault.ImageFault.{ImageFault}
+use Rattle.lh_image.specs.declared.fault.ImageFault.TheVariants.{Magic, HeaderField, Counts, Short, Trailing, ReadFault, Memory}
+use Rattle.lh_image.specs.declared.first_page.Header.{Header}
+use Rattle.lh_image.specs.declared.page_checks.PageFaults.{PageFaults}
+use Rattle.lh_image.specs.declared.table.Entry.{Entry}
+use Rattle.lh_image.specs.Faults.{header_fault, image_fault, is_short, has_trailing, or_else}
+use Rattle.lh_image.specs.Header.{HasHeader, ReadsHeader}
+use Rattle.lh_image.specs.Layout.{page_count}
+use Rattle.lh_image.specs.Listed.{IsRead, IsLate}
+use Rattle.lh_image.specs.Pages.{HaveCome, IsCut, IsNoEnd, ReadsEnd}
+use Rattle.lh_image.specs.Reading.{IsAnswer, IsTold, Leaves, reading_of}
+use Rattle.lh_image.proofs.FirstPage.{told, read_as}
+
+-- ---- fewer pages
+
+short_is : (bytes : List ℕ) (header : Header) (now : Option (List ℕ)) → HasHeader header bytes now → length bytes < 1024 * header.pages → reading_of bytes ≡ Err Short
+unfolding is_short image_fault
+short_is bytes header now has less =
+    let counted : header.pages ≡ page_count bytes = has.fields.pages in
+    let test : (ltb (length bytes) 1024 || ltb (length bytes) (1024 * page_count bytes)) ≡ true = grind (arith, nat_tests) in
+    read_as bytes Short (rw (has.faultless, image_fault, test) refl)
+
+cut_is : (bytes : List ℕ) (header : Header) (now : Option (List ℕ)) (f : ImageFault) → HasHeader header bytes now → IsCut bytes header.pages f → IsTold f (reading_of bytes)
+cut_is bytes header now Short has cut = short_is bytes header now has cut
+cut_is bytes header now ReadFault has cut = tt
+cut_is bytes header now Memory has cut = tt
+cut_is bytes header now f has cut = absurd cut
+
+pub cut_told : (old mid : Option (List ℕ)) (header : Header) (f : ImageFault) → IfSome old (λ bytes. HasHeader header bytes mid) → ((bytes : List ℕ) → HasHeader header bytes mid → IsCut bytes header.pages f) →
+    IfSome old (λ bytes. IsTold f (reading_of bytes))
+cut_told None mid header f has cut = tt
+cut_told (Some bytes) mid header f has cut = cut_is bytes header mid f has (cut bytes has)
+
+-- ---- more bytes
+
+long_is : (bytes : List ℕ) (header : Header) (now : Option (List ℕ)) → HasHeader header bytes now → 1024 * header.pages < length bytes → reading_of bytes ≡ Err Trailing
+unfolding is_short has_trailing image_fault
+long_is bytes header now has more =
+    let counted : header.pages ≡ page_count bytes = has.fields.pages in
+    let enough : 1024 ≤ length bytes = has.size in
+    let test : (ltb (length bytes) 1024 || ltb (length bytes) (1024 * page_count bytes)) ≡ false = grind (arith, nat_tests) in
+    let long : ltb (1024 * page_count bytes) (length bytes) ≡ true = grind (arith, nat_tests) in
+    read_as bytes Trailing (rw (has.faultless, image_fault, test, long) refl)
+
+-- where pages came and what is behind them was read
+abbrev pub HaveAll : List ℕ → Header → Option (List ℕ) → Option (List ℕ) → Type 0
+HaveAll bytes header mid last = HasHeader header bytes mid × (1024 * header.pages ≤ length bytes) × (last ≡ Some (drop (1024 * header.pages) bytes))
+
+end_is : (bytes : List ℕ) (header : Header) (mid now : Option (List ℕ)) (f : ImageFault) → HasHeader header bytes mid → 1024 * header.pages ≤ length bytes → IsNoEnd (drop (1024 * header.pages) bytes) f now →
+    IsTold f (reading_of bytes) × Leaves {X = Lists} (Err f) bytes now
+end_is bytes header mid now Trailing has enough no_end =
+    let counted : header.pages ≡ page_count bytes = has.fields.pages in
+    let more : 1024 * header.pages < length bytes = omega (arith, no_end.0, length-drop (1024 * header.pages) bytes) in
+    let left : now ≡ Some (drop (1024 * page_count bytes + 1) bytes) = rw counted at (no_end.1 ∙ ap Some (drop-drop 1 (1024 * header.pages) bytes)) in
+    (long_is bytes header mid has more, rw left (sym (take-append-drop (1024 * page_count bytes + 1) bytes)))
+end_is bytes header mid now ReadFault has enough no_end = (tt, tt)
+end_is bytes header mid now f has enough no_end = absurd no_end
+
+pub end_told : (old mid last now : Option (List ℕ)) (header : Header) (f : ImageFault) → IfSome old (λ bytes. HaveAll bytes header mid last) → IfSome last (λ rest. IsNoEnd rest f now) → IfSome old (λ bytes. IsTold f (reading_of bytes))
+end_told None mid last now header f all no_end = tt
+end_told (Some bytes) mid last now header f all no_end = (end_is bytes header mid now f all.0 all.1 (rw all.2 at no_end)).0
+
+pub end_left : (old mid last now : Option (List ℕ)) (header : Header) (f : ImageFault) → IfSome old (λ bytes. HaveAll bytes header mid last) → IfSome last (λ rest. IsNoEnd rest f now) →
+    IfSome old (λ bytes. Leaves {X = Lists} (Err f) bytes now)
+end_left None mid last now header f all no_end = tt
+end_left (Some bytes) mid last now header f all no_end = (end_is bytes header mid now f all.0 all.1 (rw all.2 at no_end)).1
+
+-- ---- as many as there are
+
+pub all_read : (bytes : List ℕ) (mid last now : Option (List ℕ)) (header : Header) (entries : List Entry) (pairs : List Pair) (faults : PageFaults) → HasHeader header bytes mid →
+    HaveCome bytes header header.pages entries pairs faults → last ≡ Some (drop (1024 * header.pages) bytes) → IfSome last (λ rest. (rest ≡ []) × (now ≡ Some [])) → IsRead bytes header entries pairs faults
+all_read bytes mid last now header entries pairs faults has come left ended =
+    let none : drop (1024 * header.pages) bytes ≡ [] = (rw left at ended).0 in
+    record {
+      come = come;
+      faultless = has.faultless;
+      size = omega (arith, come.enough, ap length none, length-drop (1024 * header.pages) bytes);
+    }
+
+pub have_all : (old mid last : Option (List ℕ)) (header : Header) (entries : List Entry) (pairs : List Pair) (faults : PageFaults) → IfSome old (λ bytes. HasHeader header bytes mid) →
+    ((bytes : List ℕ) → HasHeader header bytes mid → HaveCome bytes header header.pages entries pairs faults × (last ≡ Some (drop (1024 * header.pages) bytes))) → IfSome old (λ bytes. HaveAll bytes header mid last)
+have_all None mid last header entries pairs faults has read = tt
+have_all (Some bytes) mid last header entries pairs faults has read = let all = read bytes has in (has, all.0.enough, all.1)
+
+pub answered : (old mid last now : Option (List ℕ)) (header : Header) (entries : List Entry) (pairs : List Pair) (faults : PageFaults) (result : Result Lists ImageFault) → IfSome old (λ bytes. HasHeader header bytes mid) →
+    ((bytes : List ℕ) → HasHeader header bytes mid → HaveCome bytes header header.pages entries pairs faults × (last ≡ Some (drop (1024 * header.pages) bytes))) →
+    IfSome last (λ rest. (rest ≡ []) × (now ≡ Some [])) →
+    ((bytes : List ℕ) → IsRead bytes header entries pairs faults → IsAnswer (λ listing l. listing ≡ l) result (reading_of bytes)) →
+    IfSome old (λ bytes. IsAnswer (λ listing l. listing ≡ l) result (reading_of bytes))
+answered None mid last now header entries pairs faults result has read ended exact = tt
+answered (Some bytes) mid last now header entries pairs faults result has read ended exact =
+    let all = read bytes has in
+    exact bytes (all_read bytes mid last now header entries pairs faults has all.0 all.1 ended)
+
+-- ---- an image
+
+no_fault_from : (o : Option ImageFault) (due l : Lists) → elim o as (λ _. Result Lists ImageFault) [ Some f ↦ Err f | None ↦ Ok due ] ≡ Ok l → (o ≡ None) × (due ≡ l)
+no_fault_from (Some f) due l e = let no_case : ⊥ = cc in absurd no_case
+no_fault_from None due l e = (refl, cc)
+
+pub whole_from : (bytes : List ℕ) (l : Lists) → reading_of bytes ≡ Ok l → (image_fault bytes ≡ None) × (listing_of bytes ≡ l)
+unfolding reading_of
+whole_from bytes l e = no_fault_from (image_fault bytes) (listing_of bytes) l e
+
+pub each_byte_of : (bytes : List ℕ) (header : Header) (entries : List Entry) (pairs : List Pair) (faults : PageFaults) → IsRead bytes header entries pairs faults → AreBytes bytes
+each_byte_of bytes header entries pairs faults read i = elim (cases_lt i (1024 * header.pages)) [
+  | inl within ↦ read.come.each_byte i within
+  | inr past ↦ let none : get_or bytes i 0 ≡ 0 = get_or_past bytes i 0 (omega (arith, read.size)) in omega (arith, none)
+]
+
+pub image_read : (old mid last now : Option (List ℕ)) (header : Header) (entries : List Entry) (pairs : List Pair) (faults : PageFaults) (result : Result Lists ImageFault) → ImageLaw → IfSome old (λ bytes. HasHeader header bytes mid) →
+    ((bytes : List ℕ) → HasHeader header bytes mid → HaveCome bytes header header.pages entries pairs faults × (last ≡ Some (drop (1024 * header.pages) bytes))) →
+    IfSome last (λ rest. (rest ≡ []) × (now ≡ Some [])) →
+    ((bytes : List ℕ) → IsRead bytes header entries pairs faults → IsAnswer (λ listing l. listing ≡ l) result (reading_of bytes)) →
+    IfSome old (λ bytes. IfOk result (λ listing. IsImage bytes listing))
+image_read None mid last now header entries pairs faults result law has read ended exact = tt
+image_read (Some bytes) mid last now header entries pairs faults (Err f) law has read ended exact = tt
+image_read (Some bytes) mid last now header entries pairs faults (Ok x) law has read ended exact =
+    let all = read bytes has in
+    let is = all_read bytes mid last now header entries pairs faults has all.0 all.1 ended in
+    let answer = exact bytes is in
+    let whole = whole_from bytes answer.0 answer.1 in
+    (law bytes x (each_byte_of bytes header entries pairs faults is)).1 (whole.0, answer.2 ∙ sym whole.1)

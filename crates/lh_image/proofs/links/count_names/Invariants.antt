@@ -1,0 +1,9 @@
+use Rattle.std.proofs.Common.{◌≡◌, ◌<◌, ◌≤◌, ℕ, List, length, slice_index, take}
+use Rattle.lh_image.specs.Table.{names}
+use Rattle.lh_image.proofs.links.count_names.Given as goal
+
+abbrev pub invariant-loop-page : goal.invariant-loop-page
+invariant-loop-page l = record {
+  size : length l.counts.items ≡ length l.entries;
+  named : (p : ℕ) → p < length l.entries → slice_index l.counts.items p ≡ names l.entries l.page p;
+}

@@ -1,0 +1,24 @@
+use Rattle.std.proofs.Common.{arith}
+use Rattle.std.proofs.KnownBytes.{Appends-nil}
+use Rattle.std.proofs.lemmas.Result.{err_from_is_err_and}
+use Rattle.lh_bucket.specs.Listing.{size}
+use Rattle.lh_image.specs.Canonical.{overflow_before, text_in}
+use Rattle.lh_image.proofs.Joining.{appends_more, begins_more}
+use Rattle.lh_image.proofs.writing.write_primary_pages.Goals as goal
+
+pub loop-bucket-init : goal.loop-bucket-init
+unfolding overflow_before
+loop-bucket-init g c = record { following = omega (arith, c.buckets-buckets.ensures.value); written = Appends-nil _ }
+
+pub returns-in_err-write_page : goal.returns-in_err-write_page
+returns-in_err-write_page g c =
+    let p = err_from_is_err_and c.from_residual.result c.from_residual.ensures.1 in
+    rw p.1
+    (begins_more _ _ _ (λ i. text_in c.args.listing.now i 0) 0 (size c.args.listing.now) c.loop-bucket.bucket c.loop-bucket.bucket c.page_bytes.result
+    (omega (arith, c.buckets-buckets.ensures.value)) (omega arith) c.page_bytes.ensures c.loop-bucket.invariant.written c.in_err-write_page.ensures)
+
+pub loop-bucket-preserved : goal.loop-bucket-preserved
+loop-bucket-preserved g c = record {
+  following = c.following_after-after.ensures.value;
+  written = appends_more _ _ _ (λ i. text_in c.args.listing.now i 0) 0 c.loop-bucket.bucket c.loop-bucket.bucket c.page_bytes.result (omega arith) c.page_bytes.ensures c.loop-bucket.invariant.written c.in_ok-write_page.ensures;
+}

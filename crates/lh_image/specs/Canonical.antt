@@ -1,0 +1,67 @@
+-- The image that is written: overflow pages in the order of bucket and place
+use Rattle.std.specs.Prelude.{ℕ, zero, suc, ◌+◌, ◌-◌, ◌≤◌, List, [], ◌++◌, length, slice_index_or, ◌==◌, if◌then◌else◌}
+use Rattle.std.specs.List.{range_with_len, flat_map}
+use Rattle.lh_addr.specs.Growth.{level_of}
+use Rattle.lh_page.specs.declared.page.Page.{Page}
+use Rattle.lh_page.specs.declared.page.PageKind.TheVariants.{Primary, Overflow}
+use Rattle.lh_page.specs.declared.pair.Pair.{Pair}
+use Rattle.lh_page.specs.PackedList.{pages_of}
+use Rattle.lh_page.specs.PageTable.{page_text}
+use Rattle.lh_bucket.specs.Listing.{Lists, IsListing, size, list_at, count_of}
+use Rattle.lh_image.specs.Image.{IsImage}
+use Rattle.lh_image.specs.Layout.{Header, header_text}
+
+-- the records of the pages of bucket i
+abbrev pub pages_in : Lists → ℕ → List (List Pair)
+pages_in l i = pages_of l.config.capacity (list_at l.lists i)
+
+-- the number of pages of bucket i
+unfoldable pub page_count_in : Lists → ℕ → ℕ
+page_count_in l i = length (pages_in l i)
+
+-- the number of overflow pages of the first n buckets
+unfoldable pub overflow_before : Lists → ℕ → ℕ
+overflow_before l zero = 0
+overflow_before l (suc n) = overflow_before l n + (page_count_in l n - 1)
+
+-- the number of pages: the header, a primary page for each bucket, and the overflow pages
+abbrev pub page_total : Lists → ℕ
+page_total l = 1 + size l + overflow_before l (size l)
+
+-- the number in the file of page k of bucket i: the primary pages come first, then the overflow pages in the order of bucket and place
+abbrev pub number_of : Lists → ℕ → ℕ → ℕ
+number_of l i zero = 1 + i
+number_of l i (suc k) = 1 + size l + overflow_before l i + k
+
+-- page k of bucket i, which names the next one of the chain, if there is one
+abbrev pub page_in : Lists → ℕ → ℕ → Page
+page_in l i k = record {
+  kind = if k == 0 then Primary else Overflow;
+  level = level_of l.config.initial (size l) i;
+  bucket = i;
+  next = if k + 1 == page_count_in l i then 0 else number_of l i (suc k);
+  pairs = slice_index_or (pages_in l i) k [];
+}
+
+-- the bytes of page k of bucket i
+unfoldable pub text_in : Lists → ℕ → ℕ → List ℕ
+text_in l i k = page_text (page_in l i k)
+
+-- the bytes of the overflow pages of bucket i
+unfoldable pub overflow_text : Lists → ℕ → List ℕ
+overflow_text l i = flat_map (text_in l i) (range_with_len 1 (page_count_in l i - 1))
+
+-- what the header says of a listing
+abbrev pub header_in : Lists → Header
+header_in l = record { config = l.config; buckets = size l; pages = page_total l; records = count_of l.lists }
+
+-- the image that is written: the header, the primary pages, and the overflow pages in the order of bucket and place
+unfoldable pub canonical : Lists → List ℕ
+canonical l =
+    header_text (header_in l)
+    ++ flat_map (λ i. text_in l i 0) (range_with_len 0 (size l))
+    ++ flat_map (overflow_text l) (range_with_len 0 (size l))
+
+-- What is written is an image of the listing.
+abbrev pub CanonicalLaw : Type 0
+CanonicalLaw = (l : Lists) → IsListing l → page_total l ≤ 1048576 → IsImage (canonical l) l

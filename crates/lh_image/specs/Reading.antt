@@ -1,0 +1,33 @@
+-- What a reader of images answers
+use Rattle.std.specs.Prelude.{◌≡◌, ℕ, ◌+◌, ◌*◌, List, Option, Some, None, Result, Ok, Err, take}
+use Rattle.std.specs.Io.KnownBytes.{Consumes, IsAtEnd}
+use Rattle.lh_bucket.specs.Listing.{Lists}
+use Rattle.lh_image.specs.declared.fault.ImageFault.{ImageFault}
+use Rattle.lh_image.specs.declared.fault.ImageFault.TheVariants.{Magic, HeaderField, Counts, Trailing, ReadFault, Memory}
+use Rattle.lh_image.specs.Faults.{image_fault}
+use Rattle.lh_image.specs.Image.{listing_of}
+use Rattle.lh_image.specs.Layout.{page_count}
+
+-- what is to be answered to some bytes: their first fault, or their listing
+unfoldable pub reading_of : List ℕ → Result Lists ImageFault
+reading_of bytes = elim (image_fault bytes) [ Some f ↦ Err f | None ↦ Ok (listing_of bytes) ]
+
+-- A failed read and want of memory say nothing of the bytes; every other fault is the one that is due.
+abbrev pub IsTold : ImageFault → Result Lists ImageFault → Type 0
+IsTold ReadFault due = Unit {0}
+IsTold Memory due = Unit {0}
+IsTold f due = due ≡ Err f
+
+-- an answer, made of a listing or not, is the one that is due
+abbrev pub IsAnswer : {X : Type 0} → (X → Lists → Type 0) → Result X ImageFault → Result Lists ImageFault → Type 0
+IsAnswer Shows (Ok x) due = (l : Lists) × (due ≡ Ok l) × Shows x l
+IsAnswer Shows (Err f) due = IsTold f due
+
+-- What is left of the reader's bytes: nothing after an answer that says so, all but the first page after the faults of the header, and after trailing bytes all but one byte past the last page.
+abbrev pub Leaves : {X : Type 0} → Result X ImageFault → List ℕ → Option (List ℕ) → Type 0
+Leaves (Ok x) bytes now = IsAtEnd now
+Leaves (Err Magic) bytes now = Consumes (Some bytes) now (take 1024 bytes)
+Leaves (Err (HeaderField offset)) bytes now = Consumes (Some bytes) now (take 1024 bytes)
+Leaves (Err Counts) bytes now = Consumes (Some bytes) now (take 1024 bytes)
+Leaves (Err Trailing) bytes now = Consumes (Some bytes) now (take (1024 * page_count bytes + 1) bytes)
+Leaves (Err f) bytes now = Unit {0}

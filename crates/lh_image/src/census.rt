@@ -1,0 +1,82 @@
+//! What is counted of an image.
+ghost use Rattle.std.specs.Prelude.{◌≡◌, ◌≤◌, IfSome};
+ghost use Rattle.lh_bucket.specs.Listing.{size};
+ghost use Rattle.lh_image.specs.Canonical.{page_total};
+ghost use Rattle.lh_image.specs.Census.{census_of, longest_before};
+ghost use Rattle.lh_image.specs.Reading.{IsAnswer, Leaves, reading_of};
+
+use crate::fault::ImageFault;
+use crate::laws::census_counts_pages;
+use crate::listing_pages::{page_count_in, page_total, root_of};
+use crate::reading::read_image;
+use lh_bucket::Listing;
+use lh_page::laws::pages_are_pieces;
+use std::alloc::Global;
+use std::io::Read;
+
+/// What is counted of an image.
+#[derive(Clone, Copy, Debug, PartialEq, Eq)]
+pub struct Census {
+    /// The number of buckets.
+    pub buckets: u32,
+    /// The level of the file.
+    pub level: u8,
+    /// The split pointer.
+    pub pointer: u32,
+    /// The number of records.
+    pub records: u64,
+    /// The number of pages, the header among them.
+    pub pages: u32,
+    /// The number of overflow pages.
+    pub overflow: u32,
+    /// The greatest number of pages in one chain.
+    pub longest: u32,
+}
+
+/// A number of pages or of overflow pages, which is below 2^32 in an image.
+fn below_2_32(count: u64) -> u32
+    ensures { count ≤ 1048576 → result ≡ count }
+{
+    count.min(u64::from(u32::MAX)) as u32
+}
+
+/// The greatest number of pages in one chain.
+fn longest_chain(listing: &Listing) -> usize
+    ensures { result ≡ longest_before listing.now (size listing.now) }
+{
+    let mut longest = 0;
+    for bucket in 0..listing.buckets() {
+        longest = page_count_in(listing, bucket).max(longest);
+    }
+    longest
+}
+
+/// The census of a listing whose image is not too large.
+fn census_of(listing: &Listing) -> Census
+    ensures { page_total listing.now ≤ 1048576 → result ≡ census_of listing.now }
+{
+    pages_are_pieces();
+    let root = root_of(listing);
+    let buckets = listing.buckets();
+    let pages = page_total(listing);
+    Census {
+        buckets,
+        level: root.level(),
+        pointer: root.pointer(),
+        records: listing.len(),
+        pages: below_2_32(pages),
+        overflow: below_2_32(pages - 1 - u64::from(buckets)),
+        longest: below_2_32(longest_chain(listing) as u64),
+    }
+}
+
+/// The census of the image that the reader's bytes are, or why they are none, as [`read_image`](crate::read_image)
+/// says it.
+pub fn check_image<R: Read>(alloc: Global, reader: &mut R) -> Result<Census, ImageFault>
+    ensures exact { IfSome (R.remaining reader.old) (λ bytes. IsAnswer (λ census l. census ≡ census_of l) result (reading_of bytes)) }
+    ensures rest { IfSome (R.remaining reader.old) (λ bytes. Leaves result bytes (R.remaining reader.new)) }
+{
+    census_counts_pages();
+    let listing = read_image(alloc, reader)?;
+    Ok(census_of(&listing))
+}

@@ -1,0 +1,153 @@
+//! The first page: the header's fields, and the faults that it decides alone.
+ghost use Rattle.std.specs.Prelude.{◌≡◌, ◌*◌, ◌+◌, ◌-◌, ◌≤◌, ◌||◌, not, take, drop, nat_lt, None, IfOk, IfSome};
+ghost use Rattle.std.specs.Result.{result_err};
+ghost use Rattle.lh_addr.specs.Settings.{IsInRange};
+ghost use Rattle.lh_page.specs.PageFields.{all_zero};
+ghost use Rattle.lh_image.specs.Faults.{bad_field, bad_counts, header_fault, no_magic, or_at, or_else};
+ghost use Rattle.lh_image.specs.Header.{AreFields, AreInRange, IsHeader, ReadsHeader, range_fault, settings_of};
+
+use crate::fault::ImageFault;
+use crate::filling::read_into;
+use crate::limits::MAX_PAGES;
+use byteorder::{ByteOrder, LittleEndian};
+use lh_addr::limits::MAX_BUCKETS;
+use lh_addr::{Config, Range};
+use std::io::Read;
+
+/// The numbers of a header, as they stand there.
+#[derive(Clone, Copy)]
+pub(crate) struct Fields {
+    pub initial: u32,
+    pub capacity: u32,
+    pub load: u32,
+    pub buckets: u32,
+    pub max: u32,
+    pub pages: u32,
+    pub records: u64,
+}
+
+/// A header whose fields are in their ranges.
+#[derive(Clone, Copy)]
+pub(crate) struct Header {
+    pub config: Config,
+    pub buckets: u32,
+    /// The number of pages, this one among them.
+    pub pages: u32,
+    pub records: u64,
+}
+
+/// The numbers that stand in a page's bytes.
+#[tactic(auto, unfolding(crate::specs::Layout::initial, crate::specs::Layout::capacity, crate::specs::Layout::load, crate::specs::Layout::buckets, crate::specs::Layout::max, crate::specs::Layout::page_count, crate::specs::Layout::record_count))]
+fn fields_of(page: &[u8; 1024]) -> Fields
+    ensures { AreFields result page.now }
+{
+    Fields {
+        initial: LittleEndian::read_u32(&page[4..8]),
+        capacity: LittleEndian::read_u32(&page[8..12]),
+        load: LittleEndian::read_u32(&page[12..16]),
+        buckets: LittleEndian::read_u32(&page[16..20]),
+        max: LittleEndian::read_u32(&page[20..24]),
+        pages: LittleEndian::read_u32(&page[24..28]),
+        records: LittleEndian::read_u64(&page[28..36]),
+    }
+}
+
+/// Whether the number of buckets is out of its range.
+fn has_bad_buckets(fields: &Fields) -> bool
+    ensures { result ≡ (nat_lt fields.now.buckets fields.now.initial || nat_lt 65536 fields.now.buckets) }
+{
+    fields.buckets < fields.initial || fields.buckets > MAX_BUCKETS
+}
+
+/// The configuration that the fields say, or the offset of the first that is out of its range.
+fn config_of(fields: &Fields) -> Result<Config, u32>
+    ensures ok { IfOk result (λ config. config ≡ settings_of fields.now) }
+    ensures in_range { IfOk result (λ config. IsInRange config) }
+    ensures buckets { IfOk result (λ config. (config.initial ≤ fields.now.buckets) × (fields.now.buckets ≤ config.max)) }
+    ensures fault { result_err result ≡ range_fault fields.now }
+{
+    match Config::new(fields.initial, fields.capacity, fields.load, fields.max) {
+        Err(Range::Initial) => Err(4),
+        Err(Range::Capacity) => Err(8),
+        Err(Range::Load) => Err(12),
+        Err(Range::Max) => Err(if has_bad_buckets(fields) { 16 } else { 20 }),
+        Ok(config) => {
+            if has_bad_buckets(fields) {
+                return Err(16);
+            }
+            if fields.buckets > fields.max {
+                return Err(20);
+            }
+            Ok(config)
+        }
+    }
+}
+
+/// Whether the numbers of pages and of records can't be.
+fn has_bad_counts(fields: &Fields) -> bool
+    requires buckets { fields.now.buckets ≤ 65536 }
+    requires capacity { fields.now.capacity ≤ 14 }
+    ensures { result ≡ (nat_lt fields.now.pages (1 + fields.now.buckets) || nat_lt 1048576 fields.now.pages || nat_lt (fields.now.capacity * (fields.now.pages - 1)) fields.now.records) }
+{
+    let pages = fields.pages;
+    if pages < 1 + fields.buckets || pages > MAX_PAGES {
+        return true;
+    }
+    fields.records > fields.capacity as u64 * (pages as u64 - 1)
+}
+
+/// Whether the bytes behind the fields are zero.
+fn has_zeros(page: &[u8; 1024]) -> bool
+    ensures { result ≡ all_zero (take 988 (drop 36 page.now)) }
+{
+    page[36..].iter().all(|byte| *byte == 0)
+}
+
+/// The header that a page is, or the fault of its fields.
+fn header_of(page: &[u8; 1024]) -> Result<Header, ImageFault>
+    ensures header { IfOk result (λ header. IsHeader header page.now) }
+    ensures in_range { IfOk result (λ header. AreInRange header) }
+    ensures fault { result_err result ≡ or_at (bad_field page.now) ImageFault.HeaderField (or_else (bad_counts page.now) ImageFault.Counts None) }
+{
+    let fields = fields_of(page);
+    let config = match config_of(&fields) {
+        Ok(config) => config,
+        Err(offset) => return Err(ImageFault::HeaderField(offset)),
+    };
+    if !has_zeros(page) {
+        return Err(ImageFault::HeaderField(36));
+    }
+    if has_bad_counts(&fields) {
+        return Err(ImageFault::Counts);
+    }
+    Ok(Header {
+        config,
+        buckets: fields.buckets,
+        pages: fields.pages,
+        records: fields.records,
+    })
+}
+
+/// Whether bytes don't begin as an image does.
+#[tactic(auto, unfolding(crate::specs::Faults::no_magic))]
+fn has_no_magic(bytes: &[u8]) -> bool
+    ensures { result ≡ no_magic bytes.now }
+{
+    bytes.len() < 4 || &bytes[..4] != b"LHF1".as_slice()
+}
+
+/// Reads the first page, and decides the faults that it shows alone.
+pub(crate) fn read_header<R: Read>(reader: &mut R) -> Result<Header, ImageFault>
+    ensures in_range { IfOk result (λ header. AreInRange header) }
+    ensures read { IfSome (R.remaining reader.old) (λ bytes. ReadsHeader bytes result (R.remaining reader.new)) }
+{
+    let mut page = [0; 1024];
+    let count = read_into(reader, &mut page)?;
+    if has_no_magic(&page[..count]) {
+        return Err(ImageFault::Magic);
+    }
+    if count < 1024 {
+        return Err(ImageFault::Short);
+    }
+    header_of(&page)
+}

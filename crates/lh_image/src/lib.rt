@@ -1,0 +1,37 @@
+//! Images: whole files as bytes. An image is a row of pages of 1,024 bytes, which is written whole,
+//! read whole and checked.
+//!
+//! ```text
+//! write_image(&listing, &mut writer)?;              // the listing as bytes
+//! let listing = read_image(alloc, &mut reader)?;    // exactly the images, and each fault by its place
+//! check_image(alloc, &mut reader)?.longest          // pages of the longest chain
+//! ```
+#![tactic(auto)]
+
+mod census;
+mod chains;
+mod fault;
+mod filling;
+mod first_page;
+pub mod laws;
+mod limits;
+mod links;
+mod listed;
+mod listing_pages;
+mod lists;
+mod memory;
+mod misplaced;
+mod page_checks;
+mod pages;
+mod reading;
+mod sending;
+mod table;
+mod writing;
+
+pub use census::{Census, check_image};
+pub use fault::{ImageFault, WriteImageFault};
+pub use reading::read_image;
+pub use writing::write_image;
+
+#[cfg(test)]
+mod tests;

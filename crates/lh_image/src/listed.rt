@@ -1,0 +1,80 @@
+//! From the table of all pages to the listing.
+ghost use Rattle.std.specs.Prelude.{◌≡◌, ℕ, ◌+◌, List, None, length, map, IfOk, IfErr};
+ghost use Rattle.std.specs.List.{range_with_len};
+ghost use Rattle.lh_image.specs.Header.{AreInRange};
+ghost use Rattle.lh_image.specs.Listed.{IsDue, IsLate, IsRead, fault_of_links};
+ghost use Rattle.lh_image.specs.Reading.{IsAnswer, reading_of};
+ghost use Rattle.lh_image.specs.Table.{AreWithin, chain_in};
+
+use crate::chains::{all_chains, least_on_no_chain};
+use crate::fault::ImageFault;
+use crate::first_page::Header;
+use crate::laws::faultless_bytes_are_an_image;
+use crate::links::{least_bad_next, least_named_twice};
+use crate::lists::lists_of;
+use crate::misplaced::least_misfit;
+use crate::page_checks::PageFaults;
+use crate::pages::root_of;
+use crate::table::Table;
+use lh_bucket::{Listing, ListingFault};
+use std::alloc::Global;
+
+/// The chain of each bucket, or the first fault between the pages.
+fn chains_of(alloc: Global, header: &Header, table: &Table) -> Result<Vec<Vec<u32>>, ImageFault>
+    requires in_range { AreInRange header.now }
+    requires size { length table.now.entries.items ≡ header.now.pages }
+    ensures faultless { IfOk result (λ v. fault_of_links table.now.entries.items header.now.buckets ≡ None) }
+    ensures chains { IfOk result (λ v. map (λ chain. chain.items) v.items ≡ map (λ i. chain_in table.now.entries.items (1 + i)) (range_with_len 0 header.now.buckets)) }
+    ensures fault { IfErr result (λ f. IsDue f (fault_of_links table.now.entries.items header.now.buckets)) }
+    ensures late { IfErr result IsLate }
+{
+    if let Some(page) = least_bad_next(&table.entries, header.buckets) {
+        return Err(ImageFault::Next(page));
+    }
+    if let Some(page) = least_named_twice(alloc, &table.entries)? {
+        return Err(ImageFault::Twice(page));
+    }
+    let chains = all_chains(alloc, &table.entries, header.buckets)?;
+    match least_on_no_chain(alloc, header.pages, &chains)? {
+        Some(page) => Err(ImageFault::Never(page)),
+        None => Ok(chains),
+    }
+}
+
+/// Why the lists of an image were refused. They aren't for what they hold, which is shown where they are made.
+fn refusal_of(fault: ListingFault) -> ImageFault
+    ensures memory { fault ≡ ListingFault.Memory → result ≡ ImageFault.Memory }
+    ensures late { IsLate result }
+{
+    match fault {
+        ListingFault::Memory => ImageFault::Memory,
+        _ => ImageFault::Misfit(0),
+    }
+}
+
+/// The listing of a file of the right size, or its first fault.
+pub(crate) fn listing_of_pages(
+    alloc: Global,
+    header: &Header,
+    table: &Table,
+    faults: &PageFaults,
+) -> Result<Listing, ImageFault>
+    requires in_range { AreInRange header.now }
+    requires size { length table.now.entries.items ≡ header.now.pages }
+    requires within { AreWithin table.now.entries.items table.now.pairs.items }
+    ensures exact { (bytes : List ℕ) → IsRead bytes header.now table.now.entries.items table.now.pairs.items faults.now → IsAnswer (λ listing l. listing ≡ l) result (reading_of bytes) }
+    ensures late { IfErr result IsLate }
+{
+    faultless_bytes_are_an_image();
+    faults.of_heads(header.records)?;
+    let chains = chains_of(alloc, header, table)?;
+    faults.of_slots()?;
+    if let Some(page) = least_misfit(alloc, &root_of(header), table, &chains)? {
+        return Err(ImageFault::Misfit(page));
+    }
+    let lists = lists_of(alloc, table, &chains)?;
+    match Listing::new(alloc, header.config, header.buckets, lists) {
+        Ok(listing) => Ok(listing),
+        Err(fault) => Err(refusal_of(fault)),
+    }
+}

@@ -1,0 +1,189 @@
+//! The pages of a listing, as they are written: how many there are, and the bytes of each.
+ghost use Rattle.std.specs.Prelude.{◌≡◌, ◌==◌, if◌then◌else◌, ◌+◌, ◌-◌, ◌*◌, ◌^◌, ◌<◌, ◌≤◌, ◌++◌, length, min, replicate, take, drop};
+ghost use Rattle.lh_bucket.specs.Listing.{IsListing, size, list_at, count_of};
+ghost use Rattle.lh_image.specs.Canonical.{page_count_in, overflow_before, page_in, page_total, header_in, text_in};
+ghost use Rattle.lh_page.specs.Records.{FitsPage};
+ghost use Rattle.lh_page.specs.PageTable.{IsWritable};
+ghost use Rattle.lh_page.specs.declared.page.PageKind.TheVariants.{Primary, Overflow};
+ghost use Rattle.lh_image.specs.Layout.{header_text};
+
+use byteorder::{ByteOrder, LittleEndian};
+use lh_addr::Root;
+use lh_bucket::Listing;
+use lh_page::laws::{a_page_is_its_bytes, pages_are_pieces};
+use lh_page::{Page, PageKind, Pairs, page_to_bytes};
+
+/// The number of pages of a bucket, the primary page counted.
+pub(crate) fn page_count_in(listing: &Listing, bucket: u32) -> usize
+    requires { bucket < size listing.now }
+    ensures value { result ≡ page_count_in listing.now bucket }
+    ensures some { 1 ≤ result }
+    ensures kept { IsListing listing.now }
+{
+    pages_are_pieces();
+    let last = listing.len_of(bucket).saturating_sub(1);
+    last / listing.config().capacity() as usize + 1
+}
+
+/// The number of pages of an image, the header counted, where it is below 2^64; a memory that held more
+/// records would answer 2^64 - 1.
+pub(crate) fn page_total(listing: &Listing) -> u64
+    ensures { result ≡ min (page_total listing.now) (2 ^ 64 - 1) }
+{
+    let buckets = listing.buckets();
+    let mut pages = 1 + u64::from(buckets);
+    for bucket in 0..buckets {
+        pages = pages.saturating_add((page_count_in(listing, bucket) - 1) as u64);
+    }
+    pages
+}
+
+/// The root of the file that a listing is of.
+pub(crate) fn root_of(listing: &Listing) -> Root
+    ensures { result ≡ record { initial = listing.now.config.initial; buckets = size listing.now } }
+{
+    match Root::new(listing.config().initial(), listing.buckets()) {
+        Some(root) => root,
+        None => unreachable!(),
+    }
+}
+
+/// The fields of the header, in its first 36 bytes.
+fn header_fields(
+    initial: u32,
+    capacity: u32,
+    load: u32,
+    buckets: u32,
+    max: u32,
+    pages: u32,
+    records: u64,
+) -> [u8; 36]
+    ensures { result ++ replicate 988 0 ≡ header_text (record { config = record { initial = initial; capacity = capacity; load = load; max = max }; buckets = buckets; pages = pages; records = records }) }
+{
+    let mut bytes = [0; 36];
+    bytes[..4].copy_from_slice(b"LHF1");
+    let numbers = [initial, capacity, load, buckets, max, pages];
+    LittleEndian::write_u32_into(&numbers, &mut bytes[4..28]);
+    LittleEndian::write_u64(&mut bytes[28..36], records);
+    bytes
+}
+
+/// The 1,024 bytes of the header page. `pages` is the number of all pages.
+pub(crate) fn header_bytes(listing: &Listing, pages: u32) -> [u8; 1024]
+    requires few { page_total listing.now ≤ 1048576 }
+    requires pages { pages ≡ page_total listing.now }
+    ensures { result ≡ header_text (header_in listing.now) }
+{
+    pages_are_pieces();
+    let config = listing.config();
+    let fields = header_fields(
+        config.initial(),
+        config.capacity(),
+        config.load(),
+        listing.buckets(),
+        config.max(),
+        pages,
+        listing.len(),
+    );
+    let mut bytes = [0; 1024];
+    bytes[..36].copy_from_slice(&fields);
+    bytes
+}
+
+/// The records of a bucket from a place on, as many as a page holds.
+fn pairs_from(listing: &Listing, bucket: u32, start: usize) -> Pairs
+    requires bucket { bucket < size listing.now }
+    requires start { start ≤ length (list_at listing.now.lists bucket) }
+    ensures value { result ≡ take listing.now.config.capacity (drop start (list_at listing.now.lists bucket)) }
+    ensures fits { FitsPage result }
+{
+    let count = (listing.len_of(bucket) - start).min(listing.config().capacity() as usize);
+    let mut pairs = Pairs::new();
+    for place in 0..count {
+        pairs.push(listing.pair_at(bucket, start + place));
+    }
+    let _ = pairs.len();
+    pairs
+}
+
+/// The number of the first overflow page of the bucket behind `bucket`, of which it is `following`.
+pub(crate) fn following_after(listing: &Listing, bucket: u32, following: u32) -> u32
+    requires bucket { bucket < size listing.now }
+    requires few { page_total listing.now ≤ 1048576 }
+    requires following { following ≡ 1 + size listing.now + overflow_before listing.now bucket }
+    ensures value { result ≡ 1 + size listing.now + overflow_before listing.now (bucket + 1) }
+    ensures some { 0 < page_count_in listing.now bucket }
+    ensures within { result ≤ 1048576 }
+{
+    following + (page_count_in(listing, bucket) - 1) as u32
+}
+
+/// The kind of page `k` of a chain.
+fn kind_of(k: u32) -> PageKind
+    ensures { result ≡ (if k == 0 then Primary else Overflow) }
+{
+    if k == 0 {
+        PageKind::Primary
+    } else {
+        PageKind::Overflow
+    }
+}
+
+/// The number of the page behind page `k` of a bucket, 0 for none.
+fn next_page(listing: &Listing, bucket: u32, k: u32, following: u32) -> u32
+    requires bucket { bucket < size listing.now }
+    requires page { k < page_count_in listing.now bucket }
+    requires fits { following + k ≤ 1048576 }
+    ensures { result ≡ (if k + 1 == page_count_in listing.now bucket then 0 else following + k) }
+{
+    if k as usize + 1 == page_count_in(listing, bucket) {
+        0
+    } else {
+        following + k
+    }
+}
+
+/// Page `k` of a bucket. `following` is the number of the bucket's first overflow page, if it has any.
+fn page_in(listing: &Listing, root: &Root, bucket: u32, k: u32, following: u32) -> Page
+    requires root { root.now ≡ record { initial = listing.now.config.initial; buckets = size listing.now } }
+    requires bucket { bucket < size listing.now }
+    requires page { k < page_count_in listing.now bucket }
+    requires few { page_total listing.now ≤ 1048576 }
+    requires following { following ≡ 1 + size listing.now + overflow_before listing.now bucket }
+    ensures value { result ≡ page_in listing.now bucket k }
+    ensures writable { IsWritable result }
+{
+    pages_are_pieces();
+    let kind = kind_of(k);
+    let level = root.level_of(bucket);
+    let next = next_page(listing, bucket, k, following);
+    let start = k as usize * listing.config().capacity() as usize;
+    let pairs = pairs_from(listing, bucket, start);
+    Page {
+        kind,
+        level,
+        bucket,
+        next,
+        pairs,
+    }
+}
+
+/// The 1,024 bytes of page `k` of a bucket. `following` is the number of the bucket's first overflow page, if
+/// it has any.
+pub(crate) fn page_bytes(
+    listing: &Listing,
+    root: &Root,
+    bucket: u32,
+    k: u32,
+    following: u32,
+) -> [u8; 1024]
+    requires root { root.now ≡ record { initial = listing.now.config.initial; buckets = size listing.now } }
+    requires bucket { bucket < size listing.now }
+    requires page { k < page_count_in listing.now bucket }
+    requires few { page_total listing.now ≤ 1048576 }
+    requires following { following ≡ 1 + size listing.now + overflow_before listing.now bucket }
+    ensures { result ≡ text_in listing.now bucket k }
+{
+    a_page_is_its_bytes();
+    page_to_bytes(&page_in(listing, root, bucket, k, following))
+}

@@ -1,0 +1,30 @@
+//! Reading an image, page by page.
+ghost use Rattle.std.specs.Prelude.{◌≡◌, IfSome, IfOk};
+ghost use Rattle.lh_image.specs.Image.{IsImage};
+ghost use Rattle.lh_image.specs.Reading.{IsAnswer, Leaves, reading_of};
+
+use crate::fault::ImageFault;
+use crate::first_page::read_header;
+use crate::laws::faultless_bytes_are_an_image;
+use crate::listed::listing_of_pages;
+use crate::pages::{read_end, read_pages};
+use lh_bucket::Listing;
+use std::alloc::Global;
+use std::io::Read;
+
+/// The listing that the reader's bytes are an image of, or why they are none.
+///
+/// Reads are taken as they come, each of at most 1,024 bytes; one that fails is never tried again. The
+/// first page is read first and decides the faults of the header; then the rest is read, up to one byte
+/// past the last page.
+pub fn read_image<R: Read>(alloc: Global, reader: &mut R) -> Result<Listing, ImageFault>
+    ensures exact { IfSome (R.remaining reader.old) (λ bytes. IsAnswer (λ listing l. listing ≡ l) result (reading_of bytes)) }
+    ensures image { IfSome (R.remaining reader.old) (λ bytes. IfOk result (λ listing. IsImage bytes listing)) }
+    ensures rest { IfSome (R.remaining reader.old) (λ bytes. Leaves result bytes (R.remaining reader.new)) }
+{
+    faultless_bytes_are_an_image();
+    let header = read_header(reader)?;
+    let (table, faults) = read_pages(alloc, &header, reader)?;
+    read_end(reader)?;
+    listing_of_pages(alloc, &header, &table, &faults)
+}

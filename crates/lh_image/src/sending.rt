@@ -1,0 +1,38 @@
+//! Sending the bytes of a page. A write that fails is never tried again, an interrupted one neither.
+ghost use Rattle.std.specs.Prelude.{◌≤◌, ◌<◌, IfOk, OnOk, OnErr, length, take};
+ghost use Rattle.std.specs.Io.KnownBytes.{Appends, Keeps};
+ghost use Rattle.lh_image.specs.Writing.{IsSent};
+
+use std::io::Write;
+
+/// A write or the flush failed, or a write took no byte.
+#[derive(Clone, Copy, Debug, PartialEq, Eq)]
+pub(crate) struct WriteFailed;
+
+/// One write, of at least one byte.
+#[tactic(auto, using(crate::proofs::Sends::keeps_none))]
+fn write_some<W: Write>(writer: &mut W, bytes: &[u8]) -> Result<usize, WriteFailed>
+    ensures some { IfOk result (λ n. (0 < n) × (n ≤ length bytes.now)) }
+    ensures ok { IfOk result (λ n. Appends (W.contents writer.old) (W.contents writer.new) (take n bytes.now)) }
+    ensures err { OnErr result (Keeps (W.contents writer.old) (W.contents writer.new)) }
+{
+    let Ok(count) = writer.write(bytes) else {
+        return Err(WriteFailed);
+    };
+    if count == 0 {
+        return Err(WriteFailed);
+    }
+    Ok(count)
+}
+
+/// Writes the bytes of a page. Writes are taken as they come.
+#[tactic(auto, using(crate::proofs::Sends::writes_more, crate::proofs::Sends::takes_beginning))]
+pub(crate) fn write_page<W: Write>(writer: &mut W, page: &[u8; 1024]) -> Result<(), WriteFailed>
+    ensures { IsSent page.now result (W.contents writer.old) (W.contents writer.new) }
+{
+    let mut done = 0;
+    while done < page.len() {
+        done += write_some(writer, &page[done..])?;
+    }
+    Ok(())
+}
