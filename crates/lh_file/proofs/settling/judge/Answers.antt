@@ -1,0 +1,47 @@
+use Rattle.std.proofs.Common.{◌≡◌, ◌≢◌, ◌∙◌, ◌%◌, List, refl, sym, ap, subst, arith}
+use Rattle.std.specs.List.{range_with_len}
+use Rattle.std.proofs.lemmas.Bool.{false≢true}
+use Rattle.lh_addr.specs.Extent.{Extent}
+use Rattle.lh_addr.specs.Growth.{address}
+use Rattle.lh_addr.specs.Settings.{Settings}
+use Rattle.lh_page.specs.declared.pair.Pair.{Pair}
+use Rattle.lh_bucket.specs.Listing.{EachPlace, IsHome}
+use Rattle.lh_bucket.specs.PlainMap.{Records}
+use Rattle.lh_file.specs.declared.act.ActLine.{ActLine}
+use Rattle.lh_file.specs.Acts.{stamps_of, IsInOrder}
+use Rattle.lh_file.specs.Closed.{size_of}
+use Rattle.lh_file.specs.Contents.{StandsAs}
+use Rattle.lh_file.specs.Settled.{left_by, IsHistory, IsLegal, IsSettled, Holds}
+use Rattle.lh_file.proofs.Placed.{placed}
+use Rattle.lh_file.proofs.settling.judge.Goals as goal
+
+stamped : (c : goal.After-new-in-None-first_away) → IsHistory c.args.closed.now c.args.acts.now c.in_ok-history.history.items
+stamped c =
+    let shut : c.args.closed.now.root % 2 ≢ 1 = λ e. false≢true (sym c.if-split_open.false ∙ c.split_open.ensures.value.1 e) in
+    record {
+      whole = omega (arith, shut);
+      order = subst (λ (acts : List ActLine). IsInOrder acts c.in_ok-history.history.items) c.lines.ensures c.in_ok-history.ensures;
+      stamps = ap stamps_of (sym c.deref.ensures.value) ∙ c.in_default.ensures.none ∙ ap (range_with_len 0) c.stamps.ensures;
+    }
+
+holds : (c : goal.After-new-in-None-first_away) → Holds c.args.closed.now (left_by c.args.opening.now c.in_ok-history.history.items)
+holds c =
+    let closed = c.args.closed.now in
+    let initial = closed.config.initial in
+    let size = size_of closed.root in
+    let left : c.in_ok-records.records ≡ left_by c.args.opening.now c.in_ok-history.history.items =
+    c.in_ok-records.ensures.left ∙ ap (left_by c.args.opening.now) c.deref-2.ensures.value in
+    let root : c.in-Some-new.root ≡ record { initial = initial; buckets = size } =
+    c.in-Some-new.ensures.value
+    ∙ ap (λ n. record { initial = n; buckets = c.buckets.result }) (c.initial.ensures.value ∙ ap (λ (s : Settings). s.initial) c.config.ensures.value)
+    ∙ ap (λ n. record { initial = initial; buckets = n }) c.buckets.ensures.value in
+    placed initial size (left_by c.args.opening.now c.in_ok-history.history.items) closed.lists
+    (λ code. ((c.address_is_only_bucket.ensures initial size code (address initial size code) c.buckets.ensures.kept.config.initial.0 c.buckets.ensures.kept.from_initial).0 refl).0)
+    (λ q. subst (λ (m : Records). StandsAs m closed.lists q) left (subst (λ (ls : List (List Pair)). StandsAs c.in_ok-records.records ls q) c.lists.ensures.value (c.in_default-first_stray.ensures.none q)))
+    (subst (λ (e : Extent). EachPlace (IsHome e.initial e.buckets) closed.lists) root
+    (subst (EachPlace (IsHome c.in-Some-new.root.initial c.in-Some-new.root.buckets)) c.lists-2.ensures.value c.in-None-first_away.ensures.none))
+
+pub returns-in-None-first_away-clause-ok : goal.returns-in-None-first_away-clause-ok
+returns-in-None-first_away-clause-ok c =
+    subst (IsSettled c.args.opening.now c.args.closed.now c.args.acts.now) (sym c.new-in-None-first_away.ensures)
+    (record { stamped = stamped c; legal = subst (IsLegal c.args.opening.now) c.deref-2.ensures.value c.in_ok-records.ensures.legal; placed = holds c })

@@ -1,0 +1,22 @@
+-- A file that is closed
+use Rattle.std.specs.Prelude.{ℕ, ◌≤◌, ◌/◌, List, length}
+use Rattle.lh_addr.specs.Settings.{Settings, IsInRange}
+use Rattle.lh_page.specs.declared.pair.Pair.{Pair}
+
+-- its configuration, its root word, its stamp word, and the records of each bucket that it has, in the order of their places
+pub record ClosedFile : Type 0 where
+  pub config : Settings
+  pub root : ℕ
+  pub stamps : ℕ
+  pub lists : List (List Pair)
+
+-- the number of buckets that a root word tells: it is twice that, and one more while a hand has the right to split
+abbrev pub size_of : ℕ → ℕ
+size_of root = root / 2
+
+-- what holds of every closed file: it has its initial number of buckets or more, up to the greatest one, and no bucket stands past that
+pub record IsClosed (file : ClosedFile) : Type 0 where
+  pub config : IsInRange file.config
+  pub from_initial : file.config.initial ≤ size_of file.root
+  pub to_max : size_of file.root ≤ file.config.max
+  pub few : length file.lists ≤ file.config.max

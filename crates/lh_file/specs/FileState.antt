@@ -1,0 +1,38 @@
+-- What contracts see of a running file, but for its buckets
+use Rattle.std.specs.Prelude.{◌≡◌, ℕ, ◌+◌, ◌%◌, ◌≤◌, Bool, []}
+use Rattle.atomic_table.specs.Seated.{TableId}
+use Rattle.lh_addr.specs.RootWord.{buckets_of}
+use Rattle.lh_addr.specs.Settings.{Settings}
+use Rattle.lh_file.specs.HandState.{HandState}
+use Rattle.lh_file.specs.Views.{first_view}
+
+-- the table of its words, its configuration, whether acts are recorded, and how many records it was opened with
+pub record FileState : Type 0 where
+  pub table : TableId
+  pub config : Settings
+  pub recording : Bool
+  pub opening : ℕ
+
+-- the hand is one of this file
+pub record IsOf (file : FileState) (hand : HandState) : Type 0 where
+  pub table : hand.table ≡ file.table
+  pub initial : hand.view.initial ≡ file.config.initial
+  pub max : hand.view.max ≡ file.config.max
+  pub recording : hand.recording ≡ file.recording
+
+-- the file may have so many buckets
+abbrev pub IsSize : FileState → ℕ → Type 0
+IsSize file buckets = (file.config.initial ≤ buckets) × (buckets ≤ file.config.max)
+
+-- the file's root word may be this: the file is within its limits, and below the greater one where a hand has the right to split
+abbrev pub IsRootWord : FileState → ℕ → Type 0
+IsRootWord file word = (file.config.initial ≤ buckets_of word) × (buckets_of word + word % 2 ≤ file.config.max)
+
+-- a file that was just opened with so many buckets and records, and its first hand, which knows that number of buckets, may make 2^63 calls, and has neither the right to split nor acts
+pub record IsOpened (config : Settings) (buckets : ℕ) (recording : Bool) (records : ℕ) (file : FileState) (hand : HandState) : Type 0 where
+  pub config_is : file.config ≡ config
+  pub recording_is : file.recording ≡ recording
+  pub opening_is : file.opening ≡ records
+  pub is_of : IsOf file hand
+  pub view : hand.view ≡ first_view (record { initial = config.initial; opened = buckets; max = config.max })
+  pub acts : hand.acts ≡ []

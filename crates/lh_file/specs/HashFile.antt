@@ -1,0 +1,32 @@
+-- What contracts see of a running file
+use Rattle.std.specs.Prelude.{◌≡◌, ℕ, List, map, length}
+use Rattle.once_cell.specs.Once.{cell_name}
+use Rattle.lh_addr.specs.Settings.{IsInRange}
+use Rattle.lh_file.specs.Closed.{ClosedFile}
+use Rattle.lh_file.specs.Closing.{RuleHolds}
+use Rattle.lh_file.specs.FileState.{FileState}
+use Rattle.lh_file.specs.HandState.{HandState}
+use Rattle.lh_file.specs.declared.file_words.FileWords.{FileWords}
+use Rattle.lh_file.specs.declared.file.HashFile.TheInside.{Inside}
+
+-- its words, and the names of the cells in which its segments are made
+pub record Shared : Type 0 where
+  pub state : FileState
+  pub cells : List ℕ
+
+-- what contracts see of the fields
+abbrev pub shared_of : {G : Type 0} → Inside G → Shared
+shared_of file = record { state = file.words; cells = map cell_name file.segments.cells }
+
+-- there is a cell for each segment, and its segments are those of the configuration
+pub record IsShared {G : Type 0} (file : Inside G) : Type 0 where
+  pub config : file.segments.config ≡ file.words.config
+  pub in_range : IsInRange file.segments.config
+
+-- a file that a hand has closed: its configuration is the file's, and the rule holds of its last words, of which it has the root and the stamp word, and of what the hand has done
+pub record IsClosing (file : FileState) (hand : HandState) (closed : ClosedFile) : Type 0 where
+  pub words : FileWords
+  pub config : closed.config ≡ file.config
+  pub root : closed.root ≡ words.root
+  pub stamps : closed.stamps ≡ words.stamps
+  pub rule : RuleHolds file.config words hand.view

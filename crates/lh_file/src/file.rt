@@ -1,0 +1,108 @@
+//! The file.
+ghost use Rattle.std.specs.Prelude.{◌≡◌, ◌<◌, ◌≤◌, true, false, IfOk, IfErr, OnErr};
+ghost use Rattle.lh_file.specs.declared.fault.FileFault.TheVariants.{Spent};
+
+use crate::fault::{FileFault, JoinFault};
+use crate::gate::{Gate, Point};
+use crate::hand::Hand;
+use crate::load::Load;
+use crate::right::Right;
+use crate::segments::Segments;
+use crate::words::Words;
+use std::marker::Model;
+
+/// A linear hash file that threads share. Each takes part with a [`Hand`] of its own.
+///
+/// A search takes the lock of its bucket shared, an insert or a delete exclusively. A call holds one
+/// bucket at a time, and a split the two that it divides; the other buckets stay free.
+#[derive(Drop)]
+pub struct HashFile<G: Gate> {
+    pub(crate) words: Words,
+    pub(crate) segments: Segments,
+    pub(crate) gate: G,
+}
+
+impl<G: Gate> Model for HashFile<G> {
+    ghost use Rattle.lh_file.specs.HashFile.{Shared, shared_of, IsShared};
+
+    ghost Value = { Shared };
+
+    ghost view = { shared_of };
+
+    ghost invariant = { IsShared };
+}
+
+impl<G: Gate> HashFile<G> {
+    ghost use Rattle.lh_file.specs.FileState.{IsOf, IsSize};
+    ghost use Rattle.lh_file.specs.HandState.{knowing, seeing, with_right, IsSame, IsBranch, IsJoined};
+    ghost use Rattle.lh_file.specs.Rights.{IsAnswer};
+    ghost use Rattle.lh_file.specs.Views.{lessened};
+
+    /// The number of buckets. It is never less than the hand has seen before, and the hand has seen it
+    /// now.
+    pub fn buckets(&self, hand: &mut Hand) -> u32
+        requires { IsOf self.now.state hand.old }
+        ensures knows { hand.new ≡ knowing hand.old result }
+        ensures rises { hand.old.view.known ≤ result }
+        ensures range { IsSize self.now.state result }
+        ensures exact { hand.old.view.has_right ≡ true → result ≡ hand.old.view.known }
+    {
+        self.words.buckets(hand)
+    }
+
+    /// How many records the file was opened with, and how many were inserted and deleted since.
+    pub fn load(&self, hand: &mut Hand) -> Load
+        requires { IsOf self.now.state hand.old }
+        ensures same { hand.new ≡ hand.old }
+        ensures opening { result.opening ≡ self.now.state.opening }
+        ensures inserted { hand.old.view.inserted ≤ result.inserted }
+        ensures deleted { hand.old.view.deleted ≤ result.deleted }
+    {
+        self.words.load(hand)
+    }
+
+    /// Asks once for the right to split, which one hand at a time may have.
+    pub fn try_split_right(&self, hand: &mut Hand) -> Right
+        requires { IsOf self.now.state hand.old }
+        ensures { IsAnswer self.now.state result hand.old hand.new }
+    {
+        let right = self.words.try_split_right(hand);
+        if let Right::Got { .. } = right {
+            self.gate.at(Point::RightGot);
+        }
+        right
+    }
+
+    /// Gives the right to split up, with no bucket made.
+    pub fn drop_right(&self, hand: &mut Hand)
+        requires of { IsOf self.now.state hand.old }
+        requires right { hand.old.view.has_right ≡ true }
+        ensures { hand.new ≡ with_right hand.old false }
+    {
+        self.words.drop_right(hand);
+    }
+
+    /// Moves `calls` of the calls that the hand may make to a new hand, which knows what this one knows
+    /// of the root, and has neither the right to split nor acts.
+    pub fn split_hand(&self, hand: &mut Hand, calls: u64) -> Result<Hand, FileFault>
+        requires { IsOf self.now.state hand.old }
+        ensures ok { IfOk result (λ new. (calls ≤ hand.old.view.left) × IsBranch calls hand.old new × (hand.new ≡ seeing hand.old (lessened calls hand.old.view))) }
+        ensures spent { IfErr result (λ fault. (hand.old.view.left < calls) × (fault ≡ Spent hand.old.view.left)) }
+        ensures err { OnErr result (hand.new ≡ hand.old) }
+    {
+        self.words.split_hand(hand, calls)
+    }
+
+    /// Makes one hand of two: what they may do and what they did is added. The second may not have the
+    /// right to split; the joined hand has it where the first had it. Where there is no memory for the
+    /// second's acts, both come back as they were.
+    pub fn join_hands(&self, first: Hand, second: Hand) -> Result<Hand, JoinFault>
+        requires first { IsOf self.now.state first }
+        requires second { IsOf self.now.state second }
+        requires right { second.view.has_right ≡ false }
+        ensures ok { IfOk result (IsJoined first second) }
+        ensures err { IfErr result (λ fault. IsSame first fault.first × IsSame second fault.second) }
+    {
+        self.words.join_hands(first, second)
+    }
+}

@@ -1,0 +1,78 @@
+//! A linear hash file that many threads use at once, and how it is settled what they did.
+//!
+//! Each thread takes part with a [`Hand`] of its own. What all of them change stands in four words: the
+//! root with the right to split, the next stamp, and the counts of inserts and of deletes. They change
+//! in single atomic steps of eight kinds, under one rule about the words and about what each hand knows,
+//! has and did; the rule holds between any two steps. Each bucket has a reader-writer lock of its own.
+//! A call holds one bucket at a time, a split the two that it divides, the lower number first.
+//!
+//! ```text
+//! let (file, mut first) = HashFile::create(alloc, config, true, NoGate)?;
+//! let mut second = file.split_hand(&mut first, 1_000)?;        // for another thread
+//! file.insert(&rt, &mut first, key, value)?.reply()            // Inserted
+//! file.search(&rt, &mut second, key)?.reply()                  // Found(value)
+//! let hand = file.join_hands(first, second)?;
+//! let (closed, acts) = file.close(&rt, hand)?;
+//! settle(alloc, &Listing::empty(alloc, config)?, &closed, &acts)?.len()    // 2: one legal history
+//! ```
+#![tactic(auto)]
+
+mod act;
+mod aim;
+mod close;
+mod closed;
+mod contents;
+mod counting;
+mod fault;
+mod file;
+mod file_words;
+mod gate;
+mod hand;
+mod history;
+pub mod laws;
+mod load;
+mod open;
+mod order;
+pub mod parts;
+mod plain_map;
+mod replay;
+mod right;
+mod rule;
+mod segment;
+mod segments;
+mod serve;
+mod settle_fault;
+pub mod settle_laws;
+mod settling;
+mod sharing;
+mod sizes;
+mod split;
+mod splitting;
+mod steps;
+mod view;
+mod walk;
+mod words;
+
+pub use act::{ActLine, Acts};
+pub use closed::Closed;
+pub use fault::{FileFault, JoinFault};
+pub use file::HashFile;
+pub use file_words::FileWords;
+pub use gate::{Gate, NoGate, Point};
+pub use hand::Hand;
+pub use history::History;
+pub use lh_bucket::Memory;
+pub use load::Load;
+pub use right::Right;
+pub use segment::Segment;
+pub use settle_fault::SettleFault;
+pub use settling::settle;
+pub use view::View;
+pub use words::Words;
+
+#[cfg(test)]
+mod settle_fault_tests;
+#[cfg(test)]
+mod settle_tests;
+#[cfg(test)]
+mod tests;

@@ -1,0 +1,80 @@
+//! Settling: whether what the hands of a closed file have done is one legal history.
+ghost use Rattle.std.specs.Prelude.{◌≡◌, ◌≢◌, ◌↔◌, Err, IsOk, IfOk, IfErr};
+ghost use Rattle.lh_file.specs.declared.settle_fault.SettleFault.{SettleFault};
+ghost use Rattle.lh_file.specs.declared.settle_fault.SettleFault.TheVariants.{Memory};
+ghost use Rattle.lh_file.specs.Closed.{IsClosed};
+ghost use Rattle.lh_file.specs.Settled.{IsSettled, Settled};
+ghost use Rattle.lh_file.specs.SettleFault.{IsDue};
+
+use crate::act::Acts;
+use crate::closed::Closed;
+use crate::contents::{first_away, first_stray};
+use crate::history::History;
+use crate::order::{in_order, missing_stamp};
+use crate::replay::replay;
+use crate::settle_fault::SettleFault;
+use crate::settle_laws::settling_has_one_answer;
+use lh_addr::Root;
+use lh_addr::laws::address_is_only_bucket;
+use lh_bucket::Listing;
+use std::alloc::Global;
+
+/// Looks for the first fault of a closed file, and answers the history where there is none.
+fn judge(
+    alloc: Global,
+    opening: &Listing,
+    closed: &Closed,
+    acts: &Acts,
+) -> Result<History, SettleFault>
+    ensures ok { IfOk result (IsSettled opening.now closed.now acts.now) }
+    ensures err { IfErr result (IsDue opening.now closed.now acts.now) }
+    ensures kept { IsClosed closed.now }
+{
+    if closed.split_open() {
+        return Err(SettleFault::SplitUnderWay);
+    }
+    let history = in_order(alloc, acts.lines())?;
+    if let Some(stamp) = missing_stamp(&history, closed.stamps()) {
+        return Err(SettleFault::MissingStamp(stamp));
+    }
+    let records = replay(alloc, opening, &history)?;
+    if let Some(key) = first_stray(records, closed.lists()) {
+        return Err(SettleFault::Content(key));
+    }
+    address_is_only_bucket();
+    let root = match Root::new(closed.config().initial(), closed.buckets()) {
+        Some(root) => root,
+        None => unreachable!(),
+    };
+    match first_away(&root, closed.lists()) {
+        Some((bucket, key)) => Err(SettleFault::Placed { bucket, key }),
+        None => Ok(History::new(history)),
+    }
+}
+
+/// Settles a closed file that was opened from a listing: whether these acts, in the order of their
+/// stamps, are one legal history of a plain map that begins as the listing, and the file holds just
+/// what they leave, each record in the bucket of its address. Answers the history, or the first
+/// fault.
+///
+/// It takes time as sorting the acts and the records does. Want of memory aside, it answers the
+/// history exactly where the file is settled, and a fault exactly where that one is due.
+///
+/// ```text
+/// let (closed, acts) = file.close(hand)?;
+/// let history = settle(alloc, &opening, &closed, &acts)?;    // history.at(t) has the stamp t
+/// ```
+pub fn settle(
+    alloc: Global,
+    opening: &Listing,
+    closed: &Closed,
+    acts: &Acts,
+) -> Result<History, SettleFault>
+    ensures ok { IfOk result (IsSettled opening.now closed.now acts.now) }
+    ensures err { IfErr result (IsDue opening.now closed.now acts.now) }
+    ensures settled { result ≢ Err Memory → IsOk result ↔ Settled opening.now closed.now acts.now }
+    ensures fault { (fault : SettleFault) → fault ≢ Memory → result ≢ Err Memory → (result ≡ Err fault) ↔ IsDue opening.now closed.now acts.now fault }
+{
+    settling_has_one_answer();
+    judge(alloc, opening, closed, acts)
+}

@@ -1,0 +1,253 @@
+//! Hands of one thread: the right to split, sizes, acts and their counts, and want of memory.
+ghost use Rattle.std.specs.Prelude.{◌≡◌, false, IfOk};
+ghost use Rattle.lh_file.specs.FileState.{IsOf};
+
+use crate::{ActLine, FileFault, FileWords, Hand, JoinFault, Load, Memory, Right, Words};
+use lh_addr::Config;
+use lh_bucket::{Call, Reply};
+use lh_page::{Key, Value};
+use std::alloc::{AllocError, Global};
+use std::fmt::Display;
+use std::process::Abort;
+use std::test::Fail;
+
+/// A file of one bucket, which may have `max`, with its first hand.
+pub fn file_of(alloc: Global, max: u32, recording: bool) -> Result<(Words, Hand), Fail>
+    ensures { IfOk result (λ made. IsOf made.0 made.1) }
+{
+    let config = Config::new(1, 14, 100, max)?;
+    Ok(Words::create(alloc, config, recording)?)
+}
+
+fn insert(key: &[u8]) -> Result<Call, Fail> {
+    Ok(Call::Insert(Key::new(key)?, Value::new(b"1")?))
+}
+
+fn delete(key: &[u8]) -> Result<Call, Fail> {
+    Ok(Call::Delete(Key::new(key)?))
+}
+
+/// Notes an act, whose room may be refused once: then the hand is as it was.
+fn note(
+    rt: &impl Abort,
+    file: &Words,
+    hand: &mut Hand,
+    call: Call,
+    reply: Reply,
+) -> Result<u64, Fail>
+    requires { IsOf file.now hand.old }
+    ensures { IsOf file.now hand.new }
+{
+    let left = hand.left();
+    if file.make_room(hand).is_err() {
+        assert_eq!(rt; hand.left(), left);
+        file.make_room(hand)?;
+    }
+    assert!(rt; left >= 1);
+    let stamp = file.record_act(hand, &call, reply);
+    assert_eq!(rt; hand.left(), left - 1);
+    Ok(stamp)
+}
+
+/// Joins two hands, where the memory may be refused once: then both are as they were.
+fn join(rt: &impl Abort, file: &Words, first: Hand, second: Hand) -> Result<Hand, Fail>
+    requires first { IsOf file.now first }
+    requires second { IsOf file.now second }
+    requires right { second.view.has_right ≡ false }
+    ensures { IfOk result (IsOf file.now) }
+{
+    let (left, right) = (first.left(), first.has_right());
+    let more = second.left();
+    match file.join_hands(first, second) {
+        Ok(hand) => Ok(hand),
+        Err(JoinFault { first, second }) => {
+            assert_eq!(rt; first.left(), left);
+            assert_eq!(rt; first.has_right(), right);
+            assert_eq!(rt; second.left(), more);
+            Ok(file.join_hands(first, second)?)
+        }
+    }
+}
+
+#[test]
+fn one_hand_at_a_time_has_the_right(rt: HostRuntime) -> Result<(), Fail> {
+    let (file, mut first) = file_of(rt.alloc(), 65536, true)?;
+    let mut second = file.split_hand(&mut first, 10)?;
+    let got = Right::Got { old: 0, new: 1 };
+    assert_eq!(rt; file.try_split_right(&mut first), got);
+    assert_eq!(rt; file.try_split_right(&mut second), Right::Busy { seen: 3 });
+    assert_eq!(rt; file.try_split_right(&mut first), Right::Busy { seen: 3 });
+    assert!(rt; first.has_right());
+    file.drop_right(&mut first);
+    assert_eq!(rt; file.try_split_right(&mut second), got);
+    assert!(rt; !first.has_right());
+    let all = join(&rt, &file, second, first)?;
+    assert!(rt; all.has_right());
+    let (words, acts) = file.close(all);
+    let open = FileWords {
+        root: 3,
+        stamps: 0,
+        inserts: 0,
+        deletes: 0,
+    };
+    assert_eq!(rt; words, open);
+    assert_eq!(rt; acts.len(), 0);
+    Ok(())
+}
+
+#[test]
+fn a_full_file_gives_no_right(rt: HostRuntime) -> Result<(), Fail> {
+    let (file, mut hand) = file_of(rt.alloc(), 1, true)?;
+    assert_eq!(rt; file.try_split_right(&mut hand), Right::Full);
+    assert!(rt; !hand.has_right());
+    assert_eq!(rt; file.buckets(&mut hand), 1);
+    Ok(())
+}
+
+/// Three splits of a file that began with one bucket.
+#[test]
+fn the_pointer_goes_on(rt: HostRuntime) -> Result<(), Fail> {
+    let (file, mut hand) = file_of(rt.alloc(), 4, false)?;
+    for (old, new) in [(0, 1), (0, 2), (1, 3)] {
+        assert_eq!(rt; file.try_split_right(&mut hand), Right::Got { old, new });
+        assert!(rt; hand.has_right());
+        file.point(&mut hand);
+        assert_eq!(rt; file.buckets(&mut hand), new + 1);
+    }
+    assert_eq!(rt; file.try_split_right(&mut hand), Right::Full);
+    Ok(())
+}
+
+#[test]
+fn a_hand_gives_no_more_than_it_has(rt: HostRuntime) -> Result<(), Fail> {
+    let (file, mut first) = file_of(rt.alloc(), 8, true)?;
+    let mut second = file.split_hand(&mut first, 10)?;
+    assert_eq!(rt; first.left(), (1 << 63) - 10);
+    assert_eq!(rt;
+        file.split_hand(&mut second, 11).err(),
+        Some(FileFault::Spent { left: 10 })
+    );
+    assert_eq!(rt; second.left(), 10);
+    let third = file.split_hand(&mut second, 10)?;
+    assert_eq!(rt; (second.left(), third.left()), (0, 10));
+    Ok(())
+}
+
+/// Each hand sees what the other did: the size after a split, and an insert.
+#[test]
+fn hands_see_what_others_did(rt: HostRuntime) -> Result<(), Fail> {
+    let (file, mut first) = file_of(rt.alloc(), 8, true)?;
+    let mut second = file.split_hand(&mut first, 10)?;
+    file.try_split_right(&mut first);
+    assert!(rt; first.has_right());
+    file.point(&mut first);
+    assert_eq!(rt; file.buckets(&mut second), 2);
+    note(&rt, &file, &mut first, insert(b"a")?, Reply::Inserted)?;
+    let load = Load {
+        opening: 0,
+        inserted: 1,
+        deleted: 0,
+    };
+    assert_eq!(rt; file.load(&mut second), load);
+    Ok(())
+}
+
+#[test]
+fn a_file_opens_as_it_was(rt: HostRuntime) -> Result<(), Fail> {
+    let config = Config::new(3, 14, 100, 65536)?;
+    let (file, mut hand) = Words::open(rt.alloc(), config, 5, false, 7)?;
+    assert_eq!(rt; file.buckets(&mut hand), 5);
+    assert_eq!(rt; (hand.left(), hand.has_right()), (1 << 63, false));
+    let load = Load {
+        opening: 7,
+        inserted: 0,
+        deleted: 0,
+    };
+    assert_eq!(rt; file.load(&mut hand), load);
+    assert_eq!(rt;
+        file.try_split_right(&mut hand),
+        Right::Got { old: 2, new: 5 }
+    );
+    Ok(())
+}
+
+#[test]
+fn acts_are_counted_and_kept(rt: HostRuntime) -> Result<(), Fail> {
+    let (file, mut first) = file_of(rt.alloc(), 8, true)?;
+    let mut second = file.split_hand(&mut first, 10)?;
+    let (a, gone) = (insert(b"a")?, delete(b"a")?);
+    assert_eq!(rt; note(&rt, &file, &mut second, gone, Reply::Absent)?, 0);
+    assert_eq!(rt; note(&rt, &file, &mut first, a, Reply::Inserted)?, 1);
+    assert_eq!(rt; note(&rt, &file, &mut second, a, Reply::Exists)?, 2);
+    assert_eq!(rt; note(&rt, &file, &mut second, gone, Reply::Deleted)?, 3);
+    assert!(rt; !second.has_right());
+    let all = join(&rt, &file, first, second)?;
+    assert_eq!(rt; all.left(), (1 << 63) - 4);
+    let (words, acts) = file.close(all);
+    let closed = FileWords {
+        root: 2,
+        stamps: 4,
+        inserts: 1,
+        deletes: 1,
+    };
+    assert_eq!(rt; words, closed);
+    let line = |stamp, call, reply| ActLine { stamp, call, reply };
+    let kept = [
+        line(1, a, Reply::Inserted),
+        line(0, gone, Reply::Absent),
+        line(2, a, Reply::Exists),
+        line(3, gone, Reply::Deleted),
+    ];
+    assert_eq!(rt; acts.as_slice(), kept.as_slice());
+    Ok(())
+}
+
+#[test]
+fn acts_of_a_file_that_does_not_record_are_counted(rt: HostRuntime) -> Result<(), Fail> {
+    let (file, mut hand) = file_of(rt.alloc(), 8, false)?;
+    assert_eq!(rt;
+        note(&rt, &file, &mut hand, insert(b"a")?, Reply::Inserted)?,
+        0
+    );
+    let (words, acts) = file.close(hand);
+    assert_eq!(rt; (words.stamps, words.inserts, words.deletes), (1, 1, 0));
+    assert_eq!(rt; acts.len(), 0);
+    Ok(())
+}
+
+/// A text, asked for once more where memory was refused.
+fn printed<D: Display>(rt: &HostRuntime, value: &D) -> Result<String, AllocError> {
+    match format!(in rt.alloc(); "{value}") {
+        Ok(text) => Ok(text),
+        Err(AllocError) => format!(in rt.alloc(); "{value}"),
+    }
+}
+
+#[test]
+fn prints_faults(rt: HostRuntime) -> Result<(), Fail> {
+    let defect = FileFault::Defect {
+        wanted_bucket: 3,
+        wanted_level: 2,
+        found_bucket: 3,
+        found_level: None,
+    };
+    assert_eq!(rt;
+        printed(&rt, &defect)?.as_str(),
+        "bucket 3 at level 2 is not there"
+    );
+    assert_eq!(rt;
+        printed(&rt, &FileFault::Spent { left: 10 })?.as_str(),
+        "10 calls left"
+    );
+    assert_eq!(rt;
+        printed(&rt, &FileFault::from(Memory))?.as_str(),
+        "no memory"
+    );
+    let (file, mut first) = file_of(rt.alloc(), 8, true)?;
+    let second = file.split_hand(&mut first, 10)?;
+    assert_eq!(rt;
+        printed(&rt, &JoinFault { first, second })?.as_str(),
+        "no memory"
+    );
+    Ok(())
+}

@@ -1,0 +1,184 @@
+//! Tasks for hands, as data, and what comes of them.
+ghost use Rattle.lh_file.specs.FileState.{IsOf};
+
+use super::stage::Progress;
+use crate::{FileFault, Gate, Hand, HashFile, Right};
+use lh_bucket::Reply;
+use lh_page::{Key, Value};
+use std::alloc::Global;
+use std::sync::Wait;
+use std::thread::Promise;
+
+/// What a hand is to do. The key of a call is one letter, and its value a 1.
+#[derive(Clone, Copy)]
+pub(crate) enum Task {
+    Insert(u8),
+    Search(u8),
+    Delete(u8),
+    Buckets,
+    Inserted,
+    TryRight,
+    DropRight,
+    Split,
+    Reach(u64),
+    Wait(u64),
+}
+
+/// What came of it.
+#[derive(Clone, Copy, Debug, PartialEq, Eq)]
+pub(crate) enum Told {
+    Found,
+    Absent,
+    Inserted,
+    Exists,
+    Deleted,
+    Fault(FileFault),
+    Number(u64),
+    Right(Right),
+    Done,
+}
+
+/// A hand that has done its tasks, and what it was told, as far as there was memory to keep it.
+#[derive(Drop)]
+pub(crate) struct Worked {
+    pub(crate) hand: Hand,
+    pub(crate) told: Vec<Told>,
+}
+
+/// The hand that comes back is one of this file.
+#[derive(Clone, Copy)]
+pub(crate) struct OfFile<'a, G: Gate>(pub(crate) &'a HashFile<G>);
+
+impl<'a, G: Gate> Promise<Worked> for OfFile<'a, G> {
+    ghost kept_by = { λ p r. IsOf p.0.now.state r.hand };
+}
+
+/// What a reply tells; a value that is found is to be a 1.
+fn telling_of(reply: Reply) -> Told {
+    match reply {
+        Reply::Found(value) => {
+            if value.bytes() == b"1".as_slice() {
+                Told::Found
+            } else {
+                Told::Done
+            }
+        }
+        Reply::Absent => Told::Absent,
+        Reply::Inserted => Told::Inserted,
+        Reply::Exists => Told::Exists,
+        Reply::Deleted => Told::Deleted,
+    }
+}
+
+/// Makes the call of a task.
+fn call<G: Gate, R: Wait>(
+    rt: &R,
+    file: &HashFile<G>,
+    hand: &mut Hand,
+    task: Task,
+    letter: u8,
+) -> Told
+    requires { IsOf file.now.state hand.old }
+    ensures { IsOf file.now.state hand.new }
+{
+    let (Ok(key), Ok(value)) = (Key::new(&[letter]), Value::new(b"1")) else {
+        return Told::Done;
+    };
+    let answer = match task {
+        Task::Insert(_) => file.insert(rt, hand, key, value),
+        Task::Delete(_) => file.delete(rt, hand, key),
+        _ => file.search(rt, hand, key),
+    };
+    match answer {
+        Ok(answer) => telling_of(answer.reply()),
+        Err(fault) => Told::Fault(fault),
+    }
+}
+
+/// Splits, where the hand has the right.
+fn split<G: Gate, R: Wait>(rt: &R, file: &HashFile<G>, hand: &mut Hand) -> Told
+    requires { IsOf file.now.state hand.old }
+    ensures { IsOf file.now.state hand.new }
+{
+    if !hand.has_right() {
+        return Told::Done;
+    }
+    match file.split(rt, hand) {
+        Ok(()) => Told::Done,
+        Err(fault) => Told::Fault(fault),
+    }
+}
+
+/// Drops the right, where the hand has it.
+fn drop_right<G: Gate>(file: &HashFile<G>, hand: &mut Hand)
+    requires { IsOf file.now.state hand.old }
+    ensures { IsOf file.now.state hand.new }
+{
+    if hand.has_right() {
+        file.drop_right(hand);
+    }
+}
+
+/// Does one task.
+pub(crate) fn one<G: Gate, R: Wait>(
+    rt: &R,
+    file: &HashFile<G>,
+    progress: &Progress,
+    hand: &mut Hand,
+    task: Task,
+) -> Told
+    requires { IsOf file.now.state hand.old }
+    ensures { IsOf file.now.state hand.new }
+{
+    match task {
+        Task::Insert(letter) => call(rt, file, hand, task, letter),
+        Task::Search(letter) => call(rt, file, hand, task, letter),
+        Task::Delete(letter) => call(rt, file, hand, task, letter),
+        Task::Buckets => Told::Number(u64::from(file.buckets(hand))),
+        Task::Inserted => Told::Number(file.load(hand).inserted),
+        Task::TryRight => try_right(file, hand),
+        Task::DropRight => {
+            drop_right(file, hand);
+            Told::Done
+        }
+        Task::Split => split(rt, file, hand),
+        Task::Reach(step) => {
+            progress.reach(step);
+            Told::Done
+        }
+        Task::Wait(step) => {
+            progress.wait(step);
+            Told::Done
+        }
+    }
+}
+
+/// Asks for the right to split.
+fn try_right<G: Gate>(file: &HashFile<G>, hand: &mut Hand) -> Told
+    requires { IsOf file.now.state hand.old }
+    ensures { IsOf file.now.state hand.new }
+{
+    Told::Right(file.try_split_right(hand))
+}
+
+/// Does tasks one after another.
+pub(crate) fn work<G: Gate, R: Wait>(
+    rt: &R,
+    alloc: Global,
+    file: &HashFile<G>,
+    progress: &Progress,
+    mut hand: Hand,
+    tasks: &[Task],
+) -> Worked
+    requires { IsOf file.now.state hand }
+    ensures { IsOf file.now.state result.hand }
+{
+    let mut told = Vec::new(alloc);
+    for task in tasks {
+        let answer = one(rt, file, progress, &mut hand, *task);
+        if told.push(answer).is_err() {
+            break;
+        }
+    }
+    Worked { hand, told }
+}
