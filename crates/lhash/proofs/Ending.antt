@@ -16,6 +16,7 @@ use Rattle.lhash.specs.StepTexts.{steps_text}
 use Rattle.lhash.specs.Steps.{step}
 use Rattle.lhash.specs.declared.fault.ScriptFault.{ScriptFault}
 use Rattle.lhash.specs.declared.status.DeviceFault.TheVariants.{Read, Write}
+use Rattle.lhash.specs.declared.status.InputFault.TheVariants.{Script, Image, TooLarge}
 use Rattle.lhash.specs.declared.status.Status.{Status}
 use Rattle.lhash.specs.declared.status.Status.TheVariants.{Done, Input, Words, Device, Memory}
 use Rattle.lhash.specs.Scripts.{Reading, script}
@@ -24,7 +25,9 @@ use Rattle.lhash.specs.Scripts.{Reading, script}
 pub unread : {A : Type 0} (status : Status) (given : Result (List A) ScriptFault) (output : List A → List ℕ) (a : Option (List ℕ)) →
     ReadsScript {A = A} (Err status) given → Ends status (due output given) a a
 unread Done given output a h = absurd h
-unread (Input fault) given output a h = (ap (due output) h, Keeps-refl a)
+unread (Input (Script fault)) given output a h = (ap (due output) h, Keeps-refl a)
+unread (Input (Image fault)) given output a h = absurd h
+unread (Input TooLarge) given output a h = absurd h
 unread (Words text) given output a h = absurd h
 unread (Device Read) given output a h = Keeps-refl a
 unread (Device Write) given output a h = absurd h
@@ -35,7 +38,9 @@ pub no_steps : (settings : Settings) (status : Status) (input : List ℕ) (a : O
     ReadsScript {A = Event} (Err status) (script step input) → EndsSteps settings input status a a
 unfolding EndsSteps
 no_steps settings Done input a h = absurd h
-no_steps settings (Input fault) input a h = (h, Keeps-refl a)
+no_steps settings (Input (Script fault)) input a h = (h, Keeps-refl a)
+no_steps settings (Input (Image fault)) input a h = absurd h
+no_steps settings (Input TooLarge) input a h = absurd h
 no_steps settings (Words text) input a h = absurd h
 no_steps settings (Device Read) input a h = Keeps-refl a
 no_steps settings (Device Write) input a h = absurd h

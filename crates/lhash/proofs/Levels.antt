@@ -14,7 +14,7 @@ use Rattle.lhash.proofs.RowLemmas.{Every, find-every, or_else-nil}
 use Rattle.lhash.proofs.StopLemmas.{StopsElsewhere, walk-stops}
 
 -- what is found passes the test
-find-passes : {X : Type 0} (test : X → Bool) (xs : List X) (x : X) → find test xs ≡ Some x → test x ≡ true
+pub find-passes : {X : Type 0} (test : X → Bool) (xs : List X) (x : X) → find test xs ≡ Some x → test x ≡ true
 find-passes test [] x e = cc
 find-passes {X} test (y ∷ ys) x e = go (test y) refl e (find-passes test ys x)
   where

@@ -1,11 +1,14 @@
 pub mod Accepted
+pub mod Building
 pub mod CommandShapes
 pub mod Devices
 pub mod Digits
 pub mod Ending
+pub mod Inspecting
 pub mod Levels
 pub mod NumberLemmas
 pub mod Pairs
+pub mod RecordLines
 pub mod ReplyLines
 pub mod Requests
 pub mod RowLemmas
@@ -15,4 +18,5 @@ pub mod Serving
 pub mod Splitting
 pub mod StepLines
 pub mod StopLemmas
+pub mod Unlike
 pub mod Verbs

@@ -11,14 +11,19 @@ use Rattle.lhash.proofs.Sending.{begins_longer}
 abbrev pub lines_of : {X : Type 0} → (X → List ℕ) → List X → List ℕ
 lines_of text xs = flat_map (λ x. line (text x)) xs
 
+-- the texts of all elements are those up to one of them, and those behind it
+pub pieces-split : {X : Type 0} (f : X → List ℕ) (xs : List X) (i : ℕ) (some : X) → i < length xs →
+    flat_map f xs ≡ (flat_map f (take i xs) ++ f (get_or xs i some)) ++ flat_map f (drop (suc i) xs)
+pieces-split f [] i some h = absurd (omega arith)
+pieces-split f (x ∷ xs) zero some h = refl
+pieces-split f (x ∷ xs) (suc i) some h =
+    ap (λ more. f x ++ more) (pieces-split f xs i some (omega arith))
+    ∙ (sym (append_assoc (f x) (flat_map f (take i xs) ++ f (get_or xs i some)) (flat_map f (drop (suc i) xs)))
+    ∙ ap (λ more. more ++ flat_map f (drop (suc i) xs)) (sym (append_assoc (f x) (flat_map f (take i xs)) (f (get_or xs i some)))))
+
 lines_of-split : {X : Type 0} (text : X → List ℕ) (xs : List X) (i : ℕ) (some : X) → i < length xs →
     lines_of text xs ≡ (lines_of text (take i xs) ++ line (text (get_or xs i some))) ++ lines_of text (drop (suc i) xs)
-lines_of-split text [] i some h = absurd (omega arith)
-lines_of-split text (x ∷ xs) zero some h = refl
-lines_of-split text (x ∷ xs) (suc i) some h =
-    ap (λ more. line (text x) ++ more) (lines_of-split text xs i some (omega arith))
-    ∙ (sym (append_assoc (line (text x)) (lines_of text (take i xs) ++ line (text (get_or xs i some))) (lines_of text (drop (suc i) xs)))
-    ∙ ap (λ more. more ++ lines_of text (drop (suc i) xs)) (sym (append_assoc (line (text x)) (lines_of text (take i xs)) (line (text (get_or xs i some))))))
+lines_of-split text xs i some h = pieces-split (λ x. line (text x)) xs i some h
 
 -- a beginning of the lines up to one of them
 begins_lines : {X : Type 0} (text : X → List ℕ) (before now : Option (List ℕ)) (xs : List X) (i : ℕ) (x : X) → i < length xs →

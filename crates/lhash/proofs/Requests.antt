@@ -22,11 +22,11 @@ use Rattle.lh_addr.specs.Settings.{Settings}
 use Rattle.lh_addr.specs.Config.{IsFirstOutOfRange}
 use Rattle.lh_addr.specs.declared.config.Range.{Range}
 use Rattle.lh_addr.specs.declared.config.Range.TheVariants.{Max}
-use Rattle.lhash.specs.Options.{Accepts, Answers, AsksForHelp, IsMaxBelowInitial, IsRefused, number_in, number_of, program_app, settings_from, settings_given, subcommand_named}
-use Rattle.lhash.specs.OptionSteps.{HasNumber, IsAskedBy, IsRefusal, settings_in}
+use Rattle.lhash.specs.Options.{Accepts, Answers, Asks, AsksForHelp, IsMaxBelowInitial, IsRefused, number_in, number_of, program_app, settings_from, settings_given, subcommand_named}
+use Rattle.lhash.specs.OptionSteps.{HasNumber, IsAskedBy, IsImageCommand, IsRefusal, settings_in}
 use Rattle.lhash.specs.declared.options.Request.{Request}
 use Rattle.lhash.specs.declared.options.Request.TheVariants as request
-use Rattle.lhash.proofs.Accepted.{IsEntered, accepted-rows}
+use Rattle.lhash.proofs.Accepted.{IsEntered, accepted-rows, entered-none}
 
 -- the settings are the four numbers
 pub settings-are : (rows : List Row) (initial capacity load max : ℕ) → number_in rows (codes "initial") ≡ Some initial → number_in rows (codes "capacity") ≡ Some capacity
@@ -98,6 +98,15 @@ settings-at words name rows is = λ i. settings_from
     (option_and_then (λ s. number_in s.1 (codes "initial")) (is i)) (option_and_then (λ s. number_in s.1 (codes "capacity")) (is i))
     (option_and_then (λ s. number_in s.1 (codes "load")) (is i)) (option_and_then (λ s. number_in s.1 (codes "max")) (is i))
 
+-- words that ask for a subcommand which reads an image give no settings
+pub image-settings : (words : List Text) (name : Text) → Asks words name → IsImageCommand name → settings_given words ≡ None
+unfolding subcommand_named
+image-settings words name asks is =
+    let got = accepted-rows words asks.0 in
+    let named : Some got.0.0 ≡ Some name = sym (ap (option_map (λ s. s.0)) got.1) ∙ asks.1 in
+    let name_is : got.0.0 ≡ name = cc in
+    settings-at words got.0.0 got.0.1 got.1 ∙ entered-none name got.0.1 (subst (λ (n : Text). IsEntered n got.0.1) name_is got.2) is
+
 asked : (words : List Text) (name : Text) (rows : List Row) (r : Request) → Accepts words → subcommand_of program_app words ≡ Some (name, rows)
     → IsAskedBy name rows r → Answers words r
 unfolding subcommand_named
@@ -105,6 +114,12 @@ asked words name rows (request.Commands config) accepts is h =
     ((accepts, ap (option_map (λ s. s.0)) is ∙ ap (λ (n : Text). Some n) h.0), settings-at words name rows is ∙ h.1, h.2)
 asked words name rows (request.Steps config) accepts is h =
     ((accepts, ap (option_map (λ s. s.0)) is ∙ ap (λ (n : Text). Some n) h.0), settings-at words name rows is ∙ h.1, h.2)
+asked words name rows (request.Build config) accepts is h =
+    ((accepts, ap (option_map (λ s. s.0)) is ∙ ap (λ (n : Text). Some n) h.0), settings-at words name rows is ∙ h.1, h.2)
+asked words name rows request.Check accepts is h =
+    (accepts, ap (option_map (λ s. s.0)) is ∙ ap (λ (n : Text). Some n) h)
+asked words name rows request.Dump accepts is h =
+    (accepts, ap (option_map (λ s. s.0)) is ∙ ap (λ (n : Text). Some n) h)
 asked words name rows request.MaxBelowInitial accepts is h =
     (accepts, subst IsMaxBelowInitial (sym (settings-at words name rows is)) h)
 asked words name rows (request.Help text) accepts is h = absurd h
@@ -122,6 +137,9 @@ refusal-answers words e (request.Refused text) (inl memory) h = absurd (h.1 memo
 refusal-answers words e (request.Refused text) (inr among) h = (none-among (kind_of e) _ among, (kind_of e, among, h.0))
 refusal-answers words e (request.Commands config) among h = absurd h
 refusal-answers words e (request.Steps config) among h = absurd h
+refusal-answers words e (request.Build config) among h = absurd h
+refusal-answers words e request.Check among h = absurd h
+refusal-answers words e request.Dump among h = absurd h
 refusal-answers words e request.MaxBelowInitial among h = absurd h
 
 -- what a parse that succeeds says of the words, and of the subcommand that it entered

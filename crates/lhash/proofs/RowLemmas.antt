@@ -401,16 +401,22 @@ module _ (name default : Text) (least most : ℕ) where
       go true e k rec = (r, refl, h.0 e)
       go false e k rec = rec k
 
-  -- a level of a parse in which clap finds no fault leaves the option a number in its range
-  pub level-row : (s : Shape) → Every IsTarget s.rules → HasTarget s.rules → (names : Names) (words : List Text) (has_subcommand : Bool) (below : Kinds)
-      → level_fault s names nothing_held words has_subcommand below ≡ []
-      → (r : Row) × (find (λ r. bytes_eq r.id name) (rows_after s.rules names words) ≡ Some r) × Fits r
-  level-row s all has names words has_subcommand below e =
+  -- a level of a parse in which clap finds no fault leaves rows of which each of the option's fits
+  pub level-every : (s : Shape) → Every IsTarget s.rules → (names : Names) (words : List Text) (has_subcommand : Bool) (below : Kinds)
+      → level_fault s names nothing_held words has_subcommand below ≡ [] → Every FitsHere (rows_after s.rules names words)
+  level-every s all names words has_subcommand below e =
       let end = (walk s.rules names nothing_held words).held in
       let walked = or_else-nil (walk_fault s names (walk_from nothing_held) words) _ e in
       let entered = or_else-nil below _ walked.1 in
       let settles = or_else-nil (settle_fault s.rules s.args_override_self end) _ entered.1 in
       let defaulted = or_else-nil (defaults_fault (settled s.rules end).rows s.rules) _ settles.1 in
       let after_walk : Every FitsHere end.rows = walk-every s all names (walk_from nothing_held) words walked.0 tt in
-      let after_all = defaults-every s.rules all (settled s.rules end).rows defaulted.0 (settled-every s.rules all s.args_override_self end settles.0 after_walk) in
-      fitting-row (rows_after s.rules names words) (defaults-make s.rules has (settled s.rules end).rows) after_all
+      defaults-every s.rules all (settled s.rules end).rows defaulted.0 (settled-every s.rules all s.args_override_self end settles.0 after_walk)
+
+  -- and it leaves the option a number in its range
+  pub level-row : (s : Shape) → Every IsTarget s.rules → HasTarget s.rules → (names : Names) (words : List Text) (has_subcommand : Bool) (below : Kinds)
+      → level_fault s names nothing_held words has_subcommand below ≡ []
+      → (r : Row) × (find (λ r. bytes_eq r.id name) (rows_after s.rules names words) ≡ Some r) × Fits r
+  level-row s all has names words has_subcommand below e =
+      let end = (walk s.rules names nothing_held words).held in
+      fitting-row (rows_after s.rules names words) (defaults-make s.rules has (settled s.rules end).rows) (level-every s all names words has_subcommand below e)

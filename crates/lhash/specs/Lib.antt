@@ -2,6 +2,8 @@ pub mod Commands
 pub mod Devices
 pub mod FaultTexts
 pub mod Hexadecimal
+pub mod ImageTexts
+pub mod Images
 pub mod Lines
 pub mod Operands
 pub mod OptionLaws
@@ -9,6 +11,7 @@ pub mod OptionSteps
 pub mod Options
 pub mod Run
 pub mod Scripts
+pub mod Serving
 pub mod Status
 pub mod Steps
 pub mod StepTexts

@@ -34,6 +34,18 @@ unknown_option = codes "lhash" ∷ codes "commands" ∷ codes "--threads" ∷ co
 abbrev pub help_asked : List Text
 help_asked = codes "lhash" ∷ codes "commands" ∷ codes "--help" ∷ []
 
+abbrev pub build_given : List Text
+build_given = codes "lhash" ∷ codes "build" ∷ codes "--max" ∷ codes "1" ∷ []
+
+abbrev pub check_alone : List Text
+check_alone = codes "lhash" ∷ codes "check" ∷ []
+
+abbrev pub dump_alone : List Text
+dump_alone = codes "lhash" ∷ codes "dump" ∷ []
+
+abbrev pub check_with_option : List Text
+check_with_option = codes "lhash" ∷ codes "check" ∷ codes "--max" ∷ codes "1" ∷ []
+
 -- the words are accepted, name `commands`, and give these settings
 abbrev pub Gives : List Text → Settings → Type 0
 Gives words s = Asks words (codes "commands") × (settings_given words ≡ Some s)
@@ -41,6 +53,10 @@ Gives words s = Asks words (codes "commands") × (settings_given words ≡ Some 
 -- the words are accepted, name `steps`, and give these settings
 abbrev pub GivesSteps : List Text → Settings → Type 0
 GivesSteps words s = Asks words (codes "steps") × (settings_given words ≡ Some s)
+
+-- the words are accepted, name `build`, and give these settings
+abbrev pub GivesBuild : List Text → Settings → Type 0
+GivesBuild words s = Asks words (codes "build") × (settings_given words ≡ Some s)
 
 -- the words are not accepted
 abbrev pub Refuses : List Text → Type 0

@@ -40,7 +40,11 @@ settings_in rows = settings_from
 
 -- the name of a subcommand with the options of a file's settings
 abbrev pub IsFileCommand : Text → Type 0
-IsFileCommand name = (name ≡ codes "commands") ⊎ (name ≡ codes "steps")
+IsFileCommand name = (name ≡ codes "commands") ⊎ ((name ≡ codes "steps") ⊎ (name ≡ codes "build"))
+
+-- the name of a subcommand that reads an image, without options
+abbrev pub IsImageCommand : Text → Type 0
+IsImageCommand name = (name ≡ codes "check") ⊎ (name ≡ codes "dump")
 
 -- what a request says of the subcommand's name and rows
 abbrev pub IsAskedBy : Text → List Row → Request → Type 0
@@ -48,6 +52,10 @@ IsAskedBy name rows (request.Commands config) =
     (name ≡ codes "commands") × (settings_in rows ≡ Some config) × IsInRange config
 IsAskedBy name rows (request.Steps config) =
     (name ≡ codes "steps") × (settings_in rows ≡ Some config) × IsInRange config
+IsAskedBy name rows (request.Build config) =
+    (name ≡ codes "build") × (settings_in rows ≡ Some config) × IsInRange config
+IsAskedBy name rows request.Check = name ≡ codes "check"
+IsAskedBy name rows request.Dump = name ≡ codes "dump"
 IsAskedBy name rows request.MaxBelowInitial = IsMaxBelowInitial (settings_in rows)
 IsAskedBy name rows _ = ⊥
 

@@ -36,13 +36,26 @@ commands_app = with_settings (new_app (codes "commands"))
 abbrev pub steps_app : App
 steps_app = with_settings (new_app (codes "steps"))
 
+abbrev pub build_app : App
+build_app = with_settings (new_app (codes "build"))
+
+-- the subcommands that read an image have no options
+abbrev pub check_app : App
+check_app = new_app (codes "check")
+
+abbrev pub dump_app : App
+dump_app = new_app (codes "dump")
+
 -- a command that asks for a subcommand
 abbrev pub with_subcommand_required : App → App
 with_subcommand_required app = record app { top = record app.top { subcommand_required = true } }
 
 -- the program's command
 abbrev pub program_app : App
-program_app = with_subcommand (with_subcommand (with_subcommand_required (new_app (codes "lhash"))) commands_app.top) steps_app.top
+program_app =
+    with_subcommand (with_subcommand (with_subcommand (with_subcommand (with_subcommand
+    (with_subcommand_required (new_app (codes "lhash")))
+    commands_app.top) steps_app.top) build_app.top) check_app.top) dump_app.top
 
 -- the whole number that a text writes in decimal digits, where it is such a text; a plus may stand first
 abbrev pub number_of : Text → Option ℕ
@@ -102,6 +115,10 @@ Answers words (request.Commands config) =
     Asks words (codes "commands") × (settings_given words ≡ Some config) × IsInRange config
 Answers words (request.Steps config) =
     Asks words (codes "steps") × (settings_given words ≡ Some config) × IsInRange config
+Answers words (request.Build config) =
+    Asks words (codes "build") × (settings_given words ≡ Some config) × IsInRange config
+Answers words request.Check = Asks words (codes "check")
+Answers words request.Dump = Asks words (codes "dump")
 Answers words request.MaxBelowInitial = Accepts words × IsMaxBelowInitial (settings_given words)
 Answers words (request.Help text) = ¬ Accepts words × AsksForHelp words
 Answers words (request.Refused text) = ¬ Accepts words × IsRefused words

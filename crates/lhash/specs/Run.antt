@@ -1,15 +1,12 @@
 -- What a run did, from the bytes that it read to the bytes that it wrote
-use Rattle.std.specs.Prelude.{◌≡◌, ℕ, Bool, true, false, List, Option, Result, Ok, Err, Vec, IfSome, codes}
+use Rattle.std.specs.Prelude.{◌≡◌, ℕ, Bool, true, false, List, Option, Result, Ok, Err, Vec}
 use Rattle.std.specs.declared.alloc.Global.{Global}
 use Rattle.std.specs.List.{list_any}
-use Rattle.std.specs.String.{string_bytes}
 use Rattle.std.specs.FinMap.{empty}
 use Rattle.std.specs.Io.KnownBytes.{Keeps, Appends}
-use Rattle.clap.specs.Walk.{Text}
 use Rattle.lh_addr.specs.Settings.{Settings}
 use Rattle.lhash.specs.Commands.{command}
 use Rattle.lhash.specs.Devices.{TakesBeginning}
-use Rattle.lhash.specs.Options.{AsksForHelp, IsRefused}
 use Rattle.lh_bucket.specs.PlainMap.{replies}
 use Rattle.lh_core.specs.Serial.{size_of}
 use Rattle.lh_core.specs.Headline.{IsHeadline}
@@ -22,33 +19,33 @@ use Rattle.lhash.specs.StepTexts.{steps_text}
 use Rattle.lhash.specs.Steps.{step}
 use Rattle.lhash.specs.Texts.{commands_text}
 use Rattle.lhash.specs.declared.fault.ScriptFault.{ScriptFault}
-use Rattle.lhash.specs.declared.options.Request.{Request}
-use Rattle.lhash.specs.declared.options.Request.TheVariants.{Commands, Steps, Help, Refused, MaxBelowInitial}
 use Rattle.lhash.specs.declared.status.DeviceFault.TheVariants.{Read, Write}
+use Rattle.lhash.specs.declared.status.InputFault.{InputFault}
+use Rattle.lhash.specs.declared.status.InputFault.TheVariants.{Script}
 use Rattle.lhash.specs.declared.status.Status.{Status}
 use Rattle.lhash.specs.declared.status.Status.TheVariants.{Done, Input, Words, Device, Memory}
 
 -- the statements of a script were read, or how the run ends: with the script's first fault, or where the device or memory failed
 abbrev pub ReadsScript : {A : Type 0} → Result (Vec A Global) Status → Result (List A) ScriptFault → Type 0
 ReadsScript (Ok statements) given = given ≡ Ok statements.items
-ReadsScript (Err (Input fault)) given = given ≡ Err fault
+ReadsScript (Err (Input (Script fault))) given = given ≡ Err fault
 ReadsScript (Err (Device Read)) given = Unit {0}
 ReadsScript (Err Memory) given = Unit {0}
 ReadsScript (Err _) given = ⊥
 
 -- what the statements of a script are to write, or the script's first fault
-abbrev pub due : {A : Type 0} → (List A → List ℕ) → Result (List A) ScriptFault → Result (List ℕ) ScriptFault
+abbrev pub due : {A : Type 0} → (List A → List ℕ) → Result (List A) ScriptFault → Result (List ℕ) InputFault
 due output (Ok statements) = Ok (output statements)
-due output (Err fault) = Err fault
+due output (Err fault) = Err (Script fault)
 
 -- what `commands` is to write for an input: the replies of one plain map to the script's calls, then the number of buckets to which the split policy has the file grow
-unfoldable pub commands_due : Settings → List ℕ → Result (List ℕ) ScriptFault
+unfoldable pub commands_due : Settings → List ℕ → Result (List ℕ) InputFault
 commands_due settings input = due (λ calls. commands_text (replies empty calls) (size_of settings calls)) (script command input)
 
 -- a status, and what the writer took, where this is due:
--- done, and it took just the output; a fault, the script's first, and it took nothing;
+-- done, and it took just the output; a fault, the one that is due, and it took nothing;
 -- a failed write, and it took a beginning of the output; a failed read or want of memory, and it took nothing
-abbrev pub Ends : Status → Result (List ℕ) ScriptFault → Option (List ℕ) → Option (List ℕ) → Type 0
+abbrev pub Ends : Status → Result (List ℕ) InputFault → Option (List ℕ) → Option (List ℕ) → Type 0
 Ends Done due before now = (output : List ℕ) × (due ≡ Ok output) × Appends before now output
 Ends (Input fault) due before now = (due ≡ Err fault) × Keeps before now
 Ends (Device Write) due before now = (output : List ℕ) × (due ≡ Ok output) × TakesBeginning before now output
@@ -75,45 +72,13 @@ pub record IsTold (settings : Settings) (events : List Event) (output : List ℕ
 abbrev pub EndsTelling : {A : Type 0} → (List A → List ℕ → Type 0) → Status → Result (List A) ScriptFault → Option (List ℕ) → Option (List ℕ) → Type 0
 EndsTelling {A} IsOutput Done given before now =
     (statements : List A) × (output : List ℕ) × (given ≡ Ok statements) × IsOutput statements output × Appends before now output
-EndsTelling IsOutput (Input fault) given before now = (given ≡ Err fault) × Keeps before now
+EndsTelling IsOutput (Input (Script fault)) given before now = (given ≡ Err fault) × Keeps before now
 EndsTelling {A} IsOutput (Device Write) given before now =
     (statements : List A) × (output : List ℕ) × (given ≡ Ok statements) × IsOutput statements output × TakesBeginning before now output
 EndsTelling IsOutput (Device Read) given before now = Keeps before now
 EndsTelling IsOutput Memory given before now = Keeps before now
-EndsTelling IsOutput (Words text) given before now = ⊥
+EndsTelling IsOutput _ given before now = ⊥
 
 -- how `steps` ends on an input: with what the headline tells of the events of its script
 unfoldable pub EndsSteps : Settings → List ℕ → Status → Option (List ℕ) → Option (List ℕ) → Type 0
 EndsSteps settings input status before now = EndsTelling (IsTold settings) status (script step input) before now
-
--- the words are refused for this reason, unless memory ran out
-abbrev pub IsWordsOf : List ℕ → Status → Type 0
-IsWordsOf reason (Words text) = string_bytes text ≡ reason
-IsWordsOf reason Memory = Unit {0}
-IsWordsOf reason _ = ⊥
-
--- help was written, unless the writer failed
-abbrev pub IsHelped : Status → Type 0
-IsHelped Done = Unit {0}
-IsHelped (Device Write) = Unit {0}
-IsHelped _ = ⊥
-
--- `--max` is below `--initial`
-abbrev pub below_initial : List ℕ
-below_initial = codes "max is less than initial"
-
--- what a request led to, with what the reader had left and has, and what the writer held and holds
-abbrev pub Serves : Request → Status → Option (List ℕ) → Option (List ℕ) → Option (List ℕ) → Option (List ℕ) → Type 0
-Serves (Commands config) status left rest before now = IfSome left (λ input. Ends status (commands_due config input) before now)
-Serves (Steps config) status left rest before now = IfSome left (λ input. EndsSteps config input status before now)
-Serves (Help text) status left rest before now = IsHelped status × Keeps left rest
-Serves (Refused text) status left rest before now = (status ≡ Words text) × Keeps left rest × Keeps before now
-Serves MaxBelowInitial status left rest before now = IsWordsOf below_initial status × Keeps left rest × Keeps before now
-
--- what became of words that clap does not accept: they are refused and nothing was written, or they ask for help
-abbrev pub IsTurnedAway : List Text → Status → Option (List ℕ) → Option (List ℕ) → Type 0
-IsTurnedAway words (Words text) before now = IsRefused words × Keeps before now
-IsTurnedAway words Memory before now = Keeps before now
-IsTurnedAway words Done before now = AsksForHelp words
-IsTurnedAway words (Device Write) before now = AsksForHelp words
-IsTurnedAway words _ before now = ⊥

@@ -1,9 +1,12 @@
 -- How a run ended: its exit status, and its text on standard error
 use Rattle.std.specs.Prelude.{ℕ, List, [], codes}
 use Rattle.std.specs.String.{string_bytes}
+use Rattle.lh_image.specs.Texts.{image_fault_text}
 use Rattle.lhash.specs.FaultTexts.{script_fault_text}
 use Rattle.lhash.specs.declared.status.DeviceFault.{DeviceFault}
 use Rattle.lhash.specs.declared.status.DeviceFault.TheVariants.{Read, Write}
+use Rattle.lhash.specs.declared.status.InputFault.{InputFault}
+use Rattle.lhash.specs.declared.status.InputFault.TheVariants.{Script, Image, TooLarge}
 use Rattle.lhash.specs.declared.status.Status.{Status}
 use Rattle.lhash.specs.declared.status.Status.TheVariants.{Done, Input, Words, Device, Memory}
 
@@ -15,13 +18,18 @@ code_of (Words text) = 2
 code_of (Device fault) = 3
 code_of Memory = 4
 
+abbrev pub input_fault_text : InputFault → List ℕ
+input_fault_text (Script fault) = script_fault_text fault
+input_fault_text (Image fault) = image_fault_text fault
+input_fault_text TooLarge = codes "image too large"
+
 abbrev pub device_text : DeviceFault → List ℕ
 device_text Read = codes "read failed"
 device_text Write = codes "write failed"
 
 abbrev pub status_text : Status → List ℕ
 status_text Done = []
-status_text (Input fault) = script_fault_text fault
+status_text (Input fault) = input_fault_text fault
 status_text (Words text) = string_bytes text
 status_text (Device fault) = device_text fault
 status_text Memory = codes "no memory"

@@ -9,7 +9,7 @@ use crate::device::{ReadError, WriteFailed, read_up_to};
 use crate::fault::ParseError;
 use crate::output::{room, write_entries, write_replies};
 use crate::script::{MOST_BYTES, Statement, parse};
-use crate::status::{DeviceFault, Status};
+use crate::status::{DeviceFault, InputFault, Status};
 use lh_addr::Config;
 use lh_bucket::{Call, PagedBucket};
 use lh_core::{Effect, Event, Refusal, run, serial};
@@ -18,7 +18,7 @@ use std::io::{Read, Write};
 
 /// Reads and parses a script whole, or says how the run ends.
 #[tactic(auto, using(crate::proofs::Ending::same_script))]
-fn read_script<S: Statement, R: Read>(alloc: Global, reader: &mut R) -> Result<Vec<S>, Status>
+pub fn read_script<S: Statement, R: Read>(alloc: Global, reader: &mut R) -> Result<Vec<S>, Status>
     ensures { IfSome (R.remaining reader.old) (λ input. ReadsScript result (script S.reads input)) }
 {
     let bytes = match read_up_to(alloc, reader, MOST_BYTES) {
@@ -29,7 +29,7 @@ fn read_script<S: Statement, R: Read>(alloc: Global, reader: &mut R) -> Result<V
     match parse(alloc, bytes.as_slice()) {
         Ok(statements) => Ok(statements),
         Err(ParseError::Memory) => Err(Status::Memory),
-        Err(ParseError::Fault(fault)) => Err(Status::Input(fault)),
+        Err(ParseError::Fault(fault)) => Err(Status::Input(InputFault::Script(fault))),
     }
 }
 

@@ -1,8 +1,10 @@
-//! The program `lhash`: scripts of commands and of steps on a linear hash file.
+//! The program `lhash`: scripts of commands and of steps on a linear hash file, and images of files.
 //!
 //! `lhash commands` reads a command script, answers its calls and writes their replies. `lhash
-//! steps` reads a step script, takes its steps and writes what is told of each. `run` does it from
-//! words and bytes to bytes and a status; `main` gives it the process's own.
+//! steps` reads a step script, takes its steps and writes what is told of each. `lhash build` reads a
+//! command script and writes the file that it leads to as an image; `lhash check` reads an image and
+//! writes what is counted of it, `lhash dump` its records. `run` does it from words and bytes to
+//! bytes and a status; `main` gives it the process's own.
 #![tactic(auto)]
 
 mod answer;
@@ -10,6 +12,8 @@ mod commands;
 mod device;
 mod fault;
 mod hexadecimal;
+mod image_texts;
+mod images;
 mod lines;
 mod operands;
 mod option_laws;

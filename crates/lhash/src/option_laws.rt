@@ -1,7 +1,13 @@
 //! What the options give, at words that are written out.
+ghost use Rattle.std.specs.Prelude.{codes};
 ghost use Rattle.lhash.specs.OptionLaws.{
   Gives,
+  GivesBuild,
   GivesSteps,
+  build_given,
+  check_alone,
+  check_with_option,
+  dump_alone,
   help_asked,
   initial_twice,
   initial_zero,
@@ -14,15 +20,20 @@ ghost use Rattle.lhash.specs.OptionLaws.{
   steps_given,
   unknown_option,
 };
-ghost use Rattle.lhash.specs.Options.{AsksForHelp};
+ghost use Rattle.lhash.specs.Options.{Asks, AsksForHelp};
 
 /// The words give the options the numbers that stand in them, and an option that is left out its
-/// default. A number out of its range, an option given twice and an unknown one are refused.
+/// default. A number out of its range, an option given twice and an unknown one are refused, and so is
+/// each option of a subcommand that reads an image.
 pub fn words_give_options()
     ensures left_out { Gives no_options (record { initial = 1; capacity = 14; load = 100; max = 65536 }) }
     ensures given { Gives max_given (record { initial = 3; capacity = 14; load = 100; max = 7 }) }
     ensures below { Gives max_below_initial (record { initial = 8; capacity = 14; load = 100; max = 7 }) }
     ensures steps { GivesSteps steps_given (record { initial = 1; capacity = 2; load = 200; max = 65536 }) }
+    ensures build { GivesBuild build_given (record { initial = 1; capacity = 14; load = 100; max = 1 }) }
+    ensures check { Asks check_alone (codes "check") }
+    ensures dump { Asks dump_alone (codes "dump") }
+    ensures without_options { Refuses check_with_option }
     ensures none { Refuses no_subcommand }
     ensures too_small { Refuses initial_zero }
     ensures too_great { Refuses max_over_limit }

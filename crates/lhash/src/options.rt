@@ -1,9 +1,9 @@
 //! The command line.
-ghost use Rattle.std.specs.Prelude.{◌≡◌, IfOk, IfSome, IfNone, Some, false, map};
+ghost use Rattle.std.specs.Prelude.{◌≡◌, ◌⊎◌, IfOk, IfSome, IfNone, Some, false, map};
 ghost use Rattle.lh_addr.specs.Settings.{IsInRange};
 ghost use Rattle.clap.specs.Words.{found_of, kind_of, new_app, rows_of, rule_of};
 ghost use Rattle.lhash.specs.Options.{Answers, IsMaxBelowInitial, number_in, option_rule, program_app, with_settings};
-ghost use Rattle.lhash.specs.OptionSteps.{HasNumber, HasSettings, IsAskedBy, IsFileCommand, IsRefusal, Reads, settings_in};
+ghost use Rattle.lhash.specs.OptionSteps.{HasNumber, HasSettings, IsAskedBy, IsFileCommand, IsImageCommand, IsRefusal, Reads, settings_in};
 
 use clap::error::ErrorKind;
 use clap::{Arg, ArgAction, ArgMatches, Command, Error};
@@ -20,6 +20,12 @@ pub enum Request {
     Commands(Config),
     /// The subcommand `steps`, with the configuration that its options give.
     Steps(Config),
+    /// The subcommand `build`, with the configuration that its options give.
+    Build(Config),
+    /// The subcommand `check`.
+    Check,
+    /// The subcommand `dump`.
+    Dump,
     /// Help, and its text.
     Help(String),
     /// Words that are refused, and why, in one line.
@@ -88,6 +94,13 @@ fn file_command<'a>(alloc: Global, name: &'a str, about: &'a str) -> Result<Comm
         ))
 }
 
+/// A subcommand without options, which reads an image.
+fn image_command<'a>(alloc: Global, name: &'a str, about: &'a str) -> Command<'a>
+    ensures { Reads (new_app name.now) result }
+{
+    Command::new(alloc, name).about(about)
+}
+
 fn program<'a>(alloc: Global) -> Result<Command<'a>, AllocError>
     ensures { IfOk result (Reads program_app) }
 {
@@ -95,7 +108,14 @@ fn program<'a>(alloc: Global) -> Result<Command<'a>, AllocError>
         .about("A linear hash file")
         .subcommand_required(true)
         .subcommand(file_command(alloc, "commands", "Run a script of commands")?)?
-        .subcommand(file_command(alloc, "steps", "Run a script of steps")?)
+        .subcommand(file_command(alloc, "steps", "Run a script of steps")?)?
+        .subcommand(file_command(
+            alloc,
+            "build",
+            "Write an image of the file that a script of commands leads to",
+        )?)?
+        .subcommand(image_command(alloc, "check", "Check an image"))?
+        .subcommand(image_command(alloc, "dump", "List the records of an image"))
 }
 
 /// The number of an option.
@@ -129,8 +149,8 @@ fn config_of(matches: &ArgMatches<'_>) -> Option<Config>
 
 /// What a subcommand asks for.
 fn asked(name: &str, matches: &ArgMatches<'_>) -> Request
-    requires named { IsFileCommand name.now }
-    requires settings { HasSettings (rows_of (found_of matches.now)) }
+    requires named { IsFileCommand name.now ⊎ IsImageCommand name.now }
+    requires settings { IsFileCommand name.now → HasSettings (rows_of (found_of matches.now)) }
     ensures { IsAskedBy name.now (rows_of (found_of matches.now)) result }
 {
     match name {
@@ -142,6 +162,12 @@ fn asked(name: &str, matches: &ArgMatches<'_>) -> Request
             Some(config) => Request::Steps(config),
             None => Request::MaxBelowInitial,
         },
+        "build" => match config_of(matches) {
+            Some(config) => Request::Build(config),
+            None => Request::MaxBelowInitial,
+        },
+        "check" => Request::Check,
+        "dump" => Request::Dump,
         _ => unreachable!(),
     }
 }

@@ -1,15 +1,18 @@
 //! Lines on their way to a writer: they wait until there are enough of them for one write.
-ghost use Rattle.std.specs.Prelude.{◌≡◌, ◌++◌, ℕ, List, Option, OnOk, OnErr, IfOk, IfSome, flat_map, Some, []};
+ghost use Rattle.std.specs.Prelude.{◌≡◌, ◌<◌, ◌++◌, ℕ, List, Option, OnOk, OnErr, IfOk, IfSome, flat_map, Some, []};
 ghost use Rattle.std.specs.String.{string_bytes};
 ghost use Rattle.std.specs.Io.KnownBytes.{Appends};
+ghost use Rattle.lh_bucket.specs.Listing.{list_at, size};
 ghost use Rattle.lhash.specs.Devices.{TakesBeginning, Sends};
+ghost use Rattle.lhash.specs.ImageTexts.{bucket_text, dump_text};
 ghost use Rattle.lhash.specs.StepTexts.{steps_text};
 ghost use Rattle.lhash.specs.Texts.{commands_text, line, reply_text, size_text};
 
 use crate::device::{WriteFailed, write_all};
+use crate::image_texts::RecordText;
 use crate::step_texts::EntryText;
 use crate::texts::{ReplyText, SizeText};
-use lh_bucket::Reply;
+use lh_bucket::{Listing, Reply};
 use lh_core::{Effect, Refusal};
 use std::alloc::{AllocError, Global};
 use std::fmt::Display;
@@ -91,6 +94,49 @@ pub fn write_entries<W: Write>(
 {
     for entry in entries {
         put_line(writer, waiting, EntryText(entry))?;
+    }
+    write_all(writer, waiting.as_bytes())
+}
+
+/// Writes a line for each record of a bucket, in the order of the chain.
+fn write_bucket<W: Write>(
+    writer: &mut W,
+    waiting: &mut String,
+    listing: &Listing,
+    bucket: u32,
+) -> Result<(), WriteFailed>
+    requires { bucket < size listing.now }
+    ensures ok { (before : Option (List ℕ)) (sent : List ℕ) → Sends before (W.contents writer.old) (string_bytes waiting.old) sent
+        → OnOk result (Sends before (W.contents writer.new) (string_bytes waiting.new) (sent ++ bucket_text bucket (list_at listing.now.lists bucket))) }
+    ensures err { (before : Option (List ℕ)) (sent : List ℕ) → Sends before (W.contents writer.old) (string_bytes waiting.old) sent
+        → OnErr result (TakesBeginning before (W.contents writer.new) (sent ++ bucket_text bucket (list_at listing.now.lists bucket))) }
+{
+    for place in 0..listing.len_of(bucket) {
+        let pair = listing.pair_at(bucket, place);
+        put_line(
+            writer,
+            waiting,
+            RecordText {
+                bucket,
+                pair: &pair,
+            },
+        )?;
+    }
+    Ok(())
+}
+
+/// Writes a line for each record of a file, the buckets in rising order.
+pub fn write_records<W: Write>(
+    writer: &mut W,
+    waiting: &mut String,
+    listing: &Listing,
+) -> Result<(), WriteFailed>
+    requires { string_bytes waiting.old ≡ [] }
+    ensures ok { OnOk result (Appends (W.contents writer.old) (W.contents writer.new) (dump_text listing.now)) }
+    ensures err { OnErr result (TakesBeginning (W.contents writer.old) (W.contents writer.new) (dump_text listing.now)) }
+{
+    for bucket in 0..listing.buckets() {
+        write_bucket(writer, waiting, listing, bucket)?;
     }
     write_all(writer, waiting.as_bytes())
 }

@@ -2,11 +2,14 @@
 ghost use Rattle.std.specs.Prelude.{◌≡◌, ◌≤◌, ◌<◌, IfSome, codes, map, Some};
 ghost use Rattle.std.specs.Io.KnownBytes.{Keeps};
 ghost use Rattle.lh_addr.specs.Settings.{Settings};
+ghost use Rattle.lhash.specs.Images.{EndsBuilding, check_due, dump_due};
 ghost use Rattle.lhash.specs.Options.{Accepts, Asks, settings_given};
-ghost use Rattle.lhash.specs.Run.{Ends, EndsSteps, IsHelped, IsTurnedAway, IsWordsOf, Serves, below_initial, commands_due};
+ghost use Rattle.lhash.specs.Run.{Ends, EndsSteps, commands_due};
+ghost use Rattle.lhash.specs.Serving.{IsHelped, IsTurnedAway, IsWordsOf, Serves, below_initial};
 
 use crate::answer::{answer_commands, answer_steps};
 use crate::device::write_all;
+use crate::images::{answer_build, answer_check, answer_dump};
 use crate::options::{Request, request_of};
 use crate::status::{DeviceFault, Status};
 use std::alloc::Global;
@@ -45,6 +48,9 @@ fn serve<R: Read, W: Write>(
     match request {
         Request::Commands(config) => answer_commands(alloc, config, reader, writer),
         Request::Steps(config) => answer_steps(alloc, config, reader, writer),
+        Request::Build(config) => answer_build(alloc, config, reader, writer),
+        Request::Check => answer_check(alloc, reader, writer),
+        Request::Dump => answer_dump(alloc, reader, writer),
         Request::Help(text) => write_help(writer, text.as_str()),
         Request::Refused(text) => Status::Words(text),
         Request::MaxBelowInitial => refuse(alloc, "max is less than initial"),
@@ -64,6 +70,15 @@ pub fn run<'a, A: AllocGlobal, R: Read, W: Write>(
     ensures served_steps { let texts = map (λ s. s.now) words.now in
         (settings : Settings) → Asks texts (codes "steps") → settings_given texts ≡ Some settings → settings.initial ≤ settings.max →
         IfSome (R.remaining reader.old) (λ input. EndsSteps settings input result (W.contents writer.old) (W.contents writer.new)) }
+    ensures served_build { let texts = map (λ s. s.now) words.now in
+        (settings : Settings) → Asks texts (codes "build") → settings_given texts ≡ Some settings → settings.initial ≤ settings.max →
+        IfSome (R.remaining reader.old) (λ input. EndsBuilding settings input result (W.contents writer.old) (W.contents writer.new)) }
+    ensures served_check { let texts = map (λ s. s.now) words.now in
+        Asks texts (codes "check") →
+        IfSome (R.remaining reader.old) (λ input. Ends result (check_due input) (W.contents writer.old) (W.contents writer.new)) }
+    ensures served_dump { let texts = map (λ s. s.now) words.now in
+        Asks texts (codes "dump") →
+        IfSome (R.remaining reader.old) (λ input. Ends result (dump_due input) (W.contents writer.old) (W.contents writer.new)) }
     ensures max_below_initial { let texts = map (λ s. s.now) words.now in
         (settings : Settings) → Accepts texts → settings_given texts ≡ Some settings → settings.max < settings.initial →
         IsWordsOf below_initial result × Keeps (R.remaining reader.old) (R.remaining reader.new) × Keeps (W.contents writer.old) (W.contents writer.new) }

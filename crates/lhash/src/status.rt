@@ -3,7 +3,19 @@ ghost use Rattle.std.specs.Prelude.{◌≡◌, Some};
 ghost use Rattle.lhash.specs.Status.{code_of, status_text};
 
 use crate::fault::ScriptFault;
+use lh_image::ImageFault;
 use std::fmt;
+
+/// What is wrong with an input.
+#[derive(Clone, Copy, Debug, PartialEq, Eq)]
+pub enum InputFault {
+    /// The script is at fault.
+    Script(ScriptFault),
+    /// The bytes are no image.
+    Image(ImageFault),
+    /// The image of the file that the script leads to would have more than 1,048,576 pages.
+    TooLarge,
+}
 
 /// Which device failed.
 #[derive(Clone, Copy, Debug, PartialEq, Eq)]
@@ -19,8 +31,8 @@ pub enum DeviceFault {
 pub enum Status {
     /// All was read, done and written.
     Done,
-    /// The script is at fault, and nothing was written.
-    Input(ScriptFault),
+    /// The input is at fault, and nothing was written.
+    Input(InputFault),
     /// The words are refused, nothing was read and nothing was written.
     Words(String),
     /// The input was not read, or the output not written to its end.
@@ -40,6 +52,20 @@ impl Status {
             Status::Words(_) => 2,
             Status::Device(_) => 3,
             Status::Memory => 4,
+        }
+    }
+}
+
+impl fmt::Display for InputFault {
+    ghost use Rattle.lhash.specs.Status.{input_fault_text};
+
+    ghost output = { λ fault. Some (input_fault_text fault) };
+
+    fn fmt<W: fmt::Write>(&self, f: &mut fmt::Formatter<W>) -> fmt::Result {
+        match self {
+            InputFault::Script(fault) => write!(f, "{fault}"),
+            InputFault::Image(fault) => write!(f, "{fault}"),
+            InputFault::TooLarge => write!(f, "image too large"),
         }
     }
 }

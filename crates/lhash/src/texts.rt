@@ -3,11 +3,41 @@ ghost use Rattle.std.specs.Prelude.{◌≡◌, ◌≤◌, length, Some};
 ghost use Rattle.lhash.specs.Texts.{hexadecimal_text, reply_text, size_text};
 
 use lh_bucket::Reply;
-use lh_page::Value;
+use lh_page::{Key, Value};
 use std::fmt;
 
-/// The bytes of a value as a script writes them: pairs of lower-case hexadecimal digits, or `-` for
-/// none.
+/// Bytes as a script writes them: pairs of lower-case hexadecimal digits, or `-` for none.
+fn hexadecimal<'a>(bytes: &[u8], room: &'a mut [u8; 80]) -> &'a str
+    requires { length bytes.now ≤ 40 }
+    ensures { result.now ≡ hexadecimal_text bytes.now }
+{
+    if bytes.is_empty() {
+        return "-";
+    }
+    let digits = &mut room[..2 * bytes.len()];
+    let Ok(()) = hex::encode_to_slice(bytes, digits) else {
+        unreachable!()
+    };
+    match str::from_utf8(digits) {
+        Ok(text) => text,
+        Err(_) => unreachable!(),
+    }
+}
+
+/// The bytes of a key as a script writes them.
+#[derive(Clone, Copy)]
+pub struct KeyText<'a>(pub &'a Key);
+
+impl fmt::Display for KeyText<'_> {
+    ghost output = { λ text. Some (hexadecimal_text text.0.now) };
+
+    fn fmt<W: fmt::Write>(&self, f: &mut fmt::Formatter<W>) -> fmt::Result {
+        let mut room = [0; 80];
+        f.write_str(hexadecimal(self.0.bytes(), &mut room))
+    }
+}
+
+/// The bytes of a value as a script writes them.
 #[derive(Clone, Copy)]
 pub struct ValueText<'a>(pub &'a Value);
 
@@ -15,19 +45,8 @@ impl fmt::Display for ValueText<'_> {
     ghost output = { λ text. Some (hexadecimal_text text.0.now) };
 
     fn fmt<W: fmt::Write>(&self, f: &mut fmt::Formatter<W>) -> fmt::Result {
-        let bytes = self.0.bytes();
-        if bytes.is_empty() {
-            return f.write_str("-");
-        }
-        let mut digits = [0; 80];
-        let digits = &mut digits[..2 * bytes.len()];
-        let Ok(()) = hex::encode_to_slice(bytes, digits) else {
-            unreachable!()
-        };
-        match str::from_utf8(digits) {
-            Ok(text) => f.write_str(text),
-            Err(_) => unreachable!(),
-        }
+        let mut room = [0; 80];
+        f.write_str(hexadecimal(self.0.bytes(), &mut room))
     }
 }
 

@@ -9,7 +9,11 @@ use std::process::Abort;
 fn answer(rt: &(impl Abort + AllocGlobal), words: &[&str]) -> Result<String, AllocError> {
     let alloc = rt.alloc();
     match request_of(alloc, words)? {
-        Request::Commands(config) | Request::Steps(config) => settings(rt, &config),
+        Request::Commands(config) | Request::Steps(config) | Request::Build(config) => {
+            settings(rt, &config)
+        }
+        Request::Check => String::from_str(alloc, "check"),
+        Request::Dump => String::from_str(alloc, "dump"),
         Request::Help(text) => {
             assert!(rt;
                 text.as_str().starts_with("Usage: lhash")

@@ -1,8 +1,8 @@
 -- Each example computes.
-use Rattle.std.proofs.Common.{refl, inl}
+use Rattle.std.proofs.Common.{refl, inl, codes}
 use Rattle.clap.proofs.OnLiterals.{clap_on_literals}
-use Rattle.lhash.specs.OptionLaws.{Gives, GivesSteps, Refuses, help_asked, initial_twice, initial_zero, max_below_initial, max_given, max_over_limit, no_options, no_subcommand, steps_given, unknown_option}
-use Rattle.lhash.specs.Options.{Accepts, AsksForHelp, settings_given, subcommand_named}
+use Rattle.lhash.specs.OptionLaws.{Gives, GivesBuild, GivesSteps, Refuses, build_given, check_alone, check_with_option, dump_alone, help_asked, initial_twice, initial_zero, max_below_initial, max_given, max_over_limit, no_options, no_subcommand, steps_given, unknown_option}
+use Rattle.lhash.specs.Options.{Accepts, Asks, AsksForHelp, settings_given, subcommand_named}
 use Rattle.lhash.proofs.option_laws.words_give_options.Goals as goal
 
 left_out : Gives no_options (record { initial = 1; capacity = 14; load = 100; max = 65536 })
@@ -20,6 +20,22 @@ below = ((refl, refl), refl)
 steps : GivesSteps steps_given (record { initial = 1; capacity = 2; load = 200; max = 65536 })
 unfolding clap_on_literals Accepts settings_given subcommand_named
 steps = ((refl, refl), refl)
+
+build : GivesBuild build_given (record { initial = 1; capacity = 14; load = 100; max = 1 })
+unfolding clap_on_literals Accepts settings_given subcommand_named
+build = ((refl, refl), refl)
+
+check : Asks check_alone (codes "check")
+unfolding clap_on_literals Accepts subcommand_named
+check = (refl, refl)
+
+dump : Asks dump_alone (codes "dump")
+unfolding clap_on_literals Accepts subcommand_named
+dump = (refl, refl)
+
+without_options : Refuses check_with_option
+unfolding clap_on_literals Accepts
+without_options = λ e. cc
 
 none : Refuses no_subcommand
 unfolding clap_on_literals Accepts
@@ -51,6 +67,10 @@ returns c = record {
   given = given;
   below = below;
   steps = steps;
+  build = build;
+  check = check;
+  dump = dump;
+  without_options = without_options;
   none = none;
   too_small = too_small;
   too_great = too_great;

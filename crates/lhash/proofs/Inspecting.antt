@@ -1,0 +1,85 @@
+-- From the bytes of an image to what is told of it
+use Rattle.std.proofs.Common.{◌≡◌, ◌∙◌, ℕ, List, Option, None, Some, IfSome, refl, sym, ap, subst}
+use Rattle.std.specs.Prelude.{Result, Ok}
+use Rattle.std.specs.Io.KnownBytes.{Appends}
+use Rattle.std.proofs.KnownBytes.{Keeps-refl}
+use Rattle.lh_bucket.specs.Listing.{Lists}
+use Rattle.lh_image.specs.declared.census.Census.{Census}
+use Rattle.lh_image.specs.declared.fault.ImageFault.{ImageFault}
+use Rattle.lh_image.specs.declared.fault.ImageFault.TheVariants.{ReadFault, Memory}
+use Rattle.lh_image.specs.Census.{census_of}
+use Rattle.lh_image.specs.Reading.{IsTold, reading_of}
+use Rattle.lhash.specs.Devices.{TakesBeginning}
+use Rattle.lhash.specs.ImageTexts.{check_text, dump_text}
+use Rattle.lhash.specs.Images.{check_due, dump_due, refused_as, told_of}
+use Rattle.lhash.specs.Run.{Ends}
+use Rattle.lhash.specs.declared.status.DeviceFault.TheVariants.{Write}
+use Rattle.lhash.specs.declared.status.InputFault.TheVariants.{Image}
+use Rattle.lhash.specs.declared.status.Status.{Status}
+use Rattle.lhash.specs.declared.status.Status.TheVariants.{Done, Input, Device, Memory as NoMemory}
+
+-- a fault that is neither a failed read nor want of memory
+pub refused_for_bytes : (fault : ImageFault) → (fault ≡ ReadFault → ⊥) → (fault ≡ Memory → ⊥) → Input (Image fault) ≡ refused_as fault
+refused_for_bytes ReadFault a b = absurd (a refl)
+refused_for_bytes Memory a b = absurd (b refl)
+refused_for_bytes fault a b = refl
+
+-- a run that read no image ends without a write
+unread : (text : Lists → List ℕ) (fault : ImageFault) (due : Result Lists ImageFault) (a : Option (List ℕ)) → IsTold fault due → Ends (refused_as fault) (told_of text due) a a
+unread text ReadFault due a h = Keeps-refl a
+unread text Memory due a h = Keeps-refl a
+unread text fault due a h = (ap (told_of text) h, Keeps-refl a)
+
+pub unchecked : (fault : ImageFault) (status : Status) (left a : Option (List ℕ)) → status ≡ refused_as fault →
+    IfSome left (λ input. IsTold fault (reading_of input)) → IfSome left (λ input. Ends status (check_due input) a a)
+unfolding check_due
+unchecked fault status None a is h = tt
+unchecked fault status (Some input) a is h =
+    subst (λ (s : Status). Ends s (check_due input) a a) (sym is) (unread (λ l. check_text (census_of l)) fault (reading_of input) a h)
+
+pub undumped : (fault : ImageFault) (status : Status) (left a : Option (List ℕ)) → status ≡ refused_as fault →
+    IfSome left (λ input. IsTold fault (reading_of input)) → IfSome left (λ input. Ends status (dump_due input) a a)
+unfolding dump_due
+undumped fault status None a is h = tt
+undumped fault status (Some input) a is h =
+    subst (λ (s : Status). Ends s (dump_due input) a a) (sym is) (unread dump_text fault (reading_of input) a h)
+
+-- the input is an image of a listing of which something holds
+abbrev pub Shows : Option (List ℕ) → (Lists → Type 0) → Type 0
+Shows left IsSeen = IfSome left (λ input. (l : Lists) × (reading_of input ≡ Ok l) × IsSeen l)
+
+-- the census of the listing is what is due
+census_due : (census : Census) (l : Lists) (input : List ℕ) → reading_of input ≡ Ok l → census ≡ census_of l → check_due input ≡ Ok (check_text census)
+unfolding check_due
+census_due census l input e is = ap (told_of (λ l. check_text (census_of l))) e ∙ ap (λ (c : Census). Ok (check_text c)) (sym is)
+
+pub checked : (census : Census) (text : List ℕ) (left before now : Option (List ℕ)) → Shows left (λ l. census ≡ census_of l) → text ≡ check_text census →
+    Appends before now text → IfSome left (λ input. Ends Done (check_due input) before now)
+checked census text None before now shows is h = tt
+checked census text (Some input) before now shows is h =
+    (check_text census, census_due census shows.0 input shows.1 shows.2, subst (Appends before now) is h)
+
+pub check_begun : (census : Census) (text : List ℕ) (left before now : Option (List ℕ)) → Shows left (λ l. census ≡ census_of l) → text ≡ check_text census →
+    TakesBeginning before now text → IfSome left (λ input. Ends (Device Write) (check_due input) before now)
+check_begun census text None before now shows is h = tt
+check_begun census text (Some input) before now shows is h =
+    (check_text census, census_due census shows.0 input shows.1 shows.2, subst (TakesBeginning before now) is h)
+
+pub check_unwritten : (left a : Option (List ℕ)) → IfSome left (λ input. Ends NoMemory (check_due input) a a)
+check_unwritten None a = tt
+check_unwritten (Some input) a = Keeps-refl a
+
+-- and so are its records
+records_due : (listing l : Lists) (input : List ℕ) → reading_of input ≡ Ok l → listing ≡ l → dump_due input ≡ Ok (dump_text listing)
+unfolding dump_due
+records_due listing l input e is = ap (told_of dump_text) e ∙ ap (λ (x : Lists). Ok (dump_text x)) (sym is)
+
+pub dumped : (listing : Lists) (left before now : Option (List ℕ)) → Shows left (λ l. listing ≡ l) →
+    Appends before now (dump_text listing) → IfSome left (λ input. Ends Done (dump_due input) before now)
+dumped listing None before now shows h = tt
+dumped listing (Some input) before now shows h = (dump_text listing, records_due listing shows.0 input shows.1 shows.2, h)
+
+pub dump_begun : (listing : Lists) (left before now : Option (List ℕ)) → Shows left (λ l. listing ≡ l) →
+    TakesBeginning before now (dump_text listing) → IfSome left (λ input. Ends (Device Write) (dump_due input) before now)
+dump_begun listing None before now shows h = tt
+dump_begun listing (Some input) before now shows h = (dump_text listing, records_due listing shows.0 input shows.1 shows.2, h)

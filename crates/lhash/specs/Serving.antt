@@ -1,0 +1,48 @@
+-- What became of the words that a run was given
+use Rattle.std.specs.Prelude.{◌≡◌, ℕ, List, Option, IfSome, codes}
+use Rattle.std.specs.String.{string_bytes}
+use Rattle.std.specs.Io.KnownBytes.{Keeps}
+use Rattle.clap.specs.Walk.{Text}
+use Rattle.lhash.specs.Images.{EndsBuilding, check_due, dump_due}
+use Rattle.lhash.specs.Options.{AsksForHelp, IsRefused}
+use Rattle.lhash.specs.Run.{Ends, EndsSteps, commands_due}
+use Rattle.lhash.specs.declared.options.Request.{Request}
+use Rattle.lhash.specs.declared.options.Request.TheVariants.{Commands, Steps, Build, Check, Dump, Help, Refused, MaxBelowInitial}
+use Rattle.lhash.specs.declared.status.DeviceFault.TheVariants.{Write}
+use Rattle.lhash.specs.declared.status.Status.{Status}
+use Rattle.lhash.specs.declared.status.Status.TheVariants.{Done, Words, Device, Memory}
+
+-- the words are refused for this reason, unless memory ran out
+abbrev pub IsWordsOf : List ℕ → Status → Type 0
+IsWordsOf reason (Words text) = string_bytes text ≡ reason
+IsWordsOf reason Memory = Unit {0}
+IsWordsOf reason _ = ⊥
+
+-- help was written, unless the writer failed
+abbrev pub IsHelped : Status → Type 0
+IsHelped Done = Unit {0}
+IsHelped (Device Write) = Unit {0}
+IsHelped _ = ⊥
+
+-- `--max` is below `--initial`
+abbrev pub below_initial : List ℕ
+below_initial = codes "max is less than initial"
+
+-- what a request led to, with what the reader had left and has, and what the writer held and holds
+abbrev pub Serves : Request → Status → Option (List ℕ) → Option (List ℕ) → Option (List ℕ) → Option (List ℕ) → Type 0
+Serves (Commands config) status left rest before now = IfSome left (λ input. Ends status (commands_due config input) before now)
+Serves (Steps config) status left rest before now = IfSome left (λ input. EndsSteps config input status before now)
+Serves (Build config) status left rest before now = IfSome left (λ input. EndsBuilding config input status before now)
+Serves Check status left rest before now = IfSome left (λ input. Ends status (check_due input) before now)
+Serves Dump status left rest before now = IfSome left (λ input. Ends status (dump_due input) before now)
+Serves (Help text) status left rest before now = IsHelped status × Keeps left rest
+Serves (Refused text) status left rest before now = (status ≡ Words text) × Keeps left rest × Keeps before now
+Serves MaxBelowInitial status left rest before now = IsWordsOf below_initial status × Keeps left rest × Keeps before now
+
+-- what became of words that clap does not accept: they are refused and nothing was written, or they ask for help
+abbrev pub IsTurnedAway : List Text → Status → Option (List ℕ) → Option (List ℕ) → Type 0
+IsTurnedAway words (Words text) before now = IsRefused words × Keeps before now
+IsTurnedAway words Memory before now = Keeps before now
+IsTurnedAway words Done before now = AsksForHelp words
+IsTurnedAway words (Device Write) before now = AsksForHelp words
+IsTurnedAway words _ before now = ⊥

@@ -1,0 +1,101 @@
+//! The subcommands for images: `build`, from a script to an image, and `check` and `dump`, from an
+//! image to what is told of it.
+ghost use Rattle.std.specs.Prelude.{◌≡◌, IfOk, IfSome};
+ghost use Rattle.lh_image.specs.Reading.{IsAnswer};
+ghost use Rattle.lhash.specs.Images.{EndsBuilding, IsLedTo, check_due, dump_due, refused_as};
+ghost use Rattle.lhash.specs.Run.{Ends};
+
+use crate::answer::read_script;
+use crate::device::write_all;
+use crate::image_texts::CensusText;
+use crate::output::{room, write_records};
+use crate::status::{DeviceFault, InputFault, Status};
+use lh_addr::Config;
+use lh_bucket::{Call, Listing, PagedBucket};
+use lh_core::{Memory, serial};
+use lh_image::{ImageFault, WriteImageFault, check_image, read_image, write_image};
+use std::alloc::Global;
+use std::io::{Read, Write};
+
+/// The file that calls lead to from an empty one.
+fn file_after(alloc: Global, config: Config, calls: &[Call]) -> Result<Listing, Memory>
+    ensures { IfOk result (IsLedTo config calls.now) }
+{
+    let ran = serial::<PagedBucket>(alloc, config, calls)?;
+    let listing = ran.world.listing()?;
+    // In a listing each record is at home, and no key stands twice.
+    let _ = listing.buckets();
+    Ok(listing)
+}
+
+/// Reads a command script whole, answers its calls in turn from an empty file, and writes that file
+/// as an image.
+#[tactic(auto, using(crate::proofs::Building::unbuilt, crate::proofs::Building::unbuilt_memory, crate::proofs::Building::unwritten))]
+pub fn answer_build<R: Read, W: Write>(
+    alloc: Global,
+    config: Config,
+    reader: &mut R,
+    writer: &mut W,
+) -> Status
+    ensures { IfSome (R.remaining reader.old) (λ input. EndsBuilding config input result (W.contents writer.old) (W.contents writer.new)) }
+{
+    let calls: Vec<Call> = match read_script(alloc, reader) {
+        Ok(calls) => calls,
+        Err(status) => return status,
+    };
+    let Ok(listing) = file_after(alloc, config, calls.as_slice()) else {
+        return Status::Memory;
+    };
+    match write_image(&listing, writer) {
+        Ok(()) => Status::Done,
+        Err(WriteImageFault::TooLarge) => Status::Input(InputFault::TooLarge),
+        Err(WriteImageFault::WriteFault) => Status::Device(DeviceFault::Write),
+        Err(WriteImageFault::Memory) => Status::Memory,
+    }
+}
+
+/// How a run ends whose input is no image, or could not be read.
+#[tactic(auto, using(crate::proofs::Inspecting::refused_for_bytes))]
+fn unreadable(fault: ImageFault) -> Status
+    ensures { result ≡ refused_as fault }
+{
+    match fault {
+        ImageFault::ReadFault => Status::Device(DeviceFault::Read),
+        ImageFault::Memory => Status::Memory,
+        fault => Status::Input(InputFault::Image(fault)),
+    }
+}
+
+/// Reads an image, and writes what is counted of it.
+pub fn answer_check<R: Read, W: Write>(alloc: Global, reader: &mut R, writer: &mut W) -> Status
+    ensures { IfSome (R.remaining reader.old) (λ input. Ends result (check_due input) (W.contents writer.old) (W.contents writer.new)) }
+{
+    let census = match check_image(alloc, reader) {
+        Ok(census) => census,
+        Err(fault) => return unreadable(fault),
+    };
+    let Ok(text) = CensusText(&census).to_string(alloc) else {
+        return Status::Memory;
+    };
+    match write_all(writer, text.as_bytes()) {
+        Ok(()) => Status::Done,
+        Err(_) => Status::Device(DeviceFault::Write),
+    }
+}
+
+/// Reads an image, and writes a line for each of its records.
+pub fn answer_dump<R: Read, W: Write>(alloc: Global, reader: &mut R, writer: &mut W) -> Status
+    ensures { IfSome (R.remaining reader.old) (λ input. Ends result (dump_due input) (W.contents writer.old) (W.contents writer.new)) }
+{
+    let listing = match read_image(alloc, reader) {
+        Ok(listing) => listing,
+        Err(fault) => return unreadable(fault),
+    };
+    let Ok(mut waiting) = room(alloc) else {
+        return Status::Memory;
+    };
+    match write_records(writer, &mut waiting, &listing) {
+        Ok(()) => Status::Done,
+        Err(_) => Status::Device(DeviceFault::Write),
+    }
+}
