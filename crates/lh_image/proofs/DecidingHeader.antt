@@ -57,8 +57,8 @@ last_row j k false low high d = record {
   behind = λ o h. (omega (arith, h.0), omega (arith, h.0));
 }
 
-row : {A : Type 0} (j k : ℕ) (t : Bool) (r : Option ℕ) (F : ℕ → Type 0) → j < k → k < 1024 → Decides t A → Row r k F → Row (cond t (Some k) r) j (λ o. ((o ≡ k) × A) ⊎ F o)
-row j k true r F low high d below = record {
+field_row : {A : Type 0} (j k : ℕ) (t : Bool) (r : Option ℕ) (F : ℕ → Type 0) → j < k → k < 1024 → Decides t A → Row r k F → Row (cond t (Some k) r) j (λ o. ((o ≡ k) × A) ⊎ F o)
+field_row j k true r F low high d below = record {
   finds = λ o. (
     λ e.
         let same : k ≡ o = some_is k o e in
@@ -70,7 +70,7 @@ row j k true r F low high d below = record {
   );
   behind = λ o h. elim h [ inl here ↦ (omega (arith, here.0), omega (arith, here.0)) | inr later ↦ (omega (arith, (below.behind o later).0), (below.behind o later).1) ];
 }
-row j k false r F low high d below = record {
+field_row j k false r F low high d below = record {
   finds = λ o. (
     λ e.
         let f = (below.finds o).0 e in
@@ -87,11 +87,11 @@ rows : (bytes : List ℕ) → Row (bad_field bytes) 0 (IsBadField bytes)
 unfolding bad_field
 rows bytes =
     let N : ℕ = initial bytes in
-    row 0 4 _ _ _ (omega arith) (omega arith) (Decides-outside 1 256 N)
-    (row 4 8 _ _ _ (omega arith) (omega arith) (Decides-outside 1 14 (capacity bytes))
-    (row 8 12 _ _ _ (omega arith) (omega arith) (Decides-outside 10 200 (load bytes))
-    (row 12 16 _ _ _ (omega arith) (omega arith) (Decides-outside N 65536 (buckets bytes))
-    (row 16 20 _ _ _ (omega arith) (omega arith)
+    field_row 0 4 _ _ _ (omega arith) (omega arith) (Decides-outside 1 256 N)
+    (field_row 4 8 _ _ _ (omega arith) (omega arith) (Decides-outside 1 14 (capacity bytes))
+    (field_row 8 12 _ _ _ (omega arith) (omega arith) (Decides-outside 10 200 (load bytes))
+    (field_row 12 16 _ _ _ (omega arith) (omega arith) (Decides-outside N 65536 (buckets bytes))
+    (field_row 16 20 _ _ _ (omega arith) (omega arith)
     (Decides-or (ltb (max bytes) N || ltb 65536 (max bytes)) (ltb (max bytes) (buckets bytes)) (Decides-outside N 65536 (max bytes)) (Decides-ltb (max bytes) (buckets bytes)))
     (last_row 20 36 _ (omega arith) (omega arith) (Decides-fails (all_zero (take 988 (drop 36 bytes)))))))))
 
