@@ -9,23 +9,6 @@ use std::process::Abort;
 use std::test::Fail;
 
 #[test]
-fn missing_stamps_are_named(rt: HostRuntime) -> Result<(), Fail> {
-    let alloc = rt.alloc();
-    let a: &[&[(u8, u8)]] = &[&[(b'a', b'a')]];
-    let missing = |stamp| Some(SettleFault::MissingStamp(stamp));
-    assert_eq!(rt; fault_of(alloc, 2, 0, &[&[]], &[])?, None);
-    assert_eq!(rt; fault_of(alloc, 2, 1, a, &[0])?, None);
-    assert_eq!(rt; fault_of(alloc, 2, 2, a, &[])?, missing(0));
-    assert_eq!(rt; fault_of(alloc, 2, 3, a, &[1, 0, 0])?, missing(1));
-    assert_eq!(rt; fault_of(alloc, 2, 3, a, &[1, 0])?, missing(2));
-    assert_eq!(rt; fault_of(alloc, 2, 3, a, &[2, 0])?, missing(1));
-    assert_eq!(rt; fault_of(alloc, 2, 2, a, &[0, 2, 1])?, missing(2));
-    assert_eq!(rt; fault_of(alloc, 2, 1, a, &[5, 0, 1])?, missing(1));
-    assert_eq!(rt; fault_of(alloc, 2, 1, a, &[u64::MAX])?, missing(0));
-    Ok(())
-}
-
-#[test]
 fn the_first_wrong_reply_is_named(rt: HostRuntime) -> Result<(), Fail> {
     let alloc = rt.alloc();
     let closed = closed(alloc, 2, 3, &[&[(b'a', b'a')]])?;
@@ -46,60 +29,6 @@ fn the_first_wrong_reply_is_named(rt: HostRuntime) -> Result<(), Fail> {
     Ok(())
 }
 
-#[test]
-fn the_least_stray_key_is_named(rt: HostRuntime) -> Result<(), Fail> {
-    let alloc = rt.alloc();
-    let content = |byte| -> Result<Option<SettleFault>, Fail> {
-        Ok(Some(SettleFault::Content(key(byte)?)))
-    };
-    let aa: &[(u8, u8)] = &[(b'a', b'a'), (b'a', b'a')];
-    let zero: &[(u8, u8)] = &[(b'b', b'b'), (b'a', b'0')];
-    let more: &[(u8, u8)] = &[(b'd', b'd'), (b'b', b'b'), (b'a', b'a')];
-    let both: &[(u8, u8)] = &[(b'b', b'0'), (b'a', b'0')];
-    assert_eq!(rt; fault_of(alloc, 2, 1, &[&[]], &[0])?, content(b'a')?);
-    assert_eq!(rt; fault_of(alloc, 2, 1, &[aa], &[0])?, content(b'a')?);
-    assert_eq!(rt; fault_of(alloc, 2, 2, &[zero], &[0, 1])?, content(b'a')?);
-    assert_eq!(rt; fault_of(alloc, 2, 2, &[more], &[0, 1])?, content(b'd')?);
-    assert_eq!(rt; fault_of(alloc, 2, 3, &[more], &[0, 1, 2])?, content(b'c')?);
-    assert_eq!(rt; fault_of(alloc, 2, 2, &[both], &[0, 1])?, content(b'a')?);
-    let a: &[(u8, u8)] = &[(b'a', b'a')];
-    assert_eq!(rt; fault_of(alloc, 4, 1, &[a, a], &[0])?, content(b'a')?);
-    assert_eq!(rt; fault_of(alloc, 2, 1, &[a, a], &[0])?, content(b'a')?);
-    Ok(())
-}
-
-#[test]
-fn the_first_misplaced_key_is_named(rt: HostRuntime) -> Result<(), Fail> {
-    let alloc = rt.alloc();
-    let stamps = &[0, 1, 2, 3, 4];
-    let placed = |bucket, byte| -> Result<Option<SettleFault>, Fail> {
-        Ok(Some(SettleFault::Placed {
-            bucket,
-            key: key(byte)?,
-        }))
-    };
-    let ea: &[(u8, u8)] = &[(b'e', b'e'), (b'a', b'a')];
-    assert_eq!(rt; fault_of(alloc, 6, 5, &[ea, BD, C], stamps)?, None);
-    assert_eq!(rt;
-        fault_of(alloc, 6, 5, &[BD, AE, C], stamps)?,
-        placed(0, b'b')?
-    );
-    assert_eq!(rt;
-        fault_of(alloc, 6, 5, &[AE, C, BD], stamps)?,
-        placed(1, b'c')?
-    );
-    assert_eq!(rt;
-        fault_of(alloc, 6, 5, &[AE, BD, &[], C], stamps)?,
-        placed(3, b'c')?
-    );
-    assert_eq!(rt;
-        fault_of(alloc, 6, 5, &[&[], BD, C, ea], stamps)?,
-        placed(3, b'a')?
-    );
-    Ok(())
-}
-
-/// A file with every fault: the first is named, in their order, as one after another is mended.
 #[test]
 fn the_first_fault_is_named(rt: HostRuntime) -> Result<(), Fail> {
     let alloc = rt.alloc();

@@ -1,6 +1,5 @@
 //! What no contract says: worked examples, hands on threads, calls that are held at a point, and
 //! growth that is refused.
-mod crowd;
 mod gates;
 mod hands;
 mod memory;
