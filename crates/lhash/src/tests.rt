@@ -4,7 +4,6 @@ use std::io::{self, Error, Read, Write};
 use std::process::Abort;
 use std::test::Fail;
 
-mod images;
 mod steps;
 
 /// Bytes that are read so many at a time, and a read that fails.
