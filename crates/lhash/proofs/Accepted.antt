@@ -7,7 +7,7 @@ use Rattle.clap.specs.Walk.{Row, Text, nothing_held, rows_after}
 use Rattle.clap.specs.Simple.{Shape, argument_words, built, subcommand_of}
 use Rattle.clap.specs.Faults.{level_fault}
 use Rattle.lhash.specs.Options.{Accepts, commands_app, number_in, number_of, program_app, settings_from}
-use Rattle.lhash.specs.OptionSteps.{HasSettings, IsFileCommand, IsImageCommand, settings_in}
+use Rattle.lhash.specs.OptionSteps.{HasSettings, HasThreads, IsFileCommand, IsImageCommand, settings_in}
 use Rattle.lhash.proofs.Levels.{entered-some, find-passes}
 use Rattle.lhash.proofs.RowLemmas.{Every, FitsHere, HasTarget, IsTarget, find-every, level-every, level-row}
 use Rattle.lhash.proofs.NumberLemmas.{number-fits}
@@ -99,6 +99,25 @@ build-options = record {
   max = (((λ h. cc), ((λ h. cc), ((λ h. cc), ((λ _. refl), ((λ h. cc), tt))))), inr (inr (inr (inl refl))));
 }
 
+abbrev drive_built : Shape
+drive_built = shape_at 5 (built program_app).subs
+
+drive-options : HasOptions drive_built
+drive-options = record {
+  initial = (((λ _. refl), ((λ h. cc), ((λ h. cc), ((λ h. cc), ((λ h. cc), ((λ h. cc), tt)))))), inl refl);
+  capacity = (((λ h. cc), ((λ _. refl), ((λ h. cc), ((λ h. cc), ((λ h. cc), ((λ h. cc), tt)))))), inr (inl refl));
+  load = (((λ h. cc), ((λ h. cc), ((λ _. refl), ((λ h. cc), ((λ h. cc), ((λ h. cc), tt)))))), inr (inr (inl refl)));
+  max = (((λ h. cc), ((λ h. cc), ((λ h. cc), ((λ _. refl), ((λ h. cc), ((λ h. cc), tt)))))), inr (inr (inr (inl refl))));
+}
+
+-- the number of threads
+threads-after : (words : List Text) → level_fault drive_built [] nothing_held words false [] ≡ [] → HasThreads (rows_after drive_built.rules [] words)
+threads-after words e =
+    let own : Every (IsTarget (codes "threads") (codes "4") 1 64) drive_built.rules = ((λ h. cc), ((λ h. cc), ((λ h. cc), ((λ h. cc), ((λ _. refl), ((λ h. cc), tt)))))) in
+    let has : HasTarget (codes "threads") (codes "4") 1 64 drive_built.rules = inr (inr (inr (inr (inl refl)))) in
+    let row = level-row (codes "threads") (codes "4") 1 64 drive_built own has [] words false [] e in
+    number-fits (codes "threads") (codes "4") 1 64 (omega arith) _ row.0 row.1 row.2
+
 is_help : (t : Text) → (bytes_eq (codes "help") t || false) ≡ true → bytes_eq t (codes "help") ≡ true
 is_help t e = (bytes_eq-Decides t (codes "help")).1 (sym ((bytes_eq-Decides (codes "help") t).0 (go (bytes_eq (codes "help") t) e)))
   where
@@ -108,22 +127,29 @@ is_help t e = (bytes_eq-Decides t (codes "help")).1 (sym ((bytes_eq-Decides (cod
 
 -- the subcommands that the words may name, and what holds of their rows
 abbrev pub IsEntered : Text → List Row → Type 0
-IsEntered name rows = (IsFileCommand name × HasSettings rows) ⊎ (IsImageCommand name × (settings_in rows ≡ None))
+IsEntered name rows = (IsFileCommand name × HasSettings rows × (name ≡ codes "drive" → HasThreads rows)) ⊎ (IsImageCommand name × (settings_in rows ≡ None))
+
+-- a subcommand of another name has no such number
+no-drive : (name : Text) (rows : List Row) → bytes_eq name (codes "drive") ≡ false → name ≡ codes "drive" → HasThreads rows
+no-drive name rows other is = absurd (unlike name (codes "drive") other is)
 
 -- accepted words name such a subcommand
 pub accepted-rows : (words : List Text) → Accepts words → (e : Text × List Row) × (subcommand_of program_app words ≡ Some e) × IsEntered e.0 e.1
 unfolding Accepts
 accepted-rows words e = entered-some (built program_app) IsEntered (
-  (λ t is other ws f. inl (inl refl, settings-after commands_built commands-options ws f)),
+  (λ t is other ws f. inl (inl refl, settings-after commands_built commands-options ws f, no-drive (codes "commands") _ refl)),
   (
-    (λ t is other ws f. inl (inr (inl refl), settings-after steps_built steps-options ws f)),
+    (λ t is other ws f. inl (inr (inl refl), settings-after steps_built steps-options ws f, no-drive (codes "steps") _ refl)),
     (
-      (λ t is other ws f. inl (inr (inr refl), settings-after build_built build-options ws f)),
+      (λ t is other ws f. inl (inr (inr (inl refl)), settings-after build_built build-options ws f, no-drive (codes "build") _ refl)),
       (
         (λ t is other ws f. inr (inl refl, no-settings check_built ((λ h. cc), tt) ws f)),
         (
           (λ t is other ws f. inr (inr refl, no-settings dump_built ((λ h. cc), tt) ws f)),
-          ((λ t is other ws f. let same = is_help t is in cc), tt),
+          (
+            (λ t is other ws f. inl (inr (inr (inr refl)), settings-after drive_built drive-options ws f, λ _. threads-after ws f)),
+            ((λ t is other ws f. let same = is_help t is in cc), tt),
+          ),
         ),
       ),
     ),
@@ -137,8 +163,10 @@ apart name (inl a) (inl b) = unlike (codes "commands") (codes "check") refl (sym
 apart name (inl a) (inr b) = unlike (codes "commands") (codes "dump") refl (sym a ∙ b)
 apart name (inr (inl a)) (inl b) = unlike (codes "steps") (codes "check") refl (sym a ∙ b)
 apart name (inr (inl a)) (inr b) = unlike (codes "steps") (codes "dump") refl (sym a ∙ b)
-apart name (inr (inr a)) (inl b) = unlike (codes "build") (codes "check") refl (sym a ∙ b)
-apart name (inr (inr a)) (inr b) = unlike (codes "build") (codes "dump") refl (sym a ∙ b)
+apart name (inr (inr (inl a))) (inl b) = unlike (codes "build") (codes "check") refl (sym a ∙ b)
+apart name (inr (inr (inl a))) (inr b) = unlike (codes "build") (codes "dump") refl (sym a ∙ b)
+apart name (inr (inr (inr a))) (inl b) = unlike (codes "drive") (codes "check") refl (sym a ∙ b)
+apart name (inr (inr (inr a))) (inr b) = unlike (codes "drive") (codes "dump") refl (sym a ∙ b)
 
 pub entered-named : (name : Text) (rows : List Row) → IsEntered name rows → IsFileCommand name ⊎ IsImageCommand name
 entered-named name rows (inl h) = inl h.0
@@ -147,6 +175,10 @@ entered-named name rows (inr h) = inr h.0
 pub entered-settings : (name : Text) (rows : List Row) → IsEntered name rows → IsFileCommand name → HasSettings rows
 entered-settings name rows (inl h) is = h.1
 entered-settings name rows (inr h) is = absurd (apart name is h.0)
+
+pub entered-threads : (name : Text) (rows : List Row) → IsEntered name rows → name ≡ codes "drive" → HasThreads rows
+entered-threads name rows (inl h) is = h.2 is
+entered-threads name rows (inr h) is = absurd (apart name (inr (inr (inr is))) h.0)
 
 pub entered-none : (name : Text) (rows : List Row) → IsEntered name rows → IsImageCommand name → settings_in rows ≡ None
 entered-none name rows (inl h) is = absurd (apart name h.0 is)

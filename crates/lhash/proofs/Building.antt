@@ -1,5 +1,5 @@
 -- From the calls of a script to the image of the file that they lead to
-use Rattle.std.proofs.Common.{◌≡◌, ◌∙◌, ℕ, ◌<◌, List, Option, None, Some, IfSome, length, map, refl, sym, ap, subst}
+use Rattle.std.proofs.Common.{◌≡◌, ◌∙◌, ℕ, ◌<◌, List, Option, None, Some, IfSome, map, refl, sym, ap, subst}
 use Rattle.std.specs.Prelude.{Ok, Err, ◌==◌}
 use Rattle.std.specs.FinMap.{empty, retain_keys}
 use Rattle.std.specs.Io.KnownBytes.{Keeps}
@@ -28,7 +28,7 @@ use Rattle.lhash.specs.Scripts.{script}
 use Rattle.lhash.specs.declared.status.DeviceFault.TheVariants.{Read, Write}
 use Rattle.lhash.specs.declared.status.InputFault.TheVariants.{Script, Image, TooLarge}
 use Rattle.lhash.specs.declared.status.Status.{Status}
-use Rattle.lhash.specs.declared.status.Status.TheVariants.{Done, Input, Words, Device, Memory}
+use Rattle.lhash.specs.declared.status.Status.TheVariants.{Done, Input, Words, Device, Memory, NotSettled}
 
 -- the listing of a world after calls is one of the file that they lead to
 pub led_to : (settings : Settings) (calls : List Call) (told : List Reply) (world : WorldSeen) (l : Lists) →
@@ -60,6 +60,7 @@ unread settings (Words text) input a h = absurd h
 unread settings (Device Read) input a h = Keeps-refl a
 unread settings (Device Write) input a h = absurd h
 unread settings Memory input a h = Keeps-refl a
+unread settings (NotSettled fault) input a h = absurd h
 
 pub unbuilt : (settings : Settings) (status : Status) (left a : Option (List ℕ)) →
     IfSome left (λ input. ReadsScript {A = Call} (Err status) (script command input)) → IfSome left (λ input. EndsBuilding settings input status a a)

@@ -18,7 +18,7 @@ use Rattle.lhash.specs.declared.fault.ScriptFault.{ScriptFault}
 use Rattle.lhash.specs.declared.status.DeviceFault.TheVariants.{Read, Write}
 use Rattle.lhash.specs.declared.status.InputFault.TheVariants.{Script, Image, TooLarge}
 use Rattle.lhash.specs.declared.status.Status.{Status}
-use Rattle.lhash.specs.declared.status.Status.TheVariants.{Done, Input, Words, Device, Memory}
+use Rattle.lhash.specs.declared.status.Status.TheVariants.{Done, Input, Words, Device, Memory, NotSettled}
 use Rattle.lhash.specs.Scripts.{Reading, script}
 
 -- a run that read no script ends without a write
@@ -32,6 +32,7 @@ unread (Words text) given output a h = absurd h
 unread (Device Read) given output a h = Keeps-refl a
 unread (Device Write) given output a h = absurd h
 unread Memory given output a h = Keeps-refl a
+unread (NotSettled fault) given output a h = absurd h
 
 -- a run that read no step script ends without a write
 pub no_steps : (settings : Settings) (status : Status) (input : List ℕ) (a : Option (List ℕ)) →
@@ -45,6 +46,7 @@ no_steps settings (Words text) input a h = absurd h
 no_steps settings (Device Read) input a h = Keeps-refl a
 no_steps settings (Device Write) input a h = absurd h
 no_steps settings Memory input a h = Keeps-refl a
+no_steps settings (NotSettled fault) input a h = absurd h
 
 -- a run in which memory was wanting ends without a write
 pub no_memory : (settings : Settings) (input : List ℕ) (a : Option (List ℕ)) → EndsSteps settings input Memory a a

@@ -1,8 +1,10 @@
 pub mod Accepted
 pub mod Building
 pub mod CommandShapes
+pub mod Counting
 pub mod Devices
 pub mod Digits
+pub mod Driving
 pub mod Ending
 pub mod Inspecting
 pub mod Levels

@@ -120,6 +120,14 @@ asked words name rows request.Check accepts is h =
     (accepts, ap (option_map (λ s. s.0)) is ∙ ap (λ (n : Text). Some n) h)
 asked words name rows request.Dump accepts is h =
     (accepts, ap (option_map (λ s. s.0)) is ∙ ap (λ (n : Text). Some n) h)
+asked words name rows (request.Drive config threads) accepts is h = (
+  (accepts, ap (option_map (λ s. s.0)) is ∙ ap (λ (n : Text). Some n) h.0),
+  settings-at words name rows is ∙ h.1,
+  h.2,
+  ap (option_and_then (λ s. number_in s.1 (codes "threads"))) is ∙ h.3,
+  h.4,
+  h.5,
+)
 asked words name rows request.MaxBelowInitial accepts is h =
     (accepts, subst IsMaxBelowInitial (sym (settings-at words name rows is)) h)
 asked words name rows (request.Help text) accepts is h = absurd h
@@ -138,6 +146,7 @@ refusal-answers words e (request.Refused text) (inr among) h = (none-among (kind
 refusal-answers words e (request.Commands config) among h = absurd h
 refusal-answers words e (request.Steps config) among h = absurd h
 refusal-answers words e (request.Build config) among h = absurd h
+refusal-answers words e (request.Drive config threads) among h = absurd h
 refusal-answers words e request.Check among h = absurd h
 refusal-answers words e request.Dump among h = absurd h
 refusal-answers words e request.MaxBelowInitial among h = absurd h

@@ -4,17 +4,18 @@ use Rattle.std.specs.Io.KnownBytes.{Keeps}
 use Rattle.clap.specs.Walk.{Text}
 use Rattle.lh_addr.specs.Settings.{Settings}
 use Rattle.lhash.specs.Options.{Accepts, AsksForHelp, Answers, Asks, IsMaxBelowInitial, settings_given}
+use Rattle.lhash.specs.Driving.{EndsDriving}
 use Rattle.lhash.specs.Images.{EndsBuilding, check_due, dump_due}
 use Rattle.lhash.specs.Run.{Ends, EndsSteps, commands_due}
-use Rattle.lhash.specs.Serving.{IsHelped, IsTurnedAway, IsWordsOf, Serves, below_initial}
+use Rattle.lhash.specs.Serving.{IsHelped, IsServable, IsTurnedAway, IsWordsOf, Serves, below_initial}
 use Rattle.lhash.proofs.Ending.{no_memory}
 use Rattle.lhash.proofs.Requests.{image-settings}
 use Rattle.lhash.proofs.Unlike.{unlike}
 use Rattle.lhash.specs.declared.options.Request.{Request}
-use Rattle.lhash.specs.declared.options.Request.TheVariants.{Commands, Steps, Build, Check, Dump, Help, Refused, MaxBelowInitial}
+use Rattle.lhash.specs.declared.options.Request.TheVariants.{Commands, Steps, Build, Check, Dump, Drive, Help, Refused, MaxBelowInitial}
 use Rattle.lhash.specs.declared.status.DeviceFault.TheVariants.{Read, Write}
 use Rattle.lhash.specs.declared.status.Status.{Status}
-use Rattle.lhash.specs.declared.status.Status.TheVariants.{Done, Input, Words, Device, Memory}
+use Rattle.lhash.specs.declared.status.Status.TheVariants.{Done, Input, Words, Device, Memory, NotSettled}
 
 same_settings : (a b : Settings) (given : Option Settings) → given ≡ Some a → given ≡ Some b → a ≡ b
 same_settings a b given e f = let k : Some a ≡ Some b = sym e ∙ f in cc
@@ -41,6 +42,8 @@ serves_settings words Check status left rest before now answers serves settings 
     absurd (one_name words (codes "check") (codes "commands") answers asks (unlike (codes "check") (codes "commands") refl))
 serves_settings words Dump status left rest before now answers serves settings asks given within =
     absurd (one_name words (codes "dump") (codes "commands") answers asks (unlike (codes "dump") (codes "commands") refl))
+serves_settings words (Drive config threads) status left rest before now answers serves settings asks given within =
+    absurd (one_name words (codes "drive") (codes "commands") answers.0 asks (unlike (codes "drive") (codes "commands") refl))
 serves_settings words (Help text) status left rest before now answers serves settings asks given within = absurd (answers.0 asks.0)
 serves_settings words (Refused text) status left rest before now answers serves settings asks given within = absurd (answers.0 asks.0)
 serves_settings words MaxBelowInitial status left rest before now answers serves settings asks given within =
@@ -61,6 +64,8 @@ serves_steps words Check status left rest before now answers serves settings ask
     absurd (one_name words (codes "check") (codes "steps") answers asks (unlike (codes "check") (codes "steps") refl))
 serves_steps words Dump status left rest before now answers serves settings asks given within =
     absurd (one_name words (codes "dump") (codes "steps") answers asks (unlike (codes "dump") (codes "steps") refl))
+serves_steps words (Drive config threads) status left rest before now answers serves settings asks given within =
+    absurd (one_name words (codes "drive") (codes "steps") answers.0 asks (unlike (codes "drive") (codes "steps") refl))
 serves_steps words (Help text) status left rest before now answers serves settings asks given within = absurd (answers.0 asks.0)
 serves_steps words (Refused text) status left rest before now answers serves settings asks given within = absurd (answers.0 asks.0)
 serves_steps words MaxBelowInitial status left rest before now answers serves settings asks given within =
@@ -81,9 +86,33 @@ serves_build words Check status left rest before now answers serves settings ask
     absurd (one_name words (codes "check") (codes "build") answers asks (unlike (codes "check") (codes "build") refl))
 serves_build words Dump status left rest before now answers serves settings asks given within =
     absurd (one_name words (codes "dump") (codes "build") answers asks (unlike (codes "dump") (codes "build") refl))
+serves_build words (Drive config threads) status left rest before now answers serves settings asks given within =
+    absurd (one_name words (codes "drive") (codes "build") answers.0 asks (unlike (codes "drive") (codes "build") refl))
 serves_build words (Help text) status left rest before now answers serves settings asks given within = absurd (answers.0 asks.0)
 serves_build words (Refused text) status left rest before now answers serves settings asks given within = absurd (answers.0 asks.0)
 serves_build words MaxBelowInitial status left rest before now answers serves settings asks given within =
+    absurd (not_below settings (settings_given words) given within answers.1)
+
+-- and words that ask for a run in threads
+pub serves_drive : (words : List Text) (request : Request) (status : Status) (left rest before now : Option (List ℕ)) →
+    Answers words request → Serves request status left rest before now →
+    (settings : Settings) → Asks words (codes "drive") → settings_given words ≡ Some settings → settings.initial ≤ settings.max →
+    IfSome left (λ input. EndsDriving settings input status before now)
+serves_drive words (Commands config) status left rest before now answers serves settings asks given within =
+    absurd (one_name words (codes "commands") (codes "drive") answers.0 asks (unlike (codes "commands") (codes "drive") refl))
+serves_drive words (Steps config) status left rest before now answers serves settings asks given within =
+    absurd (one_name words (codes "steps") (codes "drive") answers.0 asks (unlike (codes "steps") (codes "drive") refl))
+serves_drive words (Build config) status left rest before now answers serves settings asks given within =
+    absurd (one_name words (codes "build") (codes "drive") answers.0 asks (unlike (codes "build") (codes "drive") refl))
+serves_drive words Check status left rest before now answers serves settings asks given within =
+    absurd (one_name words (codes "check") (codes "drive") answers asks (unlike (codes "check") (codes "drive") refl))
+serves_drive words Dump status left rest before now answers serves settings asks given within =
+    absurd (one_name words (codes "dump") (codes "drive") answers asks (unlike (codes "dump") (codes "drive") refl))
+serves_drive words (Drive config threads) status left rest before now answers serves settings asks given within =
+    subst (λ (s : Settings). IfSome left (λ input. EndsDriving s input status before now)) (same_settings config settings (settings_given words) answers.1 given) serves
+serves_drive words (Help text) status left rest before now answers serves settings asks given within = absurd (answers.0 asks.0)
+serves_drive words (Refused text) status left rest before now answers serves settings asks given within = absurd (answers.0 asks.0)
+serves_drive words MaxBelowInitial status left rest before now answers serves settings asks given within =
     absurd (not_below settings (settings_given words) given within answers.1)
 
 none_below : (given : Option Settings) → given ≡ None → IsMaxBelowInitial given → ⊥
@@ -104,6 +133,8 @@ serves_check words Check status left rest before now answers serves asks =
     serves
 serves_check words Dump status left rest before now answers serves asks =
     absurd (one_name words (codes "dump") (codes "check") answers asks (unlike (codes "dump") (codes "check") refl))
+serves_check words (Drive config threads) status left rest before now answers serves asks =
+    absurd (one_name words (codes "drive") (codes "check") answers.0 asks (unlike (codes "drive") (codes "check") refl))
 serves_check words (Help text) status left rest before now answers serves asks = absurd (answers.0 asks.0)
 serves_check words (Refused text) status left rest before now answers serves asks = absurd (answers.0 asks.0)
 serves_check words MaxBelowInitial status left rest before now answers serves asks =
@@ -124,10 +155,17 @@ serves_dump words Check status left rest before now answers serves asks =
     absurd (one_name words (codes "check") (codes "dump") answers asks (unlike (codes "check") (codes "dump") refl))
 serves_dump words Dump status left rest before now answers serves asks =
     serves
+serves_dump words (Drive config threads) status left rest before now answers serves asks =
+    absurd (one_name words (codes "drive") (codes "dump") answers.0 asks (unlike (codes "drive") (codes "dump") refl))
 serves_dump words (Help text) status left rest before now answers serves asks = absurd (answers.0 asks.0)
 serves_dump words (Refused text) status left rest before now answers serves asks = absurd (answers.0 asks.0)
 serves_dump words MaxBelowInitial status left rest before now answers serves asks =
     absurd (none_below (settings_given words) (image-settings words (codes "dump") asks (inr refl)) answers.1)
+
+-- what is asked for can be done
+pub is_servable : (words : List Text) (request : Request) → Answers words request → IsServable request
+is_servable words (Drive config threads) answers = answers.4
+is_servable words _ answers = tt
 
 -- and where memory ran out before
 pub without_memory : (settings : Settings) (left a : Option (List ℕ)) → IfSome left (λ input. EndsSteps settings input Memory a a)
@@ -152,6 +190,9 @@ refuses_below words Check status left rest before now answers serves settings ac
     let none : settings_given words ≡ None = image-settings words (codes "check") answers (inl refl) in absurd cc
 refuses_below words Dump status left rest before now answers serves settings accepts given below =
     let none : settings_given words ≡ None = image-settings words (codes "dump") answers (inr refl) in absurd cc
+refuses_below words (Drive config threads) status left rest before now answers serves settings accepts given below =
+    let same : config ≡ settings = same_settings config settings (settings_given words) answers.1 given in
+    let within : settings.initial ≤ settings.max = subst (λ (s : Settings). s.initial ≤ s.max) same answers.2.max.0 in absurd (omega arith)
 refuses_below words (Help text) status left rest before now answers serves settings accepts given below = absurd (answers.0 accepts)
 refuses_below words (Refused text) status left rest before now answers serves settings accepts given below = absurd (answers.0 accepts)
 refuses_below words MaxBelowInitial status left rest before now answers serves settings accepts given below = serves
@@ -163,6 +204,7 @@ helped words (Words text) before now asks h = absurd h
 helped words (Device Read) before now asks h = absurd h
 helped words (Device Write) before now asks h = asks
 helped words Memory before now asks h = absurd h
+helped words (NotSettled fault) before now asks h = absurd h
 
 -- other words are turned away
 pub turns_away : (words : List Text) (request : Request) (status : Status) (left rest before now : Option (List ℕ)) →
@@ -173,6 +215,7 @@ turns_away words (Steps config) status left rest before now answers serves refus
 turns_away words (Build config) status left rest before now answers serves refused = absurd (refused answers.0.0)
 turns_away words Check status left rest before now answers serves refused = absurd (refused answers.0)
 turns_away words Dump status left rest before now answers serves refused = absurd (refused answers.0)
+turns_away words (Drive config threads) status left rest before now answers serves refused = absurd (refused answers.0.0)
 turns_away words (Help text) status left rest before now answers serves refused = (helped words status before now answers.1 serves.0, serves.1)
 turns_away words (Refused text) status left rest before now answers serves refused =
     (subst (λ (s : Status). IsTurnedAway words s before now) (sym serves.0) (answers.1, serves.2), serves.1)

@@ -1,5 +1,7 @@
 pub mod Commands
 pub mod Devices
+pub mod Driven
+pub mod Driving
 pub mod FaultTexts
 pub mod Hexadecimal
 pub mod ImageTexts
@@ -16,3 +18,4 @@ pub mod Status
 pub mod Steps
 pub mod StepTexts
 pub mod Texts
+pub mod Unsettled

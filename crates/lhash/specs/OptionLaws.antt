@@ -1,8 +1,8 @@
 -- Words that are written out, and what they give
-use Rattle.std.specs.Prelude.{◌≡◌, List, [], ◌∷◌, Some, codes}
+use Rattle.std.specs.Prelude.{◌≡◌, ℕ, List, [], ◌∷◌, Some, codes}
 use Rattle.clap.specs.Walk.{Text}
 use Rattle.lh_addr.specs.Settings.{Settings}
-use Rattle.lhash.specs.Options.{Accepts, Asks, settings_given}
+use Rattle.lhash.specs.Options.{Accepts, Asks, number_given, settings_given}
 
 abbrev pub no_options : List Text
 no_options = codes "lhash" ∷ codes "commands" ∷ []
@@ -46,6 +46,18 @@ dump_alone = codes "lhash" ∷ codes "dump" ∷ []
 abbrev pub check_with_option : List Text
 check_with_option = codes "lhash" ∷ codes "check" ∷ codes "--max" ∷ codes "1" ∷ []
 
+abbrev pub drive_alone : List Text
+drive_alone = codes "lhash" ∷ codes "drive" ∷ []
+
+abbrev pub drive_given : List Text
+drive_given = codes "lhash" ∷ codes "drive" ∷ codes "--threads" ∷ codes "64" ∷ codes "--initial=3" ∷ []
+
+abbrev pub threads_zero : List Text
+threads_zero = codes "lhash" ∷ codes "drive" ∷ codes "--threads=0" ∷ []
+
+abbrev pub threads_over_limit : List Text
+threads_over_limit = codes "lhash" ∷ codes "drive" ∷ codes "--threads" ∷ codes "65" ∷ []
+
 -- the words are accepted, name `commands`, and give these settings
 abbrev pub Gives : List Text → Settings → Type 0
 Gives words s = Asks words (codes "commands") × (settings_given words ≡ Some s)
@@ -57,6 +69,10 @@ GivesSteps words s = Asks words (codes "steps") × (settings_given words ≡ Som
 -- the words are accepted, name `build`, and give these settings
 abbrev pub GivesBuild : List Text → Settings → Type 0
 GivesBuild words s = Asks words (codes "build") × (settings_given words ≡ Some s)
+
+-- the words are accepted, name `drive`, and give these settings and this number of threads
+abbrev pub GivesDrive : List Text → Settings → ℕ → Type 0
+GivesDrive words s threads = Asks words (codes "drive") × (settings_given words ≡ Some s) × (number_given words (codes "threads") ≡ Some threads)
 
 -- the words are not accepted
 abbrev pub Refuses : List Text → Type 0

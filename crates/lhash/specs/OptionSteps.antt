@@ -32,6 +32,10 @@ pub record HasSettings (rows : List Row) : Type 0 where
   pub load : HasNumber rows (codes "load") 10 200
   pub max : HasNumber rows (codes "max") 1 65536
 
+-- the number of threads is in its range
+abbrev pub HasThreads : List Row → Type 0
+HasThreads rows = HasNumber rows (codes "threads") 1 64
+
 -- the four settings in the rows of a subcommand
 unfoldable pub settings_in : List Row → Option Settings
 settings_in rows = settings_from
@@ -40,7 +44,7 @@ settings_in rows = settings_from
 
 -- the name of a subcommand with the options of a file's settings
 abbrev pub IsFileCommand : Text → Type 0
-IsFileCommand name = (name ≡ codes "commands") ⊎ ((name ≡ codes "steps") ⊎ (name ≡ codes "build"))
+IsFileCommand name = (name ≡ codes "commands") ⊎ ((name ≡ codes "steps") ⊎ ((name ≡ codes "build") ⊎ (name ≡ codes "drive")))
 
 -- the name of a subcommand that reads an image, without options
 abbrev pub IsImageCommand : Text → Type 0
@@ -56,6 +60,8 @@ IsAskedBy name rows (request.Build config) =
     (name ≡ codes "build") × (settings_in rows ≡ Some config) × IsInRange config
 IsAskedBy name rows request.Check = name ≡ codes "check"
 IsAskedBy name rows request.Dump = name ≡ codes "dump"
+IsAskedBy name rows (request.Drive config threads) =
+    (name ≡ codes "drive") × (settings_in rows ≡ Some config) × IsInRange config × (number_in rows (codes "threads") ≡ Some threads) × (1 ≤ threads) × (threads ≤ 64)
 IsAskedBy name rows request.MaxBelowInitial = IsMaxBelowInitial (settings_in rows)
 IsAskedBy name rows _ = ⊥
 

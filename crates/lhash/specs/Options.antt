@@ -1,5 +1,5 @@
 -- The command line: the program's command, the numbers that the words give its options, and what a request says of the words
-use Rattle.std.specs.Prelude.{◌≡◌, ◌<◌, ℕ, List, [], ◌∷◌, Option, Some, None, codes, pos, true, option_map, option_and_then, if◌then◌else◌}
+use Rattle.std.specs.Prelude.{◌≡◌, ◌<◌, ◌≤◌, ℕ, List, [], ◌∷◌, Option, Some, None, codes, pos, true, option_map, option_and_then, if◌then◌else◌}
 use Rattle.std.specs.Str.Parse.{digits_value, without_leading_plus}
 use Rattle.clap.specs.ValueTests.{is_numeral}
 use Rattle.clap.specs.Words.{App, Row, Rule, Text, fault_of, first_of, new_app, new_rule, subcommand_of, with_rule, with_subcommand}
@@ -46,6 +46,14 @@ check_app = new_app (codes "check")
 abbrev pub dump_app : App
 dump_app = new_app (codes "dump")
 
+-- a command with an option for a number of threads
+abbrev pub with_threads : App → App
+with_threads app = with_rule app (option_rule (codes "threads") (codes "4") 1 64)
+
+-- the subcommand that runs a script in threads
+abbrev pub drive_app : App
+drive_app = with_threads (with_settings (new_app (codes "drive")))
+
 -- a command that asks for a subcommand
 abbrev pub with_subcommand_required : App → App
 with_subcommand_required app = record app { top = record app.top { subcommand_required = true } }
@@ -53,9 +61,9 @@ with_subcommand_required app = record app { top = record app.top { subcommand_re
 -- the program's command
 abbrev pub program_app : App
 program_app =
-    with_subcommand (with_subcommand (with_subcommand (with_subcommand (with_subcommand
+    with_subcommand (with_subcommand (with_subcommand (with_subcommand (with_subcommand (with_subcommand
     (with_subcommand_required (new_app (codes "lhash")))
-    commands_app.top) steps_app.top) build_app.top) check_app.top) dump_app.top
+    commands_app.top) steps_app.top) build_app.top) check_app.top) dump_app.top) drive_app.top
 
 -- the whole number that a text writes in decimal digits, where it is such a text; a plus may stand first
 abbrev pub number_of : Text → Option ℕ
@@ -119,6 +127,8 @@ Answers words (request.Build config) =
     Asks words (codes "build") × (settings_given words ≡ Some config) × IsInRange config
 Answers words request.Check = Asks words (codes "check")
 Answers words request.Dump = Asks words (codes "dump")
+Answers words (request.Drive config threads) =
+    Asks words (codes "drive") × (settings_given words ≡ Some config) × IsInRange config × (number_given words (codes "threads") ≡ Some threads) × (1 ≤ threads) × (threads ≤ 64)
 Answers words request.MaxBelowInitial = Accepts words × IsMaxBelowInitial (settings_given words)
 Answers words (request.Help text) = ¬ Accepts words × AsksForHelp words
 Answers words (request.Refused text) = ¬ Accepts words × IsRefused words

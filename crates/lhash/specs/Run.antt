@@ -23,7 +23,7 @@ use Rattle.lhash.specs.declared.status.DeviceFault.TheVariants.{Read, Write}
 use Rattle.lhash.specs.declared.status.InputFault.{InputFault}
 use Rattle.lhash.specs.declared.status.InputFault.TheVariants.{Script}
 use Rattle.lhash.specs.declared.status.Status.{Status}
-use Rattle.lhash.specs.declared.status.Status.TheVariants.{Done, Input, Words, Device, Memory}
+use Rattle.lhash.specs.declared.status.Status.TheVariants.{Done, Input, Words, Device, Memory, NotSettled}
 
 -- the statements of a script were read, or how the run ends: with the script's first fault, or where the device or memory failed
 abbrev pub ReadsScript : {A : Type 0} → Result (Vec A Global) Status → Result (List A) ScriptFault → Type 0
@@ -52,6 +52,7 @@ Ends (Device Write) due before now = (output : List ℕ) × (due ≡ Ok output) 
 Ends (Device Read) due before now = Keeps before now
 Ends Memory due before now = Keeps before now
 Ends (Words text) due before now = ⊥
+Ends (NotSettled fault) due before now = ⊥
 
 -- whether an event was refused for want of memory
 abbrev pub is_want : Entry → Bool

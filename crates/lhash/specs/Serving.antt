@@ -1,13 +1,14 @@
 -- What became of the words that a run was given
-use Rattle.std.specs.Prelude.{◌≡◌, ℕ, List, Option, IfSome, codes}
+use Rattle.std.specs.Prelude.{◌≡◌, ℕ, ◌≤◌, List, Option, IfSome, codes}
 use Rattle.std.specs.String.{string_bytes}
 use Rattle.std.specs.Io.KnownBytes.{Keeps}
 use Rattle.clap.specs.Walk.{Text}
+use Rattle.lhash.specs.Driving.{EndsDriving}
 use Rattle.lhash.specs.Images.{EndsBuilding, check_due, dump_due}
 use Rattle.lhash.specs.Options.{AsksForHelp, IsRefused}
 use Rattle.lhash.specs.Run.{Ends, EndsSteps, commands_due}
 use Rattle.lhash.specs.declared.options.Request.{Request}
-use Rattle.lhash.specs.declared.options.Request.TheVariants.{Commands, Steps, Build, Check, Dump, Help, Refused, MaxBelowInitial}
+use Rattle.lhash.specs.declared.options.Request.TheVariants.{Commands, Steps, Build, Check, Dump, Drive, Help, Refused, MaxBelowInitial}
 use Rattle.lhash.specs.declared.status.DeviceFault.TheVariants.{Write}
 use Rattle.lhash.specs.declared.status.Status.{Status}
 use Rattle.lhash.specs.declared.status.Status.TheVariants.{Done, Words, Device, Memory}
@@ -28,6 +29,11 @@ IsHelped _ = ⊥
 abbrev pub below_initial : List ℕ
 below_initial = codes "max is less than initial"
 
+-- what is asked for can be done: a script is run in a thread at least
+abbrev pub IsServable : Request → Type 0
+IsServable (Drive config threads) = 1 ≤ threads
+IsServable _ = Unit {0}
+
 -- what a request led to, with what the reader had left and has, and what the writer held and holds
 abbrev pub Serves : Request → Status → Option (List ℕ) → Option (List ℕ) → Option (List ℕ) → Option (List ℕ) → Type 0
 Serves (Commands config) status left rest before now = IfSome left (λ input. Ends status (commands_due config input) before now)
@@ -35,6 +41,7 @@ Serves (Steps config) status left rest before now = IfSome left (λ input. EndsS
 Serves (Build config) status left rest before now = IfSome left (λ input. EndsBuilding config input status before now)
 Serves Check status left rest before now = IfSome left (λ input. Ends status (check_due input) before now)
 Serves Dump status left rest before now = IfSome left (λ input. Ends status (dump_due input) before now)
+Serves (Drive config threads) status left rest before now = IfSome left (λ input. EndsDriving config input status before now)
 Serves (Help text) status left rest before now = IsHelped status × Keeps left rest
 Serves (Refused text) status left rest before now = (status ≡ Words text) × Keeps left rest × Keeps before now
 Serves MaxBelowInitial status left rest before now = IsWordsOf below_initial status × Keeps left rest × Keeps before now

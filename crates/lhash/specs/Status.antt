@@ -1,5 +1,5 @@
 -- How a run ended: its exit status, and its text on standard error
-use Rattle.std.specs.Prelude.{ℕ, List, [], codes}
+use Rattle.std.specs.Prelude.{ℕ, List, [], ◌++◌, codes}
 use Rattle.std.specs.String.{string_bytes}
 use Rattle.lh_image.specs.Texts.{image_fault_text}
 use Rattle.lhash.specs.FaultTexts.{script_fault_text}
@@ -8,7 +8,8 @@ use Rattle.lhash.specs.declared.status.DeviceFault.TheVariants.{Read, Write}
 use Rattle.lhash.specs.declared.status.InputFault.{InputFault}
 use Rattle.lhash.specs.declared.status.InputFault.TheVariants.{Script, Image, TooLarge}
 use Rattle.lhash.specs.declared.status.Status.{Status}
-use Rattle.lhash.specs.declared.status.Status.TheVariants.{Done, Input, Words, Device, Memory}
+use Rattle.lhash.specs.declared.status.Status.TheVariants.{Done, Input, Words, Device, Memory, NotSettled}
+use Rattle.lhash.specs.Unsettled.{unsettled_text}
 
 -- the exit status
 abbrev pub code_of : Status → ℕ
@@ -17,6 +18,7 @@ code_of (Input fault) = 1
 code_of (Words text) = 2
 code_of (Device fault) = 3
 code_of Memory = 4
+code_of (NotSettled fault) = 5
 
 abbrev pub input_fault_text : InputFault → List ℕ
 input_fault_text (Script fault) = script_fault_text fault
@@ -33,3 +35,4 @@ status_text (Input fault) = input_fault_text fault
 status_text (Words text) = string_bytes text
 status_text (Device fault) = device_text fault
 status_text Memory = codes "no memory"
+status_text (NotSettled fault) = codes "not settled: " ++ unsettled_text fault

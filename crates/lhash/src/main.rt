@@ -10,6 +10,8 @@
 mod answer;
 mod commands;
 mod device;
+mod drive;
+mod driven;
 mod fault;
 mod hexadecimal;
 mod image_texts;
@@ -25,16 +27,23 @@ mod status;
 mod step_texts;
 mod steps;
 mod texts;
+mod unsettled;
+mod workers;
 
+pub use drive::{DriveFault, drive_with};
+pub use driven::Driven;
 use program::refuse;
 pub use program::run;
 use status::Status;
 use std::env;
-use std::io::ErrorKind;
+use std::io::{ErrorKind, Read, Write};
 use std::process::ExitCode;
+use std::rt::Runtime;
+use std::sync::Wait;
+use std::thread::Threads;
 
 /// The words that the process was started with, or how the run ends without them.
-fn process_words(rt: &HostRuntime) -> Result<Vec<String>, Status> {
+fn process_words(rt: &(impl Runtime + AllocGlobal)) -> Result<Vec<String>, Status> {
     match env::args(rt) {
         Ok(words) => words.collect(rt.alloc()).map_err(|_| Status::Memory),
         Err(error) if error.kind() == ErrorKind::OutOfMemory => Err(Status::Memory),
@@ -42,21 +51,25 @@ fn process_words(rt: &HostRuntime) -> Result<Vec<String>, Status> {
     }
 }
 
-/// Runs on the words, the input and the output of the process.
-fn run_process(rt: &HostRuntime) -> Status {
+/// Runs on the words of the process, with this input and output.
+fn run_process<A: Runtime + AllocGlobal + Threads + Wait + Sync, R: Read, W: Write>(
+    rt: &A,
+    reader: &mut R,
+    writer: &mut W,
+) -> Status {
     let words = match process_words(rt) {
         Ok(words) => words,
         Err(status) => return status,
     };
     let texts: Result<Vec<&str>, _> = words.iter().map(|word| word.as_str()).collect(rt.alloc());
     match texts {
-        Ok(texts) => run(rt, texts.as_slice(), &mut rt.stdin(), &mut rt.stdout()),
+        Ok(texts) => run(rt, texts.as_slice(), reader, writer),
         Err(_) => Status::Memory,
     }
 }
 
 fn main(rt: HostRuntime) -> ExitCode {
-    let status = run_process(&rt);
+    let status = run_process(&rt, &mut rt.stdin(), &mut rt.stdout());
     let code = status.code();
     if code != 0 {
         let _ = eprintln!(rt; "lhash: {status}");

@@ -3,10 +3,13 @@ ghost use Rattle.std.specs.Prelude.{codes};
 ghost use Rattle.lhash.specs.OptionLaws.{
   Gives,
   GivesBuild,
+  GivesDrive,
   GivesSteps,
   build_given,
   check_alone,
   check_with_option,
+  drive_alone,
+  drive_given,
   dump_alone,
   help_asked,
   initial_twice,
@@ -18,6 +21,8 @@ ghost use Rattle.lhash.specs.OptionLaws.{
   no_subcommand,
   Refuses,
   steps_given,
+  threads_over_limit,
+  threads_zero,
   unknown_option,
 };
 ghost use Rattle.lhash.specs.Options.{Asks, AsksForHelp};
@@ -31,11 +36,15 @@ pub fn words_give_options()
     ensures below { Gives max_below_initial (record { initial = 8; capacity = 14; load = 100; max = 7 }) }
     ensures steps { GivesSteps steps_given (record { initial = 1; capacity = 2; load = 200; max = 65536 }) }
     ensures build { GivesBuild build_given (record { initial = 1; capacity = 14; load = 100; max = 1 }) }
+    ensures drive { GivesDrive drive_given (record { initial = 3; capacity = 14; load = 100; max = 65536 }) 64 }
+    ensures drive_left_out { GivesDrive drive_alone (record { initial = 1; capacity = 14; load = 100; max = 65536 }) 4 }
     ensures check { Asks check_alone (codes "check") }
     ensures dump { Asks dump_alone (codes "dump") }
     ensures without_options { Refuses check_with_option }
     ensures none { Refuses no_subcommand }
     ensures too_small { Refuses initial_zero }
+    ensures no_thread { Refuses threads_zero }
+    ensures too_many_threads { Refuses threads_over_limit }
     ensures too_great { Refuses max_over_limit }
     ensures twice { Refuses initial_twice }
     ensures unknown { Refuses unknown_option }

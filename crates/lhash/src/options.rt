@@ -1,9 +1,9 @@
 //! The command line.
-ghost use Rattle.std.specs.Prelude.{◌≡◌, ◌⊎◌, IfOk, IfSome, IfNone, Some, false, map};
+ghost use Rattle.std.specs.Prelude.{◌≡◌, ◌⊎◌, IfOk, IfSome, IfNone, Some, codes, false, map};
 ghost use Rattle.lh_addr.specs.Settings.{IsInRange};
 ghost use Rattle.clap.specs.Words.{found_of, kind_of, new_app, rows_of, rule_of};
-ghost use Rattle.lhash.specs.Options.{Answers, IsMaxBelowInitial, number_in, option_rule, program_app, with_settings};
-ghost use Rattle.lhash.specs.OptionSteps.{HasNumber, HasSettings, IsAskedBy, IsFileCommand, IsImageCommand, IsRefusal, Reads, settings_in};
+ghost use Rattle.lhash.specs.Options.{Answers, IsMaxBelowInitial, number_in, drive_app, option_rule, program_app, with_settings};
+ghost use Rattle.lhash.specs.OptionSteps.{HasNumber, HasSettings, HasThreads, IsAskedBy, IsFileCommand, IsImageCommand, IsRefusal, Reads, settings_in};
 
 use clap::error::ErrorKind;
 use clap::{Arg, ArgAction, ArgMatches, Command, Error};
@@ -12,6 +12,12 @@ use lh_addr::limits::{
 };
 use lh_addr::{Config, Range};
 use std::alloc::{AllocError, Global};
+
+/// The least number of threads that a script is run in.
+const MIN_THREADS: u32 = 1;
+
+/// The greatest number of threads that a script is run in.
+const MAX_THREADS: u32 = 64;
 
 /// What the words ask for.
 #[derive(Debug, Drop)]
@@ -26,6 +32,8 @@ pub enum Request {
     Check,
     /// The subcommand `dump`.
     Dump,
+    /// The subcommand `drive`, with the configuration and the number of threads that its options give.
+    Drive(Config, u32),
     /// Help, and its text.
     Help(String),
     /// Words that are refused, and why, in one line.
@@ -101,6 +109,20 @@ fn image_command<'a>(alloc: Global, name: &'a str, about: &'a str) -> Command<'a
     Command::new(alloc, name).about(about)
 }
 
+/// The subcommand that runs a script in threads: a file's options, and one for the threads.
+fn drive_command<'a>(alloc: Global) -> Result<Command<'a>, AllocError>
+    ensures { IfOk result (Reads drive_app) }
+{
+    file_command(alloc, "drive", "Run a script of commands in threads")?.arg(option(
+        alloc,
+        "threads",
+        "Number of threads",
+        "4",
+        MIN_THREADS,
+        MAX_THREADS,
+    ))
+}
+
 fn program<'a>(alloc: Global) -> Result<Command<'a>, AllocError>
     ensures { IfOk result (Reads program_app) }
 {
@@ -115,7 +137,8 @@ fn program<'a>(alloc: Global) -> Result<Command<'a>, AllocError>
             "Write an image of the file that a script of commands leads to",
         )?)?
         .subcommand(image_command(alloc, "check", "Check an image"))?
-        .subcommand(image_command(alloc, "dump", "List the records of an image"))
+        .subcommand(image_command(alloc, "dump", "List the records of an image"))?
+        .subcommand(drive_command(alloc)?)
 }
 
 /// The number of an option.
@@ -151,6 +174,7 @@ fn config_of(matches: &ArgMatches<'_>) -> Option<Config>
 fn asked(name: &str, matches: &ArgMatches<'_>) -> Request
     requires named { IsFileCommand name.now ⊎ IsImageCommand name.now }
     requires settings { IsFileCommand name.now → HasSettings (rows_of (found_of matches.now)) }
+    requires threads { name.now ≡ codes "drive" → HasThreads (rows_of (found_of matches.now)) }
     ensures { IsAskedBy name.now (rows_of (found_of matches.now)) result }
 {
     match name {
@@ -168,6 +192,10 @@ fn asked(name: &str, matches: &ArgMatches<'_>) -> Request
         },
         "check" => Request::Check,
         "dump" => Request::Dump,
+        "drive" => match config_of(matches) {
+            Some(config) => Request::Drive(config, number(matches, "threads")),
+            None => Request::MaxBelowInitial,
+        },
         _ => unreachable!(),
     }
 }

@@ -2,18 +2,22 @@
 ghost use Rattle.std.specs.Prelude.{◌≡◌, ◌≤◌, ◌<◌, IfSome, codes, map, Some};
 ghost use Rattle.std.specs.Io.KnownBytes.{Keeps};
 ghost use Rattle.lh_addr.specs.Settings.{Settings};
+ghost use Rattle.lhash.specs.Driving.{EndsDriving};
 ghost use Rattle.lhash.specs.Images.{EndsBuilding, check_due, dump_due};
 ghost use Rattle.lhash.specs.Options.{Accepts, Asks, settings_given};
 ghost use Rattle.lhash.specs.Run.{Ends, EndsSteps, commands_due};
-ghost use Rattle.lhash.specs.Serving.{IsHelped, IsTurnedAway, IsWordsOf, Serves, below_initial};
+ghost use Rattle.lhash.specs.Serving.{IsHelped, IsServable, IsTurnedAway, IsWordsOf, Serves, below_initial};
 
 use crate::answer::{answer_commands, answer_steps};
 use crate::device::write_all;
+use crate::drive::answer_drive;
 use crate::images::{answer_build, answer_check, answer_dump};
 use crate::options::{Request, request_of};
 use crate::status::{DeviceFault, Status};
 use std::alloc::Global;
 use std::io::{Read, Write};
+use std::sync::Wait;
+use std::thread::Threads;
 
 /// Writes the help that was asked for.
 fn write_help<W: Write>(writer: &mut W, text: &str) -> Status
@@ -37,12 +41,14 @@ pub fn refuse(alloc: Global, reason: &str) -> Status
 
 /// Does what is asked for.
 #[tactic(auto, using(crate::proofs::Ending::keeps))]
-fn serve<R: Read, W: Write>(
+fn serve<A: Threads + Wait + Sync, R: Read, W: Write>(
+    rt: &A,
     alloc: Global,
     request: Request,
     reader: &mut R,
     writer: &mut W,
 ) -> Status
+    requires { IsServable request }
     ensures { Serves request result (R.remaining reader.old) (R.remaining reader.new) (W.contents writer.old) (W.contents writer.new) }
 {
     match request {
@@ -51,6 +57,9 @@ fn serve<R: Read, W: Write>(
         Request::Build(config) => answer_build(alloc, config, reader, writer),
         Request::Check => answer_check(alloc, reader, writer),
         Request::Dump => answer_dump(alloc, reader, writer),
+        Request::Drive(config, threads) => {
+            answer_drive(rt, alloc, config, threads, reader, writer)
+        }
         Request::Help(text) => write_help(writer, text.as_str()),
         Request::Refused(text) => Status::Words(text),
         Request::MaxBelowInitial => refuse(alloc, "max is less than initial"),
@@ -58,7 +67,7 @@ fn serve<R: Read, W: Write>(
 }
 
 /// Does what the words ask for, of which the first is the program's name.
-pub fn run<'a, A: AllocGlobal, R: Read, W: Write>(
+pub fn run<'a, A: AllocGlobal + Threads + Wait + Sync, R: Read, W: Write>(
     rt: &A,
     words: &'a [&'a str],
     reader: &mut R,
@@ -79,6 +88,9 @@ pub fn run<'a, A: AllocGlobal, R: Read, W: Write>(
     ensures served_dump { let texts = map (λ s. s.now) words.now in
         Asks texts (codes "dump") →
         IfSome (R.remaining reader.old) (λ input. Ends result (dump_due input) (W.contents writer.old) (W.contents writer.new)) }
+    ensures served_drive { let texts = map (λ s. s.now) words.now in
+        (settings : Settings) → Asks texts (codes "drive") → settings_given texts ≡ Some settings → settings.initial ≤ settings.max →
+        IfSome (R.remaining reader.old) (λ input. EndsDriving settings input result (W.contents writer.old) (W.contents writer.new)) }
     ensures max_below_initial { let texts = map (λ s. s.now) words.now in
         (settings : Settings) → Accepts texts → settings_given texts ≡ Some settings → settings.max < settings.initial →
         IsWordsOf below_initial result × Keeps (R.remaining reader.old) (R.remaining reader.new) × Keeps (W.contents writer.old) (W.contents writer.new) }
@@ -87,7 +99,7 @@ pub fn run<'a, A: AllocGlobal, R: Read, W: Write>(
 {
     let alloc = rt.alloc();
     match request_of(alloc, words) {
-        Ok(request) => serve(alloc, request, reader, writer),
+        Ok(request) => serve(rt, alloc, request, reader, writer),
         Err(_) => Status::Memory,
     }
 }

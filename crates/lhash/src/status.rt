@@ -3,6 +3,7 @@ ghost use Rattle.std.specs.Prelude.{◌≡◌, Some};
 ghost use Rattle.lhash.specs.Status.{code_of, status_text};
 
 use crate::fault::ScriptFault;
+use crate::unsettled::Unsettled;
 use lh_image::ImageFault;
 use std::fmt;
 
@@ -37,12 +38,15 @@ pub enum Status {
     Words(String),
     /// The input was not read, or the output not written to its end.
     Device(DeviceFault),
-    /// Memory ran out, and nothing was written.
+    /// Memory ran out, or a thread couldn't be started, and nothing was written.
     Memory,
+    /// What threads did is not settled, and nothing was written.
+    NotSettled(Unsettled),
 }
 
 impl Status {
-    /// The exit status: 0 done, 1 a fault in the input, 2 the words, 3 a device, 4 want of memory.
+    /// The exit status: 0 done, 1 a fault in the input, 2 the words, 3 a device, 4 want of memory,
+    /// 5 not settled.
     pub fn code(&self) -> u8
         ensures { result ≡ code_of self.now }
     {
@@ -52,6 +56,7 @@ impl Status {
             Status::Words(_) => 2,
             Status::Device(_) => 3,
             Status::Memory => 4,
+            Status::NotSettled(_) => 5,
         }
     }
 }
@@ -93,6 +98,7 @@ impl fmt::Display for Status {
             Status::Words(text) => write!(f, "{text}"),
             Status::Device(fault) => write!(f, "{fault}"),
             Status::Memory => write!(f, "no memory"),
+            Status::NotSettled(fault) => write!(f, "not settled: {fault}"),
         }
     }
 }

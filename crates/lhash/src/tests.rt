@@ -1,9 +1,10 @@
 //! Runs from words and bytes to bytes and a status.
 use super::*;
-use std::io::{self, Error, Read, Write};
+use std::io::{self, Error};
 use std::process::Abort;
 use std::test::Fail;
 
+mod drive;
 mod steps;
 
 /// Bytes that are read so many at a time, and a read that fails.
@@ -72,7 +73,11 @@ impl Write for Sink {
 }
 
 /// The exit status, what was written, and the text of the status.
-fn ran(rt: &impl AllocGlobal, words: &[&str], input: &[u8]) -> Result<(u8, Vec<u8>, String), Fail> {
+fn ran(
+    rt: &(impl AllocGlobal + Threads + Wait + Sync),
+    words: &[&str],
+    input: &[u8],
+) -> Result<(u8, Vec<u8>, String), Fail> {
     let mut source = input;
     let mut output = Vec::new(rt.alloc());
     let status = run(rt, words, &mut source, &mut output);
@@ -80,7 +85,7 @@ fn ran(rt: &impl AllocGlobal, words: &[&str], input: &[u8]) -> Result<(u8, Vec<u
 }
 
 fn writes(
-    rt: &(impl Abort + AllocGlobal),
+    rt: &(impl Abort + AllocGlobal + Threads + Wait + Sync),
     words: &[&str],
     input: &str,
     output: &str,
@@ -93,7 +98,7 @@ fn writes(
 }
 
 fn fails(
-    rt: &(impl Abort + AllocGlobal),
+    rt: &(impl Abort + AllocGlobal + Threads + Wait + Sync),
     words: &[&str],
     input: &str,
     code: u8,

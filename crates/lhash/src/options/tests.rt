@@ -12,6 +12,10 @@ fn answer(rt: &(impl Abort + AllocGlobal), words: &[&str]) -> Result<String, All
         Request::Commands(config) | Request::Steps(config) | Request::Build(config) => {
             settings(rt, &config)
         }
+        Request::Drive(config, threads) => {
+            let settings = settings(rt, &config)?;
+            format!(in alloc; "{settings}, {threads} threads")
+        }
         Request::Check => String::from_str(alloc, "check"),
         Request::Dump => String::from_str(alloc, "dump"),
         Request::Help(text) => {
@@ -151,6 +155,34 @@ fn words_that_are_no_numbers(rt: HostRuntime) -> Result<(), AllocError> {
         &rt,
         ["extra"].as_slice(),
         "refused: unexpected argument 'extra' found",
+    )
+}
+
+/// After `lhash drive`, these words give this answer.
+fn drive_expect(
+    rt: &(impl Abort + AllocGlobal),
+    option: &str,
+    expected: &str,
+) -> Result<(), AllocError> {
+    let given = answer(rt, ["lhash", "drive", "--load=80", option].as_slice())?;
+    assert!(rt; given.as_str() == expected, "{option} gives {given}");
+    Ok(())
+}
+
+#[test]
+fn threads_are_1_to_64(rt: HostRuntime) -> Result<(), AllocError> {
+    drive_expect(&rt, "--max=7", "1 14 80 7, 4 threads")?;
+    drive_expect(&rt, "--threads=1", "1 14 80 65536, 1 threads")?;
+    drive_expect(&rt, "--threads=64", "1 14 80 65536, 64 threads")?;
+    drive_expect(
+        &rt,
+        "--threads=0",
+        "refused: invalid value '0' for '--threads <threads>': 0 is not in 1..=64",
+    )?;
+    drive_expect(
+        &rt,
+        "--threads=65",
+        "refused: invalid value '65' for '--threads <threads>': 65 is not in 1..=64",
     )
 }
 

@@ -2,11 +2,13 @@
 use super::{Sink, fails, ran, writes};
 use crate::run;
 use std::process::Abort;
+use std::sync::Wait;
 use std::test::Fail;
+use std::thread::Threads;
 
 /// The steps of these lines tell these lines.
 fn tells(
-    rt: &(impl Abort + AllocGlobal),
+    rt: &(impl Abort + AllocGlobal + Threads + Wait + Sync),
     options: &[&str],
     lines: &[(&str, &str)],
 ) -> Result<(), Fail> {

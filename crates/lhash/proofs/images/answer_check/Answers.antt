@@ -1,4 +1,4 @@
-use Rattle.std.proofs.Common.{sym, ◌∙◌}
+use Rattle.std.proofs.Common.{◌∙◌}
 use Rattle.lhash.proofs.Inspecting.{unchecked, checked, check_begun}
 use Rattle.lhash.proofs.images.answer_check.Goals as goal
 

@@ -1,7 +1,7 @@
 -- Each example computes.
 use Rattle.std.proofs.Common.{refl, inl, codes}
 use Rattle.clap.proofs.OnLiterals.{clap_on_literals}
-use Rattle.lhash.specs.OptionLaws.{Gives, GivesBuild, GivesSteps, Refuses, build_given, check_alone, check_with_option, dump_alone, help_asked, initial_twice, initial_zero, max_below_initial, max_given, max_over_limit, no_options, no_subcommand, steps_given, unknown_option}
+use Rattle.lhash.specs.OptionLaws.{Gives, GivesBuild, GivesDrive, GivesSteps, Refuses, build_given, check_alone, check_with_option, drive_alone, drive_given, dump_alone, help_asked, initial_twice, initial_zero, max_below_initial, max_given, max_over_limit, no_options, no_subcommand, steps_given, threads_over_limit, threads_zero, unknown_option}
 use Rattle.lhash.specs.Options.{Accepts, Asks, AsksForHelp, settings_given, subcommand_named}
 use Rattle.lhash.proofs.option_laws.words_give_options.Goals as goal
 
@@ -25,6 +25,14 @@ build : GivesBuild build_given (record { initial = 1; capacity = 14; load = 100;
 unfolding clap_on_literals Accepts settings_given subcommand_named
 build = ((refl, refl), refl)
 
+drive : GivesDrive drive_given (record { initial = 3; capacity = 14; load = 100; max = 65536 }) 64
+unfolding clap_on_literals Accepts settings_given subcommand_named
+drive = ((refl, refl), refl, refl)
+
+drive_left_out : GivesDrive drive_alone (record { initial = 1; capacity = 14; load = 100; max = 65536 }) 4
+unfolding clap_on_literals Accepts settings_given subcommand_named
+drive_left_out = ((refl, refl), refl, refl)
+
 check : Asks check_alone (codes "check")
 unfolding clap_on_literals Accepts subcommand_named
 check = (refl, refl)
@@ -44,6 +52,14 @@ none = λ e. cc
 too_small : Refuses initial_zero
 unfolding clap_on_literals Accepts
 too_small = λ e. cc
+
+no_thread : Refuses threads_zero
+unfolding clap_on_literals Accepts
+no_thread = λ e. cc
+
+too_many_threads : Refuses threads_over_limit
+unfolding clap_on_literals Accepts
+too_many_threads = λ e. cc
 
 too_great : Refuses max_over_limit
 unfolding clap_on_literals Accepts
@@ -68,11 +84,15 @@ returns c = record {
   below = below;
   steps = steps;
   build = build;
+  drive = drive;
+  drive_left_out = drive_left_out;
   check = check;
   dump = dump;
   without_options = without_options;
   none = none;
   too_small = too_small;
+  no_thread = no_thread;
+  too_many_threads = too_many_threads;
   too_great = too_great;
   twice = twice;
   unknown = unknown;

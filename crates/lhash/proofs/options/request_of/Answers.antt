@@ -1,7 +1,7 @@
 use Rattle.std.proofs.Common.{map}
 use Rattle.std.proofs.lemmas.Result.{IfOk-weaker}
 use Rattle.clap.specs.Words.{found_of, rows_of}
-use Rattle.lhash.proofs.Accepted.{entered-named, entered-settings}
+use Rattle.lhash.proofs.Accepted.{entered-named, entered-settings, entered-threads}
 use Rattle.lhash.proofs.Requests.{asked-answers, entered-from, failed-from, refusal-answers}
 use Rattle.lhash.proofs.options.request_of.Goals as goal
 
@@ -18,6 +18,13 @@ asked-requires-clause-settings c =
     let entered = entered-from _ c.in-Ok.matches words c.in-Some.name.now (rows_of (found_of c.in-Some.matches.now))
     c.in_ok-program.ensures.0 c.in-Ok.ensures.kinds c.in-Ok.ensures.matches c.in-Some.ensures.name c.in-Some.ensures.rows in
     entered-settings _ _ entered.asked
+
+pub asked-requires-clause-threads : goal.asked-requires-clause-threads
+asked-requires-clause-threads c =
+    let words = map (λ s. s.now) c.args.words.now in
+    let entered = entered-from _ c.in-Ok.matches words c.in-Some.name.now (rows_of (found_of c.in-Some.matches.now))
+    c.in_ok-program.ensures.0 c.in-Ok.ensures.kinds c.in-Ok.ensures.matches c.in-Some.ensures.name c.in-Some.ensures.rows in
+    entered-threads _ _ entered.asked
 
 pub returns-in-Err : goal.returns-in-Err
 returns-in-Err c =

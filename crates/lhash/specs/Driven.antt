@@ -1,0 +1,56 @@
+-- The totals of a settled run: what they count, and how they read
+use Rattle.std.specs.Prelude.{◌≡◌, ℕ, Bool, true, false, List, ◌++◌, length, count_by, codes}
+use Rattle.lh_bucket.specs.declared.call.Reply.{Reply}
+use Rattle.lh_bucket.specs.declared.call.Reply.TheVariants.{Found, Absent, Inserted, Exists, Deleted}
+use Rattle.lhash.specs.ImageTexts.{number_line}
+use Rattle.lhash.specs.Texts.{line}
+use Rattle.lhash.specs.declared.driven.Driven.{Driven}
+
+-- whether a reply is a value that was found
+abbrev pub is_found : Reply → Bool
+is_found (Found value) = true
+is_found _ = false
+
+-- whether it says that the key is absent
+abbrev pub is_absent : Reply → Bool
+is_absent Absent = true
+is_absent _ = false
+
+-- whether it says that the record was inserted
+abbrev pub is_inserted : Reply → Bool
+is_inserted Inserted = true
+is_inserted _ = false
+
+-- whether it says that the key exists
+abbrev pub is_exists : Reply → Bool
+is_exists Exists = true
+is_exists _ = false
+
+-- whether it says that the record was deleted
+abbrev pub is_deleted : Reply → Bool
+is_deleted Deleted = true
+is_deleted _ = false
+
+-- The totals count these replies: all of them, and those of each kind.
+pub record Counts (replies : List Reply) (d : Driven) : Type 0 where
+  pub calls : d.calls ≡ length replies
+  pub found : d.found ≡ count_by is_found replies
+  pub absent : d.absent ≡ count_by is_absent replies
+  pub inserted : d.inserted ≡ count_by is_inserted replies
+  pub exists : d.exists ≡ count_by is_exists replies
+  pub deleted : d.deleted ≡ count_by is_deleted replies
+
+-- the totals as seven lines, each a name and a number
+unfoldable pub totals_text : Driven → List ℕ
+totals_text d =
+    number_line (codes "calls ") d.calls
+    ++ number_line (codes "found ") d.found
+    ++ number_line (codes "absent ") d.absent
+    ++ number_line (codes "inserted ") d.inserted
+    ++ number_line (codes "exists ") d.exists
+    ++ number_line (codes "deleted ") d.deleted
+    ++ number_line (codes "records ") d.records
+
+-- what `drive` writes: a line with a word alone, and the totals
+abbrev pub driven_text : Driven → List ℕ
+driven_text d = line (codes "settled") ++ totals_text d

@@ -1,0 +1,93 @@
+-- What a run of calls in threads may tell: the totals of a settled history, or why there are none
+use Rattle.std.specs.Prelude.{◌≡◌, ◌≢◌, ℕ, ◌-◌, ◌^◌, min, List, [], Option, Ok, replicate}
+use Rattle.std.specs.Io.KnownBytes.{Keeps}
+use Rattle.lh_addr.specs.Settings.{Settings}
+use Rattle.lh_bucket.specs.declared.call.Call.{Call as CallOf}
+use Rattle.lh_bucket.specs.Listing.{Lists, count_of}
+use Rattle.lh_file.specs.Acts.{replies_of}
+use Rattle.lh_file.specs.Closed.{ClosedFile}
+use Rattle.lh_file.specs.SettleFault.{IsDue}
+use Rattle.lh_file.specs.Settled.{IsSettled}
+use Rattle.lh_file.specs.declared.act.ActLine.{ActLine}
+use Rattle.lh_file.specs.declared.fault.FileFault.{FileFault}
+use Rattle.lh_file.specs.declared.fault.FileFault.TheVariants as file
+use Rattle.lh_file.specs.declared.settle_fault.SettleFault.{SettleFault}
+use Rattle.lh_file.specs.declared.settle_fault.SettleFault.TheVariants as settle
+use Rattle.lhash.specs.Commands.{command}
+use Rattle.lhash.specs.Driven.{Counts, driven_text}
+use Rattle.lhash.specs.Run.{EndsTelling}
+use Rattle.lhash.specs.Scripts.{script}
+use Rattle.lhash.specs.declared.drive.DriveFault.{DriveFault}
+use Rattle.lhash.specs.declared.drive.DriveFault.TheVariants.{Settle, Call, Thread, Memory}
+use Rattle.lhash.specs.declared.driven.Driven.{Driven}
+use Rattle.lhash.specs.declared.status.Status.{Status}
+use Rattle.lhash.specs.declared.status.Status.TheVariants.{NotSettled, Memory as NoMemory}
+use Rattle.lhash.specs.declared.unsettled.Unsettled.{Unsettled}
+use Rattle.lhash.specs.declared.unsettled.Unsettled.TheVariants as unsettled
+
+-- the listing of an empty file
+abbrev pub empty_file : Settings → Lists
+empty_file settings = record { config = settings; lists = replicate settings.initial [] }
+
+-- The totals are those of a legal history: a closed file of the settings, and some acts, are settled with it, from an empty file on; the replies are counted, and the records of the closed file (from 2^64 on it would be 2^64 - 1).
+pub record IsDriven (settings : Settings) (d : Driven) : Type 0 where
+  pub closed : ClosedFile
+  pub acts : List ActLine
+  pub history : List ActLine
+  pub config : closed.config ≡ settings
+  pub settled : IsSettled (empty_file settings) closed acts history
+  pub counts : Counts (replies_of history) d
+  pub records : d.records ≡ min (count_of closed.lists) (2 ^ 64 - 1)
+
+-- the threads' work failed: a call was not answered, for another reason than want of memory; a thread could not be started; or memory was wanting
+abbrev pub IsWorkersFault : DriveFault → Type 0
+IsWorkersFault (Settle fault) = ⊥
+IsWorkersFault (Call fault) = fault ≢ file.Memory
+IsWorkersFault Thread = Unit {0}
+IsWorkersFault Memory = Unit {0}
+
+-- why there are no totals: a fault of settling, other than want of memory, that is due for a closed file of the settings and some acts, from an empty file on; or the threads' work failed
+abbrev pub IsDriveFault : Settings → DriveFault → Type 0
+IsDriveFault settings (Settle fault) =
+    (closed : ClosedFile) × (acts : List ActLine) × (closed.config ≡ settings) × IsDue (empty_file settings) closed acts fault × (fault ≢ settle.Memory)
+IsDriveFault settings fault = IsWorkersFault fault
+
+-- the fault of a call that was not answered
+abbrev pub drive_fault_of : FileFault → DriveFault
+drive_fault_of file.Memory = Memory
+drive_fault_of fault = Call fault
+
+-- the fault of a file that is not settled
+abbrev pub settle_fault_of : SettleFault → DriveFault
+settle_fault_of settle.Memory = Memory
+settle_fault_of fault = Settle fault
+
+-- how a run ends whose file is not settled
+abbrev pub unsettled_as : SettleFault → Status
+unsettled_as settle.SplitUnderWay = NotSettled unsettled.SplitUnderWay
+unsettled_as (settle.MissingStamp stamp) = NotSettled (unsettled.MissingStamp stamp)
+unsettled_as (settle.Reply stamp given due) = NotSettled (unsettled.Reply stamp)
+unsettled_as (settle.Content key) = NotSettled (unsettled.Content key)
+unsettled_as (settle.Placed bucket key) = NotSettled (unsettled.Placed bucket key)
+unsettled_as settle.Memory = NoMemory
+
+-- how a run ends that has no totals
+abbrev pub ended_by : DriveFault → Status
+ended_by (Settle fault) = unsettled_as fault
+ended_by (Call fault) = NotSettled unsettled.Call
+ended_by Thread = NoMemory
+ended_by Memory = NoMemory
+
+-- what `drive` may write: the totals of a legal history
+abbrev pub IsTotals : Settings → List ℕ → Type 0
+IsTotals settings output = (d : Driven) × IsDriven settings d × (output ≡ driven_text d)
+
+-- what threads did is not settled, for this reason
+abbrev pub IsUnsettled : Settings → Unsettled → Type 0
+IsUnsettled settings reason = (fault : DriveFault) × IsDriveFault settings fault × (ended_by fault ≡ NotSettled reason)
+
+-- how `drive` ends on an input: not settled, and the writer took nothing; otherwise with the totals of a legal history, or with the script's first fault
+unfoldable pub EndsDriving : Settings → List ℕ → Status → Option (List ℕ) → Option (List ℕ) → Type 0
+EndsDriving settings input (NotSettled reason) before now =
+    (calls : List CallOf) × (script command input ≡ Ok calls) × IsUnsettled settings reason × Keeps before now
+EndsDriving settings input status before now = EndsTelling (λ _ output. IsTotals settings output) status (script command input) before now

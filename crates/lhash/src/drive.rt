@@ -1,0 +1,151 @@
+//! The subcommand `drive`: a command script in threads, settled, from its bytes to its totals.
+ghost use Rattle.std.specs.Prelude.{◌≡◌, ◌≤◌, IfOk, IfErr, IfSome};
+ghost use Rattle.lhash.specs.Driving.{EndsDriving, IsDriven, IsDriveFault, ended_by, unsettled_as};
+
+use crate::answer::read_script;
+use crate::device::write_all;
+use crate::driven::Driven;
+use crate::status::{DeviceFault, Status};
+use crate::unsettled::Unsettled;
+use crate::workers::work_in_threads;
+use lh_addr::Config;
+use lh_bucket::{Call, Listing, Memory};
+use lh_file::{FileFault, Gate, HashFile, NoGate, SettleFault, settle};
+use std::alloc::Global;
+use std::io::{Read, Write};
+use std::sync::Wait;
+use std::thread::Threads;
+
+/// Why a run in threads has no totals. Want of memory is always [`DriveFault::Memory`].
+#[derive(Clone, Copy, Debug, PartialEq, Eq)]
+pub enum DriveFault {
+    /// What the threads did is not settled, by the first fault of the closed file.
+    Settle(SettleFault),
+    /// A call was not answered: of the first thread that has such a call, the first one.
+    Call(FileFault),
+    /// A thread could not be started.
+    Thread,
+    /// Memory ran out.
+    Memory,
+}
+
+impl From<Memory> for DriveFault {
+    ghost use Rattle.lhash.specs.declared.drive.DriveFault.TheVariants as case;
+
+    ghost from_gives = { λ _ fault. fault ≡ case.Memory };
+
+    fn from(_memory: Memory) -> DriveFault {
+        DriveFault::Memory
+    }
+}
+
+impl From<FileFault> for DriveFault {
+    ghost use Rattle.lhash.specs.Driving.{drive_fault_of};
+
+    ghost from_gives = { λ call fault. fault ≡ drive_fault_of call };
+
+    fn from(fault: FileFault) -> DriveFault {
+        match fault {
+            FileFault::Memory => DriveFault::Memory,
+            fault => DriveFault::Call(fault),
+        }
+    }
+}
+
+impl From<SettleFault> for DriveFault {
+    ghost use Rattle.lhash.specs.Driving.{settle_fault_of};
+
+    ghost from_gives = { λ settle fault. fault ≡ settle_fault_of settle };
+
+    fn from(fault: SettleFault) -> DriveFault {
+        match fault {
+            SettleFault::Memory => DriveFault::Memory,
+            fault => DriveFault::Settle(fault),
+        }
+    }
+}
+
+/// Runs calls in threads on an empty file of this configuration, and settles what they did. The call
+/// at place `j` is made by thread `j % threads`, and each thread makes its calls in their order.
+///
+/// The history that is settled decides the totals. Which one it is depends on how the threads' calls
+/// fall together; of calls on different keys, or of the same thread, the replies don't.
+///
+/// If a thread can't be started, or a call isn't answered, all threads that run are waited for, and
+/// the fault is answered.
+pub fn drive_with<G: Gate + Drop + Sync, R: Threads + Wait + Sync>(
+    rt: &R,
+    alloc: Global,
+    config: Config,
+    calls: &[Call],
+    threads: u32,
+    gate: G,
+) -> Result<Driven, DriveFault>
+    requires { 1 ≤ threads }
+    ensures ok { IfOk result (IsDriven config) }
+    ensures err { IfErr result (IsDriveFault config) }
+{
+    let opening = Listing::empty(alloc, config)?;
+    let (file, hand) = HashFile::create(alloc, config, true, gate)?;
+    let hand = work_in_threads(rt, alloc, &file, hand, calls, threads as usize)?;
+    let (closed, acts) = file.close(rt, hand)?;
+    let history = settle(alloc, &opening, &closed, &acts)?;
+    Ok(Driven::of(&history, closed.records()))
+}
+
+/// How a run ends that has no totals.
+fn undriven(fault: DriveFault) -> Status
+    ensures { result ≡ ended_by fault }
+{
+    match fault {
+        DriveFault::Settle(fault) => unsettled(fault),
+        DriveFault::Call(_) => Status::NotSettled(Unsettled::Call),
+        DriveFault::Thread | DriveFault::Memory => Status::Memory,
+    }
+}
+
+/// How a run ends whose file is not settled.
+fn unsettled(fault: SettleFault) -> Status
+    ensures { result ≡ unsettled_as fault }
+{
+    match fault {
+        SettleFault::SplitUnderWay => Status::NotSettled(Unsettled::SplitUnderWay),
+        SettleFault::MissingStamp(stamp) => Status::NotSettled(Unsettled::MissingStamp(stamp)),
+        SettleFault::Reply { stamp, .. } => Status::NotSettled(Unsettled::Reply(stamp)),
+        SettleFault::Content(key) => Status::NotSettled(Unsettled::Content(key)),
+        SettleFault::Placed { bucket, key } => {
+            Status::NotSettled(Unsettled::Placed { bucket, key })
+        }
+        SettleFault::Memory => Status::Memory,
+    }
+}
+
+/// Reads a command script whole, makes its calls in threads, and writes the totals of the settled
+/// history.
+pub fn answer_drive<A: Threads + Wait + Sync, R: Read, W: Write>(
+    rt: &A,
+    alloc: Global,
+    config: Config,
+    threads: u32,
+    reader: &mut R,
+    writer: &mut W,
+) -> Status
+    requires { 1 ≤ threads }
+    ensures { IfSome (R.remaining reader.old) (λ input. EndsDriving config input result (W.contents writer.old) (W.contents writer.new)) }
+{
+    let calls: Vec<Call> = match read_script(alloc, reader) {
+        Ok(calls) => calls,
+        Err(status) => return status,
+    };
+    let driven = match drive_with(rt, alloc, config, calls.as_slice(), threads, NoGate) {
+        Ok(driven) => driven,
+        Err(fault) => return undriven(fault),
+    };
+    let Ok(text) = driven.to_string(alloc) else {
+        return Status::Memory;
+    };
+    match write_all(writer, text.as_bytes()) {
+        Ok(()) => Status::Done,
+        Err(_) => Status::Device(DeviceFault::Write),
+    }
+}

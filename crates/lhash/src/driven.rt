@@ -1,0 +1,101 @@
+//! The totals of a settled run.
+ghost use Rattle.std.specs.Prelude.{◌≡◌, ◌-◌, ◌<◌, ◌^◌, ◌++◌, ◌∷◌, [], List, Some, length};
+ghost use Rattle.lh_bucket.specs.declared.call.Reply.{Reply as ReplyOf};
+ghost use Rattle.lh_file.specs.Acts.{replies_of};
+ghost use Rattle.lhash.specs.Driven.{Counts, driven_text, totals_text};
+
+use lh_bucket::Reply;
+use lh_file::History;
+use std::fmt;
+
+/// What a settled run of calls in threads did: how many calls were answered, how many of them with
+/// each reply, and how many records the file has in the end.
+#[derive(Clone, Copy, Debug, PartialEq, Eq)]
+pub struct Driven {
+    pub calls: u64,
+    pub found: u64,
+    pub absent: u64,
+    pub inserted: u64,
+    pub exists: u64,
+    pub deleted: u64,
+    pub records: u64,
+}
+
+impl Driven {
+    /// A run of no calls that left so many records.
+    fn idle(records: u64) -> Driven
+        ensures counts { Counts [] result }
+        ensures records { result.records ≡ records }
+    {
+        Driven {
+            calls: 0,
+            found: 0,
+            absent: 0,
+            inserted: 0,
+            exists: 0,
+            deleted: 0,
+            records,
+        }
+    }
+
+    /// Counts one call more.
+    fn count(&mut self, reply: Reply)
+        requires { (replies : List ReplyOf) × Counts replies self.old × (length replies < 2 ^ 64 - 1) }
+        ensures counts { (replies : List ReplyOf) → Counts replies self.old → Counts (replies ++ reply ∷ []) self.new }
+        ensures records { self.new.records ≡ self.old.records }
+    {
+        self.calls += 1;
+        match reply {
+            Reply::Found(_) => self.found += 1,
+            Reply::Absent => self.absent += 1,
+            Reply::Inserted => self.inserted += 1,
+            Reply::Exists => self.exists += 1,
+            Reply::Deleted => self.deleted += 1,
+        }
+    }
+
+    /// The totals of a history, whose file has so many records in the end.
+    pub fn of(history: &History, records: u64) -> Driven
+        ensures counts { Counts (replies_of history.now) result }
+        ensures records { result.records ≡ records }
+    {
+        let mut driven = Driven::idle(records);
+        for stamp in 0..history.len() {
+            driven.count(history.at(stamp).reply);
+        }
+        driven
+    }
+}
+
+/// The totals as seven lines, each a name and a number.
+#[derive(Clone, Copy)]
+struct TotalsText<'a>(&'a Driven);
+
+impl fmt::Display for TotalsText<'_> {
+    ghost output = { λ totals. Some (totals_text totals.0.now) };
+
+    #[tactic(auto, unfolding(crate::specs::Driven::totals_text))]
+    fn fmt<W: fmt::Write>(&self, f: &mut fmt::Formatter<W>) -> fmt::Result {
+        let Driven {
+            calls,
+            found,
+            absent,
+            inserted,
+            exists,
+            deleted,
+            records,
+        } = *self.0;
+        write!(
+            f,
+            "calls {calls}\nfound {found}\nabsent {absent}\ninserted {inserted}\nexists {exists}\ndeleted {deleted}\nrecords {records}\n"
+        )
+    }
+}
+
+impl fmt::Display for Driven {
+    ghost output = { λ driven. Some (driven_text driven) };
+
+    fn fmt<W: fmt::Write>(&self, f: &mut fmt::Formatter<W>) -> fmt::Result {
+        write!(f, "settled\n{}", TotalsText(self))
+    }
+}
