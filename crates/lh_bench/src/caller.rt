@@ -1,0 +1,105 @@
+//! One who calls a file.
+ghost use Rattle.std.specs.Prelude.{◌≡◌};
+ghost use Rattle.lh_file.specs.FileState.{IsOf};
+
+use crate::streams::{Step, Stream, key_of, value_of};
+use crate::tally::Tally;
+use lh_bucket::Reply;
+use lh_file::{Hand, HashFile, NoGate};
+use std::sync::Wait;
+
+/// A hand, and what was answered to it.
+#[derive(Drop)]
+pub struct Caller {
+    pub hand: Hand,
+    pub seed: u64,
+    pub tally: Tally,
+}
+
+impl Caller {
+    pub fn new(hand: Hand, seed: u64) -> Caller
+        ensures { result.hand ≡ hand }
+    {
+        Caller {
+            hand,
+            seed,
+            tally: Tally::new(),
+        }
+    }
+
+    fn search<R: Wait>(&mut self, rt: &R, file: &HashFile<NoGate>, record: u64, is_there: bool)
+        requires { IsOf file.now.state self.old.hand }
+        ensures { IsOf file.now.state self.new.hand }
+    {
+        let Ok(answer) = file.search(rt, &mut self.hand, key_of(self.seed, record)) else {
+            self.tally.note_wrong();
+            return;
+        };
+        let reply = answer.reply();
+        self.tally.note(&reply);
+        let is_due = match reply {
+            Reply::Found(value) => value == value_of(self.seed, record),
+            _ => !is_there,
+        };
+        if !is_due {
+            self.tally.note_wrong();
+        }
+    }
+
+    fn insert<R: Wait>(&mut self, rt: &R, file: &HashFile<NoGate>, record: u64, is_new: bool)
+        requires { IsOf file.now.state self.old.hand }
+        ensures { IsOf file.now.state self.new.hand }
+    {
+        let key = key_of(self.seed, record);
+        let value = value_of(self.seed, record);
+        let Ok(answer) = file.insert(rt, &mut self.hand, key, value) else {
+            self.tally.note_wrong();
+            return;
+        };
+        let reply = answer.reply();
+        self.tally.note(&reply);
+        if is_new && reply != Reply::Inserted {
+            self.tally.note_wrong();
+        }
+    }
+
+    fn delete<R: Wait>(&mut self, rt: &R, file: &HashFile<NoGate>, record: u64)
+        requires { IsOf file.now.state self.old.hand }
+        ensures { IsOf file.now.state self.new.hand }
+    {
+        match file.delete(rt, &mut self.hand, key_of(self.seed, record)) {
+            Ok(answer) => self.tally.note(&answer.reply()),
+            Err(_) => self.tally.note_wrong(),
+        }
+    }
+
+    /// Makes a call. One that is not answered counts as wrong.
+    #[inline]
+    fn take<R: Wait>(&mut self, rt: &R, file: &HashFile<NoGate>, step: Step)
+        requires { IsOf file.now.state self.old.hand }
+        ensures { IsOf file.now.state self.new.hand }
+    {
+        match step {
+            Step::Search { record, is_there } => self.search(rt, file, record, is_there),
+            Step::Insert { record, is_new } => self.insert(rt, file, record, is_new),
+            Step::Delete { record } => self.delete(rt, file, record),
+        }
+    }
+}
+
+/// Makes so many calls of a stream.
+pub fn play<S: Stream, R: Wait>(
+    rt: &R,
+    file: &HashFile<NoGate>,
+    mut caller: Caller,
+    mut stream: S,
+    calls: u64,
+) -> Caller
+    requires { IsOf file.now.state caller.hand }
+    ensures { IsOf file.now.state result.hand }
+{
+    for _ in 0..calls {
+        caller.take(rt, file, stream.next());
+    }
+    caller
+}

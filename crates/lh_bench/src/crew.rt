@@ -1,0 +1,177 @@
+//! Several threads on one file.
+ghost use Rattle.std.specs.Prelude.{◌≡◌, All, IfOk};
+ghost use Rattle.lh_file.specs.FileState.{IsOf};
+
+use crate::caller::{Caller, play};
+use crate::meter::{Spent, Stopwatch};
+use crate::order::{Order, Workload};
+use crate::starter::Starter;
+use crate::streams::{Mixed, MostlySearches, Part};
+use crate::tally::Tally;
+use anyhow::{Result, bail};
+use lh_file::{Hand, HashFile, NoGate};
+use std::rt::Clock;
+use std::sync::Wait;
+use std::thread;
+use std::thread::{Promise, PromisedHandle, Threads};
+use std::time::CpuClock;
+
+/// The hand that comes back from a thread is one of this file.
+#[derive(Clone, Copy)]
+struct OfFile<'a>(&'a HashFile<NoGate>);
+
+impl<'a> Promise<Caller> for OfFile<'a> {
+    ghost kept_by = { λ p r. IsOf p.0.now.state r.hand };
+}
+
+type Worker<'a> = PromisedHandle<Caller, OfFile<'a>>;
+
+/// What threads did, and the hand that theirs were joined to.
+#[derive(Drop)]
+pub struct Shift {
+    pub hand: Hand,
+    pub tally: Tally,
+    pub calls: u64,
+    pub spent: Spent,
+}
+
+/// How many calls each thread makes.
+fn calls_of(order: Order) -> u64 {
+    match order.workload {
+        Workload::MostlySearches => MostlySearches::calls(&order),
+        _ => Mixed::calls(&order),
+    }
+}
+
+/// The part of one thread, which begins when all do.
+fn work<R: Wait>(
+    rt: &R,
+    starter: &Starter,
+    file: &HashFile<NoGate>,
+    hand: Hand,
+    order: Order,
+    thread: u64,
+) -> Caller
+    requires { IsOf file.now.state hand }
+    ensures { IsOf file.now.state result.hand }
+{
+    let caller = Caller::new(hand, order.seed);
+    let calls = calls_of(order);
+    starter.stand_by(rt);
+    match order.workload {
+        Workload::MostlySearches => {
+            let stream = MostlySearches::of_thread(&order, thread);
+            play(rt, file, caller, stream, calls)
+        }
+        _ => {
+            let stream = Mixed::of_thread(&order, thread);
+            play(rt, file, caller, stream, calls)
+        }
+    }
+}
+
+/// Keeps a worker beside the others, or answers that there is no memory for it.
+fn keep<'a>(file: &'a HashFile<NoGate>, workers: &mut Vec<Worker<'a>>, worker: Worker<'a>) -> bool
+    requires others { All (λ worker. worker.promise.0.now ≡ file.now) workers.old.items }
+    requires new { worker.promise.0.now ≡ file.now }
+    ensures { All (λ worker. worker.promise.0.now ≡ file.now) workers.new.items }
+{
+    workers.push(worker).is_ok()
+}
+
+/// Joins the hands of all workers into the first, and adds what they were told.
+fn join_all<R: Threads + Wait>(
+    rt: &R,
+    file: &HashFile<NoGate>,
+    mut all: Caller,
+    workers: Vec<Worker<'_>>,
+) -> Result<Caller>
+    requires first { IsOf file.now.state all.hand }
+    requires others { All (λ worker. worker.promise.0.now ≡ file.now) workers.items }
+    ensures { IfOk result (λ all. IsOf file.now.state all.hand) }
+{
+    for worker in workers {
+        let part = worker.join(rt);
+        all = join_two(file, all, part)?;
+    }
+    Ok(all)
+}
+
+/// Joins a hand into another, and adds what it was told.
+fn join_two(file: &HashFile<NoGate>, all: Caller, part: Caller) -> Result<Caller>
+    requires first { IsOf file.now.state all.hand }
+    requires second { IsOf file.now.state part.hand }
+    ensures { IfOk result (λ all. IsOf file.now.state all.hand) }
+{
+    if part.hand.has_right() {
+        bail!("a thread kept the right to split");
+    }
+    let mut tally = all.tally;
+    tally.add(&part.tally);
+    match file.join_hands(all.hand, part.hand) {
+        Ok(hand) => Ok(Caller {
+            hand,
+            seed: all.seed,
+            tally,
+        }),
+        Err(_) => bail!("no memory"),
+    }
+}
+
+/// Plays the parts of an order in as many threads.
+pub fn play_in_threads<R>(
+    rt: &R,
+    starter: &Starter,
+    file: &HashFile<NoGate>,
+    hand: Hand,
+    order: Order,
+) -> Result<Shift>
+where
+    R: Threads + Wait + Sync + Clock + CpuClock + AllocGlobal,
+    requires { IsOf file.now.state hand }
+    ensures { IfOk result (λ shift. IsOf file.now.state shift.hand) }
+{
+    let alloc = rt.alloc();
+    thread::scope(
+        thread::scope_env(),
+        rt,
+        |scope| -> Result<Shift>
+            requires { IsOf file.now.state hand }
+            ensures { IfOk result (λ shift. IsOf file.entry.now.state shift.hand) }
+        {
+            let mut all = hand;
+            let mut workers = Vec::new(alloc);
+            let mut started = 0;
+            for thread in 0..order.threads {
+                let Ok(part) = file.split_hand(&mut all, 1 << 40) else {
+                    break;
+                };
+                let Ok(worker) = scope.spawn_with(OfFile(file), move || {
+                    work(rt, starter, file, part, order, thread)
+                }) else {
+                    break;
+                };
+                if !keep(file, &mut workers, worker) {
+                    break;
+                }
+                started = thread + 1;
+            }
+            if started == order.threads {
+                starter.await_all(rt, started);
+            }
+            let watch = Stopwatch::start(rt);
+            starter.start();
+            let all = join_all(rt, file, Caller::new(all, order.seed), workers)?;
+            let spent = watch?.stop(rt)?;
+            if started != order.threads {
+                bail!("no memory for {started} threads and one more");
+            }
+            Ok(Shift {
+                hand: all.hand,
+                tally: all.tally,
+                calls: calls_of(order).wrapping_mul(started),
+                spent,
+            })
+        },
+    )
+}

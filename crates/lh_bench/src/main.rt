@@ -1,0 +1,89 @@
+//! The program `lh_bench` measures the running file as a user calls it. It is a contestant of a
+//! benchmark of hash tables: it runs one workload and prints one line, as JSON.
+//!
+//! ```text
+//! lh_bench --workload W3 --threads 4 --records 1000000 --seed 1
+//! ```
+#![tactic(auto)]
+
+mod caller;
+mod crew;
+mod image;
+mod meter;
+mod order;
+mod report;
+mod settling;
+mod starter;
+mod steps;
+mod streams;
+mod tally;
+mod units;
+mod workloads;
+
+use crate::order::{Asked, Order, Workload, read_words};
+use crate::report::{Form, unsupported};
+use anyhow::{Result, bail};
+use std::env;
+use std::process::ExitCode;
+use std::rt::Runtime;
+use std::sync::Wait;
+use std::thread::Threads;
+use std::time::CpuClock;
+
+/// Runs one workload and prints its line.
+fn run_one<R>(rt: &R, order: &Order, form: Form) -> Result<()>
+where
+    R: Runtime + AllocGlobal + CpuClock + Threads + Wait + Sync,
+{
+    if order.threads != 1 && !order.workload.is_shared() {
+        return Ok(unsupported(rt)?);
+    }
+    let outcome = match order.workload {
+        Workload::Inserts => workloads::inserts(rt, order)?,
+        Workload::Searches => workloads::searches(rt, order)?,
+        Workload::MostlySearches => workloads::mostly_searches(rt, order)?,
+        Workload::Mixed => workloads::mixed(rt, order)?,
+        Workload::Image => image::write_and_read(rt, order)?,
+        Workload::Steps => return steps::measure(rt, order),
+        Workload::Settling => return settling::measure(rt, order),
+        Workload::All => return Ok(()),
+    };
+    outcome.print(rt, order, form)?;
+    if !outcome.is_right() {
+        bail!("a reply or a value is not the one due");
+    }
+    Ok(())
+}
+
+fn run<R>(rt: &R) -> Result<u8>
+where
+    R: Runtime + AllocGlobal + CpuClock + Threads + Wait + Sync,
+{
+    let words: Vec<String> = env::args(rt)?.collect(rt.alloc())?;
+    let texts: Vec<&str> = words.iter().map(|word| word.as_str()).collect(rt.alloc())?;
+    let (order, form) = match read_words(rt.alloc(), texts.as_slice()) {
+        Asked::Run(order, form) => (order, form),
+        Asked::Told(error) => {
+            error.print(rt)?;
+            return Ok(if error.use_stderr() { 2 } else { 0 });
+        }
+    };
+    if order.workload != Workload::All {
+        run_one(rt, &order, form)?;
+        return Ok(0);
+    }
+    for workload in Workload::MEASURED {
+        run_one(rt, &Order { workload, ..order }, form)?;
+    }
+    Ok(0)
+}
+
+fn main(rt: HostRuntime) -> ExitCode {
+    match run(&rt) {
+        Ok(status) => ExitCode::from(status),
+        Err(error) => {
+            let _ = eprintln!(rt; "lh_bench: {error}");
+            ExitCode::from(1)
+        }
+    }
+}

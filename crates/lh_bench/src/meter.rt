@@ -1,0 +1,64 @@
+//! Times and memory.
+
+use std::rt::{Clock, Files};
+use std::time::{CpuClock, Duration, Instant};
+use std::{fs, io};
+
+/// Nanoseconds that passed, and that all threads together ran.
+#[derive(Clone, Copy)]
+pub struct Spent {
+    pub wall: u64,
+    pub processor: u64,
+}
+
+impl Spent {
+    pub fn with(self, other: Spent) -> Spent {
+        Spent {
+            wall: self.wall.saturating_add(other.wall),
+            processor: self.processor.saturating_add(other.processor),
+        }
+    }
+}
+
+/// A stopwatch that runs.
+#[derive(Clone, Copy)]
+pub struct Stopwatch {
+    began: Instant,
+    processor: Duration,
+}
+
+fn nanoseconds(duration: Duration) -> u64 {
+    u64::try_from(duration.as_nanos()).unwrap_or(u64::MAX)
+}
+
+impl Stopwatch {
+    pub fn start(rt: &(impl Clock + CpuClock)) -> io::Result<Stopwatch> {
+        Ok(Stopwatch {
+            processor: rt.process_cpu_time()?,
+            began: Instant::now(rt)?,
+        })
+    }
+
+    pub fn stop(self, rt: &(impl Clock + CpuClock)) -> io::Result<Spent> {
+        let wall = self.began.elapsed(rt)?;
+        let processor = rt.process_cpu_time()?;
+        Ok(Spent {
+            wall: nanoseconds(wall),
+            processor: nanoseconds(processor).saturating_sub(nanoseconds(self.processor)),
+        })
+    }
+}
+
+/// The bytes of memory that the process has, or 0 where the system doesn't tell.
+pub fn resident_bytes(rt: &(impl Files + AllocGlobal)) -> u64 {
+    let Ok(text) = fs::read_to_string(rt, "/proc/self/status") else {
+        return 0;
+    };
+    for line in text.as_str().lines() {
+        if let Some(rest) = line.strip_prefix("VmRSS:") {
+            let number = rest.split_whitespace().next().unwrap_or("");
+            return number.parse::<u64>().unwrap_or(0).saturating_mul(1024);
+        }
+    }
+    0
+}

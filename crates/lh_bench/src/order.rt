@@ -1,0 +1,159 @@
+//! The command line.
+
+use crate::report::Form;
+use clap::builder::ValueParser;
+use clap::{Arg, ArgAction, ArgMatches, Command, Error};
+use std::alloc::Global;
+
+/// What is measured.
+#[derive(Clone, Copy, Debug, PartialEq, Eq)]
+pub enum Workload {
+    /// Inserts into an empty file.
+    Inserts,
+    /// Searches for records that are there, in no order.
+    Searches,
+    /// One insert to nineteen searches, in a file that begins empty.
+    MostlySearches,
+    /// Two searches to one insert and one delete, each of a key that is there or not.
+    Mixed,
+    /// A file written as an image, read back and searched.
+    Image,
+    /// The single atomic steps of a file's words.
+    Steps,
+    /// The settling of a file's acts.
+    Settling,
+    /// The first five, one after another.
+    All,
+}
+
+impl Workload {
+    pub const MEASURED: [Workload; 5] = [
+        Workload::Inserts,
+        Workload::Searches,
+        Workload::MostlySearches,
+        Workload::Mixed,
+        Workload::Image,
+    ];
+
+    /// The word that asks for it.
+    pub fn word(self) -> &'static str {
+        match self {
+            Workload::Inserts => "W1",
+            Workload::Searches => "W2",
+            Workload::MostlySearches => "W3",
+            Workload::Mixed => "W4",
+            Workload::Image => "W5",
+            Workload::Steps => "steps",
+            Workload::Settling => "settle",
+            Workload::All => "all",
+        }
+    }
+
+    fn of_word(word: &str) -> Workload {
+        match word {
+            "W1" => Workload::Inserts,
+            "W2" => Workload::Searches,
+            "W3" => Workload::MostlySearches,
+            "W4" => Workload::Mixed,
+            "W5" => Workload::Image,
+            "steps" => Workload::Steps,
+            "settle" => Workload::Settling,
+            _ => Workload::All,
+        }
+    }
+
+    /// Whether more threads than one may run it.
+    pub fn is_shared(self) -> bool {
+        matches!(
+            self,
+            Workload::MostlySearches | Workload::Mixed | Workload::Steps | Workload::All
+        )
+    }
+}
+
+/// What is to be run.
+#[derive(Clone, Copy)]
+pub struct Order {
+    pub workload: Workload,
+    pub threads: u64,
+    pub records: u64,
+    pub seed: u64,
+}
+
+/// What the words ask for.
+#[derive(Drop)]
+pub enum Asked {
+    Run(Order, Form),
+    /// Help, or words that are refused.
+    Told(Error),
+}
+
+const WORDS: [&str; 8] = ["W1", "W2", "W3", "W4", "W5", "steps", "settle", "all"];
+
+fn number<'a>(
+    alloc: Global,
+    name: &'a str,
+    help: &'a str,
+    default: &'a str,
+    parser: ValueParser<'a>,
+) -> Arg<'a> {
+    Arg::new(alloc, name)
+        .long(name)
+        .help(help)
+        .action(ArgAction::Set)
+        .value_parser(parser)
+        .default_value(default)
+}
+
+fn command<'a>(alloc: Global) -> Result<Command<'a>, Error> {
+    let workload = Arg::new(alloc, "workload")
+        .long("workload")
+        .help("What to measure")
+        .required(true)
+        .action(ArgAction::Set)
+        .value_parser(ValueParser::Names(&WORDS));
+    let counts = Arg::new(alloc, "counts")
+        .long("counts")
+        .help("Print what is the same in every run, and times on standard error")
+        .action(ArgAction::SetTrue);
+    let threads = ValueParser::Unsigned(1, 64);
+    let records = ValueParser::Unsigned(1, 1_000_000_000);
+    let seed = ValueParser::Unsigned(0, u64::MAX);
+    Ok(
+        Command::new(alloc, "lh_bench")
+            .about("Measures a linear hash file that threads share")
+            .arg(workload)?
+            .arg(number(alloc, "threads", "Threads", "1", threads))?
+            .arg(number(alloc, "records", "Records", "1000", records))?
+            .arg(number(alloc, "seed", "Seed of the streams", "1", seed))?
+            .arg(counts)?,
+    )
+}
+
+fn order_of(matches: &ArgMatches<'_>) -> Order {
+    Order {
+        workload: Workload::of_word(matches.get_str("workload").unwrap_or("all")),
+        threads: matches.get_one("threads").unwrap_or(1),
+        records: matches.get_one("records").unwrap_or(1),
+        seed: matches.get_one("seed").unwrap_or(1),
+    }
+}
+
+/// What the words ask for, of which the first is the program's name.
+pub fn read_words<'a>(alloc: Global, words: &'a [&'a str]) -> Asked {
+    let command = match command(alloc) {
+        Ok(command) => command,
+        Err(error) => return Asked::Told(error),
+    };
+    match command.try_get_matches_from(words) {
+        Ok(matches) => {
+            let form = if matches.get_flag("counts") {
+                Form::Counts
+            } else {
+                Form::Line
+            };
+            Asked::Run(order_of(&matches), form)
+        }
+        Err(error) => Asked::Told(error),
+    }
+}

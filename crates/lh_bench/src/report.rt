@@ -1,0 +1,107 @@
+//! The line that a run prints.
+
+use crate::meter::Spent;
+use crate::order::Order;
+use crate::tally::Tally;
+use crate::units::Seconds;
+use std::io;
+
+/// Whether times stand in the line.
+#[derive(Clone, Copy)]
+pub enum Form {
+    /// The whole line.
+    Line,
+    /// What is the same in every run; times go to standard error.
+    Counts,
+}
+
+/// What came of a workload.
+#[derive(Clone, Copy)]
+pub struct Outcome {
+    pub calls: u64,
+    pub spent: Spent,
+    pub tally: Tally,
+    /// Nanoseconds that it took to write the file, and to read and search it.
+    pub write: u64,
+    pub read: u64,
+    pub resident_bytes: u64,
+    pub file_bytes: u64,
+    /// Whether there were as many replies of each kind as are due.
+    pub is_due: bool,
+}
+
+impl Outcome {
+    pub fn new(calls: u64, spent: Spent, tally: Tally, is_due: bool) -> Outcome {
+        Outcome {
+            calls,
+            spent,
+            tally,
+            write: 0,
+            read: 0,
+            resident_bytes: 0,
+            file_bytes: 0,
+            is_due,
+        }
+    }
+
+    pub fn is_right(&self) -> bool {
+        self.is_due && self.tally.wrong == 0
+    }
+
+    pub fn print<R: Print + Eprint>(&self, rt: &R, order: &Order, form: Form) -> io::Result<()> {
+        let (records, seed, threads) = (order.records, order.seed, order.threads);
+        let workload = order.workload.word();
+        print!(rt;
+            "{{\"workload\":\"{workload}\",\"threads\":{threads},\"records\":{records},\"seed\":{seed}"
+        )?;
+        let calls = self.calls;
+        print!(rt; ",\"ops\":{calls}")?;
+        if let Form::Line = form {
+            self.print_times(rt)?;
+        }
+        self.print_counts(rt)?;
+        let digest = self.tally.digest;
+        if threads == 1 {
+            print!(rt; ",\"digest\":\"{digest:016x}\"")?;
+        } else {
+            print!(rt; ",\"digest\":\"-\"")?;
+        }
+        let check = if self.is_right() { "ok" } else { "WRONG" };
+        println!(rt; ",\"check\":\"{check}\"}}")?;
+        match form {
+            Form::Line => Ok(()),
+            Form::Counts => self.print_times_apart(rt),
+        }
+    }
+
+    fn print_counts(&self, rt: &impl Print) -> io::Result<()> {
+        let tally = &self.tally;
+        let (found, absent) = (tally.found, tally.absent);
+        let (inserted, exists, deleted) = (tally.inserted, tally.exists, tally.deleted);
+        print!(rt; ",\"found\":{found},\"absent\":{absent},\"inserted\":{inserted}")?;
+        print!(rt; ",\"exists\":{exists},\"deleted\":{deleted}")
+    }
+
+    fn print_times(&self, rt: &impl Print) -> io::Result<()> {
+        let seconds = Seconds(self.spent.wall);
+        let processor = Seconds(self.spent.processor);
+        let speed = self.calls.saturating_mul(1_000_000_000) / self.spent.wall.max(1);
+        print!(rt; ",\"seconds\":{seconds},\"cpu_s\":{processor},\"ops_per_s\":{speed}")?;
+        let (write, read) = (Seconds(self.write), Seconds(self.read));
+        let (memory, file) = (self.resident_bytes, self.file_bytes);
+        print!(rt;
+            ",\"rss_bytes\":{memory},\"write_s\":{write},\"read_s\":{read},\"file_bytes\":{file}"
+        )
+    }
+
+    fn print_times_apart(&self, rt: &impl Eprint) -> io::Result<()> {
+        let seconds = Seconds(self.spent.wall);
+        let processor = Seconds(self.spent.processor);
+        eprintln!(rt; "{seconds} s, {processor} s of processor time")
+    }
+}
+
+/// The line of a workload that can't be run so.
+pub fn unsupported(rt: &impl Print) -> io::Result<()> {
+    println!(rt; "{{\"check\":\"unsupported\"}}")
+}

@@ -1,0 +1,80 @@
+//! What the replies were.
+
+use lh_bucket::Reply;
+
+const OFFSET_BASIS: u64 = 0xcbf2_9ce4_8422_2325;
+
+const PRIME: u64 = 0x100_0000_01b3;
+
+/// How many replies of each kind there were, how many that were not due, and a digest of their row.
+#[derive(Clone, Copy)]
+pub struct Tally {
+    pub found: u64,
+    pub absent: u64,
+    pub inserted: u64,
+    pub exists: u64,
+    pub deleted: u64,
+    pub wrong: u64,
+    pub digest: u64,
+}
+
+fn count(number: &mut u64) {
+    *number = number.wrapping_add(1);
+}
+
+impl Tally {
+    pub fn new() -> Tally {
+        Tally {
+            found: 0,
+            absent: 0,
+            inserted: 0,
+            exists: 0,
+            deleted: 0,
+            wrong: 0,
+            digest: OFFSET_BASIS,
+        }
+    }
+
+    /// Notes a reply.
+    pub fn note(&mut self, reply: &Reply) {
+        let code = match reply {
+            Reply::Found(_) => {
+                count(&mut self.found);
+                1
+            }
+            Reply::Absent => {
+                count(&mut self.absent);
+                2
+            }
+            Reply::Inserted => {
+                count(&mut self.inserted);
+                3
+            }
+            Reply::Exists => {
+                count(&mut self.exists);
+                4
+            }
+            Reply::Deleted => {
+                count(&mut self.deleted);
+                5
+            }
+        };
+        self.digest = (self.digest ^ code).wrapping_mul(PRIME);
+    }
+
+    /// Notes a reply or a value that was not due.
+    pub fn note_wrong(&mut self) {
+        count(&mut self.wrong);
+    }
+
+    /// Adds what another thread was told; the digest is then that of the other.
+    pub fn add(&mut self, other: &Tally) {
+        self.found = self.found.wrapping_add(other.found);
+        self.absent = self.absent.wrapping_add(other.absent);
+        self.inserted = self.inserted.wrapping_add(other.inserted);
+        self.exists = self.exists.wrapping_add(other.exists);
+        self.deleted = self.deleted.wrapping_add(other.deleted);
+        self.wrong = self.wrong.wrapping_add(other.wrong);
+        self.digest = other.digest;
+    }
+}
