@@ -1,0 +1,5 @@
+use Rattle.lh_file.specs.FileState.{IsOf}
+use Rattle.use_alone.proofs.fill.Given as goal
+
+abbrev pub invariant-loop-name : goal.invariant-loop-name
+invariant-loop-name g l = IsOf l.file.state l.hand
