@@ -68,8 +68,8 @@ impl From<SettleFault> for DriveFault {
 /// Runs calls in threads on an empty file of this configuration, and settles what they did. The call
 /// at place `j` is made by thread `j % threads`, and each thread makes its calls in their order.
 ///
-/// The history that is settled decides the totals. Which one it is depends on how the threads' calls
-/// fall together; of calls on different keys, or of the same thread, the replies don't.
+/// The totals are those of the history that is settled. Which one it is depends on how the threads'
+/// calls fall together; where all calls on each key go to one thread, the replies don't.
 ///
 /// If a thread can't be started, or a call isn't answered, all threads that run are waited for, and
 /// the fault is answered.

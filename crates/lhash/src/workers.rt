@@ -34,6 +34,7 @@ fn make<G: Gate, R: Wait>(
     call: &Call,
 ) -> Result<Answer, FileFault>
     requires { IsOf file.now.state hand.old }
+    ensures call { IfOk result (λ answer. answer.call ≡ call.now) }
     ensures of { IsOf file.now.state hand.new }
     ensures right { hand.new.view.has_right ≡ hand.old.view.has_right }
 {

@@ -2,10 +2,11 @@
 use super::{fails, writes};
 use crate::status::Status;
 use crate::unsettled::Unsettled;
+use crate::workers::work_in_threads;
 use crate::{Driven, drive_with};
 use lh_addr::Config;
-use lh_bucket::Call;
-use lh_file::{Gate, Point};
+use lh_bucket::{Call, Reply};
+use lh_file::{Gate, HashFile, NoGate, Point};
 use lh_page::{Key, Value};
 use std::alloc::{AllocError, Global};
 use std::process::Abort;
@@ -151,6 +152,19 @@ fn nine_calls_hold_nine_buckets(rt: HostRuntime) -> Result<(), Fail> {
     };
     assert_eq!(rt; driven, Ok(totals));
     assert_eq!(rt; gate.late.load(Ordering::SeqCst), 0);
+    Ok(())
+}
+
+#[test]
+fn a_value_outlives_the_thread_that_wrote_it(rt: HostRuntime) -> Result<(), Fail> {
+    let config = Config::new(1, 14, 100, 65536)?;
+    let (file, mut first) = HashFile::create(rt.alloc(), config, true, NoGate)?;
+    let mut other = file.split_hand(&mut first, 1)?;
+    let calls = inserts_of(rt.alloc(), b"a")?;
+    let joined = work_in_threads(&rt, rt.alloc(), &file, first, calls.as_slice(), 1);
+    assert!(rt; joined.is_ok());
+    let answer = file.search(&rt, &mut other, Key::new(b"a")?)?;
+    assert_eq!(rt; answer.reply(), Reply::Found(Value::new(b"1")?));
     Ok(())
 }
 
