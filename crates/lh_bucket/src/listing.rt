@@ -1,6 +1,7 @@
 //! Listings: whole files as lists of records.
 ghost use Rattle.std.specs.Prelude.{◌≡◌, ℕ, ◌+◌, ◌-◌, ◌^◌, ◌<◌, ◌≤◌, [], ◌∷◌, length, map, min, replicate, slice_get, Some, IsOk, IfOk, IfErr, IfSome, IfNone, MatchOption};
 ghost use Rattle.lh_addr.specs.Growth.{address};
+ghost use Rattle.std.specs.Bool.{OnTrue, OnFalse};
 ghost use Rattle.std.specs.List.{All};
 ghost use Rattle.lh_page.specs.Records.{key_at, IsRecord};
 ghost use Rattle.lh_bucket.specs.Listing.{IsHome, IsAway, IsNew, IsAgain, EachPlace, IsFirst, list_at};
@@ -67,6 +68,38 @@ fn away_in(root: &Root, bucket: u32, pairs: &[Pair]) -> Option<usize>
     None
 }
 
+/// Lists of so many records at most are searched record by record, which takes no memory.
+const FEW: usize = 32;
+
+/// Whether the key at a place stands before it too.
+fn stands_before(pairs: &[Pair], place: usize) -> bool
+    requires { place < length pairs.now }
+    ensures again { OnTrue result (IsAgain 0 pairs.now place) }
+    ensures new { OnFalse result (IsNew 0 pairs.now place) }
+{
+    for earlier in 0..place {
+        if pairs[earlier].key == pairs[place].key {
+            return true;
+        }
+    }
+    false
+}
+
+/// The place of the first record whose key stands before it too, in a list that is not long.
+fn again_among(pairs: &[Pair]) -> Option<usize>
+    ensures none { IfNone result ((p : ℕ) → p < length pairs.now → IsNew 0 pairs.now p) }
+    ensures within { IfSome result (λ place. place < length pairs.now) }
+    ensures again { IfSome result (λ place. IsAgain 0 pairs.now place) }
+    ensures before { IfSome result (λ place. (p : ℕ) → p < place → IsNew 0 pairs.now p) }
+{
+    for place in 0..pairs.len() {
+        if stands_before(pairs, place) {
+            return Some(place);
+        }
+    }
+    None
+}
+
 /// The place of the first record whose key stands before it too.
 fn again_in(alloc: Global, pairs: &[Pair]) -> Result<Option<usize>, Memory>
     ensures none { IfOk result (λ r. IfNone r ((p : ℕ) → p < length pairs.now → IsNew 0 pairs.now p)) }
@@ -74,6 +107,9 @@ fn again_in(alloc: Global, pairs: &[Pair]) -> Result<Option<usize>, Memory>
     ensures again { IfOk result (λ r. IfSome r (λ place. IsAgain 0 pairs.now place)) }
     ensures before { IfOk result (λ r. IfSome r (λ place. (p : ℕ) → p < place → IsNew 0 pairs.now p)) }
 {
+    if pairs.len() <= FEW {
+        return Ok(again_among(pairs));
+    }
     let mut seen = BTreeSet::new(alloc);
     for (place, pair) in pairs.iter().enumerate() {
         if !seen.insert(pair.key)? {

@@ -47,4 +47,5 @@ pub mod Slots
 pub mod Judging
 pub mod Last
 pub mod Closing
+pub mod AtHome
 pub mod Refusals

@@ -69,12 +69,14 @@ pub(crate) fn listing_of_pages(
     faults.of_heads(header.records)?;
     let chains = chains_of(alloc, header, table)?;
     faults.of_slots()?;
-    if let Some(page) = least_misfit(alloc, &root_of(header), table, &chains)? {
-        return Err(ImageFault::Misfit(page));
-    }
     let lists = lists_of(alloc, table, &chains)?;
-    match Listing::new(alloc, header.config, header.buckets, lists) {
-        Ok(listing) => Ok(listing),
-        Err(fault) => Err(refusal_of(fault)),
+    let refused = match Listing::new(alloc, header.config, header.buckets, lists) {
+        Ok(listing) => return Ok(listing),
+        Err(refused) => refused,
+    };
+    // The lists have no fault where the records have none; of those that have one the least page is told.
+    match least_misfit(alloc, &root_of(header), table, &chains)? {
+        Some(page) => Err(ImageFault::Misfit(page)),
+        None => Err(refusal_of(refused)),
     }
 }

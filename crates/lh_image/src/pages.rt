@@ -25,9 +25,10 @@ pub(crate) fn root_of(header: &Header) -> Root
     }
 }
 
-/// Reads one page more, keeps its records, and looks at it by itself.
+/// Reads one page more into these bytes, keeps its records, and looks at it by itself.
 fn read_page<R: Read>(
     reader: &mut R,
+    bytes: &mut [u8; 1024],
     header: &Header,
     root: &Root,
     page: u32,
@@ -43,12 +44,11 @@ fn read_page<R: Read>(
     ensures sum { OnOk result (faults.new.sum ≤ faults.old.sum + 255) }
     ensures read { (bytes : List ℕ) → R.remaining reader.old ≡ Some (drop (1024 * page) bytes) → HaveCome bytes header.now page table.old.entries.items table.old.pairs.items faults.old → ReadsTo bytes header.now (page + 1) result table.new.entries.items table.new.pairs.items faults.new (R.remaining reader.new) }
 {
-    let mut bytes = [0; 1024];
-    if read_into(reader, &mut bytes)? < 1024 {
+    if read_into(reader, bytes)? < 1024 {
         return Err(ImageFault::Short);
     }
-    let head = page_head(&bytes);
-    let has_bad_slot = table.push(&head, &bytes, header.config.capacity())?;
+    let head = page_head(bytes);
+    let has_bad_slot = table.push(&head, bytes, header.config.capacity())?;
     faults.see(header, root, page, &head, has_bad_slot);
     Ok(())
 }
@@ -67,8 +67,17 @@ pub(crate) fn read_pages<R: Read>(
     let root = root_of(header);
     let mut table = Table::new(alloc)?;
     let mut faults = PageFaults::new();
+    let mut bytes = [0; 1024];
     for page in 1..header.pages {
-        read_page(reader, header, &root, page, &mut table, &mut faults)?;
+        read_page(
+            reader,
+            &mut bytes,
+            header,
+            &root,
+            page,
+            &mut table,
+            &mut faults,
+        )?;
     }
     Ok((table, faults))
 }

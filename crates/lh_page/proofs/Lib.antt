@@ -11,3 +11,4 @@ pub mod SlotText
 pub mod ShownPages
 pub mod PageText
 pub mod Words
+pub mod Zeros

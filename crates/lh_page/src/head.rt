@@ -41,9 +41,13 @@ pub fn page_head(bytes: &[u8; 1024]) -> PageHead
     }
 }
 
-/// Whether every byte is zero.
+/// Whether every byte is zero. No byte ends the loop, so many are compared at once.
 pub(crate) fn is_zero(bytes: &[u8]) -> bool
     ensures { result ≡ all_zero bytes.now }
 {
-    bytes.iter().all(|byte| *byte == 0)
+    let mut zero = true;
+    for byte in bytes {
+        zero &= *byte == 0;
+    }
+    zero
 }

@@ -69,6 +69,10 @@ fn first_filled(bytes: &[u8; 1024], used: usize) -> Option<usize>
     ensures found { IfSome result (λ place. FirstFilled bytes.now used place) }
     ensures absent { IfNone result (UnusedAreZero bytes.now used LARGEST_PAGE) }
 {
+    // Of a sound page nothing is filled, which one look at all of its unused slots shows.
+    if is_zero(&bytes[16 + 72 * used..]) {
+        return None;
+    }
     for place in used..LARGEST_PAGE {
         if !is_zero(slot_at(bytes, place)) {
             return Some(place);
