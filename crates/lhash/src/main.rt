@@ -37,11 +37,14 @@ use program::refuse;
 pub use program::run;
 use status::Status;
 use std::env;
-use std::io::{ErrorKind, Read, Write};
+use std::io::{BufReader, ErrorKind, Read, Write};
 use std::process::ExitCode;
 use std::rt::Runtime;
 use std::sync::Wait;
 use std::thread::Threads;
+
+/// The most bytes that one read of the process's input is asked for.
+const READ_AHEAD: usize = 65_536;
 
 /// The words that the process was started with, or how the run ends without them.
 fn process_words(rt: &(impl Runtime + AllocGlobal)) -> Result<Vec<String>, Status> {
@@ -52,10 +55,11 @@ fn process_words(rt: &(impl Runtime + AllocGlobal)) -> Result<Vec<String>, Statu
     }
 }
 
-/// Runs on the words of the process, with this input and output.
-fn run_process<A: Runtime + AllocGlobal + Threads + Wait + Sync, R: Read, W: Write>(
+/// Runs on the words of the process, with this input and output. Nothing is read before it is asked for;
+/// then as much as comes is read at once, and given in the pieces that are asked for.
+fn run_process<A: Runtime + AllocGlobal + Threads + Wait + Sync, R: Read + Drop, W: Write>(
     rt: &A,
-    reader: &mut R,
+    reader: R,
     writer: &mut W,
 ) -> Status {
     let words = match process_words(rt) {
@@ -63,14 +67,15 @@ fn run_process<A: Runtime + AllocGlobal + Threads + Wait + Sync, R: Read, W: Wri
         Err(status) => return status,
     };
     let texts: Result<Vec<&str>, _> = words.iter().map(|word| word.as_str()).collect(rt.alloc());
-    match texts {
-        Ok(texts) => run(rt, texts.as_slice(), reader, writer),
-        Err(_) => Status::Memory,
+    let input = BufReader::with_capacity(rt.alloc(), READ_AHEAD, reader);
+    match (texts, input) {
+        (Ok(texts), Ok(mut input)) => run(rt, texts.as_slice(), &mut input, writer),
+        _ => Status::Memory,
     }
 }
 
 fn main(rt: HostRuntime) -> ExitCode {
-    let status = run_process(&rt, &mut rt.stdin(), &mut rt.stdout());
+    let status = run_process(&rt, rt.stdin(), &mut rt.stdout());
     let code = status.code();
     if code != 0 {
         let _ = eprintln!(rt; "lhash: {status}");

@@ -5,6 +5,7 @@ use std::process::Abort;
 use std::test::Fail;
 
 mod drive;
+mod images;
 mod steps;
 
 /// Bytes that are read so many at a time, and a read that fails.
