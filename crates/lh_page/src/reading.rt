@@ -1,5 +1,5 @@
 //! Reading a page from bytes.
-ghost use Rattle.std.specs.Prelude.{◌≡◌, ◌<◌, ◌≤◌, IfOk, IfSome, IfNone, option_map, length};
+ghost use Rattle.std.specs.Prelude.{◌≡◌, ◌<◌, ◌≤◌, [], IfOk, OnOk, IfSome, IfNone, option_map, length};
 ghost use Rattle.std.specs.Result.{result_err};
 ghost use Rattle.lh_page.specs.Limits.{IsCapacity};
 ghost use Rattle.lh_page.specs.PageFields.{page_of, pairs_of, used_of, bad_slot, fault_of, FirstFilled, UnusedAreZero};
@@ -33,24 +33,26 @@ pub fn page_from_bytes(bytes: &[u8; 1024], capacity: u32) -> Result<Page, PageFa
     if head.used as u32 > capacity {
         return Err(PageFault::Used);
     }
-    let pairs = read_pairs(bytes, head.used as usize)?;
-    Ok(Page {
+    let mut page = Page {
         kind,
         level: head.level,
         bucket: head.bucket,
         next: head.next,
-        pairs,
-    })
+        pairs: Pairs::new(),
+    };
+    read_pairs(bytes, head.used as usize, &mut page.pairs)?;
+    Ok(page)
 }
 
-/// The records in the used slots, or the first faulty slot of all.
-fn read_pairs(bytes: &[u8; 1024], used: usize) -> Result<Pairs, PageFault>
+/// Appends the records in the used slots to none, or tells the first faulty slot of all. They are put where
+/// they stay, since a page is long to move.
+fn read_pairs(bytes: &[u8; 1024], used: usize, pairs: &mut Pairs) -> Result<(), PageFault>
     requires few { used ≤ LARGEST_PAGE }
     requires used { used ≡ used_of bytes.now }
-    ensures pairs { IfOk result (λ pairs. pairs ≡ pairs_of bytes.now) }
+    requires empty { pairs.old ≡ [] }
+    ensures pairs { OnOk result (pairs.new ≡ pairs_of bytes.now) }
     ensures fault { result_err result ≡ option_map PageFault.Slot (bad_slot bytes.now) }
 {
-    let mut pairs = Pairs::new();
     for place in 0..used {
         match read_slot(slot_at(bytes, place)) {
             Some(pair) => pairs.push(pair),
@@ -59,7 +61,7 @@ fn read_pairs(bytes: &[u8; 1024], used: usize) -> Result<Pairs, PageFault>
     }
     match first_filled(bytes, used) {
         Some(place) => Err(PageFault::Slot(place)),
-        None => Ok(pairs),
+        None => Ok(()),
     }
 }
 
