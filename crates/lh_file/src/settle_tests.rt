@@ -80,17 +80,18 @@ fn inserts(alloc: Global, stamps: &[u64]) -> Result<Acts, Fail> {
     Ok(Acts::new(lines))
 }
 
-/// Settles a file that began without records.
+/// How many acts of a file that began without records are settled, or why they aren't.
 pub(crate) fn settled(
     alloc: Global,
     closed: &Closed,
     acts: &Acts,
-) -> Result<Result<History, SettleFault>, Fail> {
+) -> Result<Result<usize, SettleFault>, Fail> {
     let opening = opening(alloc, &[&[]])?;
-    Ok(settle(alloc, &opening, closed, acts))
+    Ok(settle(alloc, &opening, closed, acts).map(|history| history.len()))
 }
 
-/// The first fault of a file of one bucket with these stamp word, records and stamps of inserts.
+/// The first fault of a closed file with these root and stamp words and records, and inserts with these
+/// stamps.
 pub(crate) fn fault_of(
     alloc: Global,
     root: u64,
@@ -102,50 +103,86 @@ pub(crate) fn fault_of(
     Ok(settled(alloc, &closed, &inserts(alloc, stamps)?)?.err())
 }
 
+/// The history of inserts with these stamps, in a closed file that is settled.
+pub(crate) fn history_of(
+    alloc: Global,
+    root: u64,
+    lists: &[&[(u8, u8)]],
+    stamps: &[u64],
+) -> Result<History, Fail> {
+    let closed = closed(alloc, root, stamps.len() as u64, lists)?;
+    let opening = opening(alloc, &[&[]])?;
+    let acts = inserts(alloc, stamps)?;
+    Ok(
+        settle(alloc, &opening, &closed, &acts)
+            .ok()
+            .ok_or("not settled")?,
+    )
+}
+
 pub(crate) const AE: &[(u8, u8)] = &[(b'a', b'a'), (b'e', b'e')];
 
 pub(crate) const BD: &[(u8, u8)] = &[(b'b', b'b'), (b'd', b'd')];
 
 pub(crate) const C: &[(u8, u8)] = &[(b'c', b'c')];
 
+/// Whether an act is the insert that has this stamp.
+fn is_insert(line: &ActLine, stamp: usize) -> Result<bool, Fail> {
+    let byte = b'a' + (stamp % 26) as u8;
+    let call = Call::Insert(key(byte)?, value(byte)?);
+    Ok(*line == act(stamp as u64, call, Reply::Inserted))
+}
+
 #[test]
 fn acts_are_settled_in_the_order_of_their_stamps(rt: HostRuntime) -> Result<(), Fail> {
-    let alloc = rt.alloc();
-    let closed = closed(alloc, 6, 5, &[AE, BD, C, &[]])?;
-    let acts = inserts(alloc, &[3, 0, 4, 2, 1])?;
-    let history = settled(alloc, &closed, &acts)?.ok().ok_or("not settled")?;
+    let history = history_of(rt.alloc(), 6, &[AE, BD, C, &[]], &[3, 0, 4, 2, 1])?;
     assert_eq!(rt; history.len(), 5);
     for stamp in 0..history.len() {
-        let line = history.at(stamp);
-        assert_eq!(rt; line.stamp, stamp as u64);
-        let byte = b'a' + (stamp % 26) as u8;
-        assert_eq!(rt; line.call, Call::Insert(key(byte)?, value(byte)?));
+        assert!(rt; is_insert(&history.at(stamp), stamp)?);
     }
-    assert_eq!(rt; acts.len(), 5);
-    assert!(rt; acts.len() > 0);
-    assert_eq!(rt; acts.at(0).stamp, 3);
     Ok(())
 }
 
 #[test]
+fn acts_stand_as_they_were_kept(rt: HostRuntime) -> Result<(), Fail> {
+    let acts = inserts(rt.alloc(), &[3, 0, 4, 2, 1])?;
+    assert_eq!(rt; acts.len(), 5);
+    assert!(rt; acts.len() > 0 && is_insert(&acts.at(0), 3)?);
+    Ok(())
+}
+
+const ORDERS: [[u64; 4]; 24] = [
+    [0, 1, 2, 3],
+    [0, 1, 3, 2],
+    [0, 2, 1, 3],
+    [0, 2, 3, 1],
+    [0, 3, 1, 2],
+    [0, 3, 2, 1],
+    [1, 0, 2, 3],
+    [1, 0, 3, 2],
+    [1, 2, 0, 3],
+    [1, 2, 3, 0],
+    [1, 3, 0, 2],
+    [1, 3, 2, 0],
+    [2, 0, 1, 3],
+    [2, 0, 3, 1],
+    [2, 1, 0, 3],
+    [2, 1, 3, 0],
+    [2, 3, 0, 1],
+    [2, 3, 1, 0],
+    [3, 0, 1, 2],
+    [3, 0, 2, 1],
+    [3, 1, 0, 2],
+    [3, 1, 2, 0],
+    [3, 2, 0, 1],
+    [3, 2, 1, 0],
+];
+
+#[test]
 fn every_order_of_acts_is_settled(rt: HostRuntime) -> Result<(), Fail> {
-    let alloc = rt.alloc();
-    let closed = closed(alloc, 6, 4, &[&[(b'a', b'a')], BD, C])?;
-    for first in 0..4_u64 {
-        for second in 0..4_u64 {
-            for third in 0..4_u64 {
-                if first != second
-                    && second != third
-                    && first != third
-                    && first + second + third <= 6
-                {
-                    let last = 6 - first - second - third;
-                    let acts = inserts(alloc, &[first, second, third, last])?;
-                    let history = settled(alloc, &closed, &acts)?;
-                    assert_eq!(rt; history.ok().ok_or("not settled")?.len(), 4);
-                }
-            }
-        }
+    for order in &ORDERS {
+        let history = history_of(rt.alloc(), 6, &[&[(b'a', b'a')], BD, C], order)?;
+        assert_eq!(rt; history.len(), 4);
     }
     Ok(())
 }
@@ -164,52 +201,74 @@ fn mixed(alloc: Global) -> Result<Acts, Fail> {
     Ok(Acts::new(lines))
 }
 
+/// How many of those acts are settled, in a file that was opened with a list of records and closed with
+/// another, or why they aren't.
+fn mixed_settled(
+    alloc: Global,
+    opened: &[(u8, u8)],
+    left: &[(u8, u8)],
+) -> Result<Result<usize, SettleFault>, Fail> {
+    let opening = opening(alloc, &[opened])?;
+    let closed = closed(alloc, 2, 6, &[left])?;
+    let acts = mixed(alloc)?;
+    Ok(settle(alloc, &opening, &closed, &acts).map(|history| history.len()))
+}
+
 #[test]
 fn a_history_begins_with_the_opening(rt: HostRuntime) -> Result<(), Fail> {
     let alloc = rt.alloc();
-    let opening = opening(alloc, &[&[(b'a', b'1')]])?;
-    let right = closed(alloc, 2, 6, &[&[(b'a', b'2')]])?;
-    let history = settle(alloc, &opening, &right, &mixed(alloc)?);
-    assert_eq!(rt; history.ok().ok_or("not settled")?.len(), 6);
-    let wrong = closed(alloc, 2, 6, &[&[(b'a', b'1')]])?;
-    let fault = settle(alloc, &opening, &wrong, &mixed(alloc)?).err();
-    assert_eq!(rt; fault, Some(SettleFault::Content(key(b'a')?)));
-    let fault = settled(alloc, &right, &mixed(alloc)?)?.err();
+    let stray = SettleFault::Content(key(b'a')?);
     let given = Reply::Found(value(b'1')?);
+    let due = Reply::Absent;
+    let wrong = SettleFault::Reply {
+        stamp: 0,
+        given,
+        due,
+    };
     assert_eq!(rt;
-        fault,
-        Some(SettleFault::Reply {
-            stamp: 0,
-            given,
-            due: Reply::Absent
-        })
+        mixed_settled(alloc, &[(b'a', b'1')], &[(b'a', b'2')])?,
+        Ok(6)
     );
+    assert_eq!(rt;
+        mixed_settled(alloc, &[(b'a', b'1')], &[(b'a', b'1')])?,
+        Err(stray)
+    );
+    assert_eq!(rt; mixed_settled(alloc, &[], &[(b'a', b'2')])?, Err(wrong));
     Ok(())
 }
 
 #[test]
 fn a_closed_file_tells_what_it_has(rt: HostRuntime) -> Result<(), Fail> {
-    let alloc = rt.alloc();
-    let file = closed(alloc, 7, 9, &[AE, BD, C, &[]])?;
-    assert_eq!(rt; file.buckets(), 3);
+    let file = closed(rt.alloc(), 7, 9, &[AE, BD, C, &[]])?;
+    assert_eq!(rt; (file.buckets(), file.stamps(), file.records()), (3, 9, 5));
     assert!(rt; file.split_open());
-    assert_eq!(rt; file.stamps(), 9);
-    assert_eq!(rt; file.records(), 5);
-    assert!(rt; !closed(alloc, 6, 9, &[])?.split_open());
-    let listing = file.listing(alloc)?;
-    assert_eq!(rt; listing.buckets(), 3);
-    assert_eq!(rt; listing.len(), 5);
+    assert!(rt; !closed(rt.alloc(), 6, 9, &[])?.split_open());
+    Ok(())
+}
+
+/// The listing of a closed file of three buckets with these records.
+fn listing_of(alloc: Global, lists: &[&[(u8, u8)]]) -> Result<Result<Listing, ListingFault>, Fail> {
+    Ok(closed(alloc, 6, 0, lists)?.listing(alloc))
+}
+
+#[test]
+fn a_closed_file_has_a_listing(rt: HostRuntime) -> Result<(), Fail> {
+    let listing = listing_of(rt.alloc(), &[AE, BD, C, &[]])??;
+    assert_eq!(rt; (listing.buckets(), listing.len()), (3, 5));
     assert_eq!(rt; listing.config(), config()?);
-    let few = closed(alloc, 6, 0, &[AE, BD])?.listing(alloc).err();
+    Ok(())
+}
+
+#[test]
+fn a_closed_file_tells_the_fault_of_its_listing(rt: HostRuntime) -> Result<(), Fail> {
+    let few = listing_of(rt.alloc(), &[AE, BD])?.err();
     assert_eq!(rt; few, Some(ListingFault::Shape));
-    let away = closed(alloc, 6, 0, &[AE, C, BD])?.listing(alloc).err();
-    assert_eq!(rt;
-        away,
-        Some(ListingFault::Misplaced {
-            bucket: 1,
-            place: 0
-        })
-    );
+    let away = listing_of(rt.alloc(), &[AE, C, BD])?.err();
+    let misplaced = ListingFault::Misplaced {
+        bucket: 1,
+        place: 0,
+    };
+    assert_eq!(rt; away, Some(misplaced));
     Ok(())
 }
 
@@ -219,14 +278,19 @@ fn refused_growth_is_told(rt: HostRuntime) -> Result<(), Fail> {
     let alloc = rt.alloc();
     let file = closed(alloc, 6, 5, &[AE, BD, C])?;
     let acts = inserts(alloc, &[3, 0, 4, 2, 1])?;
-    let opening = opening(alloc, &[&[]])?;
-    let history = match settle(alloc, &opening, &file, &acts) {
-        Err(SettleFault::Memory) => settle(alloc, &opening, &file, &acts),
+    let settled = match settled(alloc, &file, &acts)? {
+        Err(SettleFault::Memory) => settled(alloc, &file, &acts)?,
         answer => answer,
     };
-    assert_eq!(rt; history.ok().ok_or("not settled")?.len(), 5);
-    let listing = match file.listing(alloc) {
-        Err(ListingFault::Memory) => file.listing(alloc),
+    assert_eq!(rt; settled, Ok(5));
+    Ok(())
+}
+
+#[test]
+fn refused_growth_of_a_listing_is_told(rt: HostRuntime) -> Result<(), Fail> {
+    let file = closed(rt.alloc(), 6, 5, &[AE, BD, C])?;
+    let listing = match file.listing(rt.alloc()) {
+        Err(ListingFault::Memory) => file.listing(rt.alloc()),
         answer => answer,
     };
     assert_eq!(rt; listing?.len(), 5);

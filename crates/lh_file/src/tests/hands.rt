@@ -69,19 +69,41 @@ fn join(rt: &impl Abort, file: &Words, first: Hand, second: Hand) -> Result<Hand
     }
 }
 
+/// What two hands are told that ask for the right: the first, the second, and the first again, and once
+/// the first has dropped it, the second.
+fn rights(file: &Words, first: &mut Hand, second: &mut Hand) -> [Right; 4]
+    requires first { IsOf file.now first.old }
+    requires second { IsOf file.now second.old }
+    ensures first { IsOf file.now first.new }
+    ensures second { IsOf file.now second.new }
+{
+    let got = file.try_split_right(first);
+    let busy = file.try_split_right(second);
+    let still = file.try_split_right(first);
+    if first.has_right() {
+        file.drop_right(first);
+    }
+    [got, busy, still, file.try_split_right(second)]
+}
+
 #[test]
 fn one_hand_at_a_time_has_the_right(rt: HostRuntime) -> Result<(), Fail> {
     let (file, mut first) = file_of(rt.alloc(), 65536, true)?;
     let mut second = file.split_hand(&mut first, 10)?;
+    let told = rights(&file, &mut first, &mut second);
     let got = Right::Got { old: 0, new: 1 };
-    assert_eq!(rt; file.try_split_right(&mut first), got);
-    assert_eq!(rt; file.try_split_right(&mut second), Right::Busy { seen: 3 });
-    assert_eq!(rt; file.try_split_right(&mut first), Right::Busy { seen: 3 });
-    assert!(rt; first.has_right());
-    file.drop_right(&mut first);
-    assert_eq!(rt; file.try_split_right(&mut second), got);
-    assert!(rt; !first.has_right());
-    let all = join(&rt, &file, second, first)?;
+    let busy = Right::Busy { seen: 3 };
+    assert_eq!(rt; told, [got, busy, busy, got]);
+    assert_eq!(rt; (first.has_right(), second.has_right()), (false, true));
+    Ok(())
+}
+
+#[test]
+fn a_file_is_closed_with_the_right(rt: HostRuntime) -> Result<(), Fail> {
+    let (file, mut first) = file_of(rt.alloc(), 65536, true)?;
+    let second = file.split_hand(&mut first, 10)?;
+    file.try_split_right(&mut first);
+    let all = join(&rt, &file, first, second)?;
     assert!(rt; all.has_right());
     let (words, acts) = file.close(all);
     let open = FileWords {
@@ -171,15 +193,43 @@ fn a_file_opens_as_it_was(rt: HostRuntime) -> Result<(), Fail> {
     Ok(())
 }
 
+/// Four acts of two hands, the second's first: a delete that misses, an insert, one that meets its key,
+/// and a delete.
+fn four_acts(rt: &impl Abort, file: &Words, first: &mut Hand, second: &mut Hand) -> Result<(), Fail>
+    requires first { IsOf file.now first.old }
+    requires second { IsOf file.now second.old }
+    ensures first { IsOf file.now first.new }
+    ensures second { IsOf file.now second.new }
+{
+    let (a, gone) = (insert(b"a")?, delete(b"a")?);
+    assert_eq!(rt; note(rt, file, second, gone, Reply::Absent)?, 0);
+    assert_eq!(rt; note(rt, file, first, a, Reply::Inserted)?, 1);
+    assert_eq!(rt; note(rt, file, second, a, Reply::Exists)?, 2);
+    assert_eq!(rt; note(rt, file, second, gone, Reply::Deleted)?, 3);
+    Ok(())
+}
+
+/// Whether these are those acts, the first hand's before the second's.
+fn are_four_acts(acts: &[ActLine]) -> Result<bool, Fail> {
+    let (a, gone) = (insert(b"a")?, delete(b"a")?);
+    let kept = [
+        (1, a, Reply::Inserted),
+        (0, gone, Reply::Absent),
+        (2, a, Reply::Exists),
+        (3, gone, Reply::Deleted),
+    ];
+    Ok(
+        acts == kept
+            .map(|(stamp, call, reply)| ActLine { stamp, call, reply })
+            .as_slice(),
+    )
+}
+
 #[test]
 fn acts_are_counted_and_kept(rt: HostRuntime) -> Result<(), Fail> {
     let (file, mut first) = file_of(rt.alloc(), 8, true)?;
     let mut second = file.split_hand(&mut first, 10)?;
-    let (a, gone) = (insert(b"a")?, delete(b"a")?);
-    assert_eq!(rt; note(&rt, &file, &mut second, gone, Reply::Absent)?, 0);
-    assert_eq!(rt; note(&rt, &file, &mut first, a, Reply::Inserted)?, 1);
-    assert_eq!(rt; note(&rt, &file, &mut second, a, Reply::Exists)?, 2);
-    assert_eq!(rt; note(&rt, &file, &mut second, gone, Reply::Deleted)?, 3);
+    four_acts(&rt, &file, &mut first, &mut second)?;
     assert!(rt; !second.has_right());
     let all = join(&rt, &file, first, second)?;
     assert_eq!(rt; all.left(), (1 << 63) - 4);
@@ -191,14 +241,7 @@ fn acts_are_counted_and_kept(rt: HostRuntime) -> Result<(), Fail> {
         deletes: 1,
     };
     assert_eq!(rt; words, closed);
-    let line = |stamp, call, reply| ActLine { stamp, call, reply };
-    let kept = [
-        line(1, a, Reply::Inserted),
-        line(0, gone, Reply::Absent),
-        line(2, a, Reply::Exists),
-        line(3, gone, Reply::Deleted),
-    ];
-    assert_eq!(rt; acts.as_slice(), kept.as_slice());
+    assert!(rt; are_four_acts(&acts)?);
     Ok(())
 }
 
@@ -223,6 +266,11 @@ fn printed<D: Display>(rt: &HostRuntime, value: &D) -> Result<String, AllocError
     }
 }
 
+/// Whether a value has this text.
+fn prints<D: Display>(rt: &HostRuntime, value: &D, text: &str) -> Result<bool, AllocError> {
+    Ok(printed(rt, value)?.as_str() == text)
+}
+
 #[test]
 fn prints_faults(rt: HostRuntime) -> Result<(), Fail> {
     let defect = FileFault::Defect {
@@ -231,23 +279,16 @@ fn prints_faults(rt: HostRuntime) -> Result<(), Fail> {
         found_bucket: 3,
         found_level: None,
     };
-    assert_eq!(rt;
-        printed(&rt, &defect)?.as_str(),
-        "bucket 3 at level 2 is not there"
-    );
-    assert_eq!(rt;
-        printed(&rt, &FileFault::Spent { left: 10 })?.as_str(),
-        "10 calls left"
-    );
-    assert_eq!(rt;
-        printed(&rt, &FileFault::from(Memory))?.as_str(),
-        "no memory"
-    );
+    assert!(rt; prints(&rt, &defect, "bucket 3 at level 2 is not there")?);
+    assert!(rt; prints(&rt, &FileFault::Spent { left: 10 }, "10 calls left")?);
+    assert!(rt; prints(&rt, &FileFault::from(Memory), "no memory")?);
+    Ok(())
+}
+
+#[test]
+fn prints_faults_of_joins(rt: HostRuntime) -> Result<(), Fail> {
     let (file, mut first) = file_of(rt.alloc(), 8, true)?;
     let second = file.split_hand(&mut first, 10)?;
-    assert_eq!(rt;
-        printed(&rt, &JoinFault { first, second })?.as_str(),
-        "no memory"
-    );
+    assert!(rt; prints(&rt, &JoinFault { first, second }, "no memory")?);
     Ok(())
 }

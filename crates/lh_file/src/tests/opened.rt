@@ -1,11 +1,12 @@
 //! Files that are opened from a listing.
 
-use super::play::play_in_turn;
+use super::play::{Ended, Turn, play_in_turn};
 use super::tasks::{Task, Told};
 use lh_addr::Config;
 use lh_bucket::Listing;
 use lh_page::{Key, Pair, Value};
 use std::alloc::Global;
+use std::sync::Wait;
 use std::test::Fail;
 
 /// A record of each letter, in their order, with a 1 as its value.
@@ -20,46 +21,56 @@ fn records(alloc: Global, letters: &[u8]) -> Result<Vec<Pair>, Fail> {
     Ok(pairs)
 }
 
-/// The letters in a bucket of a listing, in their order.
-fn letters(alloc: Global, listing: &Listing, bucket: u32) -> Result<Vec<u8>, Fail> {
-    let mut letters = Vec::new(alloc);
-    if bucket < listing.buckets() {
-        for place in 0..listing.len_of(bucket) {
-            letters.extend_from_slice(listing.pair_at(bucket, place).key.bytes())?;
+/// Five records in three buckets.
+fn growth_example(alloc: Global) -> Result<Listing, Fail> {
+    let mut lists = Vec::new(alloc);
+    lists.push(records(alloc, b"ae")?)?;
+    lists.push(records(alloc, b"bd")?)?;
+    lists.push(records(alloc, b"c")?)?;
+    Ok(Listing::new(alloc, Config::new(1, 2, 100, 65536)?, 3, lists)?)
+}
+
+/// Whether a bucket of a listing has just these letters, in their order.
+fn has_letters(listing: &Listing, bucket: u32, letters: &[u8]) -> bool {
+    if bucket >= listing.buckets() || listing.len_of(bucket) != letters.len() {
+        return false;
+    }
+    for (place, letter) in letters.iter().enumerate() {
+        if listing.pair_at(bucket, place).key.bytes() != [*letter].as_slice() {
+            return false;
         }
     }
-    Ok(letters)
+    true
+}
+
+/// The second insert splits a bucket.
+const TWO_INSERTS: [Turn; 4] = [
+    (1, Task::Insert(b'f'), Told::Inserted),
+    (1, Task::Buckets, Told::Number(3)),
+    (2, Task::Insert(b'g'), Told::Inserted),
+    (1, Task::Buckets, Told::Number(4)),
+];
+
+/// Two hands use the opened file.
+fn used<R: Wait>(rt: &R, alloc: Global) -> Result<Ended, Fail> {
+    let listing = growth_example(alloc)?;
+    Ok(play_in_turn(rt, alloc, &listing, &TWO_INSERTS).ok_or("no memory")?)
 }
 
 #[test]
 fn two_hands_use_an_opened_file(rt: HostRuntime) -> Result<(), Fail> {
-    let alloc = rt.alloc();
-    let config = Config::new(1, 2, 100, 65536)?;
-    let mut lists = Vec::new(alloc);
-    for bucket in [b"ae".as_slice(), b"bd", b"c"] {
-        lists.push(records(alloc, bucket)?)?;
-    }
-    let listing = Listing::new(alloc, config, 3, lists)?;
-    let tasks = [
-        (1, Task::Insert(b'f')),
-        (1, Task::Buckets),
-        (2, Task::Insert(b'g')),
-        (1, Task::Buckets),
-    ];
-    let told = [
-        Told::Inserted,
-        Told::Number(3),
-        Told::Inserted,
-        Told::Number(4),
-    ];
-    let ended = play_in_turn(&rt, alloc, &listing, &tasks).ok_or("no memory")?;
-    assert_eq!(rt; ended.first.as_slice(), told.as_slice());
+    let ended = used(&rt, rt.alloc())?;
+    assert_eq!(rt; ended.wrong, None);
     assert_eq!(rt; ended.settled, Ok(2));
     assert_eq!(rt; ended.closed.records(), 7);
-    let after = ended.closed.listing(alloc)?;
+    Ok(())
+}
+
+#[test]
+fn an_opened_file_is_listed(rt: HostRuntime) -> Result<(), Fail> {
+    let after = used(&rt, rt.alloc())?.closed.listing(rt.alloc())?;
     assert_eq!(rt; after.buckets(), 4);
-    for (bucket, wanted) in [b"ae".as_slice(), b"bf", b"cg", b"d"].iter().enumerate() {
-        assert_eq!(rt; letters(alloc, &after, bucket as u32)?.as_slice(), *wanted);
-    }
+    assert!(rt; has_letters(&after, 0, b"ae") && has_letters(&after, 1, b"bf"));
+    assert!(rt; has_letters(&after, 2, b"cg") && has_letters(&after, 3, b"d"));
     Ok(())
 }

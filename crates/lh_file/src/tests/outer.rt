@@ -1,101 +1,90 @@
 //! The calls of a file, one hand after another.
 
-use super::play::play_in_turn;
+use super::play::{Turn, perform_in_turn};
 use super::tasks::{Task, Told};
 use crate::{FileFault, HashFile, NoGate, Right, SettleFault};
 use lh_addr::Config;
-use lh_bucket::Listing;
 use std::test::Fail;
+
+const SEEN_BY_BOTH: [Turn; 8] = [
+    (
+        1,
+        Task::TryRight,
+        Told::Right(Right::Got { old: 0, new: 1 }),
+    ),
+    (1, Task::Split, Told::Done),
+    (2, Task::Buckets, Told::Number(2)),
+    (1, Task::Insert(b'a'), Told::Inserted),
+    (2, Task::Inserted, Told::Number(1)),
+    (2, Task::Search(b'a'), Told::Found),
+    (2, Task::Delete(b'a'), Told::Deleted),
+    (1, Task::Search(b'a'), Told::Absent),
+];
 
 #[test]
 fn two_hands_see_one_file(rt: HostRuntime) -> Result<(), Fail> {
-    let listing = Listing::empty(rt.alloc(), Config::new(1, 14, 100, 65536)?)?;
-    let tasks = [
-        (1, Task::TryRight),
-        (1, Task::Split),
-        (2, Task::Buckets),
-        (1, Task::Insert(b'a')),
-        (2, Task::Inserted),
-        (2, Task::Search(b'a')),
-        (2, Task::Delete(b'a')),
-        (1, Task::Search(b'a')),
-    ];
-    let told = [
-        Told::Right(Right::Got { old: 0, new: 1 }),
-        Told::Done,
-        Told::Number(2),
-        Told::Inserted,
-        Told::Number(1),
-        Told::Found,
-        Told::Deleted,
-        Told::Absent,
-    ];
-    let ended = play_in_turn(&rt, rt.alloc(), &listing, &tasks).ok_or("no memory")?;
-    assert_eq!(rt; ended.first.as_slice(), told.as_slice());
-    assert_eq!(rt; ended.settled, Ok(4));
-    Ok(())
+    perform_in_turn(&rt, rt.alloc(), 65536, &SEEN_BY_BOTH, Ok(4))
 }
+
+const RIGHT_OF_ONE: [Turn; 4] = [
+    (
+        1,
+        Task::TryRight,
+        Told::Right(Right::Got { old: 0, new: 1 }),
+    ),
+    (2, Task::TryRight, Told::Right(Right::Busy { seen: 3 })),
+    (1, Task::DropRight, Told::Done),
+    (
+        2,
+        Task::TryRight,
+        Told::Right(Right::Got { old: 0, new: 1 }),
+    ),
+];
 
 #[test]
 fn one_hand_has_the_right(rt: HostRuntime) -> Result<(), Fail> {
-    let listing = Listing::empty(rt.alloc(), Config::new(1, 14, 100, 65536)?)?;
-    let tasks = [
-        (1, Task::TryRight),
-        (2, Task::TryRight),
-        (1, Task::DropRight),
-        (2, Task::TryRight),
-    ];
-    let got = Told::Right(Right::Got { old: 0, new: 1 });
-    let told = [got, Told::Right(Right::Busy { seen: 3 }), Told::Done, got];
-    let ended = play_in_turn(&rt, rt.alloc(), &listing, &tasks).ok_or("no memory")?;
-    assert_eq!(rt; ended.first.as_slice(), told.as_slice());
-    assert_eq!(rt; ended.settled, Err(SettleFault::SplitUnderWay));
-    Ok(())
+    let open = Err(SettleFault::SplitUnderWay);
+    perform_in_turn(&rt, rt.alloc(), 65536, &RIGHT_OF_ONE, open)
 }
+
+const FOUR_SPLITS: [Turn; 10] = [
+    (
+        1,
+        Task::TryRight,
+        Told::Right(Right::Got { old: 0, new: 1 }),
+    ),
+    (1, Task::Split, Told::Done),
+    (
+        1,
+        Task::TryRight,
+        Told::Right(Right::Got { old: 0, new: 2 }),
+    ),
+    (1, Task::Split, Told::Done),
+    (
+        1,
+        Task::TryRight,
+        Told::Right(Right::Got { old: 1, new: 3 }),
+    ),
+    (1, Task::Split, Told::Done),
+    (
+        1,
+        Task::TryRight,
+        Told::Right(Right::Got { old: 0, new: 4 }),
+    ),
+    (1, Task::Split, Told::Done),
+    (1, Task::Buckets, Told::Number(5)),
+    (1, Task::TryRight, Told::Right(Right::Full)),
+];
 
 #[test]
 fn a_file_splits_up_to_its_greatest_size(rt: HostRuntime) -> Result<(), Fail> {
-    let listing = Listing::empty(rt.alloc(), Config::new(1, 14, 100, 5)?)?;
-    let tasks = [
-        (1, Task::TryRight),
-        (1, Task::Split),
-        (1, Task::TryRight),
-        (1, Task::Split),
-        (1, Task::TryRight),
-        (1, Task::Split),
-        (1, Task::TryRight),
-        (1, Task::Split),
-        (1, Task::Buckets),
-        (1, Task::TryRight),
-    ];
-    let told = [
-        Told::Right(Right::Got { old: 0, new: 1 }),
-        Told::Done,
-        Told::Right(Right::Got { old: 0, new: 2 }),
-        Told::Done,
-        Told::Right(Right::Got { old: 1, new: 3 }),
-        Told::Done,
-        Told::Right(Right::Got { old: 0, new: 4 }),
-        Told::Done,
-        Told::Number(5),
-        Told::Right(Right::Full),
-    ];
-    let ended = play_in_turn(&rt, rt.alloc(), &listing, &tasks).ok_or("no memory")?;
-    assert_eq!(rt; ended.first.as_slice(), told.as_slice());
-    assert_eq!(rt; ended.closed.buckets(), 5);
-    Ok(())
+    perform_in_turn(&rt, rt.alloc(), 5, &FOUR_SPLITS, Ok(0))
 }
 
 #[test]
 fn a_full_file_gives_no_right(rt: HostRuntime) -> Result<(), Fail> {
-    let listing = Listing::empty(rt.alloc(), Config::new(1, 14, 100, 1)?)?;
-    let tasks = [(1, Task::TryRight)];
-    let ended = play_in_turn(&rt, rt.alloc(), &listing, &tasks).ok_or("no memory")?;
-    assert_eq!(rt;
-        ended.first.as_slice(),
-        [Told::Right(Right::Full)].as_slice()
-    );
-    Ok(())
+    let full = [(1, Task::TryRight, Told::Right(Right::Full))];
+    perform_in_turn(&rt, rt.alloc(), 1, &full, Ok(0))
 }
 
 #[test]
@@ -109,14 +98,26 @@ fn a_hand_gives_no_more_calls_than_it_has(rt: HostRuntime) -> Result<(), Fail> {
     Ok(())
 }
 
+/// The second hand may make ten calls.
+const ELEVEN_CALLS: [Turn; 11] = [
+    (2, Task::Insert(b'a'), Told::Inserted),
+    (2, Task::Insert(b'a'), Told::Exists),
+    (2, Task::Insert(b'a'), Told::Exists),
+    (2, Task::Insert(b'a'), Told::Exists),
+    (2, Task::Insert(b'a'), Told::Exists),
+    (2, Task::Insert(b'a'), Told::Exists),
+    (2, Task::Insert(b'a'), Told::Exists),
+    (2, Task::Insert(b'a'), Told::Exists),
+    (2, Task::Insert(b'a'), Told::Exists),
+    (2, Task::Insert(b'a'), Told::Exists),
+    (
+        2,
+        Task::Insert(b'a'),
+        Told::Fault(FileFault::Spent { left: 0 }),
+    ),
+];
+
 #[test]
 fn a_spent_hand_makes_no_calls(rt: HostRuntime) -> Result<(), Fail> {
-    let listing = Listing::empty(rt.alloc(), Config::new(1, 14, 100, 1)?)?;
-    let tasks = [(2, Task::Insert(b'a')); 11];
-    let ended = play_in_turn(&rt, rt.alloc(), &listing, &tasks).ok_or("no memory")?;
-    let spent = Told::Fault(FileFault::Spent { left: 0 });
-    assert_eq!(rt; ended.first.as_slice().first(), Some(&Told::Inserted));
-    assert_eq!(rt; ended.first.as_slice().last(), Some(&spent));
-    assert_eq!(rt; ended.settled, Ok(10));
-    Ok(())
+    perform_in_turn(&rt, rt.alloc(), 1, &ELEVEN_CALLS, Ok(10))
 }

@@ -4,54 +4,90 @@ ghost use Rattle.lh_file.specs.FileState.{IsOf};
 
 use super::stage::{Hold, Log, Progress, Stage};
 use super::tasks::{OfFile, Task, Told, Worked, one, work};
-use crate::{Acts, Closed, Gate, Hand, HashFile, NoGate, SettleFault, settle};
+use crate::{Acts, Closed, Gate, Hand, HashFile, NoGate, Point, SettleFault, settle};
 use lh_addr::Config;
 use lh_bucket::Listing;
 use std::alloc::Global;
+use std::process::Abort;
 use std::sync::Wait;
+use std::test::Fail;
 use std::thread;
 use std::thread::Threads;
 
-/// What two hands were told, the file that they left, and the number of acts that were settled, or
-/// why they weren't.
+/// What two hands of an empty file of one bucket are to do beside each other and what each is to be
+/// told, where their calls are held, and what is to come of it: the number of buckets, that of acts,
+/// all of which are settled, and the last points that were met.
+#[derive(Clone, Copy)]
+pub(crate) struct Scene<'a> {
+    pub(crate) capacity: u32,
+    pub(crate) holds: &'a [Hold],
+    pub(crate) first: &'a [(Task, Told)],
+    pub(crate) second: &'a [(Task, Told)],
+    pub(crate) buckets: u32,
+    pub(crate) acts: usize,
+    pub(crate) points: &'a [Point],
+}
+
+/// Which hand's turn it is, the first or the second, what it is to do, and what it is to be told.
+pub(crate) type Turn = (u8, Task, Told);
+
+/// The first answer to two hands that was not due, the file that they left, and the number of acts that
+/// were settled, or why they weren't.
 #[derive(Drop)]
 pub(crate) struct Ended {
-    pub(crate) first: Vec<Told>,
-    pub(crate) second: Vec<Told>,
+    pub(crate) wrong: Option<Told>,
     pub(crate) closed: Closed,
     pub(crate) settled: Result<usize, SettleFault>,
 }
 
+/// Two hands that have done their tasks, and the first answer that was not due.
+#[derive(Drop)]
+pub(crate) struct Both {
+    pub(crate) first: Hand,
+    pub(crate) second: Hand,
+    pub(crate) wrong: Option<Told>,
+}
+
 /// Two hands do their tasks, the first in a thread of its own.
-fn beside<G: Gate + Sync, R: Threads + Wait + Sync>(
+pub(crate) fn beside<G: Gate + Sync, R: Threads + Wait + Sync>(
     rt: &R,
-    alloc: Global,
     file: &HashFile<G>,
     progress: &Progress,
     first: Hand,
-    first_tasks: &[Task],
+    first_tasks: &[(Task, Told)],
     second: Hand,
-    second_tasks: &[Task],
-) -> Option<(Worked, Worked)>
+    second_tasks: &[(Task, Told)],
+) -> Option<Both>
     requires first { IsOf file.now.state first }
     requires second { IsOf file.now.state second }
-    ensures { IfSome result (λ r. IsOf file.now.state r.0.hand × IsOf file.now.state r.1.hand) }
+    ensures { IfSome result (λ both. IsOf file.now.state both.first × IsOf file.now.state both.second) }
 {
     thread::scope(
         thread::scope_env(),
         rt,
-        |scope| -> Option<(Worked, Worked)>
+        |scope| -> Option<Both>
             requires first { IsOf file.now.state first }
             requires second { IsOf file.now.state second }
-            ensures { IfSome result (λ r. IsOf file.entry.now.state r.0.hand × IsOf file.entry.now.state r.1.hand) }
+            ensures { IfSome result (λ both. IsOf file.entry.now.state both.first × IsOf file.entry.now.state both.second) }
         {
             let child = scope
                 .spawn_with(OfFile(file), move || {
-                    work(rt, alloc, file, progress, first, first_tasks)
+                    work(rt, file, progress, first, first_tasks)
                 })
                 .ok()?;
-            let second = work(rt, alloc, file, progress, second, second_tasks);
-            Some((child.join(rt), second))
+            let Worked {
+                hand: second,
+                wrong: two,
+            } = work(rt, file, progress, second, second_tasks);
+            let Worked {
+                hand: first,
+                wrong: one,
+            } = child.join(rt);
+            Some(Both {
+                first,
+                second,
+                wrong: one.or(two),
+            })
         },
     )
 }
@@ -79,56 +115,94 @@ pub(crate) fn closed<G: Gate + Drop, R: Wait>(
     }
 }
 
-/// Two hands of an empty file do their tasks beside each other, under a gate that holds calls by a
-/// list. None where memory or a thread was wanted, or a wait took too many turns.
-pub(crate) fn play<R: Threads + Wait + Sync>(
+/// How many acts are settled, or why they aren't.
+pub(crate) fn settled(
+    alloc: Global,
+    listing: &Listing,
+    closed: &Closed,
+    acts: &Acts,
+) -> Result<usize, SettleFault> {
+    settle(alloc, listing, closed, acts).map(|history| history.len())
+}
+
+/// What a hand was told that was not due, the closed file, and the acts.
+type Left = (Option<Told>, Closed, Acts);
+
+/// A hand of a file and a second one do their tasks beside each other.
+fn play<G: Gate + Sync, R: Threads + Wait + Sync>(
+    rt: &R,
+    file: &HashFile<G>,
+    mut first: Hand,
+    progress: &Progress,
+    scene: Scene<'_>,
+) -> Option<Both>
+    requires { IsOf file.now.state first }
+    ensures { IfSome result (λ both. IsOf file.now.state both.first × IsOf file.now.state both.second) }
+{
+    let second = file.split_hand(&mut first, 1000).ok()?;
+    beside(rt, file, progress, first, scene.first, second, scene.second)
+}
+
+/// Plays a scene in an empty file under a gate that holds calls. None where memory or a thread was
+/// wanted, or a wait took too many turns.
+fn staged<R: Threads + Wait + Sync>(
     rt: &R,
     alloc: Global,
     config: Config,
-    holds: &[Hold],
+    scene: Scene<'_>,
     log: &Log,
-    first: &[Task],
-    second: &[Task],
-) -> Option<Ended> {
+) -> Option<Left> {
     let progress = Progress::new();
     let gate = Stage {
-        holds,
+        holds: scene.holds,
         progress: &progress,
         log,
     };
-    let (file, mut hand) = HashFile::create(alloc, config, true, gate).ok()?;
-    let other = file.split_hand(&mut hand, 1000).ok()?;
-    let (one, two) = beside(rt, alloc, &file, &progress, hand, first, other, second)?;
-    let (closed, acts) = closed(rt, file, one.hand, two.hand)?;
+    let (file, hand) = HashFile::create(alloc, config, true, gate).ok()?;
+    let Both {
+        first,
+        second,
+        wrong,
+    } = play(rt, &file, hand, &progress, scene)?;
     if progress.is_late() {
         return None;
     }
-    let listing = Listing::empty(alloc, config).ok()?;
-    let settled = settle(alloc, &listing, &closed, &acts).map(|history| history.len());
-    Some(Ended {
-        first: one.told,
-        second: two.told,
-        closed,
-        settled,
-    })
+    let (closed, acts) = closed(rt, file, first, second)?;
+    Some((wrong, closed, acts))
 }
 
-/// What two hands of a file were told, in turn.
+/// Plays a scene, and fails where something else comes of it than was due.
+pub(crate) fn perform<R: Threads + Wait + Sync + Abort>(
+    rt: &R,
+    alloc: Global,
+    scene: Scene<'_>,
+) -> Result<(), Fail> {
+    let config = Config::new(1, scene.capacity, 100, 65536)?;
+    let log = Log::new();
+    let (wrong, closed, acts) = staged(rt, alloc, config, scene, &log).ok_or("late")?;
+    assert_eq!(rt; wrong, None);
+    assert_eq!(rt; closed.buckets(), scene.buckets);
+    assert!(rt; log.ends_with(scene.points));
+    let listing = Listing::empty(alloc, config)?;
+    assert_eq!(rt; settled(alloc, &listing, &closed, &acts), Ok(scene.acts));
+    Ok(())
+}
+
+/// Two hands of a file after their turns, and the first answer that was not due.
 #[derive(Drop)]
 struct Turns {
     first: Hand,
     second: Hand,
-    told: Vec<Told>,
+    wrong: Option<Told>,
 }
 
-/// Two hands of a file take turns: each task names the hand, 1 or 2.
+/// Two hands of a file take turns.
 fn take_turns<G: Gate, R: Wait>(
     rt: &R,
-    alloc: Global,
     file: &HashFile<G>,
     mut first: Hand,
     mut second: Hand,
-    tasks: &[(u8, Task)],
+    turns: &[Turn],
 ) -> Turns
     requires first { IsOf file.now.state first }
     requires second { IsOf file.now.state second }
@@ -136,45 +210,60 @@ fn take_turns<G: Gate, R: Wait>(
     ensures second { IsOf file.now.state result.second }
 {
     let progress = Progress::new();
-    let mut told = Vec::new(alloc);
-    for (hand, task) in tasks {
-        let answer = if *hand == 1 {
+    let mut wrong = None;
+    for (hand, task, due) in turns {
+        let told = if *hand == 1 {
             one(rt, file, &progress, &mut first, *task)
         } else {
             one(rt, file, &progress, &mut second, *task)
         };
-        if told.push(answer).is_err() {
-            break;
+        if told != *due && wrong.is_none() {
+            wrong = Some(told);
         }
     }
     Turns {
         first,
         second,
-        told,
+        wrong,
     }
 }
 
-/// Two hands of a file that is opened from a listing do their tasks in one thread, in turn. None where
-/// memory was wanted.
+/// Two hands of a file that is opened from a listing take turns in one thread; the second may make ten
+/// calls. None where memory was wanted.
 pub(crate) fn play_in_turn<R: Wait>(
     rt: &R,
     alloc: Global,
     listing: &Listing,
-    tasks: &[(u8, Task)],
+    turns: &[Turn],
 ) -> Option<Ended> {
     let (file, mut hand) = HashFile::open_from(alloc, listing, true, NoGate).ok()?;
     let other = file.split_hand(&mut hand, 10).ok()?;
     let Turns {
         first,
         second,
-        told,
-    } = take_turns(rt, alloc, &file, hand, other, tasks);
+        wrong,
+    } = take_turns(rt, &file, hand, other, turns);
     let (closed, acts) = closed(rt, file, first, second)?;
-    let settled = settle(alloc, listing, &closed, &acts).map(|history| history.len());
+    let settled = settled(alloc, listing, &closed, &acts);
     Some(Ended {
-        first: told,
-        second: Vec::new(alloc),
+        wrong,
         closed,
         settled,
     })
+}
+
+/// Two hands of an empty file of one bucket, which may have `max`, take turns; fails where something
+/// else comes of it than was due.
+pub(crate) fn perform_in_turn<R: Wait + Abort>(
+    rt: &R,
+    alloc: Global,
+    max: u32,
+    turns: &[Turn],
+    settled: Result<usize, SettleFault>,
+) -> Result<(), Fail> {
+    let listing = Listing::empty(alloc, Config::new(1, 14, 100, max)?)?;
+    let ended = play_in_turn(rt, alloc, &listing, turns).ok_or("no memory")?;
+    assert_eq!(rt; ended.wrong, None);
+    assert_eq!(rt; ended.settled, settled);
+    Ok(())
 }

@@ -5,7 +5,6 @@ use super::stage::Progress;
 use crate::{FileFault, Gate, Hand, HashFile, Right};
 use lh_bucket::Reply;
 use lh_page::{Key, Value};
-use std::alloc::Global;
 use std::sync::Wait;
 use std::thread::Promise;
 
@@ -38,11 +37,12 @@ pub(crate) enum Told {
     Done,
 }
 
-/// A hand that has done its tasks, and what it was told, as far as there was memory to keep it.
+/// A hand that has done its tasks, and the first answer that was not the one that was due, if there was
+/// one.
 #[derive(Drop)]
 pub(crate) struct Worked {
     pub(crate) hand: Hand,
-    pub(crate) told: Vec<Told>,
+    pub(crate) wrong: Option<Told>,
 }
 
 /// The hand that comes back is one of this file.
@@ -161,24 +161,23 @@ fn try_right<G: Gate>(file: &HashFile<G>, hand: &mut Hand) -> Told
     Told::Right(file.try_split_right(hand))
 }
 
-/// Does tasks one after another.
+/// Does tasks one after another, each beside the answer that is due.
 pub(crate) fn work<G: Gate, R: Wait>(
     rt: &R,
-    alloc: Global,
     file: &HashFile<G>,
     progress: &Progress,
     mut hand: Hand,
-    tasks: &[Task],
+    tasks: &[(Task, Told)],
 ) -> Worked
     requires { IsOf file.now.state hand }
     ensures { IsOf file.now.state result.hand }
 {
-    let mut told = Vec::new(alloc);
-    for task in tasks {
-        let answer = one(rt, file, progress, &mut hand, *task);
-        if told.push(answer).is_err() {
-            break;
+    let mut wrong = None;
+    for (task, due) in tasks {
+        let told = one(rt, file, progress, &mut hand, *task);
+        if told != *due && wrong.is_none() {
+            wrong = Some(told);
         }
     }
-    Worked { hand, told }
+    Worked { hand, wrong }
 }

@@ -1,0 +1,161 @@
+//! Eight threads on one file, under a gate at which each call lets others go first.
+ghost use Rattle.std.specs.Prelude.{◌≡◌, All, IfSome};
+ghost use Rattle.lh_file.specs.FileState.{IsOf};
+
+use super::play::settled;
+use crate::{Gate, Hand, HashFile, Point};
+use lh_addr::Config;
+use lh_bucket::{Listing, Reply};
+use lh_page::{Key, Value};
+use std::alloc::Global;
+use std::sync::Wait;
+use std::test::Fail;
+use std::thread;
+use std::thread::{Promise, PromisedHandle, Threads};
+
+/// A gate that waits for one turn at every point.
+#[derive(Clone, Copy)]
+struct GiveWay;
+
+impl Gate for GiveWay {
+    fn at(&self, _point: Point) {
+        thread::yield_now();
+    }
+}
+
+/// A hand that has done its share, and whether it was told what was due.
+#[derive(Drop)]
+struct Finished {
+    hand: Hand,
+    is_well: bool,
+}
+
+/// The hand that comes back is one of this file.
+#[derive(Clone, Copy)]
+struct OfCrowd<'a>(&'a HashFile<GiveWay>);
+
+impl<'a> Promise<Finished> for OfCrowd<'a> {
+    ghost kept_by = { λ file finished. IsOf file.0.now.state finished.hand };
+}
+
+/// Inserts the record of a number, or searches for it, and says whether it was inserted or found.
+fn call<R: Wait>(
+    rt: &R,
+    file: &HashFile<GiveWay>,
+    hand: &mut Hand,
+    number: u16,
+    searches: bool,
+) -> bool
+    requires { IsOf file.now.state hand.old }
+    ensures { IsOf file.now.state hand.new }
+{
+    let (Ok(key), Ok(value)) = (Key::new(&number.to_be_bytes()), Value::new(b"1")) else {
+        return false;
+    };
+    let (answer, due) = if searches {
+        (file.search(rt, hand, key), Reply::Found(value))
+    } else {
+        (file.insert(rt, hand, key, value), Reply::Inserted)
+    };
+    match answer {
+        Ok(answer) => answer.reply() == due,
+        Err(_) => false,
+    }
+}
+
+/// Inserts each eighth of a thousand numbers, and then searches for them in the same order.
+fn share<R: Wait>(rt: &R, file: &HashFile<GiveWay>, mut hand: Hand, first: u16) -> Finished
+    requires { IsOf file.now.state hand }
+    ensures { IsOf file.now.state result.hand }
+{
+    let mut is_well = true;
+    for turn in 0..250_u16 {
+        let number = (turn % 125).wrapping_mul(8).wrapping_add(first);
+        is_well = call(rt, file, &mut hand, number, turn >= 125) && is_well;
+    }
+    Finished { hand, is_well }
+}
+
+/// Keeps a worker beside the others, or answers that there is no memory for it.
+fn keep<'a>(
+    file: &'a HashFile<GiveWay>,
+    workers: &mut Vec<PromisedHandle<Finished, OfCrowd<'a>>>,
+    worker: PromisedHandle<Finished, OfCrowd<'a>>,
+) -> bool
+    requires others { All (λ worker. worker.promise.0.now ≡ file.now) workers.old.items }
+    requires new { worker.promise.0.now ≡ file.now }
+    ensures { All (λ worker. worker.promise.0.now ≡ file.now) workers.new.items }
+{
+    workers.push(worker).is_ok()
+}
+
+/// Joins the hands of all workers into the first. None where one was told otherwise than was due.
+fn join_all<R: Threads + Wait>(
+    rt: &R,
+    file: &HashFile<GiveWay>,
+    mut all: Hand,
+    workers: Vec<PromisedHandle<Finished, OfCrowd<'_>>>,
+) -> Option<Hand>
+    requires first { IsOf file.now.state all }
+    requires others { All (λ worker. worker.promise.0.now ≡ file.now) workers.items }
+    ensures { IfSome result (IsOf file.now.state) }
+{
+    for worker in workers {
+        let Finished { hand, is_well } = worker.join(rt);
+        if !is_well || hand.has_right() {
+            return None;
+        }
+        all = file.join_hands(all, hand).ok()?;
+    }
+    Some(all)
+}
+
+/// Eight threads do their shares at once.
+fn crowd<R: Threads + Wait + Sync>(
+    rt: &R,
+    alloc: Global,
+    file: &HashFile<GiveWay>,
+    hand: Hand,
+) -> Option<Hand>
+    requires { IsOf file.now.state hand }
+    ensures { IfSome result (IsOf file.now.state) }
+{
+    thread::scope(
+        thread::scope_env(),
+        rt,
+        |scope| -> Option<Hand>
+            requires { IsOf file.now.state hand }
+            ensures { IfSome result (IsOf file.entry.now.state) }
+        {
+            let mut all = hand;
+            let mut workers = Vec::new(alloc);
+            for first in 0..8 {
+                let Ok(part) = file.split_hand(&mut all, 250) else {
+                    return None;
+                };
+                let Ok(worker) = scope.spawn_with(
+                    OfCrowd(file),
+                    move || share(rt, file, part, first),
+                ) else {
+                    return None;
+                };
+                if !keep(file, &mut workers, worker) {
+                    return None;
+                }
+            }
+            join_all(rt, file, all, workers)
+        },
+    )
+}
+
+#[test]
+fn eight_threads_insert_and_find_a_thousand_records(rt: HostRuntime) -> Result<(), Fail> {
+    let config = Config::new(1, 1, 100, 65536)?;
+    let (file, hand) = HashFile::create(rt.alloc(), config, true, GiveWay)?;
+    let all = crowd(&rt, rt.alloc(), &file, hand).ok_or("a call went wrong")?;
+    let (closed, acts) = file.close(&rt, all)?;
+    assert_eq!(rt; closed.records(), 1000);
+    let listing = Listing::empty(rt.alloc(), config)?;
+    assert_eq!(rt; settled(rt.alloc(), &listing, &closed, &acts), Ok(2000));
+    Ok(())
+}
