@@ -1,7 +1,9 @@
 //! Images, from scripts to bytes and from bytes to what is told of them.
 use super::{fails, ran};
 use std::process::Abort;
+use std::sync::Wait;
 use std::test::Fail;
+use std::thread::Threads;
 
 mod devices;
 mod forged;
@@ -67,7 +69,7 @@ const CHAIN_PARTS: &[Part] = &[
 
 /// The image that `build` writes.
 pub fn built(
-    rt: &(impl Abort + AllocGlobal),
+    rt: &(impl Abort + AllocGlobal + Threads + Wait + Sync),
     words: &[&str],
     script: &str,
 ) -> Result<Vec<u8>, Fail> {
@@ -78,7 +80,7 @@ pub fn built(
 
 /// A run on these bytes is done, and wrote this.
 pub fn told(
-    rt: &(impl Abort + AllocGlobal),
+    rt: &(impl Abort + AllocGlobal + Threads + Wait + Sync),
     words: &[&str],
     input: &[u8],
     output: &[u8],
@@ -91,7 +93,7 @@ pub fn told(
 
 /// Both `check` and `dump` accept an image, and tell this of it.
 pub fn accepted(
-    rt: &(impl Abort + AllocGlobal),
+    rt: &(impl Abort + AllocGlobal + Threads + Wait + Sync),
     image: &[u8],
     census: &str,
     records: &str,
@@ -121,7 +123,7 @@ fn pages_of(rt: &impl AllocGlobal, pages: usize, parts: &[Part]) -> Result<Vec<u
 
 /// `build` writes this image of a script.
 fn builds(
-    rt: &(impl Abort + AllocGlobal),
+    rt: &(impl Abort + AllocGlobal + Threads + Wait + Sync),
     words: &[&str],
     script: &str,
     pages: usize,
@@ -180,7 +182,10 @@ fn build_reads_scripts_as_commands_does(rt: HostRuntime) -> Result<(), Fail> {
 }
 
 /// The words are refused, and nothing is written.
-fn turned_away(rt: &(impl Abort + AllocGlobal), words: &[&str]) -> Result<(), Fail> {
+fn turned_away(
+    rt: &(impl Abort + AllocGlobal + Threads + Wait + Sync),
+    words: &[&str],
+) -> Result<(), Fail> {
     let (code, written, _) = ran(rt, words, b"")?;
     assert!(rt; code == 2 && written.is_empty());
     Ok(())

@@ -3,12 +3,14 @@ use super::{FIVE, FIVE_CENSUS, FIVE_RECORDS, FIVE_WORDS, built};
 use crate::run;
 use crate::tests::{Sink, Source};
 use std::process::Abort;
+use std::sync::Wait;
 use std::test::Fail;
+use std::thread::Threads;
 
 /// The status, its text and what was written, where the input is read so many bytes at a time, and one
 /// read fails.
 fn read_slowly(
-    rt: &impl AllocGlobal,
+    rt: &(impl AllocGlobal + Threads + Wait + Sync),
     words: &[&str],
     bytes: &[u8],
     at_once: usize,
@@ -27,7 +29,7 @@ fn read_slowly(
 
 /// A read that fails ends the run.
 fn read_fails(
-    rt: &(impl Abort + AllocGlobal),
+    rt: &(impl Abort + AllocGlobal + Threads + Wait + Sync),
     words: &[&str],
     bytes: &[u8],
     at_once: usize,
@@ -41,7 +43,7 @@ fn read_fails(
 
 /// A reader that gives so many bytes at a time is read whole.
 fn reads_whole(
-    rt: &(impl Abort + AllocGlobal),
+    rt: &(impl Abort + AllocGlobal + Threads + Wait + Sync),
     words: &[&str],
     bytes: &[u8],
     at_once: usize,
@@ -54,7 +56,7 @@ fn reads_whole(
 
 /// So many reads there are: each of them ends the run where it fails, and the one behind them is never made.
 fn fails_at_each_read(
-    rt: &(impl Abort + AllocGlobal),
+    rt: &(impl Abort + AllocGlobal + Threads + Wait + Sync),
     words: &[&str],
     bytes: &[u8],
     at_once: usize,
@@ -111,7 +113,7 @@ fn faults_of_the_first_page_come_before_a_failed_read(rt: HostRuntime) -> Result
 
 /// A write or the flush that fails ends the run, and is not tried again.
 fn write_fails(
-    rt: &(impl Abort + AllocGlobal),
+    rt: &(impl Abort + AllocGlobal + Threads + Wait + Sync),
     words: &[&str],
     input: &[u8],
     at_once: usize,
@@ -130,7 +132,7 @@ fn write_fails(
 
 /// A writer that takes so many bytes at a time gets the whole, in so many writes with the flush.
 fn takes_whole(
-    rt: &(impl Abort + AllocGlobal),
+    rt: &(impl Abort + AllocGlobal + Threads + Wait + Sync),
     words: &[&str],
     input: &[u8],
     at_once: usize,
@@ -146,7 +148,7 @@ fn takes_whole(
 
 /// Each of so many writes with the flush ends the run where it fails.
 fn fails_at_each_write(
-    rt: &(impl Abort + AllocGlobal),
+    rt: &(impl Abort + AllocGlobal + Threads + Wait + Sync),
     words: &[&str],
     input: &[u8],
     at_once: usize,

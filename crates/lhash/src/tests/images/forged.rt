@@ -2,7 +2,9 @@
 use super::{CHAIN, CHAIN_WORDS, FIVE, FIVE_WORDS, accepted, built, put};
 use crate::tests::ran;
 use std::process::Abort;
+use std::sync::Wait;
 use std::test::Fail;
+use std::thread::Threads;
 
 /// Bytes that are put into an image: from which place on, and what.
 type Edit = (usize, &'static [u8]);
@@ -12,7 +14,7 @@ type Row = (&'static [Edit], &'static str);
 
 /// A subcommand refuses these bytes, and writes nothing.
 fn refused_by(
-    rt: &(impl Abort + AllocGlobal),
+    rt: &(impl Abort + AllocGlobal + Threads + Wait + Sync),
     subcommand: &str,
     bytes: &[u8],
     fault: &str,
@@ -24,7 +26,11 @@ fn refused_by(
 }
 
 /// Both `check` and `dump` refuse these bytes.
-fn refused(rt: &(impl Abort + AllocGlobal), bytes: &[u8], fault: &str) -> Result<(), Fail> {
+fn refused(
+    rt: &(impl Abort + AllocGlobal + Threads + Wait + Sync),
+    bytes: &[u8],
+    fault: &str,
+) -> Result<(), Fail> {
     refused_by(rt, "check", bytes, fault)?;
     refused_by(rt, "dump", bytes, fault)
 }
@@ -40,7 +46,11 @@ fn edited(rt: &impl AllocGlobal, bytes: &[u8], edits: &[Edit]) -> Result<Vec<u8>
 }
 
 /// Each row's edits of an image are refused with the row's fault.
-fn rows(rt: &(impl Abort + AllocGlobal), image: &[u8], rows: &[Row]) -> Result<(), Fail> {
+fn rows(
+    rt: &(impl Abort + AllocGlobal + Threads + Wait + Sync),
+    image: &[u8],
+    rows: &[Row],
+) -> Result<(), Fail> {
     for (edits, fault) in rows {
         refused(rt, &edited(rt, image, edits)?, fault)?;
     }
@@ -54,7 +64,7 @@ fn beginning(image: &[u8], count: usize) -> &[u8] {
 
 /// Beginnings from one length up to another are refused.
 fn beginnings(
-    rt: &(impl Abort + AllocGlobal),
+    rt: &(impl Abort + AllocGlobal + Threads + Wait + Sync),
     image: &[u8],
     from: usize,
     to: usize,
@@ -140,7 +150,7 @@ fn a_loop_apart(rt: HostRuntime) -> Result<(), Fail> {
 }
 
 /// Two buckets with an overflow page each.
-fn two_buckets(rt: &(impl Abort + AllocGlobal)) -> Result<Vec<u8>, Fail> {
+fn two_buckets(rt: &(impl Abort + AllocGlobal + Threads + Wait + Sync)) -> Result<Vec<u8>, Fail> {
     let words = [
         "lhash",
         "build",
