@@ -2,6 +2,7 @@
 mod building;
 mod census;
 mod faults;
+mod memory;
 mod pages;
 mod reading;
 mod round_trip;

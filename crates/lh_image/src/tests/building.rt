@@ -92,23 +92,27 @@ fn put(bytes: &mut [u8], offset: usize, part: &[u8]) {
     }
 }
 
+/// Bytes of an image: from which place on, and what.
+pub(crate) type Part = (usize, &'static [u8]);
+
+/// Puts parts where they stand.
+pub(crate) fn put_all(bytes: &mut [u8], parts: &[Part]) {
+    for (offset, part) in parts {
+        put(bytes, *offset, part);
+    }
+}
+
 /// So many pages, zero but for these parts.
-pub(crate) fn image_of(
-    alloc: Global,
-    pages: usize,
-    parts: &[(usize, &[u8])],
-) -> Result<Vec<u8>, Fail> {
+pub(crate) fn image_of(alloc: Global, pages: usize, parts: &[Part]) -> Result<Vec<u8>, Fail> {
     let mut bytes = Vec::new(alloc);
     bytes.resize(pages.saturating_mul(1024), 0)?;
-    for (offset, part) in parts {
-        put(bytes.as_mut_slice(), *offset, part);
-    }
+    put_all(bytes.as_mut_slice(), parts);
     Ok(bytes)
 }
 
 /// The bytes of the image of [`empty`].
 pub(crate) fn empty_image(alloc: Global) -> Result<Vec<u8>, Fail> {
-    let parts: [(usize, &[u8]); 2] = [
+    let parts: [Part; 2] = [
         (
             0,
             b"LHF1\x01\0\0\0\x02\0\0\0\x64\0\0\0\x01\0\0\0\0\0\x01\0\x02\0\0\0",
@@ -118,50 +122,54 @@ pub(crate) fn empty_image(alloc: Global) -> Result<Vec<u8>, Fail> {
     image_of(alloc, 2, &parts)
 }
 
+/// What is not zero in the image of [`three_buckets`].
+pub(crate) const THREE_BUCKETS: &[Part] = &[
+    (
+        0,
+        b"LHF1\x01\0\0\0\x02\0\0\0\x64\0\0\0\x03\0\0\0\0\0\x01\0\x04\0\0\0\x05\0\0\0\0\0\0\0",
+    ),
+    (1024, b"\x01\x02\x02\0\0\0\0\0\0\0\0\0\0\0\0\0\x01\x01\x61"),
+    (1072, b"\x31"),
+    (1112, b"\x01\x01\x65"),
+    (1144, b"\x35"),
+    (
+        2048,
+        b"\x01\x02\x01\0\x01\0\0\0\0\0\0\0\0\0\0\0\x01\x01\x62",
+    ),
+    (2096, b"\x32"),
+    (2136, b"\x01\x01\x64"),
+    (2168, b"\x34"),
+    (
+        3072,
+        b"\x01\x01\x02\0\x02\0\0\0\0\0\0\0\0\0\0\0\x01\x01\x63",
+    ),
+    (3120, b"\x33"),
+];
+
 /// The bytes of the image of [`three_buckets`].
 pub(crate) fn three_buckets_image(alloc: Global) -> Result<Vec<u8>, Fail> {
-    let parts: [(usize, &[u8]); 11] = [
-        (
-            0,
-            b"LHF1\x01\0\0\0\x02\0\0\0\x64\0\0\0\x03\0\0\0\0\0\x01\0\x04\0\0\0\x05\0\0\0\0\0\0\0",
-        ),
-        (1024, b"\x01\x02\x02\0\0\0\0\0\0\0\0\0\0\0\0\0\x01\x01\x61"),
-        (1072, b"\x31"),
-        (1112, b"\x01\x01\x65"),
-        (1144, b"\x35"),
-        (
-            2048,
-            b"\x01\x02\x01\0\x01\0\0\0\0\0\0\0\0\0\0\0\x01\x01\x62",
-        ),
-        (2096, b"\x32"),
-        (2136, b"\x01\x01\x64"),
-        (2168, b"\x34"),
-        (
-            3072,
-            b"\x01\x01\x02\0\x02\0\0\0\0\0\0\0\0\0\0\0\x01\x01\x63",
-        ),
-        (3120, b"\x33"),
-    ];
-    image_of(alloc, 4, &parts)
+    image_of(alloc, 4, THREE_BUCKETS)
 }
+
+/// What is not zero in the image of [`two_pages`].
+pub(crate) const TWO_PAGES: &[Part] = &[
+    (
+        0,
+        b"LHF1\x01\0\0\0\x02\0\0\0\x64\0\0\0\x01\0\0\0\x01\0\0\0\x03\0\0\0\x04\0\0\0\0\0\0\0",
+    ),
+    (1024, b"\x01\x02\0\0\0\0\0\0\x02\0\0\0\0\0\0\0\x01\x01\x61"),
+    (1072, b"\x31"),
+    (1112, b"\x01\x01\x63"),
+    (1144, b"\x32"),
+    (2048, b"\x02\x02\0\0\0\0\0\0\0\0\0\0\0\0\0\0\x01\x01\x65"),
+    (2096, b"\x33"),
+    (2136, b"\x01\x01\x67"),
+    (2168, b"\x34"),
+];
 
 /// The bytes of the image of [`two_pages`].
 pub(crate) fn two_pages_image(alloc: Global) -> Result<Vec<u8>, Fail> {
-    let parts: [(usize, &[u8]); 9] = [
-        (
-            0,
-            b"LHF1\x01\0\0\0\x02\0\0\0\x64\0\0\0\x01\0\0\0\x01\0\0\0\x03\0\0\0\x04\0\0\0\0\0\0\0",
-        ),
-        (1024, b"\x01\x02\0\0\0\0\0\0\x02\0\0\0\0\0\0\0\x01\x01\x61"),
-        (1072, b"\x31"),
-        (1112, b"\x01\x01\x63"),
-        (1144, b"\x32"),
-        (2048, b"\x02\x02\0\0\0\0\0\0\0\0\0\0\0\0\0\0\x01\x01\x65"),
-        (2096, b"\x33"),
-        (2136, b"\x01\x01\x67"),
-        (2168, b"\x34"),
-    ];
-    image_of(alloc, 3, &parts)
+    image_of(alloc, 3, TWO_PAGES)
 }
 
 /// The bytes of keys and values of a bucket, in their order.
