@@ -1,16 +1,16 @@
 -- The records of a listing have no misfit.
-use Rattle.std.proofs.Common.{◌≡◌, ℕ, ◌+◌, ◌-◌, ◌*◌, ◌<◌, ◌≤◌, Bool, true, false, eqb, List, [], length, Option, None, refl, sym, ap, subst, ◌∙◌, arith}
-use Rattle.std.specs.List.{range_with_len, find, flat_map, IsDistinct}
+use Rattle.std.proofs.Common.{◌≡◌, ℕ, ◌+◌, ◌-◌, ◌<◌, false, List, [], length, None, subst, arith}
+use Rattle.std.specs.List.{IsDistinct}
 use Rattle.std.specs.Str.{bytes_eq}
 use Rattle.lh_addr.specs.Fnv.{code_of}
 use Rattle.lh_addr.specs.Growth.{address}
 use Rattle.lh_page.specs.declared.pair.Pair.{Pair}
 use Rattle.lh_page.specs.Records.{keys_of, key_at}
-use Rattle.lh_bucket.specs.Listing.{Lists, IsListing, size, list_at}
+use Rattle.lh_bucket.specs.Listing.{Lists, IsListing, list_at}
 use Rattle.lh_image.specs.declared.first_page.Header.{Header}
 use Rattle.lh_image.specs.declared.page_checks.PageFaults.{PageFaults}
 use Rattle.lh_image.specs.declared.table.Entry.{Entry}
-use Rattle.lh_image.specs.Chains.{stands_in, chain, IsPath}
+use Rattle.lh_image.specs.Chains.{chain}
 use Rattle.lh_image.specs.Faults.{has_misfit, numbers, least, misfits, is_at_home}
 use Rattle.lh_image.specs.Image.{listing_of}
 use Rattle.lh_image.specs.Layout.{bucket, next, records, initial, buckets, page_count}

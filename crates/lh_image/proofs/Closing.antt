@@ -1,6 +1,6 @@
 -- The last answers: the least page with a misfit, and the listing
-use Rattle.std.proofs.Common.{◌≡◌, ◌≢◌, ℕ, zero, suc, ◌+◌, ◌-◌, ◌*◌, ◌<◌, ◌≤◌, ◌⊎◌, inl, inr, Bool, true, false, not, ◌||◌, eqb, List, [], ◌∷◌, ◌++◌, length, map, take, drop, get_or, Vec, Global, Option, Some, None, Result, Ok, Err, refl, sym, ap, subst, ◌∙◌, arith}
-use Rattle.std.specs.List.{range_with_len, find, list_any, flat_map, before_first}
+use Rattle.std.proofs.Common.{◌≡◌, ℕ, zero, suc, ◌+◌, ◌-◌, ◌<◌, ◌≤◌, Bool, true, eqb, List, [], ◌∷◌, ◌++◌, length, map, take, drop, get_or, Vec, Global, Option, Some, None, Ok, Err, refl, sym, ap, subst, ◌∙◌, arith}
+use Rattle.std.specs.List.{range_with_len, list_any, flat_map, before_first}
 use Rattle.std.proofs.lemmas.Bool.{or_left}
 use Rattle.std.proofs.lemmas.List.{take-append-drop, drop_more, length-map}
 use Rattle.std.proofs.lemmas.List.Folds.{list_any-append}
@@ -9,7 +9,6 @@ use Rattle.lh_addr.specs.Extent.{Extent}
 use Rattle.lh_bucket.specs.Listing.{Lists}
 use Rattle.lh_page.specs.declared.pair.Pair.{Pair}
 use Rattle.lh_page.specs.Records.{keys_of}
-use Rattle.lh_image.specs.declared.fault.ImageFault.{ImageFault}
 use Rattle.lh_image.specs.declared.fault.ImageFault.TheVariants.{Misfit}
 use Rattle.lh_image.specs.declared.first_page.Header.{Header}
 use Rattle.lh_image.specs.declared.page_checks.PageFaults.{PageFaults}
@@ -17,7 +16,7 @@ use Rattle.lh_image.specs.declared.table.Entry.{Entry}
 use Rattle.lh_image.specs.Chains.{stands_in, chain, IsPath}
 use Rattle.lh_image.specs.Faults.{has_misfit, numbers, least, or_at, misfits, is_at_home, keys_before, image_fault}
 use Rattle.lh_image.specs.Image.{listing_of}
-use Rattle.lh_image.specs.Layout.{bucket, next, records, initial, capacity, load, max, buckets, page_count}
+use Rattle.lh_image.specs.Layout.{bucket, next, records, initial, buckets, page_count}
 use Rattle.lh_image.specs.Listed.{IsRead}
 use Rattle.lh_image.specs.Misplaced.{IsLeast, IsTestOf, is_home}
 use Rattle.lh_image.specs.Reading.{reading_of}

@@ -1,19 +1,18 @@
 -- What the first page decides alone
-use Rattle.std.proofs.Common.{◌≡◌, ℕ, ◌+◌, ◌-◌, ◌<◌, ◌≤◌, Bool, true, false, cond, not, ltb, leb, List, ◌++◌, length, take, drop, get_or, Option, Some, None, Result, Ok, Err, refl, sym, ap, ◌∙◌, arith}
+use Rattle.std.proofs.Common.{◌≡◌, ℕ, ◌<◌, ◌≤◌, Bool, true, false, leb, List, length, take, drop, get_or, Option, Some, None, Result, Ok, Err, refl, sym, ap, ◌∙◌, arith}
 use Rattle.std.specs.Prelude.{min, IfSome, IfOk}
 use Rattle.std.specs.Result.{result_err}
 use Rattle.std.specs.Io.KnownBytes.{Consumes}
-use Rattle.std.proofs.lemmas.Bool.{le-leb, lt-leb}
 use Rattle.std.proofs.lemmas.Bool.Decides.{nat_tests}
-use Rattle.std.proofs.lemmas.List.{take-take, drop-take, take-append-drop, take_all, get_or-take, length-take-le}
+use Rattle.std.proofs.lemmas.List.{take-take, drop-take, take-append-drop, take_all, get_or-take}
 use Rattle.byteorder.specs.Numbers.{little_from-take}
 use Rattle.lh_bucket.specs.Listing.{Lists}
 use Rattle.lh_image.specs.declared.fault.ImageFault.{ImageFault}
-use Rattle.lh_image.specs.declared.fault.ImageFault.TheVariants.{Magic, HeaderField, Counts, Short, Trailing, ReadFault, Memory}
+use Rattle.lh_image.specs.declared.fault.ImageFault.TheVariants.{Magic, HeaderField, Counts, Short, ReadFault, Memory}
 use Rattle.lh_image.specs.declared.first_page.Header.{Header}
 use Rattle.lh_image.specs.Faults.{bad_field, bad_counts, no_magic, header_fault, image_fault, or_at, or_else}
 use Rattle.lh_image.specs.Filling.{IsFilled}
-use Rattle.lh_image.specs.Header.{IsHeader, HasHeader, ReadsHeader}
+use Rattle.lh_image.specs.Header.{IsHeader, ReadsHeader}
 use Rattle.lh_image.specs.Layout.{initial, capacity, load, buckets, max, page_count, record_count}
 use Rattle.lh_image.specs.Reading.{IsTold, Leaves, reading_of}
 use Rattle.lh_image.proofs.HeaderTests.{due}

@@ -1,5 +1,5 @@
 -- The table of the header alone
-use Rattle.std.proofs.Common.{◌≡◌, ℕ, zero, suc, ◌+◌, ◌-◌, ◌*◌, ◌<◌, ◌≤◌, List, [], ◌∷◌, length, Option, None, refl, sym, ap, ◌∙◌, arith}
+use Rattle.std.proofs.Common.{◌≡◌, ℕ, zero, suc, List, [], ◌∷◌, Option, None, refl, arith}
 use Rattle.lh_page.specs.declared.pair.Pair.{Pair}
 use Rattle.lh_image.specs.declared.first_page.Header.{Header}
 use Rattle.lh_image.specs.declared.page_checks.PageFaults.{PageFaults}

@@ -1,8 +1,7 @@
 -- The fields of a header: their numbers, and the first of them that is at fault
-use Rattle.std.proofs.Common.{◌≡◌, ℕ, zero, suc, ◌+◌, ◌-◌, ◌*◌, ◌<◌, ◌≤◌, ◌⊎◌, inl, inr, Bool, true, false, cond, not, ◌||◌, ltb, List, [], ◌∷◌, length, take, drop, Option, Some, None, refl, sym, ap, ◌∙◌, arith}
+use Rattle.std.proofs.Common.{◌≡◌, ℕ, zero, suc, ◌+◌, ◌-◌, ◌*◌, ◌<◌, ◌≤◌, inl, inr, Bool, true, false, cond, not, ◌||◌, ltb, List, [], ◌∷◌, take, drop, Option, Some, None, refl, sym, ap, ◌∙◌, arith}
 use Rattle.std.proofs.lemmas.Bool.{cases_lt}
 use Rattle.std.proofs.lemmas.Bool.Decides.{nat_tests}
-use Rattle.std.proofs.lemmas.List.{take-take, drop-take}
 use Rattle.byteorder.specs.Numbers.{little_from-take, little_from-cons}
 use Rattle.byteorder.specs.Endian.{little_from}
 use Rattle.lh_addr.specs.Limits.{IsInitial, IsCapacity, IsLoad, IsSize}
@@ -11,8 +10,8 @@ use Rattle.lh_image.specs.declared.fault.ImageFault.{ImageFault}
 use Rattle.lh_image.specs.declared.fault.ImageFault.TheVariants.{HeaderField, Counts}
 use Rattle.lh_image.specs.declared.first_page.Fields.{Fields}
 use Rattle.lh_image.specs.Header.{AreFields, range_fault}
-use Rattle.lh_image.specs.Faults.{bad_field, bad_counts, no_magic, or_at, or_else, out_of}
-use Rattle.lh_image.specs.Layout.{initial, capacity, load, buckets, max, page_count, record_count}
+use Rattle.lh_image.specs.Faults.{bad_field, bad_counts, or_at, or_else, out_of}
+use Rattle.lh_image.specs.Layout.{initial, capacity, load, buckets, max}
 
 -- ---- numbers
 

@@ -14,7 +14,7 @@ use Rattle.lh_image.specs.declared.page_checks.PageFaults.{PageFaults}
 use Rattle.lh_image.specs.declared.table.Entry.{Entry}
 use Rattle.lh_image.specs.Chains.{pages_from, stands_in, chain}
 use Rattle.lh_image.specs.Faults.{bad_kind, bad_bucket, bad_level, bad_used, bad_next, named_twice, on_no_chain, has_bad_slot, has_misfit, numbers, least, or_at, or_else, page_fault, image_fault, is_short, has_trailing}
-use Rattle.lh_image.specs.Layout.{page, kind, used, level, bucket, next, buckets, page_count}
+use Rattle.lh_image.specs.Layout.{page, bucket, next, buckets, page_count}
 use Rattle.lh_image.specs.Listed.{IsDue, IsRead, fault_of_links, on_no_chain_in}
 use Rattle.lh_image.specs.PageChecks.{fault_of_heads, known_bad_level}
 use Rattle.lh_image.specs.Table.{next_in, bucket_in, bad_next_in, names, chain_in, no_entry, entry_at}

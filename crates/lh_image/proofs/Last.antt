@@ -1,33 +1,27 @@
 -- Chains of pages without a fault: their records, and the least of them that has a misfit
-use Rattle.std.proofs.Common.{◌≡◌, ◌≢◌, ℕ, zero, suc, ◌+◌, ◌-◌, ◌*◌, ◌<◌, ◌≤◌, ◌⊎◌, inl, inr, Bool, true, false, not, ◌||◌, eqb, List, [], ◌∷◌, ◌++◌, length, map, take, drop, get_or, Vec, Global, Option, Some, None, Result, Ok, Err, refl, sym, ap, ◌∙◌, arith}
+use Rattle.std.proofs.Common.{◌≡◌, ℕ, ◌+◌, ◌-◌, ◌<◌, ◌≤◌, Bool, true, false, not, ◌||◌, eqb, List, [], ◌∷◌, ◌++◌, Option, Some, None, refl, sym, ap, ◌∙◌, arith}
 use Rattle.std.specs.Prelude.{option_map}
-use Rattle.std.specs.List.{range_with_len, find, list_any, flat_map, before_first}
-use Rattle.std.proofs.lemmas.Bool.{or_left, or_right, eq-eqb, false≢true, both_ways, not-false}
-use Rattle.std.proofs.lemmas.List.{take-append-drop, drop_more}
+use Rattle.std.specs.List.{range_with_len, find, list_any, flat_map}
+use Rattle.std.proofs.lemmas.Bool.{or_left, or_right, eq-eqb}
 use Rattle.std.proofs.lemmas.List.Concat.{flat_map-cons}
 use Rattle.std.proofs.lemmas.List.Folds.{list_any-append}
-use Rattle.lh_addr.specs.Extent.{Extent}
 use Rattle.lh_page.specs.declared.pair.Pair.{Pair}
-use Rattle.lh_page.specs.Records.{keys_of}
-use Rattle.lh_image.specs.declared.fault.ImageFault.{ImageFault}
-use Rattle.lh_image.specs.declared.fault.ImageFault.TheVariants.{Next, Twice, Never, Slot, Misfit}
+use Rattle.lh_image.specs.declared.fault.ImageFault.TheVariants.{Next, Twice, Never, Slot}
 use Rattle.lh_image.specs.declared.first_page.Header.{Header}
 use Rattle.lh_image.specs.declared.page_checks.PageFaults.{PageFaults}
 use Rattle.lh_image.specs.declared.table.Entry.{Entry}
 use Rattle.lh_image.specs.Chains.{stands_in, chain, IsCovered}
-use Rattle.lh_image.specs.Faults.{bad_kind, bad_bucket, bad_used, bad_next, named_twice, on_no_chain, has_bad_slot, has_misfit, numbers, least, or_at, misfits, is_at_home, keys_before, image_fault}
-use Rattle.lh_image.specs.Header.{IsHeader}
-use Rattle.lh_image.specs.Layout.{bucket, next, records, initial, buckets, page_count}
+use Rattle.lh_image.specs.Faults.{bad_kind, bad_bucket, bad_used, bad_next, named_twice, on_no_chain, has_bad_slot, numbers, least, or_at}
+use Rattle.lh_image.specs.Layout.{bucket, next, records, buckets, page_count}
 use Rattle.lh_image.specs.Listed.{IsRead, fault_of_links}
-use Rattle.lh_image.specs.Misplaced.{IsLeast, IsTestOf, is_home}
+use Rattle.lh_image.specs.Misplaced.{IsLeast}
 use Rattle.lh_image.specs.PageChecks.{fault_of_heads}
-use Rattle.lh_image.specs.Table.{chain_in, records_in}
-use Rattle.lh_image.proofs.Judging.{links_same, chain_same}
+use Rattle.lh_image.specs.Table.{records_in}
+use Rattle.lh_image.proofs.Judging.{links_same}
 use Rattle.lh_image.proofs.Slots.{heads_none, slots_are, sound_page}
 use Rattle.lh_image.proofs.Linking.{Clean, linked_from_clean, on_from_clean}
-use Rattle.lh_image.proofs.Misfits.{not_before, before_is}
-use Rattle.lh_image.proofs.Ranges.{find_none, none_found, found_least, any_of, any_from}
-use Rattle.lh_image.proofs.Walks.{covered_chains, stands_at}
+use Rattle.lh_image.proofs.Ranges.{find_none, none_found, found_least}
+use Rattle.lh_image.proofs.Walks.{covered_chains}
 
 -- what is known behind the slots, where nothing was at fault
 pub record AreSound (bytes : List ℕ) (header : Header) (entries : List Entry) (pairs : List Pair) (faults : PageFaults) : Type 0 where

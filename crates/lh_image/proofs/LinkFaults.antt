@@ -1,7 +1,6 @@
 -- The first fault between the pages, by the three that there are
-use Rattle.std.proofs.Common.{◌≡◌, ℕ, ◌+◌, ◌-◌, Bool, true, false, not, ◌||◌, List, [], ◌∷◌, length, map, leb, Vec, Global, Option, Some, None, refl, sym, ap, ◌∙◌}
+use Rattle.std.proofs.Common.{◌≡◌, ℕ, ◌+◌, ◌-◌, Bool, not, ◌||◌, List, [], ◌∷◌, length, map, leb, Vec, Global, Some, None, refl, sym, ap, ◌∙◌}
 use Rattle.std.specs.List.{range_with_len, find, list_any}
-use Rattle.lh_image.specs.declared.fault.ImageFault.{ImageFault}
 use Rattle.lh_image.specs.declared.fault.ImageFault.TheVariants.{Next, Twice, Never}
 use Rattle.lh_image.specs.declared.table.Entry.{Entry}
 use Rattle.lh_image.specs.Chains.{stands_in}

@@ -16,7 +16,6 @@ use Rattle.lh_image.specs.declared.first_page.Header.{Header}
 use Rattle.lh_image.specs.declared.page_checks.PageFaults.{PageFaults}
 use Rattle.lh_image.specs.declared.table.Entry.{Entry}
 use Rattle.lh_image.specs.Image.{ImageLaw, listing_of}
-use Rattle.lh_image.specs.Layout.{buckets}
 use Rattle.lh_image.specs.Listed.{IsRead}
 use Rattle.lh_image.specs.Reading.{reading_of}
 use Rattle.lh_image.proofs.Listings.{size-listing_of}

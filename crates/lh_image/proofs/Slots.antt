@@ -13,7 +13,7 @@ use Rattle.lh_image.specs.declared.first_page.Header.{Header}
 use Rattle.lh_image.specs.declared.page_checks.PageFaults.{PageFaults}
 use Rattle.lh_image.specs.declared.table.Entry.{Entry}
 use Rattle.lh_image.specs.Faults.{bad_kind, bad_used, has_bad_slot, numbers, least, or_at, or_else}
-use Rattle.lh_image.specs.Layout.{page, kind, used, level, bucket, next, buckets, page_count, capacity}
+use Rattle.lh_image.specs.Layout.{page, kind, used, next, buckets, page_count, capacity}
 use Rattle.lh_image.specs.Listed.{IsRead}
 use Rattle.lh_image.specs.PageChecks.{fault_of_heads, slot_faulty}
 use Rattle.lh_image.specs.Table.{is_of_slot}

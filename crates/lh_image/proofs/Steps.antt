@@ -1,14 +1,13 @@
 -- One page more
-use Rattle.std.proofs.Common.{◌≡◌, ◌≢◌, ℕ, zero, suc, ◌+◌, ◌-◌, ◌*◌, ◌<◌, ◌≤◌, ◌⊎◌, inl, inr, Bool, true, false, cond, not, ◌||◌, ◌&&◌, eqb, ltb, leb, List, [], ◌∷◌, ◌++◌, length, take, drop, get_or, Option, Some, None, refl, sym, ap, ◌∙◌, arith, length-append}
-use Rattle.std.proofs.Math.Numerals.{add-one}
+use Rattle.std.proofs.Common.{◌≡◌, ◌≢◌, ℕ, zero, suc, ◌+◌, ◌-◌, ◌*◌, ◌<◌, ◌≤◌, inl, inr, Bool, true, false, cond, List, [], ◌∷◌, ◌++◌, length, take, drop, get_or, Option, Some, None, refl, sym, ap, ◌∙◌, arith, length-append}
 use Rattle.std.specs.List.{range_with_len, find, sum_by}
 use Rattle.std.proofs.lemmas.Bool.{cases_lt, cases_order, ne_eqb}
-use Rattle.std.proofs.lemmas.List.{get_or_append_left, get_or_at, get_or_past, take_at, take_all, drop_at, get_or-take, get_or-drop, drop-drop, append-nil, length-take-le, length-drop, take-append-le, drop-append-le}
+use Rattle.std.proofs.lemmas.List.{get_or_append_left, get_or_at, get_or_past, take_all, drop_at, get_or-take, get_or-drop, length-drop, take-append-le, drop-append-le}
 use Rattle.std.proofs.lemmas.List.Sums.{sum_by-cons}
 use Rattle.lh_addr.specs.Extent.{Extent}
 use Rattle.lh_page.specs.declared.head.PageHead.{PageHead}
 use Rattle.lh_page.specs.declared.pair.Pair.{Pair}
-use Rattle.lh_page.specs.PageFields.{fault_of, pairs_of}
+use Rattle.lh_page.specs.PageFields.{fault_of}
 use Rattle.lh_image.specs.declared.first_page.Header.{Header}
 use Rattle.lh_image.specs.declared.page_checks.PageFaults.{PageFaults}
 use Rattle.lh_image.specs.declared.table.Entry.{Entry}

@@ -1,12 +1,12 @@
 -- One step of a loop that follows `next`, and its end
-use Rattle.std.specs.List.{range_with_len, count_by, sum_by}
+use Rattle.std.specs.List.{range_with_len, count_by}
 use Rattle.std.proofs.lemmas.List.FromFn.{length-range_with_len}
 use Rattle.std.proofs.lemmas.List.Sums.{count_by-le-length}
 use Rattle.std.proofs.Math.Numerals.{add-one}
 use Rattle.lh_image.proofs.Ranges.{count_cons}
 use Rattle.lh_image.specs.Table.{names, next_in}
 use Rattle.lh_image.specs.declared.table.Entry.{Entry}
-use Rattle.std.proofs.Common.{eqb, cond, length, get_or, set, true, false, Bool, replicate, inl, inr, ◌≡◌, ◌≢◌, ℕ, zero, suc, ◌+◌, ◌-◌, ◌<◌, ◌≤◌, List, [], ◌∷◌, ◌++◌, refl, sym, ap, ◌∙◌, append_assoc, arith}
+use Rattle.std.proofs.Common.{eqb, cond, length, get_or, set, Bool, replicate, inl, inr, ◌≡◌, ◌≢◌, ℕ, zero, suc, ◌+◌, ◌-◌, ◌<◌, ◌≤◌, List, [], ◌∷◌, ◌++◌, refl, sym, ◌∙◌, append_assoc, arith}
 use Rattle.std.proofs.lemmas.Bool.{ne_eqb, eq-eqb, cases_eq}
 use Rattle.std.proofs.lemmas.List.{append-nil, get_or-set_same, get_or-set_other}
 use Rattle.lh_image.specs.Chains.{pages_from}

@@ -1,7 +1,6 @@
 -- The answer of the whole, by how far the bytes were read
-use Rattle.std.proofs.Common.{◌≡◌, ℕ, ◌+◌, ◌-◌, ◌*◌, ◌<◌, ◌≤◌, Bool, true, false, ◌||◌, ltb, List, [], ◌∷◌, ◌++◌, length, take, drop, get_or, inl, inr, Option, Some, None, Result, Ok, Err, refl, sym, ap, ◌∙◌, arith, length-drop}
+use Rattle.std.proofs.Common.{◌≡◌, ℕ, ◌+◌, ◌*◌, ◌<◌, ◌≤◌, true, false, ◌||◌, ltb, List, [], length, drop, get_or, inl, inr, Option, Some, None, Result, Ok, Err, refl, sym, ap, ◌∙◌, arith, length-drop}
 use Rattle.std.specs.Prelude.{IfSome, IfOk}
-use Rattle.std.specs.Io.KnownBytes.{Consumes, IsAtEnd}
 use Rattle.std.proofs.lemmas.Bool.Decides.{nat_tests}
 use Rattle.std.proofs.lemmas.Bool.{cases_lt}
 use Rattle.std.proofs.lemmas.List.{take-append-drop, drop-drop, get_or_past}
@@ -10,17 +9,17 @@ use Rattle.lh_image.specs.Image.{ImageLaw, IsImage, listing_of}
 use Rattle.lh_bucket.specs.Listing.{Lists}
 use Rattle.lh_page.specs.declared.pair.Pair.{Pair}
 use Rattle.lh_image.specs.declared.fault.ImageFault.{ImageFault}
-use Rattle.lh_image.specs.declared.fault.ImageFault.TheVariants.{Magic, HeaderField, Counts, Short, Trailing, ReadFault, Memory}
+use Rattle.lh_image.specs.declared.fault.ImageFault.TheVariants.{Short, Trailing, ReadFault, Memory}
 use Rattle.lh_image.specs.declared.first_page.Header.{Header}
 use Rattle.lh_image.specs.declared.page_checks.PageFaults.{PageFaults}
 use Rattle.lh_image.specs.declared.table.Entry.{Entry}
-use Rattle.lh_image.specs.Faults.{header_fault, image_fault, is_short, has_trailing, or_else}
-use Rattle.lh_image.specs.Header.{HasHeader, ReadsHeader}
+use Rattle.lh_image.specs.Faults.{image_fault, is_short, has_trailing}
+use Rattle.lh_image.specs.Header.{HasHeader}
 use Rattle.lh_image.specs.Layout.{page_count}
-use Rattle.lh_image.specs.Listed.{IsRead, IsLate}
-use Rattle.lh_image.specs.Pages.{HaveCome, IsCut, IsNoEnd, ReadsEnd}
+use Rattle.lh_image.specs.Listed.{IsRead}
+use Rattle.lh_image.specs.Pages.{HaveCome, IsCut, IsNoEnd}
 use Rattle.lh_image.specs.Reading.{IsAnswer, IsTold, Leaves, reading_of}
-use Rattle.lh_image.proofs.FirstPage.{told, read_as}
+use Rattle.lh_image.proofs.FirstPage.{read_as}
 
 -- ---- fewer pages
 

@@ -1,5 +1,5 @@
 -- The header as it is read
-use Rattle.std.specs.Prelude.{◌≡◌, ℕ, ◌+◌, ◌-◌, ◌*◌, ◌<◌, ◌≤◌, ◌||◌, List, length, drop, take, Option, Some, None, Result, Ok, Err, slice_index, nat_lt, if◌then◌else◌}
+use Rattle.std.specs.Prelude.{◌≡◌, ℕ, ◌+◌, ◌<◌, ◌≤◌, ◌||◌, List, length, drop, Option, Some, None, Result, Ok, Err, slice_index, nat_lt, if◌then◌else◌}
 use Rattle.lh_addr.specs.Settings.{Settings, IsInRange}
 use Rattle.lh_image.specs.declared.fault.ImageFault.{ImageFault}
 use Rattle.lh_image.specs.declared.first_page.Fields.{Fields}

@@ -1,12 +1,12 @@
 -- What a reader keeps of the pages that came: an entry for each page, and the records of all
-use Rattle.std.specs.Prelude.{◌≡◌, ◌≢◌, ℕ, ◌+◌, ◌-◌, ◌*◌, ◌<◌, ◌≤◌, Bool, true, false, not, ◌&&◌, ◌||◌, List, [], ◌∷◌, ◌++◌, length, take, drop, slice_index, slice_index_or, Option, Some, None, nat_lt, nat_le, ◌==◌, if◌then◌else◌}
-use Rattle.std.specs.List.{range_with_len, list_any, count_by, sum_by, find}
+use Rattle.std.specs.Prelude.{◌≡◌, ℕ, ◌+◌, ◌<◌, ◌≤◌, Bool, true, false, not, ◌&&◌, ◌||◌, List, [], ◌∷◌, ◌++◌, length, take, drop, slice_index_or, Option, Some, None, nat_le, ◌==◌}
+use Rattle.std.specs.List.{range_with_len, count_by}
 use Rattle.lh_page.specs.declared.pair.Pair.{Pair}
 use Rattle.lh_page.specs.declared.fault.PageFault.{PageFault}
 use Rattle.lh_page.specs.declared.fault.PageFault.TheVariants.{Kind, Used, Slot}
-use Rattle.lh_page.specs.PageFields.{fault_of, pairs_of, bucket_of, next_of}
+use Rattle.lh_page.specs.PageFields.{fault_of, pairs_of}
 use Rattle.lh_image.specs.declared.table.Entry.{Entry}
-use Rattle.lh_image.specs.Chains.{pages_from, stands_in}
+use Rattle.lh_image.specs.Chains.{pages_from}
 use Rattle.lh_image.specs.Layout.{page, bucket, next, records, capacity}
 
 -- the header's place, and what stands past the end

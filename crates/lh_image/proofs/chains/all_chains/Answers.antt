@@ -1,4 +1,4 @@
-use Rattle.std.proofs.Common.{◌≡◌, ℕ, ◌+◌, List, Vec, Global}
+use Rattle.std.proofs.Common.{ℕ, ◌+◌, Vec, Global}
 use Rattle.lh_image.specs.Table.{chain_in}
 use Rattle.lh_image.proofs.Finding.{made_more}
 use Rattle.lh_image.proofs.chains.all_chains.Goals as goal

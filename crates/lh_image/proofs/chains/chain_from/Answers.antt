@@ -1,4 +1,4 @@
-use Rattle.std.proofs.Common.{rules, ◌≡◌, ◌<◌, ◌-◌, ℕ, zero, List, length, ◌++◌, refl, sym, ap, subst, ◌∙◌, arith}
+use Rattle.std.proofs.Common.{rules, ◌≡◌, ◌-◌, length, ◌++◌, refl, sym, ◌∙◌, arith}
 use Rattle.lh_image.specs.Chains.{pages_from}
 use Rattle.lh_image.specs.Table.{chain_in, next_in}
 use Rattle.lh_image.proofs.Tables.{chain_step, chain_zero, chain_none}

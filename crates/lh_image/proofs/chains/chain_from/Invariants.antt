@@ -1,4 +1,4 @@
-use Rattle.std.proofs.Common.{◌≡◌, ◌<◌, ◌≤◌, ℕ, List, length, ◌++◌, ◌-◌}
+use Rattle.std.proofs.Common.{◌≡◌, length, ◌++◌, ◌-◌}
 use Rattle.lh_image.specs.Chains.{pages_from}
 use Rattle.lh_image.specs.Table.{chain_in, next_in}
 use Rattle.lh_image.proofs.chains.chain_from.Given as goal

@@ -1,5 +1,4 @@
-use Rattle.std.proofs.Common.{rules, ◌≡◌, ◌<◌, ◌+◌, ℕ, List, length, take, get_or, set, refl, sym, ap, ◌∙◌, arith, Bool, true, false, ◌||◌, eqb, length-set}
-use Rattle.lh_image.specs.Chains.{stands_in}
+use Rattle.std.proofs.Common.{get_or, refl, ◌∙◌, arith, true, false, length-set}
 use Rattle.lh_image.proofs.Markings.{mark_none, mark_more, mark_skip}
 use Rattle.lh_image.proofs.chains.mark.Goals.{then-page-marks, else-page-marks}
 use Rattle.lh_image.proofs.chains.mark.Goals as goal

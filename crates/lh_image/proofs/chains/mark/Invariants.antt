@@ -1,4 +1,4 @@
-use Rattle.std.proofs.Common.{◌≡◌, ◌<◌, ℕ, List, length, slice_index_or, ◌||◌, false, take}
+use Rattle.std.proofs.Common.{◌≡◌, ◌<◌, ℕ, length, slice_index_or, ◌||◌, false, take}
 use Rattle.lh_image.specs.Chains.{stands_in}
 use Rattle.lh_image.proofs.chains.mark.Given as goal
 

@@ -1,5 +1,4 @@
-use Rattle.std.proofs.Common.{rules, ◌≡◌, ◌<◌, ◌≤◌, ℕ, List, length, ◌+◌, ◌-◌, take, refl, ◌∙◌, arith}
-use Rattle.std.specs.Io.KnownBytes.{Consumes}
+use Rattle.std.proofs.Common.{rules, ◌≡◌, ◌≤◌, length, ◌-◌}
 use Rattle.lh_image.proofs.Fillings.{fills_on}
 use Rattle.lh_image.proofs.filling.fill.Goals as goal
 

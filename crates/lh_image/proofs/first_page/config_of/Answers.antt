@@ -1,4 +1,4 @@
-use Rattle.std.proofs.Common.{◌≡◌, ◌≤◌, Some, refl, sym, arith}
+use Rattle.std.proofs.Common.{sym}
 use Rattle.lh_addr.specs.Settings.{IsInRange}
 use Rattle.lh_image.specs.Header.{settings_of}
 use Rattle.lh_image.proofs.HeaderTests.{bad_initial, bad_capacity, bad_load, bad_buckets, bad_size, bad_max, in_range, few_buckets}

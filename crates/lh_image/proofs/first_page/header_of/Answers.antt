@@ -1,4 +1,4 @@
-use Rattle.std.proofs.Common.{◌≡◌, ◌≤◌, Some, true, false, refl, sym, arith}
+use Rattle.std.proofs.Common.{true, false, sym, arith}
 use Rattle.lh_image.proofs.HeaderTests.{due_range, due_zeros, due_counts, few_pages}
 use Rattle.lh_image.proofs.first_page.header_of.Goals as goal
 

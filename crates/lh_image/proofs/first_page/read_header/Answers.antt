@@ -1,4 +1,4 @@
-use Rattle.std.proofs.Common.{◌≡◌, ◌≤◌, ℕ, List, length, Some, true, false, refl, sym, rules, arith}
+use Rattle.std.proofs.Common.{◌≡◌, ◌≤◌, length, sym, rules}
 use Rattle.lh_image.proofs.FirstPage.{not_magic, too_short, reads_first}
 use Rattle.lh_image.proofs.first_page.read_header.Goals as goal
 

@@ -1,7 +1,7 @@
-use Rattle.std.proofs.Common.{◌≡◌, ℕ, ◌+◌, List, map, Vec, Global, Option, Some, None, sym, ap, ◌∙◌}
+use Rattle.std.proofs.Common.{◌≡◌, ℕ, ◌+◌, List, map, Vec, Global, Some, None, sym, ◌∙◌}
 use Rattle.std.specs.List.{range_with_len, find}
 use Rattle.lh_image.specs.declared.table.Entry.{Entry}
-use Rattle.lh_image.specs.Listed.{places, on_no_chain_in}
+use Rattle.lh_image.specs.Listed.{places}
 use Rattle.lh_image.specs.Table.{bad_next_in, chain_in}
 use Rattle.lh_image.proofs.LinkFaults.{named_by_two, links_next, links_twice, links_never, links_none, never_same}
 use Rattle.lh_image.proofs.listed.chains_of.Goals as goal

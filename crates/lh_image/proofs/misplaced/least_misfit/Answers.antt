@@ -1,9 +1,9 @@
-use Rattle.std.proofs.Common.{◌≡◌, ℕ, ◌+◌, ◌<◌, Bool, List, [], ◌++◌, Vec, Global, length, map, take, get_or, refl, sym, ap, ◌∙◌, arith}
+use Rattle.std.proofs.Common.{◌≡◌, ℕ, ◌+◌, ◌<◌, List, [], ◌++◌, Vec, Global, length, map, take, get_or, sym, ap, ◌∙◌, arith}
 use Rattle.std.specs.List.{flat_map}
 use Rattle.std.proofs.lemmas.Bool.{false≢true}
 use Rattle.lh_page.specs.declared.pair.Pair.{Pair}
 use Rattle.lh_image.specs.Chains.{stands_in}
-use Rattle.lh_image.specs.Misplaced.{IsLeast, IsTestOf, is_home}
+use Rattle.lh_image.specs.Misplaced.{IsTestOf, is_home}
 use Rattle.lh_image.specs.Table.{records_in}
 use Rattle.lh_image.proofs.Finding.{flat_more, item_of}
 use Rattle.lh_image.proofs.misplaced.least_misfit.Goals as goal

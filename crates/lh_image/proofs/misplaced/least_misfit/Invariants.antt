@@ -1,4 +1,4 @@
-use Rattle.std.proofs.Common.{◌≡◌, ◌<◌, List, [], ℕ, Bool, length, map, get_or, take}
+use Rattle.std.proofs.Common.{◌<◌, [], ℕ, Bool, length, map, get_or, take}
 use Rattle.std.specs.List.{flat_map}
 use Rattle.lh_image.specs.Misplaced.{IsLeast, IsTestOf, is_home}
 use Rattle.lh_image.specs.Table.{records_in}
