@@ -71,6 +71,8 @@ pub use view::View;
 pub use words::Words;
 
 #[cfg(test)]
+mod closed_tests;
+#[cfg(test)]
 mod settle_fault_tests;
 #[cfg(test)]
 mod settle_tests;

@@ -2,7 +2,7 @@
 
 use super::*;
 use lh_addr::Config;
-use lh_bucket::{Call, Listing, ListingFault, Reply};
+use lh_bucket::{Call, Listing, Reply};
 use lh_page::{Key, Pair, Value};
 use std::alloc::Global;
 use std::test::Fail;
@@ -32,7 +32,7 @@ fn lists_of(alloc: Global, lists: &[&[(u8, u8)]]) -> Result<Vec<Vec<Pair>>, Fail
 }
 
 /// A file of 1 to 4 buckets that began with one.
-fn config() -> Result<Config, Fail> {
+pub(crate) fn config() -> Result<Config, Fail> {
     Ok(Config::new(1, 2, 100, 4).ok().ok_or("config")?)
 }
 
@@ -237,41 +237,6 @@ fn a_history_begins_with_the_opening(rt: HostRuntime) -> Result<(), Fail> {
     Ok(())
 }
 
-#[test]
-fn a_closed_file_tells_what_it_has(rt: HostRuntime) -> Result<(), Fail> {
-    let file = closed(rt.alloc(), 7, 9, &[AE, BD, C, &[]])?;
-    assert_eq!(rt; (file.buckets(), file.stamps(), file.records()), (3, 9, 5));
-    assert!(rt; file.split_open());
-    assert!(rt; !closed(rt.alloc(), 6, 9, &[])?.split_open());
-    Ok(())
-}
-
-/// The listing of a closed file of three buckets with these records.
-fn listing_of(alloc: Global, lists: &[&[(u8, u8)]]) -> Result<Result<Listing, ListingFault>, Fail> {
-    Ok(closed(alloc, 6, 0, lists)?.listing(alloc))
-}
-
-#[test]
-fn a_closed_file_has_a_listing(rt: HostRuntime) -> Result<(), Fail> {
-    let listing = listing_of(rt.alloc(), &[AE, BD, C, &[]])??;
-    assert_eq!(rt; (listing.buckets(), listing.len()), (3, 5));
-    assert_eq!(rt; listing.config(), config()?);
-    Ok(())
-}
-
-#[test]
-fn a_closed_file_tells_the_fault_of_its_listing(rt: HostRuntime) -> Result<(), Fail> {
-    let few = listing_of(rt.alloc(), &[AE, BD])?.err();
-    assert_eq!(rt; few, Some(ListingFault::Shape));
-    let away = listing_of(rt.alloc(), &[AE, C, BD])?.err();
-    let misplaced = ListingFault::Misplaced {
-        bucket: 1,
-        place: 0,
-    };
-    assert_eq!(rt; away, Some(misplaced));
-    Ok(())
-}
-
 /// With an allocation refused the answer is that fault, and the same call again settles the file.
 #[test]
 fn refused_growth_is_told(rt: HostRuntime) -> Result<(), Fail> {
@@ -283,16 +248,5 @@ fn refused_growth_is_told(rt: HostRuntime) -> Result<(), Fail> {
         answer => answer,
     };
     assert_eq!(rt; settled, Ok(5));
-    Ok(())
-}
-
-#[test]
-fn refused_growth_of_a_listing_is_told(rt: HostRuntime) -> Result<(), Fail> {
-    let file = closed(rt.alloc(), 6, 5, &[AE, BD, C])?;
-    let listing = match file.listing(rt.alloc()) {
-        Err(ListingFault::Memory) => file.listing(rt.alloc()),
-        answer => answer,
-    };
-    assert_eq!(rt; listing?.len(), 5);
     Ok(())
 }

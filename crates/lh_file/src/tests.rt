@@ -10,4 +10,6 @@ mod outer;
 mod play;
 mod stage;
 mod tasks;
+mod texts;
 mod threads;
+mod turns;

@@ -2,8 +2,8 @@
 
 use super::play::{Scene, perform};
 use super::stage::Hold;
-use super::tasks::{Task, Told};
-use crate::{Point, Right};
+use super::tasks::{BUSY, FIRST_RIGHT, FOURTH_RIGHT, SECOND_RIGHT, THIRD_RIGHT, Task, Told};
+use crate::Point;
 use std::test::Fail;
 
 const HELD: [Hold; 1] = [Hold {
@@ -22,7 +22,7 @@ fn a_held_call_holds_up_nobody_but_its_bucket(rt: HostRuntime) -> Result<(), Fai
         second: &[
             (Task::Wait(1), Told::Done),
             (Task::Buckets, Told::Number(1)),
-            (Task::TryRight, Told::Right(Right::Got { old: 0, new: 1 })),
+            (Task::TryRight, FIRST_RIGHT),
             (Task::DropRight, Told::Done),
             (Task::Reach(2), Told::Done),
         ],
@@ -136,7 +136,7 @@ fn a_right_that_is_held_is_busy(rt: HostRuntime) -> Result<(), Fail> {
         ],
         second: &[
             (Task::Wait(1), Told::Done),
-            (Task::TryRight, Told::Right(Right::Busy { seen: 3 })),
+            (Task::TryRight, BUSY),
             (Task::Buckets, Told::Number(1)),
             (Task::Reach(2), Told::Done),
         ],
@@ -157,13 +157,13 @@ const HELD_AT_AN_OLD_ROOT: [Hold; 1] = [Hold {
 
 const FOUR_SPLITS: [(Task, Told); 10] = [
     (Task::Wait(2), Told::Done),
-    (Task::TryRight, Told::Right(Right::Got { old: 0, new: 1 })),
+    (Task::TryRight, FIRST_RIGHT),
     (Task::Split, Told::Done),
-    (Task::TryRight, Told::Right(Right::Got { old: 0, new: 2 })),
+    (Task::TryRight, SECOND_RIGHT),
     (Task::Split, Told::Done),
-    (Task::TryRight, Told::Right(Right::Got { old: 1, new: 3 })),
+    (Task::TryRight, THIRD_RIGHT),
     (Task::Split, Told::Done),
-    (Task::TryRight, Told::Right(Right::Got { old: 0, new: 4 })),
+    (Task::TryRight, FOURTH_RIGHT),
     (Task::Split, Told::Done),
     (Task::Reach(3), Told::Done),
 ];

@@ -2,12 +2,11 @@
 ghost use Rattle.std.specs.Prelude.{◌≡◌, false, IfOk};
 ghost use Rattle.lh_file.specs.FileState.{IsOf};
 
-use crate::{ActLine, FileFault, FileWords, Hand, JoinFault, Load, Memory, Right, Words};
+use crate::{ActLine, FileFault, FileWords, Hand, JoinFault, Load, Right, Words};
 use lh_addr::Config;
 use lh_bucket::{Call, Reply};
 use lh_page::{Key, Value};
-use std::alloc::{AllocError, Global};
-use std::fmt::Display;
+use std::alloc::Global;
 use std::process::Abort;
 use std::test::Fail;
 
@@ -255,40 +254,5 @@ fn acts_of_a_file_that_does_not_record_are_counted(rt: HostRuntime) -> Result<()
     let (words, acts) = file.close(hand);
     assert_eq!(rt; (words.stamps, words.inserts, words.deletes), (1, 1, 0));
     assert_eq!(rt; acts.len(), 0);
-    Ok(())
-}
-
-/// A text, asked for once more where memory was refused.
-fn printed<D: Display>(rt: &HostRuntime, value: &D) -> Result<String, AllocError> {
-    match format!(in rt.alloc(); "{value}") {
-        Ok(text) => Ok(text),
-        Err(AllocError) => format!(in rt.alloc(); "{value}"),
-    }
-}
-
-/// Whether a value has this text.
-fn prints<D: Display>(rt: &HostRuntime, value: &D, text: &str) -> Result<bool, AllocError> {
-    Ok(printed(rt, value)?.as_str() == text)
-}
-
-#[test]
-fn prints_faults(rt: HostRuntime) -> Result<(), Fail> {
-    let defect = FileFault::Defect {
-        wanted_bucket: 3,
-        wanted_level: 2,
-        found_bucket: 3,
-        found_level: None,
-    };
-    assert!(rt; prints(&rt, &defect, "bucket 3 at level 2 is not there")?);
-    assert!(rt; prints(&rt, &FileFault::Spent { left: 10 }, "10 calls left")?);
-    assert!(rt; prints(&rt, &FileFault::from(Memory), "no memory")?);
-    Ok(())
-}
-
-#[test]
-fn prints_faults_of_joins(rt: HostRuntime) -> Result<(), Fail> {
-    let (file, mut first) = file_of(rt.alloc(), 8, true)?;
-    let second = file.split_hand(&mut first, 10)?;
-    assert!(rt; prints(&rt, &JoinFault { first, second }, "no memory")?);
     Ok(())
 }

@@ -1,7 +1,7 @@
 //! Files that are opened from a listing.
 
-use super::play::{Ended, Turn, play_in_turn};
 use super::tasks::{Task, Told};
+use super::turns::{Ended, Turn, play_in_turn};
 use lh_addr::Config;
 use lh_bucket::Listing;
 use lh_page::{Key, Pair, Value};

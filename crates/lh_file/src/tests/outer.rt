@@ -1,17 +1,13 @@
 //! The calls of a file, one hand after another.
 
-use super::play::{Turn, perform_in_turn};
-use super::tasks::{Task, Told};
+use super::tasks::{BUSY, FIRST_RIGHT, FOURTH_RIGHT, SECOND_RIGHT, THIRD_RIGHT, Task, Told};
+use super::turns::{Turn, perform_in_turn};
 use crate::{FileFault, HashFile, NoGate, Right, SettleFault};
 use lh_addr::Config;
 use std::test::Fail;
 
 const SEEN_BY_BOTH: [Turn; 8] = [
-    (
-        1,
-        Task::TryRight,
-        Told::Right(Right::Got { old: 0, new: 1 }),
-    ),
+    (1, Task::TryRight, FIRST_RIGHT),
     (1, Task::Split, Told::Done),
     (2, Task::Buckets, Told::Number(2)),
     (1, Task::Insert(b'a'), Told::Inserted),
@@ -27,18 +23,10 @@ fn two_hands_see_one_file(rt: HostRuntime) -> Result<(), Fail> {
 }
 
 const RIGHT_OF_ONE: [Turn; 4] = [
-    (
-        1,
-        Task::TryRight,
-        Told::Right(Right::Got { old: 0, new: 1 }),
-    ),
-    (2, Task::TryRight, Told::Right(Right::Busy { seen: 3 })),
+    (1, Task::TryRight, FIRST_RIGHT),
+    (2, Task::TryRight, BUSY),
     (1, Task::DropRight, Told::Done),
-    (
-        2,
-        Task::TryRight,
-        Told::Right(Right::Got { old: 0, new: 1 }),
-    ),
+    (2, Task::TryRight, FIRST_RIGHT),
 ];
 
 #[test]
@@ -48,29 +36,13 @@ fn one_hand_has_the_right(rt: HostRuntime) -> Result<(), Fail> {
 }
 
 const FOUR_SPLITS: [Turn; 10] = [
-    (
-        1,
-        Task::TryRight,
-        Told::Right(Right::Got { old: 0, new: 1 }),
-    ),
+    (1, Task::TryRight, FIRST_RIGHT),
     (1, Task::Split, Told::Done),
-    (
-        1,
-        Task::TryRight,
-        Told::Right(Right::Got { old: 0, new: 2 }),
-    ),
+    (1, Task::TryRight, SECOND_RIGHT),
     (1, Task::Split, Told::Done),
-    (
-        1,
-        Task::TryRight,
-        Told::Right(Right::Got { old: 1, new: 3 }),
-    ),
+    (1, Task::TryRight, THIRD_RIGHT),
     (1, Task::Split, Told::Done),
-    (
-        1,
-        Task::TryRight,
-        Told::Right(Right::Got { old: 0, new: 4 }),
-    ),
+    (1, Task::TryRight, FOURTH_RIGHT),
     (1, Task::Split, Told::Done),
     (1, Task::Buckets, Told::Number(5)),
     (1, Task::TryRight, Told::Right(Right::Full)),

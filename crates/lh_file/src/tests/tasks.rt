@@ -37,6 +37,18 @@ pub(crate) enum Told {
     Done,
 }
 
+/// The right to split a file that began with one bucket, before its first, second, third and fourth split.
+pub(crate) const FIRST_RIGHT: Told = Told::Right(Right::Got { old: 0, new: 1 });
+
+pub(crate) const SECOND_RIGHT: Told = Told::Right(Right::Got { old: 0, new: 2 });
+
+pub(crate) const THIRD_RIGHT: Told = Told::Right(Right::Got { old: 1, new: 3 });
+
+pub(crate) const FOURTH_RIGHT: Told = Told::Right(Right::Got { old: 0, new: 4 });
+
+/// What a hand is told while another one has the right to split a file of one bucket.
+pub(crate) const BUSY: Told = Told::Right(Right::Busy { seen: 3 });
+
 /// A hand that has done its tasks, and the first answer that was not the one that was due, if there was
 /// one.
 #[derive(Drop)]
