@@ -10,8 +10,9 @@ use Rattle.lh_image.specs.declared.fault.ImageFault.TheVariants.{ReadFault, Memo
 use Rattle.lh_image.specs.Census.{census_of}
 use Rattle.lh_image.specs.Reading.{IsTold, reading_of}
 use Rattle.lhash.specs.Devices.{TakesBeginning}
+use Rattle.lhash.specs.Drawing.{drawing_of}
 use Rattle.lhash.specs.ImageTexts.{check_text, dump_text}
-use Rattle.lhash.specs.Images.{check_due, dump_due, refused_as, told_of}
+use Rattle.lhash.specs.Images.{check_due, draw_due, dump_due, refused_as, told_of}
 use Rattle.lhash.specs.Run.{Ends}
 use Rattle.lhash.specs.declared.status.DeviceFault.TheVariants.{Write}
 use Rattle.lhash.specs.declared.status.InputFault.TheVariants.{Image}
@@ -83,3 +84,25 @@ pub dump_begun : (listing : Lists) (left before now : Option (List ℕ)) → Sho
     TakesBeginning before now (dump_text listing) → IfSome left (λ input. Ends (Device Write) (dump_due input) before now)
 dump_begun listing None before now shows h = tt
 dump_begun listing (Some input) before now shows h = (dump_text listing, records_due listing shows.0 input shows.1 shows.2, h)
+
+-- and so is its drawing
+drawing_due : (listing l : Lists) (input : List ℕ) → reading_of input ≡ Ok l → listing ≡ l → draw_due input ≡ Ok (drawing_of listing)
+unfolding draw_due
+drawing_due listing l input e is = ap (told_of drawing_of) e ∙ ap (λ (x : Lists). Ok (drawing_of x)) (sym is)
+
+pub undrawn : (fault : ImageFault) (status : Status) (left a : Option (List ℕ)) → status ≡ refused_as fault →
+    IfSome left (λ input. IsTold fault (reading_of input)) → IfSome left (λ input. Ends status (draw_due input) a a)
+unfolding draw_due
+undrawn fault status None a is h = tt
+undrawn fault status (Some input) a is h =
+    subst (λ (s : Status). Ends s (draw_due input) a a) (sym is) (unread drawing_of fault (reading_of input) a h)
+
+pub drawn : (listing : Lists) (left before now : Option (List ℕ)) → Shows left (λ l. listing ≡ l) →
+    Appends before now (drawing_of listing) → IfSome left (λ input. Ends Done (draw_due input) before now)
+drawn listing None before now shows h = tt
+drawn listing (Some input) before now shows h = (drawing_of listing, drawing_due listing shows.0 input shows.1 shows.2, h)
+
+pub draw_begun : (listing : Lists) (left before now : Option (List ℕ)) → Shows left (λ l. listing ≡ l) →
+    TakesBeginning before now (drawing_of listing) → IfSome left (λ input. Ends (Device Write) (draw_due input) before now)
+draw_begun listing None before now shows h = tt
+draw_begun listing (Some input) before now shows h = (drawing_of listing, drawing_due listing shows.0 input shows.1 shows.2, h)

@@ -1,5 +1,6 @@
 pub mod Accepted
 pub mod Building
+pub mod Columns
 pub mod CommandShapes
 pub mod Counting
 pub mod Devices
@@ -20,5 +21,7 @@ pub mod Serving
 pub mod Splitting
 pub mod StepLines
 pub mod StopLemmas
+pub mod Tallies
+pub mod Turns
 pub mod Unlike
 pub mod Verbs

@@ -16,6 +16,7 @@ use Rattle.lh_image.specs.Canonical.{canonical, page_total}
 use Rattle.lh_image.specs.Census.{census_of}
 use Rattle.lh_image.specs.Reading.{reading_of}
 use Rattle.lhash.specs.Commands.{command}
+use Rattle.lhash.specs.Drawing.{drawing_of}
 use Rattle.lhash.specs.ImageTexts.{check_text, dump_text}
 use Rattle.lhash.specs.Run.{EndsTelling}
 use Rattle.lhash.specs.Scripts.{script}
@@ -63,6 +64,10 @@ check_due input = told_of (λ l. check_text (census_of l)) (reading_of input)
 -- what `dump` is to write for an input: the records of the listing that it is an image of
 unfoldable pub dump_due : List ℕ → Result (List ℕ) InputFault
 dump_due input = told_of dump_text (reading_of input)
+
+-- what `draw` is to write for an input: a drawing of the listing that it is an image of
+unfoldable pub draw_due : List ℕ → Result (List ℕ) InputFault
+draw_due input = told_of drawing_of (reading_of input)
 
 -- how a run ends whose input was not read as an image
 abbrev pub refused_as : ImageFault → Status

@@ -1,7 +1,10 @@
+pub mod Columns
 pub mod Commands
 pub mod Devices
 pub mod Driven
 pub mod Driving
+pub mod Drawing
+pub mod DrawingTexts
 pub mod FaultTexts
 pub mod Hexadecimal
 pub mod ImageTexts

@@ -56,7 +56,7 @@ pub fn answer_build<R: Read, W: Write>(
 
 /// How a run ends whose input is no image, or could not be read.
 #[tactic(auto, using(crate::proofs::Inspecting::refused_for_bytes))]
-fn unreadable(fault: ImageFault) -> Status
+pub fn unreadable(fault: ImageFault) -> Status
     ensures { result ≡ refused_as fault }
 {
     match fault {

@@ -11,6 +11,8 @@
 mod answer;
 mod commands;
 mod device;
+mod draw;
+mod drawing;
 mod drive;
 mod driven;
 mod fault;

@@ -64,6 +64,24 @@ fn put_line<W: Write, D: Display + Drop>(
     send_enough(writer, waiting)
 }
 
+/// Adds a text to what waits, and writes that where it is enough. As with a line, a text that cannot
+/// be made counts as a failed write.
+pub fn put<W: Write, D: Display + Drop>(
+    writer: &mut W,
+    waiting: &mut String,
+    text: D,
+) -> Result<(), WriteFailed>
+    ensures ok { (before : Option (List ℕ)) (sent : List ℕ) → Sends before (W.contents writer.old) (string_bytes waiting.old) sent
+        → OnOk result (IfSome (D.output text) (λ bytes. Sends before (W.contents writer.new) (string_bytes waiting.new) (sent ++ bytes))) }
+    ensures err { (before : Option (List ℕ)) (sent : List ℕ) → Sends before (W.contents writer.old) (string_bytes waiting.old) sent
+        → OnErr result (IfSome (D.output text) (λ bytes. TakesBeginning before (W.contents writer.new) (sent ++ bytes))) }
+{
+    if waiting.write(text).is_err() {
+        return Err(WriteFailed);
+    }
+    send_enough(writer, waiting)
+}
+
 /// Writes a line for each reply, and one for the number of buckets.
 pub fn write_replies<W: Write>(
     writer: &mut W,
