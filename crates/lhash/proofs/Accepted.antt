@@ -99,6 +99,9 @@ build-options = record {
   max = (((λ h. cc), ((λ h. cc), ((λ h. cc), ((λ _. refl), ((λ h. cc), tt))))), inr (inr (inr (inl refl))));
 }
 
+abbrev draw_built : Shape
+draw_built = shape_at 6 (built program_app).subs
+
 abbrev drive_built : Shape
 drive_built = shape_at 5 (built program_app).subs
 
@@ -145,10 +148,13 @@ accepted-rows words e = entered-some (built program_app) IsEntered (
       (
         (λ t is other ws f. inr (inl refl, no-settings check_built ((λ h. cc), tt) ws f)),
         (
-          (λ t is other ws f. inr (inr refl, no-settings dump_built ((λ h. cc), tt) ws f)),
+          (λ t is other ws f. inr (inr (inl refl), no-settings dump_built ((λ h. cc), tt) ws f)),
           (
             (λ t is other ws f. inl (inr (inr (inr refl)), settings-after drive_built drive-options ws f, λ _. threads-after ws f)),
-            ((λ t is other ws f. let same = is_help t is in cc), tt),
+            (
+              (λ t is other ws f. inr (inr (inr refl), no-settings draw_built ((λ h. cc), tt) ws f)),
+              ((λ t is other ws f. let same = is_help t is in cc), tt),
+            ),
           ),
         ),
       ),
@@ -160,13 +166,17 @@ accepted-rows words e = entered-some (built program_app) IsEntered (
 -- no subcommand has settings and reads an image
 apart : (name : Text) → IsFileCommand name → IsImageCommand name → ⊥
 apart name (inl a) (inl b) = unlike (codes "commands") (codes "check") refl (sym a ∙ b)
-apart name (inl a) (inr b) = unlike (codes "commands") (codes "dump") refl (sym a ∙ b)
+apart name (inl a) (inr (inl b)) = unlike (codes "commands") (codes "dump") refl (sym a ∙ b)
+apart name (inl a) (inr (inr b)) = unlike (codes "commands") (codes "draw") refl (sym a ∙ b)
 apart name (inr (inl a)) (inl b) = unlike (codes "steps") (codes "check") refl (sym a ∙ b)
-apart name (inr (inl a)) (inr b) = unlike (codes "steps") (codes "dump") refl (sym a ∙ b)
+apart name (inr (inl a)) (inr (inl b)) = unlike (codes "steps") (codes "dump") refl (sym a ∙ b)
+apart name (inr (inl a)) (inr (inr b)) = unlike (codes "steps") (codes "draw") refl (sym a ∙ b)
 apart name (inr (inr (inl a))) (inl b) = unlike (codes "build") (codes "check") refl (sym a ∙ b)
-apart name (inr (inr (inl a))) (inr b) = unlike (codes "build") (codes "dump") refl (sym a ∙ b)
+apart name (inr (inr (inl a))) (inr (inl b)) = unlike (codes "build") (codes "dump") refl (sym a ∙ b)
+apart name (inr (inr (inl a))) (inr (inr b)) = unlike (codes "build") (codes "draw") refl (sym a ∙ b)
 apart name (inr (inr (inr a))) (inl b) = unlike (codes "drive") (codes "check") refl (sym a ∙ b)
-apart name (inr (inr (inr a))) (inr b) = unlike (codes "drive") (codes "dump") refl (sym a ∙ b)
+apart name (inr (inr (inr a))) (inr (inl b)) = unlike (codes "drive") (codes "dump") refl (sym a ∙ b)
+apart name (inr (inr (inr a))) (inr (inr b)) = unlike (codes "drive") (codes "draw") refl (sym a ∙ b)
 
 pub entered-named : (name : Text) (rows : List Row) → IsEntered name rows → IsFileCommand name ⊎ IsImageCommand name
 entered-named name rows (inl h) = inl h.0

@@ -120,6 +120,8 @@ asked words name rows request.Check accepts is h =
     (accepts, ap (option_map (λ s. s.0)) is ∙ ap (λ (n : Text). Some n) h)
 asked words name rows request.Dump accepts is h =
     (accepts, ap (option_map (λ s. s.0)) is ∙ ap (λ (n : Text). Some n) h)
+asked words name rows request.Draw accepts is h =
+    (accepts, ap (option_map (λ s. s.0)) is ∙ ap (λ (n : Text). Some n) h)
 asked words name rows (request.Drive config threads) accepts is h = (
   (accepts, ap (option_map (λ s. s.0)) is ∙ ap (λ (n : Text). Some n) h.0),
   settings-at words name rows is ∙ h.1,
@@ -149,6 +151,7 @@ refusal-answers words e (request.Build config) among h = absurd h
 refusal-answers words e (request.Drive config threads) among h = absurd h
 refusal-answers words e request.Check among h = absurd h
 refusal-answers words e request.Dump among h = absurd h
+refusal-answers words e request.Draw among h = absurd h
 refusal-answers words e request.MaxBelowInitial among h = absurd h
 
 -- what a parse that succeeds says of the words, and of the subcommand that it entered

@@ -5,14 +5,14 @@ use Rattle.clap.specs.Walk.{Text}
 use Rattle.lh_addr.specs.Settings.{Settings}
 use Rattle.lhash.specs.Options.{Accepts, AsksForHelp, Answers, Asks, IsMaxBelowInitial, settings_given}
 use Rattle.lhash.specs.Driving.{EndsDriving}
-use Rattle.lhash.specs.Images.{EndsBuilding, check_due, dump_due}
+use Rattle.lhash.specs.Images.{EndsBuilding, check_due, draw_due, dump_due}
 use Rattle.lhash.specs.Run.{Ends, EndsSteps, commands_due}
 use Rattle.lhash.specs.Serving.{IsHelped, IsServable, IsTurnedAway, IsWordsOf, Serves, below_initial}
 use Rattle.lhash.proofs.Ending.{no_memory}
 use Rattle.lhash.proofs.Requests.{image-settings}
 use Rattle.lhash.proofs.Unlike.{unlike}
 use Rattle.lhash.specs.declared.options.Request.{Request}
-use Rattle.lhash.specs.declared.options.Request.TheVariants.{Commands, Steps, Build, Check, Dump, Drive, Help, Refused, MaxBelowInitial}
+use Rattle.lhash.specs.declared.options.Request.TheVariants.{Commands, Steps, Build, Check, Draw, Dump, Drive, Help, Refused, MaxBelowInitial}
 use Rattle.lhash.specs.declared.status.DeviceFault.TheVariants.{Read, Write}
 use Rattle.lhash.specs.declared.status.Status.{Status}
 use Rattle.lhash.specs.declared.status.Status.TheVariants.{Done, Input, Words, Device, Memory, NotSettled}
@@ -42,6 +42,8 @@ serves_settings words Check status left rest before now answers serves settings 
     absurd (one_name words (codes "check") (codes "commands") answers asks (unlike (codes "check") (codes "commands") refl))
 serves_settings words Dump status left rest before now answers serves settings asks given within =
     absurd (one_name words (codes "dump") (codes "commands") answers asks (unlike (codes "dump") (codes "commands") refl))
+serves_settings words Draw status left rest before now answers serves settings asks given within =
+    absurd (one_name words (codes "draw") (codes "commands") answers asks (unlike (codes "draw") (codes "commands") refl))
 serves_settings words (Drive config threads) status left rest before now answers serves settings asks given within =
     absurd (one_name words (codes "drive") (codes "commands") answers.0 asks (unlike (codes "drive") (codes "commands") refl))
 serves_settings words (Help text) status left rest before now answers serves settings asks given within = absurd (answers.0 asks.0)
@@ -64,6 +66,8 @@ serves_steps words Check status left rest before now answers serves settings ask
     absurd (one_name words (codes "check") (codes "steps") answers asks (unlike (codes "check") (codes "steps") refl))
 serves_steps words Dump status left rest before now answers serves settings asks given within =
     absurd (one_name words (codes "dump") (codes "steps") answers asks (unlike (codes "dump") (codes "steps") refl))
+serves_steps words Draw status left rest before now answers serves settings asks given within =
+    absurd (one_name words (codes "draw") (codes "steps") answers asks (unlike (codes "draw") (codes "steps") refl))
 serves_steps words (Drive config threads) status left rest before now answers serves settings asks given within =
     absurd (one_name words (codes "drive") (codes "steps") answers.0 asks (unlike (codes "drive") (codes "steps") refl))
 serves_steps words (Help text) status left rest before now answers serves settings asks given within = absurd (answers.0 asks.0)
@@ -86,6 +90,8 @@ serves_build words Check status left rest before now answers serves settings ask
     absurd (one_name words (codes "check") (codes "build") answers asks (unlike (codes "check") (codes "build") refl))
 serves_build words Dump status left rest before now answers serves settings asks given within =
     absurd (one_name words (codes "dump") (codes "build") answers asks (unlike (codes "dump") (codes "build") refl))
+serves_build words Draw status left rest before now answers serves settings asks given within =
+    absurd (one_name words (codes "draw") (codes "build") answers asks (unlike (codes "draw") (codes "build") refl))
 serves_build words (Drive config threads) status left rest before now answers serves settings asks given within =
     absurd (one_name words (codes "drive") (codes "build") answers.0 asks (unlike (codes "drive") (codes "build") refl))
 serves_build words (Help text) status left rest before now answers serves settings asks given within = absurd (answers.0 asks.0)
@@ -108,6 +114,8 @@ serves_drive words Check status left rest before now answers serves settings ask
     absurd (one_name words (codes "check") (codes "drive") answers asks (unlike (codes "check") (codes "drive") refl))
 serves_drive words Dump status left rest before now answers serves settings asks given within =
     absurd (one_name words (codes "dump") (codes "drive") answers asks (unlike (codes "dump") (codes "drive") refl))
+serves_drive words Draw status left rest before now answers serves settings asks given within =
+    absurd (one_name words (codes "draw") (codes "drive") answers asks (unlike (codes "draw") (codes "drive") refl))
 serves_drive words (Drive config threads) status left rest before now answers serves settings asks given within =
     subst (λ (s : Settings). IfSome left (λ input. EndsDriving s input status before now)) (same_settings config settings (settings_given words) answers.1 given) serves
 serves_drive words (Help text) status left rest before now answers serves settings asks given within = absurd (answers.0 asks.0)
@@ -133,6 +141,8 @@ serves_check words Check status left rest before now answers serves asks =
     serves
 serves_check words Dump status left rest before now answers serves asks =
     absurd (one_name words (codes "dump") (codes "check") answers asks (unlike (codes "dump") (codes "check") refl))
+serves_check words Draw status left rest before now answers serves asks =
+    absurd (one_name words (codes "draw") (codes "check") answers asks (unlike (codes "draw") (codes "check") refl))
 serves_check words (Drive config threads) status left rest before now answers serves asks =
     absurd (one_name words (codes "drive") (codes "check") answers.0 asks (unlike (codes "drive") (codes "check") refl))
 serves_check words (Help text) status left rest before now answers serves asks = absurd (answers.0 asks.0)
@@ -155,12 +165,38 @@ serves_dump words Check status left rest before now answers serves asks =
     absurd (one_name words (codes "check") (codes "dump") answers asks (unlike (codes "check") (codes "dump") refl))
 serves_dump words Dump status left rest before now answers serves asks =
     serves
+serves_dump words Draw status left rest before now answers serves asks =
+    absurd (one_name words (codes "draw") (codes "dump") answers asks (unlike (codes "draw") (codes "dump") refl))
 serves_dump words (Drive config threads) status left rest before now answers serves asks =
     absurd (one_name words (codes "drive") (codes "dump") answers.0 asks (unlike (codes "drive") (codes "dump") refl))
 serves_dump words (Help text) status left rest before now answers serves asks = absurd (answers.0 asks.0)
 serves_dump words (Refused text) status left rest before now answers serves asks = absurd (answers.0 asks.0)
 serves_dump words MaxBelowInitial status left rest before now answers serves asks =
-    absurd (none_below (settings_given words) (image-settings words (codes "dump") asks (inr refl)) answers.1)
+    absurd (none_below (settings_given words) (image-settings words (codes "dump") asks (inr (inl refl))) answers.1)
+
+-- and words that ask for a drawing
+pub serves_draw : (words : List Text) (request : Request) (status : Status) (left rest before now : Option (List ℕ)) →
+    Answers words request → Serves request status left rest before now →
+    Asks words (codes "draw") →
+    IfSome left (λ input. Ends status (draw_due input) before now)
+serves_draw words (Commands config) status left rest before now answers serves asks =
+    absurd (one_name words (codes "commands") (codes "draw") answers.0 asks (unlike (codes "commands") (codes "draw") refl))
+serves_draw words (Steps config) status left rest before now answers serves asks =
+    absurd (one_name words (codes "steps") (codes "draw") answers.0 asks (unlike (codes "steps") (codes "draw") refl))
+serves_draw words (Build config) status left rest before now answers serves asks =
+    absurd (one_name words (codes "build") (codes "draw") answers.0 asks (unlike (codes "build") (codes "draw") refl))
+serves_draw words Check status left rest before now answers serves asks =
+    absurd (one_name words (codes "check") (codes "draw") answers asks (unlike (codes "check") (codes "draw") refl))
+serves_draw words Draw status left rest before now answers serves asks =
+    serves
+serves_draw words Dump status left rest before now answers serves asks =
+    absurd (one_name words (codes "dump") (codes "draw") answers asks (unlike (codes "dump") (codes "draw") refl))
+serves_draw words (Drive config threads) status left rest before now answers serves asks =
+    absurd (one_name words (codes "drive") (codes "draw") answers.0 asks (unlike (codes "drive") (codes "draw") refl))
+serves_draw words (Help text) status left rest before now answers serves asks = absurd (answers.0 asks.0)
+serves_draw words (Refused text) status left rest before now answers serves asks = absurd (answers.0 asks.0)
+serves_draw words MaxBelowInitial status left rest before now answers serves asks =
+    absurd (none_below (settings_given words) (image-settings words (codes "draw") asks (inr (inr refl))) answers.1)
 
 -- what is asked for can be done
 pub is_servable : (words : List Text) (request : Request) → Answers words request → IsServable request
@@ -189,7 +225,9 @@ refuses_below words (Build config) status left rest before now answers serves se
 refuses_below words Check status left rest before now answers serves settings accepts given below =
     let none : settings_given words ≡ None = image-settings words (codes "check") answers (inl refl) in absurd cc
 refuses_below words Dump status left rest before now answers serves settings accepts given below =
-    let none : settings_given words ≡ None = image-settings words (codes "dump") answers (inr refl) in absurd cc
+    let none : settings_given words ≡ None = image-settings words (codes "dump") answers (inr (inl refl)) in absurd cc
+refuses_below words Draw status left rest before now answers serves settings accepts given below =
+    let none : settings_given words ≡ None = image-settings words (codes "draw") answers (inr (inr refl)) in absurd cc
 refuses_below words (Drive config threads) status left rest before now answers serves settings accepts given below =
     let same : config ≡ settings = same_settings config settings (settings_given words) answers.1 given in
     let within : settings.initial ≤ settings.max = subst (λ (s : Settings). s.initial ≤ s.max) same answers.2.max.0 in absurd (omega arith)
@@ -215,6 +253,7 @@ turns_away words (Steps config) status left rest before now answers serves refus
 turns_away words (Build config) status left rest before now answers serves refused = absurd (refused answers.0.0)
 turns_away words Check status left rest before now answers serves refused = absurd (refused answers.0)
 turns_away words Dump status left rest before now answers serves refused = absurd (refused answers.0)
+turns_away words Draw status left rest before now answers serves refused = absurd (refused answers.0)
 turns_away words (Drive config threads) status left rest before now answers serves refused = absurd (refused answers.0.0)
 turns_away words (Help text) status left rest before now answers serves refused = (helped words status before now answers.1 serves.0, serves.1)
 turns_away words (Refused text) status left rest before now answers serves refused =

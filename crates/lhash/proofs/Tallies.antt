@@ -1,5 +1,5 @@
 -- What is counted of one bucket more.
-use Rattle.std.proofs.Common.{◌≡◌, ◌∙◌, ℕ, ◌+◌, ◌-◌, ◌*◌, ◌/◌, ◌<◌, ◌≤◌, List, [], ◌∷◌, ◌++◌, length, take, drop, get_or, sym, ap, subst, arith, length-drop}
+use Rattle.std.proofs.Common.{◌≡◌, ◌∙◌, ℕ, ◌+◌, ◌-◌, ◌*◌, ◌/◌, ◌<◌, ◌≤◌, List, [], ◌∷◌, ◌++◌, length, take, drop, get_or, ap, arith, length-drop}
 use Rattle.std.specs.Prelude.{max, sum_by}
 use Rattle.std.proofs.Math.Nat.{lt-mul-div-succ}
 use Rattle.std.proofs.lemmas.List.{take_more, get_or-drop}

@@ -43,6 +43,9 @@ check_alone = codes "lhash" ∷ codes "check" ∷ []
 abbrev pub dump_alone : List Text
 dump_alone = codes "lhash" ∷ codes "dump" ∷ []
 
+abbrev pub draw_alone : List Text
+draw_alone = codes "lhash" ∷ codes "draw" ∷ []
+
 abbrev pub check_with_option : List Text
 check_with_option = codes "lhash" ∷ codes "check" ∷ codes "--max" ∷ codes "1" ∷ []
 

@@ -48,7 +48,7 @@ IsFileCommand name = (name ≡ codes "commands") ⊎ ((name ≡ codes "steps") �
 
 -- the name of a subcommand that reads an image, without options
 abbrev pub IsImageCommand : Text → Type 0
-IsImageCommand name = (name ≡ codes "check") ⊎ (name ≡ codes "dump")
+IsImageCommand name = (name ≡ codes "check") ⊎ ((name ≡ codes "dump") ⊎ (name ≡ codes "draw"))
 
 -- what a request says of the subcommand's name and rows
 abbrev pub IsAskedBy : Text → List Row → Request → Type 0
@@ -60,6 +60,7 @@ IsAskedBy name rows (request.Build config) =
     (name ≡ codes "build") × (settings_in rows ≡ Some config) × IsInRange config
 IsAskedBy name rows request.Check = name ≡ codes "check"
 IsAskedBy name rows request.Dump = name ≡ codes "dump"
+IsAskedBy name rows request.Draw = name ≡ codes "draw"
 IsAskedBy name rows (request.Drive config threads) =
     (name ≡ codes "drive") × (settings_in rows ≡ Some config) × IsInRange config × (number_in rows (codes "threads") ≡ Some threads) × (1 ≤ threads) × (threads ≤ 64)
 IsAskedBy name rows request.MaxBelowInitial = IsMaxBelowInitial (settings_in rows)

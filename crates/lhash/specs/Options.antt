@@ -46,6 +46,9 @@ check_app = new_app (codes "check")
 abbrev pub dump_app : App
 dump_app = new_app (codes "dump")
 
+abbrev pub draw_app : App
+draw_app = new_app (codes "draw")
+
 -- a command with an option for a number of threads
 abbrev pub with_threads : App → App
 with_threads app = with_rule app (option_rule (codes "threads") (codes "4") 1 64)
@@ -61,9 +64,9 @@ with_subcommand_required app = record app { top = record app.top { subcommand_re
 -- the program's command
 abbrev pub program_app : App
 program_app =
-    with_subcommand (with_subcommand (with_subcommand (with_subcommand (with_subcommand (with_subcommand
+    with_subcommand (with_subcommand (with_subcommand (with_subcommand (with_subcommand (with_subcommand (with_subcommand
     (with_subcommand_required (new_app (codes "lhash")))
-    commands_app.top) steps_app.top) build_app.top) check_app.top) dump_app.top) drive_app.top
+    commands_app.top) steps_app.top) build_app.top) check_app.top) dump_app.top) drive_app.top) draw_app.top
 
 -- the whole number that a text writes in decimal digits, where it is such a text; a plus may stand first
 abbrev pub number_of : Text → Option ℕ
@@ -127,6 +130,7 @@ Answers words (request.Build config) =
     Asks words (codes "build") × (settings_given words ≡ Some config) × IsInRange config
 Answers words request.Check = Asks words (codes "check")
 Answers words request.Dump = Asks words (codes "dump")
+Answers words request.Draw = Asks words (codes "draw")
 Answers words (request.Drive config threads) =
     Asks words (codes "drive") × (settings_given words ≡ Some config) × IsInRange config × (number_given words (codes "threads") ≡ Some threads) × (1 ≤ threads) × (threads ≤ 64)
 Answers words request.MaxBelowInitial = Accepts words × IsMaxBelowInitial (settings_given words)

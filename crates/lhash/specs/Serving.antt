@@ -4,11 +4,11 @@ use Rattle.std.specs.String.{string_bytes}
 use Rattle.std.specs.Io.KnownBytes.{Keeps}
 use Rattle.clap.specs.Walk.{Text}
 use Rattle.lhash.specs.Driving.{EndsDriving}
-use Rattle.lhash.specs.Images.{EndsBuilding, check_due, dump_due}
+use Rattle.lhash.specs.Images.{EndsBuilding, check_due, draw_due, dump_due}
 use Rattle.lhash.specs.Options.{AsksForHelp, IsRefused}
 use Rattle.lhash.specs.Run.{Ends, EndsSteps, commands_due}
 use Rattle.lhash.specs.declared.options.Request.{Request}
-use Rattle.lhash.specs.declared.options.Request.TheVariants.{Commands, Steps, Build, Check, Dump, Drive, Help, Refused, MaxBelowInitial}
+use Rattle.lhash.specs.declared.options.Request.TheVariants.{Commands, Steps, Build, Check, Draw, Dump, Drive, Help, Refused, MaxBelowInitial}
 use Rattle.lhash.specs.declared.status.DeviceFault.TheVariants.{Write}
 use Rattle.lhash.specs.declared.status.Status.{Status}
 use Rattle.lhash.specs.declared.status.Status.TheVariants.{Done, Words, Device, Memory}
@@ -41,6 +41,7 @@ Serves (Steps config) status left rest before now = IfSome left (λ input. EndsS
 Serves (Build config) status left rest before now = IfSome left (λ input. EndsBuilding config input status before now)
 Serves Check status left rest before now = IfSome left (λ input. Ends status (check_due input) before now)
 Serves Dump status left rest before now = IfSome left (λ input. Ends status (dump_due input) before now)
+Serves Draw status left rest before now = IfSome left (λ input. Ends status (draw_due input) before now)
 Serves (Drive config threads) status left rest before now = IfSome left (λ input. EndsDriving config input status before now)
 Serves (Help text) status left rest before now = IsHelped status × Keeps left rest
 Serves (Refused text) status left rest before now = (status ≡ Words text) × Keeps left rest × Keeps before now

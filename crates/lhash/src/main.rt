@@ -3,7 +3,7 @@
 //! `lhash commands` reads a command script, answers its calls and writes their replies. `lhash
 //! steps` reads a step script, takes its steps and writes what is told of each. `lhash build` reads a
 //! command script and writes the file that it leads to as an image; `lhash check` reads an image and
-//! writes what is counted of it, `lhash dump` its records. `lhash drive` makes the calls of a command
+//! writes what is counted of it, `lhash dump` its records, `lhash draw` a drawing. `lhash drive` makes the calls of a command
 //! script in threads that share one file, and writes what they did in all. `run` does it from words
 //! and bytes to bytes and a status; `main` gives it the process's own.
 #![tactic(auto)]

@@ -10,6 +10,7 @@ ghost use Rattle.lhash.specs.OptionLaws.{
   check_with_option,
   drive_alone,
   drive_given,
+  draw_alone,
   dump_alone,
   help_asked,
   initial_twice,
@@ -40,6 +41,7 @@ pub fn words_give_options()
     ensures drive_left_out { GivesDrive drive_alone (record { initial = 1; capacity = 14; load = 100; max = 65536 }) 4 }
     ensures check { Asks check_alone (codes "check") }
     ensures dump { Asks dump_alone (codes "dump") }
+    ensures draw { Asks draw_alone (codes "draw") }
     ensures without_options { Refuses check_with_option }
     ensures none { Refuses no_subcommand }
     ensures too_small { Refuses initial_zero }

@@ -32,6 +32,8 @@ pub enum Request {
     Check,
     /// The subcommand `dump`.
     Dump,
+    /// The subcommand `draw`.
+    Draw,
     /// The subcommand `drive`, with the configuration and the number of threads that its options give.
     Drive(Config, u32),
     /// Help, and its text.
@@ -138,7 +140,8 @@ fn program<'a>(alloc: Global) -> Result<Command<'a>, AllocError>
         )?)?
         .subcommand(image_command(alloc, "check", "Check an image"))?
         .subcommand(image_command(alloc, "dump", "List the records of an image"))?
-        .subcommand(drive_command(alloc)?)
+        .subcommand(drive_command(alloc)?)?
+        .subcommand(image_command(alloc, "draw", "Draw the file of an image"))
 }
 
 /// The number of an option.
@@ -192,6 +195,7 @@ fn asked(name: &str, matches: &ArgMatches<'_>) -> Request
         },
         "check" => Request::Check,
         "dump" => Request::Dump,
+        "draw" => Request::Draw,
         "drive" => match config_of(matches) {
             Some(config) => Request::Drive(config, number(matches, "threads")),
             None => Request::MaxBelowInitial,

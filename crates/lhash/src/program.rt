@@ -3,13 +3,14 @@ ghost use Rattle.std.specs.Prelude.{◌≡◌, ◌≤◌, ◌<◌, IfSome, codes
 ghost use Rattle.std.specs.Io.KnownBytes.{Keeps};
 ghost use Rattle.lh_addr.specs.Settings.{Settings};
 ghost use Rattle.lhash.specs.Driving.{EndsDriving};
-ghost use Rattle.lhash.specs.Images.{EndsBuilding, check_due, dump_due};
+ghost use Rattle.lhash.specs.Images.{EndsBuilding, check_due, draw_due, dump_due};
 ghost use Rattle.lhash.specs.Options.{Accepts, Asks, settings_given};
 ghost use Rattle.lhash.specs.Run.{Ends, EndsSteps, commands_due};
 ghost use Rattle.lhash.specs.Serving.{IsHelped, IsServable, IsTurnedAway, IsWordsOf, Serves, below_initial};
 
 use crate::answer::{answer_commands, answer_steps};
 use crate::device::write_all;
+use crate::draw::answer_draw;
 use crate::drive::answer_drive;
 use crate::images::{answer_build, answer_check, answer_dump};
 use crate::options::{Request, request_of};
@@ -57,6 +58,7 @@ fn serve<A: Threads + Wait + Sync, R: Read, W: Write>(
         Request::Build(config) => answer_build(alloc, config, reader, writer),
         Request::Check => answer_check(alloc, reader, writer),
         Request::Dump => answer_dump(alloc, reader, writer),
+        Request::Draw => answer_draw(alloc, reader, writer),
         Request::Drive(config, threads) => {
             answer_drive(rt, alloc, config, threads, reader, writer)
         }
@@ -88,6 +90,9 @@ pub fn run<'a, A: AllocGlobal + Threads + Wait + Sync, R: Read, W: Write>(
     ensures served_dump { let texts = map (λ s. s.now) words.now in
         Asks texts (codes "dump") →
         IfSome (R.remaining reader.old) (λ input. Ends result (dump_due input) (W.contents writer.old) (W.contents writer.new)) }
+    ensures served_draw { let texts = map (λ s. s.now) words.now in
+        Asks texts (codes "draw") →
+        IfSome (R.remaining reader.old) (λ input. Ends result (draw_due input) (W.contents writer.old) (W.contents writer.new)) }
     ensures served_drive { let texts = map (λ s. s.now) words.now in
         (settings : Settings) → Asks texts (codes "drive") → settings_given texts ≡ Some settings → settings.initial ≤ settings.max →
         IfSome (R.remaining reader.old) (λ input. EndsDriving settings input result (W.contents writer.old) (W.contents writer.new)) }

@@ -18,6 +18,7 @@ fn answer(rt: &(impl Abort + AllocGlobal), words: &[&str]) -> Result<String, All
         }
         Request::Check => String::from_str(alloc, "check"),
         Request::Dump => String::from_str(alloc, "dump"),
+        Request::Draw => String::from_str(alloc, "draw"),
         Request::Help(text) => {
             assert!(rt;
                 text.as_str().starts_with("Usage: lhash")

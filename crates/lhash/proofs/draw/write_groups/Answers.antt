@@ -1,4 +1,4 @@
-use Rattle.std.proofs.Common.{◌≡◌, ◌∙◌, ◌<◌, ℕ, ap, subst}
+use Rattle.std.proofs.Common.{◌∙◌, ◌<◌, ℕ, ap, subst}
 use Rattle.lh_bucket.specs.Listing.{size}
 use Rattle.lhash.specs.Columns.{column_count}
 use Rattle.lhash.specs.DrawingTexts.{bar_text}

@@ -1,7 +1,7 @@
 -- Each example computes.
 use Rattle.std.proofs.Common.{refl, inl, codes}
 use Rattle.clap.proofs.OnLiterals.{clap_on_literals}
-use Rattle.lhash.specs.OptionLaws.{Gives, GivesBuild, GivesDrive, GivesSteps, Refuses, build_given, check_alone, check_with_option, drive_alone, drive_given, dump_alone, help_asked, initial_twice, initial_zero, max_below_initial, max_given, max_over_limit, no_options, no_subcommand, steps_given, threads_over_limit, threads_zero, unknown_option}
+use Rattle.lhash.specs.OptionLaws.{Gives, GivesBuild, GivesDrive, GivesSteps, Refuses, build_given, check_alone, check_with_option, draw_alone, drive_alone, drive_given, dump_alone, help_asked, initial_twice, initial_zero, max_below_initial, max_given, max_over_limit, no_options, no_subcommand, steps_given, threads_over_limit, threads_zero, unknown_option}
 use Rattle.lhash.specs.Options.{Accepts, Asks, AsksForHelp, settings_given, subcommand_named}
 use Rattle.lhash.proofs.option_laws.words_give_options.Goals as goal
 
@@ -40,6 +40,10 @@ check = (refl, refl)
 dump : Asks dump_alone (codes "dump")
 unfolding clap_on_literals Accepts subcommand_named
 dump = (refl, refl)
+
+draw : Asks draw_alone (codes "draw")
+unfolding clap_on_literals Accepts subcommand_named
+draw = (refl, refl)
 
 without_options : Refuses check_with_option
 unfolding clap_on_literals Accepts
@@ -88,6 +92,7 @@ returns c = record {
   drive_left_out = drive_left_out;
   check = check;
   dump = dump;
+  draw = draw;
   without_options = without_options;
   none = none;
   too_small = too_small;

@@ -1,7 +1,7 @@
 use Rattle.std.proofs.Common.{codes}
 use Rattle.std.proofs.lemmas.Result.{IfOk-weaker}
 use Rattle.clap.specs.Words.{new_app}
-use Rattle.lhash.specs.Options.{build_app, check_app, commands_app, drive_app, dump_app, steps_app}
+use Rattle.lhash.specs.Options.{build_app, check_app, commands_app, draw_app, drive_app, dump_app, steps_app}
 use Rattle.lhash.specs.OptionSteps.{Reads}
 use Rattle.lhash.proofs.CommandShapes.{about-reads, required-reads, subcommand-reads}
 use Rattle.lhash.proofs.options.program.Goals as goal
@@ -15,4 +15,5 @@ returns c =
     let third = subcommand-reads _ _ _ _ build_app c.in_ok-subcommand-3.ensures second c.in_ok-file_command-3.ensures in
     let fourth = subcommand-reads _ _ _ _ check_app c.in_ok-subcommand-4.ensures third c.image_command.ensures in
     let fifth = subcommand-reads _ _ _ _ dump_app c.in_ok-subcommand-5.ensures fourth c.image_command-2.ensures in
-    IfOk-weaker c.subcommand-6.result _ _ (λ m h. subcommand-reads _ _ m _ drive_app h fifth c.in_ok-drive_command.ensures) c.subcommand-6.ensures
+    let sixth = subcommand-reads _ _ _ _ drive_app c.in_ok-subcommand-6.ensures fifth c.in_ok-drive_command.ensures in
+    IfOk-weaker c.subcommand-7.result _ _ (λ m h. subcommand-reads _ _ m _ draw_app h sixth c.image_command-3.ensures) c.subcommand-7.ensures

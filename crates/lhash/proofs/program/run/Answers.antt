@@ -1,6 +1,6 @@
 use Rattle.lhash.proofs.Building.{unbuilt_memory}
 use Rattle.lhash.proofs.Driving.{undriven_memory}
-use Rattle.lhash.proofs.Serving.{is_servable, serves_build, serves_check, serves_drive, serves_dump, serves_settings, serves_steps, without_memory, refuses_below, turns_away}
+use Rattle.lhash.proofs.Serving.{is_servable, serves_build, serves_check, serves_draw, serves_drive, serves_dump, serves_settings, serves_steps, without_memory, refuses_below, turns_away}
 use Rattle.lhash.proofs.program.run.Goals as goal
 
 pub returns-in-Ok-clause-served : goal.returns-in-Ok-clause-served
@@ -23,6 +23,9 @@ returns-in-Ok-clause-served_check g c = serves_check _ c.in-Ok.request _ _ _ _ _
 
 pub returns-in-Ok-clause-served_dump : goal.returns-in-Ok-clause-served_dump
 returns-in-Ok-clause-served_dump g c = serves_dump _ c.in-Ok.request _ _ _ _ _ c.in-Ok.ensures c.serve.ensures
+
+pub returns-in-Ok-clause-served_draw : goal.returns-in-Ok-clause-served_draw
+returns-in-Ok-clause-served_draw g c = serves_draw _ c.in-Ok.request _ _ _ _ _ c.in-Ok.ensures c.serve.ensures
 
 pub serve-requires : goal.serve-requires
 serve-requires g c = (c.type_bounds.sync-A, is_servable _ c.in-Ok.request c.in-Ok.ensures)

@@ -1,4 +1,4 @@
-use Rattle.std.proofs.Common.{◌≡◌, ◌∙◌, ℕ, ◌≤◌, ap, arith}
+use Rattle.std.proofs.Common.{◌≡◌, ◌∙◌, ℕ, ap, arith}
 use Rattle.lh_bucket.specs.Listing.{size}
 use Rattle.lhash.specs.Columns.{centre}
 use Rattle.lhash.specs.Drawing.{more_of}

@@ -1,4 +1,4 @@
-use Rattle.std.proofs.Common.{◌≡◌, ◌∙◌, ℕ, ◌-◌, ◌*◌, ◌≤◌, length, ap, arith}
+use Rattle.std.proofs.Common.{◌≡◌, ◌∙◌, ℕ, ◌-◌, ◌*◌, length, ap, arith}
 use Rattle.std.specs.Prelude.{min}
 use Rattle.lh_bucket.specs.Listing.{list_at, size}
 use Rattle.lhash.specs.Columns.{bar_width, left}

@@ -1,4 +1,4 @@
-use Rattle.std.proofs.Common.{◌≡◌, ◌+◌, ◌-◌, ◌*◌, ◌/◌, ◌<◌, ◌≤◌, ℕ, [], length, sym, ap, arith}
+use Rattle.std.proofs.Common.{◌≡◌, ◌+◌, ◌-◌, ◌*◌, ◌/◌, ◌<◌, ◌≤◌, ℕ, length, sym, ap, arith}
 use Rattle.std.specs.Prelude.{sum_by}
 use Rattle.lh_bucket.specs.Listing.{count_of, list_at, size}
 use Rattle.lhash.specs.Columns.{chain_length, longest_of}
