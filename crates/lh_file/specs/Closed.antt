@@ -1,5 +1,6 @@
 -- A file that is closed
-use Rattle.std.specs.Prelude.{ℕ, ◌≤◌, ◌/◌, List, length}
+use Rattle.std.specs.Prelude.{ℕ, ◌≤◌, List, length}
+use Rattle.lh_addr.specs.RootWord.{buckets_of}
 use Rattle.lh_addr.specs.Settings.{Settings, IsInRange}
 use Rattle.lh_page.specs.declared.pair.Pair.{Pair}
 
@@ -10,9 +11,9 @@ pub record ClosedFile : Type 0 where
   pub stamps : ℕ
   pub lists : List (List Pair)
 
--- the number of buckets that a root word tells: it is twice that, and one more while a hand has the right to split
+-- the number of buckets that its root word tells
 abbrev pub size_of : ℕ → ℕ
-size_of root = root / 2
+size_of root = buckets_of root
 
 -- what holds of every closed file: it has its initial number of buckets or more, up to the greatest one, and no bucket stands past that
 pub record IsClosed (file : ClosedFile) : Type 0 where

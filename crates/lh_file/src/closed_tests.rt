@@ -1,7 +1,7 @@
 //! What closed files tell of themselves, and their listings.
 
 use crate::settle_tests::{AE, BD, C, closed, config};
-use lh_bucket::{Listing, ListingFault};
+use lh_bucket::ListingFault;
 use std::alloc::Global;
 use std::test::Fail;
 
@@ -14,29 +14,29 @@ fn a_closed_file_tells_what_it_has(rt: HostRuntime) -> Result<(), Fail> {
     Ok(())
 }
 
-/// The listing of a closed file of three buckets with these records.
-fn listing_of(alloc: Global, lists: &[&[(u8, u8)]]) -> Result<Result<Listing, ListingFault>, Fail> {
-    Ok(closed(alloc, 6, 0, lists)?.listing(alloc))
+/// How many buckets and records stand in the listing of a closed file of three buckets with these
+/// records, or the fault of its lists.
+fn listed(alloc: Global, lists: &[&[(u8, u8)]]) -> Result<Result<(u32, u64), ListingFault>, Fail> {
+    let listing = closed(alloc, 6, 0, lists)?.listing(alloc);
+    Ok(listing.map(|listing| (listing.buckets(), listing.len())))
 }
 
 #[test]
 fn a_closed_file_has_a_listing(rt: HostRuntime) -> Result<(), Fail> {
-    let listing = listing_of(rt.alloc(), &[AE, BD, C, &[]])??;
-    assert_eq!(rt; (listing.buckets(), listing.len()), (3, 5));
+    assert_eq!(rt; listed(rt.alloc(), &[AE, BD, C, &[]])?, Ok((3, 5)));
+    let listing = closed(rt.alloc(), 6, 0, &[AE, BD, C])?.listing(rt.alloc())?;
     assert_eq!(rt; listing.config(), config()?);
     Ok(())
 }
 
 #[test]
 fn a_closed_file_tells_the_fault_of_its_listing(rt: HostRuntime) -> Result<(), Fail> {
-    let few = listing_of(rt.alloc(), &[AE, BD])?.err();
-    assert_eq!(rt; few, Some(ListingFault::Shape));
-    let away = listing_of(rt.alloc(), &[AE, C, BD])?.err();
     let misplaced = ListingFault::Misplaced {
         bucket: 1,
         place: 0,
     };
-    assert_eq!(rt; away, Some(misplaced));
+    assert_eq!(rt; listed(rt.alloc(), &[AE, BD])?, Err(ListingFault::Shape));
+    assert_eq!(rt; listed(rt.alloc(), &[AE, C, BD])?, Err(misplaced));
     Ok(())
 }
 

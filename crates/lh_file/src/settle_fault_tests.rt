@@ -186,12 +186,19 @@ fn faults_have_texts(rt: HostRuntime) -> Result<(), Fail> {
         given,
         due: Reply::Exists,
     };
-    let misplaced = SettleFault::Placed { bucket: 2, key };
-    assert!(rt; has_text(alloc, SettleFault::SplitUnderWay, "split under way")?);
-    assert!(rt; has_text(alloc, SettleFault::MissingStamp(7), "missing stamp 7")?);
-    assert!(rt; has_text(alloc, wrong, "reply at 3")?);
-    assert!(rt; has_text(alloc, SettleFault::Content(key), "content of 610f")?);
-    assert!(rt; has_text(alloc, misplaced, "place of 610f in bucket 2")?);
-    assert!(rt; has_text(alloc, SettleFault::Memory, "no memory")?);
+    let texts = [
+        (SettleFault::SplitUnderWay, "split under way"),
+        (SettleFault::MissingStamp(7), "missing stamp 7"),
+        (wrong, "reply at 3"),
+        (SettleFault::Content(key), "content of 610f"),
+        (
+            SettleFault::Placed { bucket: 2, key },
+            "place of 610f in bucket 2",
+        ),
+        (SettleFault::Memory, "no memory"),
+    ];
+    for (fault, text) in &texts {
+        assert!(rt; has_text(alloc, *fault, text)?);
+    }
     Ok(())
 }

@@ -1,12 +1,12 @@
 //! How a call comes to its bucket.
-ghost use Rattle.std.specs.Prelude.{◌≡◌, ◌<◌, ◌≤◌, true, None, IfOk, IfErr, OnErr};
+ghost use Rattle.std.specs.Prelude.{◌≡◌, ◌≤◌, None, IfOk, IfErr, OnErr};
 ghost use Rattle.lh_addr.specs.Fnv.{code_of};
 ghost use Rattle.lh_bucket.specs.declared.verdict.Verdict.TheVariants.{Here};
 ghost use Rattle.lh_bucket.specs.Bucket.{verdict};
 ghost use Rattle.lh_bucket.specs.PlainMap.{key_of, IsSearch};
 ghost use Rattle.lh_file.specs.FileState.{IsOf};
 ghost use Rattle.lh_file.specs.Served.{HasLooked, HasServed, IsNotSpent};
-ghost use Rattle.lh_file.specs.Turn.{IsTurn};
+ghost use Rattle.lh_file.specs.Turn.{IsAimOf, IsReady, IsTurn};
 
 use crate::aim::Aim;
 use crate::fault::FileFault;
@@ -51,11 +51,8 @@ impl<G: Gate> HashFile<G> {
         call: &Call,
         aim: Aim,
     ) -> Result<Answer, FileFault>
-        requires of { IsOf self.now.state hand.old }
-        requires code { aim.code ≡ code_of (key_of call.now) }
-        requires low { aim.level ≤ 16 }
-        requires left { 1 ≤ hand.old.view.left }
-        requires room { self.now.state.recording ≡ true → 1 ≤ hand.old.room }
+        requires ready { IsReady self.now.state hand.old }
+        requires aim { IsAimOf call.now aim }
         ensures call { IfOk result (λ a. a.call ≡ call.now) }
         ensures served { IfOk result (λ a. HasServed hand.old a.call a.reply hand.new) }
         ensures fault { IfErr result IsNotSpent }
@@ -88,11 +85,8 @@ impl<G: Gate> HashFile<G> {
         call: &Call,
         aim: Aim,
     ) -> Result<Turn, FileFault>
-        requires of { IsOf self.now.state hand.old }
-        requires code { aim.code ≡ code_of (key_of call.now) }
-        requires low { aim.level ≤ 16 }
-        requires left { 1 ≤ hand.old.view.left }
-        requires room { self.now.state.recording ≡ true → 1 ≤ hand.old.room }
+        requires ready { IsReady self.now.state hand.old }
+        requires aim { IsAimOf call.now aim }
         ensures turn { IfOk result (λ turn. IsTurn hand.old call.now turn hand.new) }
         ensures fault { IfErr result IsNotSpent }
         ensures err { OnErr result (hand.new ≡ hand.old) }
@@ -116,12 +110,9 @@ impl<G: Gate> HashFile<G> {
         call: &Call,
         aim: Aim,
     ) -> Result<Turn, FileFault>
-        requires of { IsOf self.now.state hand.old }
+        requires ready { IsReady self.now.state hand.old }
+        requires aim { IsAimOf call.now aim }
         requires search { IsSearch call.now }
-        requires code { aim.code ≡ code_of (key_of call.now) }
-        requires low { aim.level ≤ 16 }
-        requires left { 1 ≤ hand.old.view.left }
-        requires room { self.now.state.recording ≡ true → 1 ≤ hand.old.room }
         ensures turn { IfOk result (λ turn. IsTurn hand.old call.now turn hand.new) }
         ensures fault { IfErr result IsNotSpent }
         ensures err { OnErr result (hand.new ≡ hand.old) }
@@ -147,11 +138,8 @@ impl<G: Gate> HashFile<G> {
         call: &Call,
         aim: Aim,
     ) -> Result<Turn, FileFault>
-        requires of { IsOf self.now.state hand.old }
-        requires code { aim.code ≡ code_of (key_of call.now) }
-        requires low { aim.level ≤ 16 }
-        requires left { 1 ≤ hand.old.view.left }
-        requires room { self.now.state.recording ≡ true → 1 ≤ hand.old.room }
+        requires ready { IsReady self.now.state hand.old }
+        requires aim { IsAimOf call.now aim }
         ensures turn { IfOk result (λ turn. IsTurn hand.old call.now turn hand.new) }
         ensures fault { IfErr result IsNotSpent }
         ensures err { OnErr result (hand.new ≡ hand.old) }

@@ -2,10 +2,10 @@
 ghost use Rattle.std.specs.Prelude.{◌≡◌, All, IfSome};
 ghost use Rattle.lh_file.specs.FileState.{IsOf};
 
-use super::play::settled;
+use super::play::settled_acts;
 use crate::{Gate, Hand, HashFile, Point};
 use lh_addr::Config;
-use lh_bucket::{Listing, Reply};
+use lh_bucket::Reply;
 use lh_page::{Key, Value};
 use std::alloc::Global;
 use std::sync::Wait;
@@ -155,7 +155,9 @@ fn eight_threads_insert_and_find_a_thousand_records(rt: HostRuntime) -> Result<(
     let all = crowd(&rt, rt.alloc(), &file, hand).ok_or("a call went wrong")?;
     let (closed, acts) = file.close(&rt, all)?;
     assert_eq!(rt; closed.records(), 1000);
-    let listing = Listing::empty(rt.alloc(), config)?;
-    assert_eq!(rt; settled(rt.alloc(), &listing, &closed, &acts), Ok(2000));
+    assert_eq!(rt;
+        settled_acts(rt.alloc(), config, &closed, &acts),
+        Some(2000)
+    );
     Ok(())
 }

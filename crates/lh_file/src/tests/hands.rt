@@ -192,20 +192,25 @@ fn a_file_opens_as_it_was(rt: HostRuntime) -> Result<(), Fail> {
     Ok(())
 }
 
-/// Four acts of two hands, the second's first: a delete that misses, an insert, one that meets its key,
-/// and a delete.
-fn four_acts(rt: &impl Abort, file: &Words, first: &mut Hand, second: &mut Hand) -> Result<(), Fail>
+/// The stamps of four acts of two hands, the second's first: a delete that misses, an insert, one that
+/// meets its key, and a delete.
+fn four_acts(
+    rt: &impl Abort,
+    file: &Words,
+    first: &mut Hand,
+    second: &mut Hand,
+) -> Result<[u64; 4], Fail>
     requires first { IsOf file.now first.old }
     requires second { IsOf file.now second.old }
     ensures first { IsOf file.now first.new }
     ensures second { IsOf file.now second.new }
 {
     let (a, gone) = (insert(b"a")?, delete(b"a")?);
-    assert_eq!(rt; note(rt, file, second, gone, Reply::Absent)?, 0);
-    assert_eq!(rt; note(rt, file, first, a, Reply::Inserted)?, 1);
-    assert_eq!(rt; note(rt, file, second, a, Reply::Exists)?, 2);
-    assert_eq!(rt; note(rt, file, second, gone, Reply::Deleted)?, 3);
-    Ok(())
+    let missed = note(rt, file, second, gone, Reply::Absent)?;
+    let inserted = note(rt, file, first, a, Reply::Inserted)?;
+    let met = note(rt, file, second, a, Reply::Exists)?;
+    let deleted = note(rt, file, second, gone, Reply::Deleted)?;
+    Ok([missed, inserted, met, deleted])
 }
 
 /// Whether these are those acts, the first hand's before the second's.
@@ -228,7 +233,8 @@ fn are_four_acts(acts: &[ActLine]) -> Result<bool, Fail> {
 fn acts_are_counted_and_kept(rt: HostRuntime) -> Result<(), Fail> {
     let (file, mut first) = file_of(rt.alloc(), 8, true)?;
     let mut second = file.split_hand(&mut first, 10)?;
-    four_acts(&rt, &file, &mut first, &mut second)?;
+    let stamps = four_acts(&rt, &file, &mut first, &mut second)?;
+    assert_eq!(rt; stamps, [0, 1, 2, 3]);
     assert!(rt; !second.has_right());
     let all = join(&rt, &file, first, second)?;
     assert_eq!(rt; all.left(), (1 << 63) - 4);

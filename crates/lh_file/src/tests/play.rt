@@ -4,7 +4,7 @@ ghost use Rattle.lh_file.specs.FileState.{IsOf};
 
 use super::stage::{Hold, Log, Progress, Stage};
 use super::tasks::{OfFile, Task, Told, Worked, work};
-use crate::{Acts, Closed, Gate, Hand, HashFile, Point, SettleFault, settle};
+use crate::{Acts, Closed, Gate, Hand, HashFile, Point, settle};
 use lh_addr::Config;
 use lh_bucket::Listing;
 use std::alloc::Global;
@@ -103,18 +103,26 @@ pub(crate) fn closed<G: Gate + Drop, R: Wait>(
     }
 }
 
-/// How many acts are settled, or why they aren't.
-pub(crate) fn settled(
-    alloc: Global,
-    listing: &Listing,
-    closed: &Closed,
-    acts: &Acts,
-) -> Result<usize, SettleFault> {
-    settle(alloc, listing, closed, acts).map(|history| history.len())
+/// What came of a scene: the first answer that was not due, the number of buckets, and that of acts, if
+/// they are settled.
+#[derive(Clone, Copy, Debug, PartialEq, Eq)]
+struct Outcome {
+    wrong: Option<Told>,
+    buckets: u32,
+    acts: Option<usize>,
 }
 
-/// What a hand was told that was not due, the closed file, and the acts.
-type Left = (Option<Told>, Closed, Acts);
+/// How many acts of a file that began with no record are settled, if they are.
+pub(crate) fn settled_acts(
+    alloc: Global,
+    config: Config,
+    closed: &Closed,
+    acts: &Acts,
+) -> Option<usize> {
+    let listing = Listing::empty(alloc, config).ok()?;
+    let history = settle(alloc, &listing, closed, acts).ok()?;
+    Some(history.len())
+}
 
 /// A hand of a file and a second one do their tasks beside each other.
 fn play<G: Gate + Sync, R: Threads + Wait + Sync>(
@@ -139,7 +147,7 @@ fn staged<R: Threads + Wait + Sync>(
     config: Config,
     scene: Scene<'_>,
     log: &Log,
-) -> Option<Left> {
+) -> Option<Outcome> {
     let progress = Progress::new();
     let gate = Stage {
         holds: scene.holds,
@@ -156,7 +164,11 @@ fn staged<R: Threads + Wait + Sync>(
         return None;
     }
     let (closed, acts) = closed(rt, file, first, second)?;
-    Some((wrong, closed, acts))
+    Some(Outcome {
+        wrong,
+        buckets: closed.buckets(),
+        acts: settled_acts(alloc, config, &closed, &acts),
+    })
 }
 
 /// Plays a scene, and fails where something else comes of it than was due.
@@ -167,11 +179,13 @@ pub(crate) fn perform<R: Threads + Wait + Sync + Abort>(
 ) -> Result<(), Fail> {
     let config = Config::new(1, scene.capacity, 100, 65536)?;
     let log = Log::new();
-    let (wrong, closed, acts) = staged(rt, alloc, config, scene, &log).ok_or("late")?;
-    assert_eq!(rt; wrong, None);
-    assert_eq!(rt; closed.buckets(), scene.buckets);
+    let outcome = staged(rt, alloc, config, scene, &log).ok_or("late")?;
+    let due = Outcome {
+        wrong: None,
+        buckets: scene.buckets,
+        acts: Some(scene.acts),
+    };
+    assert_eq!(rt; outcome, due);
     assert!(rt; log.ends_with(scene.points));
-    let listing = Listing::empty(alloc, config)?;
-    assert_eq!(rt; settled(alloc, &listing, &closed, &acts), Ok(scene.acts));
     Ok(())
 }

@@ -1,10 +1,10 @@
 //! Two hands that take turns in one thread, and the file that is settled after it.
 ghost use Rattle.lh_file.specs.FileState.{IsOf};
 
-use super::play::{closed, settled};
+use super::play::closed;
 use super::stage::Progress;
 use super::tasks::{Task, Told, one};
-use crate::{Closed, Gate, Hand, HashFile, NoGate, SettleFault};
+use crate::{Acts, Closed, Gate, Hand, HashFile, NoGate, SettleFault, settle};
 use lh_addr::Config;
 use lh_bucket::Listing;
 use std::alloc::Global;
@@ -62,6 +62,16 @@ fn take_turns<G: Gate, R: Wait>(
         second,
         wrong,
     }
+}
+
+/// How many acts are settled, or why they aren't.
+fn settled(
+    alloc: Global,
+    listing: &Listing,
+    closed: &Closed,
+    acts: &Acts,
+) -> Result<usize, SettleFault> {
+    settle(alloc, listing, closed, acts).map(|history| history.len())
 }
 
 /// Two hands of a file that is opened from a listing take turns in one thread; the second may make ten
