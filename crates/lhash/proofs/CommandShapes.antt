@@ -1,21 +1,29 @@
 -- What the steps that make a command leave of what clap reads of it
-use Rattle.std.proofs.Common.{◌≡◌, ◌∙◌, ◌||◌, Option, false, true, ap, ap₂}
+use Rattle.std.proofs.Common.{◌≡◌, ◌∙◌, ◌||◌, Option, Some, false, true, ap, ap₂}
 use Rattle.std.specs.Borrow.{Bor}
 use Rattle.clap.specs.Simple.{app_of_fields}
 use Rattle.clap.specs.Words.{AddsArg, AddsSubcommand, App, Rule, Text, rule_of, with_rule, with_subcommand}
 use Rattle.clap.specs.declared.builder.arg.Arg.{Arg}
 use Rattle.clap.specs.declared.builder.command.Command.{Command}
 use Rattle.clap.specs.declared.builder.command.Command.TheViews.{out-Command}
-use Rattle.lhash.specs.Options.{with_subcommand_required}
+use Rattle.lhash.specs.Options.{with_subcommand_required, with_version}
 use Rattle.lhash.specs.OptionSteps.{Reads}
 
 -- a text for help changes nothing of it
 pub about-reads : (old new : Command) (app : App) (text : Option (Bor Text)) → out-Command new ≡ record (out-Command old) { about = text } → Reads app old → Reads app new
 about-reads old new app text is k = (ap app_of_fields is ∙ k.0, ap (λ f. f.has_globals) is ∙ k.1)
 
+pub example-reads : (old new : Command) (app : App) (text : Option (Bor Text)) → out-Command new ≡ record (out-Command old) { after_help = text } → Reads app old → Reads app new
+example-reads old new app text is k = (ap app_of_fields is ∙ k.0, ap (λ f. f.has_globals) is ∙ k.1)
+
 pub required-reads : (old new : Command) (app : App) → out-Command new ≡ record (out-Command old) { subcommand_required = true } → Reads app old
     → Reads (with_subcommand_required app) new
 required-reads old new app is k = (ap app_of_fields is ∙ ap with_subcommand_required k.0, ap (λ f. f.has_globals) is ∙ k.1)
+
+-- a version
+pub version-reads : (old new : Command) (app : App) (text : Bor Text) → out-Command new ≡ record (out-Command old) { version = Some text } → Reads app old
+    → Reads (with_version app) new
+version-reads old new app text is k = (ap app_of_fields is ∙ ap with_version k.0, ap (λ f. f.has_globals) is ∙ k.1)
 
 -- an option
 pub option-reads : (old new : Command) (a : Arg) (app : App) (rule : Rule) → AddsArg old a new → a.global ≡ false → rule_of a ≡ rule

@@ -141,8 +141,9 @@ none-among k kinds among none = subst (IsAmong k) none among
 
 pub refusal-answers : (words : List Text) (e : Error) (r : Request) → HasKind (fault_of program_app words) e → IsRefusal (kind_of e) r → Answers words r
 unfolding Accepts AsksForHelp IsRefused
-refusal-answers words e (request.Help text) (inl memory) h = cc
-refusal-answers words e (request.Help text) (inr among) h = (none-among (kind_of e) _ among, subst (λ (k : ErrorKind). IsAmong k (fault_of program_app words)) h among)
+refusal-answers words e (request.Help text) (inl memory) (inl h) = cc
+refusal-answers words e (request.Help text) (inl memory) (inr h) = cc
+refusal-answers words e (request.Help text) (inr among) h = (none-among (kind_of e) _ among, (kind_of e, among, h))
 refusal-answers words e (request.Refused text) (inl memory) h = absurd (h.1 memory)
 refusal-answers words e (request.Refused text) (inr among) h = (none-among (kind_of e) _ among, (kind_of e, among, h.0))
 refusal-answers words e (request.Commands config) among h = absurd h

@@ -34,6 +34,9 @@ unknown_option = codes "lhash" ∷ codes "commands" ∷ codes "--threads" ∷ co
 abbrev pub help_asked : List Text
 help_asked = codes "lhash" ∷ codes "commands" ∷ codes "--help" ∷ []
 
+abbrev pub version_asked : List Text
+version_asked = codes "lhash" ∷ codes "--version" ∷ []
+
 abbrev pub build_given : List Text
 build_given = codes "lhash" ∷ codes "build" ∷ codes "--max" ∷ codes "1" ∷ []
 

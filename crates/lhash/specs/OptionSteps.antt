@@ -8,7 +8,7 @@ use Rattle.clap.specs.declared.builder.command.Command.TheViews.{out-Command}
 use Rattle.clap.specs.declared.error.kind.ErrorKind.{ErrorKind}
 use Rattle.clap.specs.declared.error.kind.ErrorKind.TheVariants as kind
 use Rattle.lh_addr.specs.Settings.{Settings, IsInRange}
-use Rattle.lhash.specs.Options.{IsMaxBelowInitial, number_in, settings_from}
+use Rattle.lhash.specs.Options.{IsMaxBelowInitial, IsShown, number_in, settings_from}
 use Rattle.lhash.specs.declared.options.Request.{Request}
 use Rattle.lhash.specs.declared.options.Request.TheVariants as request
 
@@ -68,6 +68,6 @@ IsAskedBy name rows _ = ⊥
 
 -- what a request says of the kind of clap's error
 abbrev pub IsRefusal : ErrorKind → Request → Type 0
-IsRefusal k (request.Help text) = k ≡ kind.DisplayHelp
-IsRefusal k (request.Refused text) = (k ≡ kind.DisplayHelp → ⊥) × (k ≡ kind.OutOfMemory → ⊥)
+IsRefusal k (request.Help text) = IsShown k
+IsRefusal k (request.Refused text) = (IsShown k → ⊥) × (k ≡ kind.OutOfMemory → ⊥)
 IsRefusal k _ = ⊥

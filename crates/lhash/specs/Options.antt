@@ -1,5 +1,5 @@
 -- The command line: the program's command, the numbers that the words give its options, and what a request says of the words
-use Rattle.std.specs.Prelude.{◌≡◌, ◌<◌, ◌≤◌, ℕ, List, [], ◌∷◌, Option, Some, None, codes, pos, true, option_map, option_and_then, if◌then◌else◌}
+use Rattle.std.specs.Prelude.{◌≡◌, ◌⊎◌, ◌<◌, ◌≤◌, ℕ, List, [], ◌∷◌, Option, Some, None, codes, pos, true, option_map, option_and_then, if◌then◌else◌}
 use Rattle.std.specs.Str.Parse.{digits_value, without_leading_plus}
 use Rattle.clap.specs.ValueTests.{is_numeral}
 use Rattle.clap.specs.Words.{App, Row, Rule, Text, fault_of, first_of, new_app, new_rule, subcommand_of, with_rule, with_subcommand}
@@ -61,11 +61,15 @@ drive_app = with_threads (with_settings (new_app (codes "drive")))
 abbrev pub with_subcommand_required : App → App
 with_subcommand_required app = record app { top = record app.top { subcommand_required = true } }
 
+-- a command that has a version
+abbrev pub with_version : App → App
+with_version app = record app { top = record app.top { has_version = true } }
+
 -- the program's command
 abbrev pub program_app : App
 program_app =
     with_subcommand (with_subcommand (with_subcommand (with_subcommand (with_subcommand (with_subcommand (with_subcommand
-    (with_subcommand_required (new_app (codes "lhash")))
+    (with_subcommand_required (with_version (new_app (codes "lhash"))))
     commands_app.top) steps_app.top) build_app.top) check_app.top) dump_app.top) drive_app.top) draw_app.top
 
 -- the whole number that a text writes in decimal digits, where it is such a text; a plus may stand first
@@ -111,14 +115,18 @@ IsMaxBelowInitial None = ⊥
 abbrev pub Asks : List Text → Text → Type 0
 Asks words name = Accepts words × (subcommand_named words ≡ Some name)
 
--- the words ask clap for its help
-unfoldable pub AsksForHelp : List Text → Type 0
-AsksForHelp words = IsAmong kind.DisplayHelp (fault_of program_app words)
+-- a text that was asked for: clap's help, or the version
+abbrev pub IsShown : ErrorKind → Type 0
+IsShown k = (k ≡ kind.DisplayHelp) ⊎ (k ≡ kind.DisplayVersion)
 
--- clap finds a fault in the words, other than a call for help
+-- the words ask clap for its help, or for the version
+unfoldable pub AsksForHelp : List Text → Type 0
+AsksForHelp words = (k : ErrorKind) × IsAmong k (fault_of program_app words) × IsShown k
+
+-- clap finds a fault in the words, other than a call for help or for the version
 unfoldable pub IsRefused : List Text → Type 0
 IsRefused words =
-    (k : ErrorKind) × IsAmong k (fault_of program_app words) × (k ≡ kind.DisplayHelp → ⊥)
+    (k : ErrorKind) × IsAmong k (fault_of program_app words) × (IsShown k → ⊥)
 
 -- what a request says of the words
 abbrev pub Answers : List Text → Request → Type 0

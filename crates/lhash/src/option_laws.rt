@@ -25,6 +25,7 @@ ghost use Rattle.lhash.specs.OptionLaws.{
   threads_over_limit,
   threads_zero,
   unknown_option,
+  version_asked,
 };
 ghost use Rattle.lhash.specs.Options.{Asks, AsksForHelp};
 
@@ -51,4 +52,5 @@ pub fn words_give_options()
     ensures twice { Refuses initial_twice }
     ensures unknown { Refuses unknown_option }
     ensures help { AsksForHelp help_asked }
+    ensures version { AsksForHelp version_asked }
 {}

@@ -19,6 +19,48 @@ const MIN_THREADS: u32 = 1;
 /// The greatest number of threads that a script is run in.
 const MAX_THREADS: u32 = 64;
 
+/// What help says of a subcommand: what comes in and what goes out, and an example.
+#[derive(Clone, Copy)]
+struct Help {
+    about: &'static str,
+    example: &'static str,
+}
+
+const COMMANDS: Help = Help {
+    about: "Read a script of commands, and write the reply to each",
+    example: "Example: lhash commands < script.txt",
+};
+
+const STEPS: Help = Help {
+    about: "Read a script of steps, and write what became of each",
+    example: "Example: lhash steps < steps.txt",
+};
+
+const BUILD: Help = Help {
+    about: "Read a script of commands, and write the file that it leads to as an image",
+    example: "Example: lhash build < script.txt > file.lhf",
+};
+
+const CHECK: Help = Help {
+    about: "Read an image, and write what is counted of it",
+    example: "Example: lhash check < file.lhf",
+};
+
+const DUMP: Help = Help {
+    about: "Read an image, and write its records",
+    example: "Example: lhash dump < file.lhf",
+};
+
+const DRAW: Help = Help {
+    about: "Read an image, and write a drawing of its file as an SVG",
+    example: "Example: lhash draw < file.lhf > file.svg",
+};
+
+const DRIVE: Help = Help {
+    about: "Read a script of commands, run it in threads, and write totals",
+    example: "Example: lhash drive --threads 4 < script.txt",
+};
+
 /// What the words ask for.
 #[derive(Debug, Drop)]
 pub enum Request {
@@ -36,7 +78,7 @@ pub enum Request {
     Draw,
     /// The subcommand `drive`, with the configuration and the number of threads that its options give.
     Drive(Config, u32),
-    /// Help, and its text.
+    /// Help or the version, and its text.
     Help(String),
     /// Words that are refused, and why, in one line.
     Refused(String),
@@ -65,11 +107,12 @@ fn option<'a>(
 }
 
 /// A subcommand with the options of a file's configuration.
-fn file_command<'a>(alloc: Global, name: &'a str, about: &'a str) -> Result<Command<'a>, AllocError>
+fn file_command<'a>(alloc: Global, name: &'a str, help: Help) -> Result<Command<'a>, AllocError>
     ensures { IfOk result (Reads (with_settings (new_app name.now))) }
 {
     Command::new(alloc, name)
-        .about(about)
+        .about(help.about)
+        .after_help(help.example)
         .arg(option(
             alloc,
             "initial",
@@ -105,17 +148,19 @@ fn file_command<'a>(alloc: Global, name: &'a str, about: &'a str) -> Result<Comm
 }
 
 /// A subcommand without options, which reads an image.
-fn image_command<'a>(alloc: Global, name: &'a str, about: &'a str) -> Command<'a>
+fn image_command<'a>(alloc: Global, name: &'a str, help: Help) -> Command<'a>
     ensures { Reads (new_app name.now) result }
 {
-    Command::new(alloc, name).about(about)
+    Command::new(alloc, name)
+        .about(help.about)
+        .after_help(help.example)
 }
 
 /// The subcommand that runs a script in threads: a file's options, and one for the threads.
 fn drive_command<'a>(alloc: Global) -> Result<Command<'a>, AllocError>
     ensures { IfOk result (Reads drive_app) }
 {
-    file_command(alloc, "drive", "Run a script of commands in threads")?.arg(option(
+    file_command(alloc, "drive", DRIVE)?.arg(option(
         alloc,
         "threads",
         "Number of threads",
@@ -130,18 +175,15 @@ fn program<'a>(alloc: Global) -> Result<Command<'a>, AllocError>
 {
     Command::new(alloc, "lhash")
         .about("A linear hash file")
+        .version("0.1.0")
         .subcommand_required(true)
-        .subcommand(file_command(alloc, "commands", "Run a script of commands")?)?
-        .subcommand(file_command(alloc, "steps", "Run a script of steps")?)?
-        .subcommand(file_command(
-            alloc,
-            "build",
-            "Write an image of the file that a script of commands leads to",
-        )?)?
-        .subcommand(image_command(alloc, "check", "Check an image"))?
-        .subcommand(image_command(alloc, "dump", "List the records of an image"))?
+        .subcommand(file_command(alloc, "commands", COMMANDS)?)?
+        .subcommand(file_command(alloc, "steps", STEPS)?)?
+        .subcommand(file_command(alloc, "build", BUILD)?)?
+        .subcommand(image_command(alloc, "check", CHECK))?
+        .subcommand(image_command(alloc, "dump", DUMP))?
         .subcommand(drive_command(alloc)?)?
-        .subcommand(image_command(alloc, "draw", "Draw the file of an image"))
+        .subcommand(image_command(alloc, "draw", DRAW))
 }
 
 /// The number of an option.
@@ -218,6 +260,7 @@ fn refusal(alloc: Global, error: &Error) -> Result<Request, AllocError>
     match error.kind() {
         ErrorKind::OutOfMemory => Err(AllocError),
         ErrorKind::DisplayHelp => Ok(Request::Help(error.to_string(alloc)?)),
+        ErrorKind::DisplayVersion => Ok(Request::Help(error.to_string(alloc)?)),
         _ => Ok(Request::Refused(first_line(alloc, error)?)),
     }
 }

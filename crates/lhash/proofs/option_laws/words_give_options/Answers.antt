@@ -1,7 +1,8 @@
 -- Each example computes.
-use Rattle.std.proofs.Common.{refl, inl, codes}
+use Rattle.std.proofs.Common.{refl, inl, inr, codes}
 use Rattle.clap.proofs.OnLiterals.{clap_on_literals}
-use Rattle.lhash.specs.OptionLaws.{Gives, GivesBuild, GivesDrive, GivesSteps, Refuses, build_given, check_alone, check_with_option, draw_alone, drive_alone, drive_given, dump_alone, help_asked, initial_twice, initial_zero, max_below_initial, max_given, max_over_limit, no_options, no_subcommand, steps_given, threads_over_limit, threads_zero, unknown_option}
+use Rattle.clap.specs.declared.error.kind.ErrorKind.TheVariants as kind
+use Rattle.lhash.specs.OptionLaws.{Gives, GivesBuild, GivesDrive, GivesSteps, Refuses, build_given, check_alone, check_with_option, draw_alone, drive_alone, drive_given, dump_alone, help_asked, initial_twice, initial_zero, max_below_initial, max_given, max_over_limit, no_options, no_subcommand, steps_given, threads_over_limit, threads_zero, unknown_option, version_asked}
 use Rattle.lhash.specs.Options.{Accepts, Asks, AsksForHelp, settings_given, subcommand_named}
 use Rattle.lhash.proofs.option_laws.words_give_options.Goals as goal
 
@@ -79,7 +80,11 @@ unknown = λ e. cc
 
 help : AsksForHelp help_asked
 unfolding clap_on_literals AsksForHelp
-help = inl refl
+help = (kind.DisplayHelp, inl refl, inl refl)
+
+version : AsksForHelp version_asked
+unfolding clap_on_literals AsksForHelp
+version = (kind.DisplayVersion, inl refl, inr refl)
 
 pub returns : goal.returns
 returns c = record {
@@ -102,4 +107,5 @@ returns c = record {
   twice = twice;
   unknown = unknown;
   help = help;
+  version = version;
 }

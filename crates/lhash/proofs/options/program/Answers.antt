@@ -3,13 +3,14 @@ use Rattle.std.proofs.lemmas.Result.{IfOk-weaker}
 use Rattle.clap.specs.Words.{new_app}
 use Rattle.lhash.specs.Options.{build_app, check_app, commands_app, draw_app, drive_app, dump_app, steps_app}
 use Rattle.lhash.specs.OptionSteps.{Reads}
-use Rattle.lhash.proofs.CommandShapes.{about-reads, required-reads, subcommand-reads}
+use Rattle.lhash.proofs.CommandShapes.{about-reads, required-reads, subcommand-reads, version-reads}
 use Rattle.lhash.proofs.options.program.Goals as goal
 
 pub returns : goal.returns
 returns c =
     let start : Reads (new_app (codes "lhash")) c.about.result = about-reads _ _ _ _ c.about.ensures (c.new.ensures.app, c.new.ensures.local) in
-    let wants = required-reads _ _ _ c.subcommand_required.ensures start in
+    let named = version-reads _ _ _ _ c.version.ensures start in
+    let wants = required-reads _ _ _ c.subcommand_required.ensures named in
     let first = subcommand-reads _ _ _ _ commands_app c.in_ok-subcommand.ensures wants c.in_ok-file_command.ensures in
     let second = subcommand-reads _ _ _ _ steps_app c.in_ok-subcommand-2.ensures first c.in_ok-file_command-2.ensures in
     let third = subcommand-reads _ _ _ _ build_app c.in_ok-subcommand-3.ensures second c.in_ok-file_command-3.ensures in
