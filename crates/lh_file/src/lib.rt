@@ -6,6 +6,10 @@
 //! has and did; the rule holds between any two steps. Each bucket has a reader-writer lock of its own.
 //! A call holds one bucket at a time, a split the two that it divides, the lower number first.
 //!
+//! The steps that calls and splits take are those of the stepping core, and a comment names each where it
+//! is taken: `Call`, `Read`, `Lock`, `Rehash`, `Act` and `Release` of a call, `SplitBegin`, `SplitLock`,
+//! `SplitMove`, `SplitRelease`, and `SplitPoint` or `SplitDrop` of a split.
+//!
 //! ```text
 //! let (file, mut first) = HashFile::create(alloc, config, true, NoGate)?;
 //! let mut second = file.split_hand(&mut first, 1_000)?;        // for another thread

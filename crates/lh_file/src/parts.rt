@@ -47,6 +47,7 @@ pub fn look_on<G: Gate>(
     ensures acted { Acted hand.old call.now result.reply hand.new }
     ensures of { IsOf file.now.state hand.new }
 {
+    // Act
     let answer = bucket.look(call, k);
     file.words.record_act(hand, call, answer.reply());
     answer
@@ -83,6 +84,7 @@ pub fn act_on<G: Gate>(
     ensures bucket_unchanged { OnErr result (bucket.new ≡ bucket.old) }
     ensures hand_unchanged { OnErr result (hand.new ≡ hand.old) }
 {
+    // Act
     let answer = bucket.serve(call, k)?;
     file.words.record_act(hand, call, answer.reply());
     Ok(answer)

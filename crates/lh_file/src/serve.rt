@@ -81,6 +81,7 @@ impl<G: Gate> HashFile<G> {
         if hand.left() == 0 {
             return Err(FileFault::Spent { left: 0 });
         }
+        // Call
         parts::make_room(self, hand)?;
         let aim = self.read(hand, call);
         self.walk(rt, hand, call, aim)

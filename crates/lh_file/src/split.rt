@@ -72,9 +72,11 @@ impl<G: Gate> HashFile<G> {
     {
         let buckets = hand.known();
         if let Err(fault) = self.move_records(rt, buckets) {
+            // SplitDrop
             self.words.drop_right(hand);
             return Err(fault);
         }
+        // SplitPoint
         self.words.point(hand);
         self.gate.at(Point::Pointed {
             buckets: buckets + 1,
@@ -93,9 +95,12 @@ impl<G: Gate> HashFile<G> {
         let (old, new, raised) = root.next_split();
         let old_lock = self.segments.lock_of(old, raised - 1)?;
         let new_lock = self.segments.lock_of(new, raised)?;
+        // SplitLock
         let mut old_guard = old_lock.write(rt);
         let mut new_guard = new_lock.write(rt);
+        // SplitMove
         let moved = divide(&root, &self.words.config, &mut old_guard, &mut new_guard);
+        // SplitRelease
         drop(new_guard);
         drop(old_guard);
         moved?;

@@ -53,6 +53,7 @@ impl Words {
         if size == self.config.max() {
             return Right::Full;
         }
+        // SplitBegin
         let found = self
             .table
             .shared

@@ -38,6 +38,7 @@ impl<G: Gate> HashFile<G> {
         ensures low { result.level ≤ 16 }
     {
         let code = fnv1a(call.key().bytes());
+        // Read
         let buckets = self.words.buckets(hand);
         self.gate.at(Point::Read);
         Aim::at(&self.words.root_of(buckets), code)
@@ -72,6 +73,7 @@ impl<G: Gate> HashFile<G> {
                 },
             )? {
                 Turn::Served(answer) => return Ok(answer),
+                // Rehash
                 Turn::Next(next) => bucket = next,
             }
         }
@@ -97,6 +99,7 @@ impl<G: Gate> HashFile<G> {
             Call::Search(_) => self.look_under(rt, lock, hand, call, aim),
             _ => self.act_under(rt, lock, hand, call, aim),
         };
+        // Release: the guard is dropped by now.
         self.gate.at(Point::Released { bucket: aim.bucket });
         turn
     }
@@ -118,6 +121,7 @@ impl<G: Gate> HashFile<G> {
         ensures err { OnErr result (hand.new ≡ hand.old) }
         ensures of { IsOf self.now.state hand.new }
     {
+        // Lock
         let guard = lock.read(rt);
         self.gate.at(Point::Holding { bucket: aim.bucket });
         let bucket = &*guard;
@@ -145,6 +149,7 @@ impl<G: Gate> HashFile<G> {
         ensures err { OnErr result (hand.new ≡ hand.old) }
         ensures of { IsOf self.now.state hand.new }
     {
+        // Lock
         let mut guard = lock.write(rt);
         self.gate.at(Point::Holding { bucket: aim.bucket });
         let bucket = &mut *guard;
