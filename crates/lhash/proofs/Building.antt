@@ -21,7 +21,6 @@ use Rattle.lh_image.specs.declared.fault.WriteImageFault.TheVariants.{TooLarge a
 use Rattle.lh_image.specs.Canonical.{canonical}
 use Rattle.lh_image.specs.Writing.{IsWritten}
 use Rattle.lhash.specs.Commands.{command}
-use Rattle.lhash.specs.Devices.{TakesBeginning}
 use Rattle.lhash.specs.Images.{EndsBuilding, IsLedTo}
 use Rattle.lhash.specs.Run.{ReadsScript}
 use Rattle.lhash.specs.Scripts.{script}
@@ -94,9 +93,7 @@ pub built_begun : (settings : Settings) (calls : List Call) (l : Lists) (left be
 unfolding EndsBuilding
 built_begun settings calls l None before now given led written = tt
 built_begun settings calls l (Some input) before now given led written =
-    let part = written.1 in
-    let begun : TakesBeginning before now (canonical l) = record { taken = part.taken; left = part.left; appended = part.appended; whole = part.whole } in
-    (calls, canonical l, given, record { listing = l; led = led; few = written.0; bytes = refl }, begun)
+    (calls, canonical l, given, record { listing = l; led = led; few = written.0; bytes = refl }, written.1)
 
 -- the file is too large for an image
 pub built_large : (settings : Settings) (calls : List Call) (l : Lists) (left before now : Option (List ℕ)) → IsScriptOf left calls → IsLedTo settings calls l →
