@@ -139,37 +139,59 @@ fn the_pointer_goes_on(rt: HostRuntime) -> Result<(), Fail> {
     Ok(())
 }
 
+/// Divides a hand in three: gives 10 of its calls to a second, which is refused 11 for a third and then
+/// gives all its 10. Answers the refusal, how many calls the second had after it, and how many each has in
+/// the end.
+fn divided(file: &Words, first: &mut Hand) -> Result<(Option<FileFault>, u64, [u64; 3]), FileFault>
+    requires { IsOf file.now first.old }
+    ensures { IsOf file.now first.new }
+{
+    let mut second = file.split_hand(first, 10)?;
+    let refused = file.split_hand(&mut second, 11).err();
+    let kept = second.left();
+    let third = file.split_hand(&mut second, 10)?;
+    Ok((refused, kept, [first.left(), second.left(), third.left()]))
+}
+
 #[test]
 fn a_hand_gives_no_more_than_it_has(rt: HostRuntime) -> Result<(), Fail> {
     let (file, mut first) = file_of(rt.alloc(), 8, true)?;
-    let mut second = file.split_hand(&mut first, 10)?;
-    assert_eq!(rt; first.left(), (1 << 63) - 10);
-    assert_eq!(rt;
-        file.split_hand(&mut second, 11).err(),
-        Some(FileFault::Spent { left: 10 })
-    );
-    assert_eq!(rt; second.left(), 10);
-    let third = file.split_hand(&mut second, 10)?;
-    assert_eq!(rt; (second.left(), third.left()), (0, 10));
+    let (refused, kept, left) = divided(&file, &mut first)?;
+    assert_eq!(rt; refused, Some(FileFault::Spent { left: 10 }));
+    assert_eq!(rt; (kept, left), (10, [(1 << 63) - 10, 0, 10]));
     Ok(())
 }
 
-/// Each hand sees what the other did: the size after a split, and an insert.
+/// What a second hand sees of what the first does: the size after a split, and an insert.
+fn seen_by_second(
+    rt: &impl Abort,
+    file: &Words,
+    first: &mut Hand,
+    second: &mut Hand,
+) -> Result<(u32, Load), Fail>
+    requires first { IsOf file.now first.old }
+    requires second { IsOf file.now second.old }
+{
+    file.try_split_right(first);
+    if first.has_right() {
+        file.point(first);
+    }
+    let size = file.buckets(second);
+    note(rt, file, first, insert(b"a")?, Reply::Inserted)?;
+    Ok((size, file.load(second)))
+}
+
 #[test]
 fn hands_see_what_others_did(rt: HostRuntime) -> Result<(), Fail> {
     let (file, mut first) = file_of(rt.alloc(), 8, true)?;
     let mut second = file.split_hand(&mut first, 10)?;
-    file.try_split_right(&mut first);
-    assert!(rt; first.has_right());
-    file.point(&mut first);
-    assert_eq!(rt; file.buckets(&mut second), 2);
-    note(&rt, &file, &mut first, insert(b"a")?, Reply::Inserted)?;
     let load = Load {
         opening: 0,
         inserted: 1,
         deleted: 0,
     };
-    assert_eq!(rt; file.load(&mut second), load);
+    let seen = seen_by_second(&rt, &file, &mut first, &mut second)?;
+    assert_eq!(rt; seen, (2, load));
     Ok(())
 }
 

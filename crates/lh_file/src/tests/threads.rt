@@ -21,10 +21,6 @@ impl<'a> Promise<Hand> for OfFile<'a> {
     ghost kept_by = { λ file hand. IsOf file.0.now hand };
 }
 
-impl<'a> Promise<(Hand, bool)> for OfFile<'a> {
-    ghost kept_by = { λ file looked. IsOf file.0.now looked.0 };
-}
-
 /// Notes an act, and asks for the right to split: where it is got, the pointer moves or the right is
 /// dropped.
 fn take_turn(file: &Words, hand: &mut Hand, call: &Call, reply: Reply)
@@ -128,7 +124,7 @@ fn join_all<R: Threads + Wait>(
     Some(all)
 }
 
-/// Works in so many threads while one more looks, and joins all hands into the first.
+/// Works in so many threads while this one looks, and joins all hands into the first.
 fn work_in_threads<R: Threads + Wait>(
     rt: &R,
     alloc: Global,
@@ -148,10 +144,6 @@ fn work_in_threads<R: Threads + Wait>(
             ensures { IfSome result (λ worked. IsOf file.entry.now worked.0) }
         {
             let mut all = hand;
-            let looking = file.split_hand(&mut all, 0).ok()?;
-            let looker = scope
-                .spawn_with(OfFile(file), move || look(file, looking, 1000))
-                .ok()?;
             let mut workers = Vec::new(alloc);
             for _i in 0..threads {
                 let Ok(part) = file.split_hand(&mut all, 1 << 40) else {
@@ -165,12 +157,8 @@ fn work_in_threads<R: Threads + Wait>(
                     return None;
                 }
             }
-            let all = join_all(rt, file, all, workers)?;
-            let (looked, rising) = looker.join(rt);
-            if looked.has_right() {
-                return None;
-            }
-            Some((file.join_hands(all, looked).ok()?, rising))
+            let (all, rising) = look(file, all, 1000);
+            Some((join_all(rt, file, all, workers)?, rising))
         },
     )
 }

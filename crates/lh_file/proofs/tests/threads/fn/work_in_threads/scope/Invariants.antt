@@ -5,6 +5,5 @@ use Rattle.lh_file.proofs.tests.threads.fn.work_in_threads.scope.Given as goal
 abbrev pub invariant-loop-i : goal.invariant-loop-i
 invariant-loop-i g l = record {
   first : IsOf l.file.now l.all;
-  looker : l.looker.promise.0.now ≡ l.file.now;
   each : All (λ worker. worker.promise.0.now ≡ l.file.now) l.workers.items;
 }
