@@ -4,6 +4,7 @@ use std::io::{self, Error};
 use std::process::Abort;
 use std::test::Fail;
 
+mod draw;
 mod drive;
 mod images;
 mod steps;
@@ -279,6 +280,12 @@ fn help_goes_to_the_output(rt: HostRuntime) -> Result<(), Fail> {
         assert!(rt; !written.is_empty());
     }
     Ok(())
+}
+
+#[test]
+fn the_version_goes_to_the_output(rt: HostRuntime) -> Result<(), Fail> {
+    let words = ["lhash", "--version"];
+    writes(&rt, words.as_slice(), "frob", "lhash 0.1.0\n")
 }
 
 #[test]

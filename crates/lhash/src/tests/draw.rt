@@ -1,0 +1,65 @@
+//! Drawings of images.
+use super::{Sink, ran};
+use crate::run;
+use std::process::Abort;
+use std::sync::Wait;
+use std::test::Fail;
+use std::thread::Threads;
+
+/// What is drawn of an empty file of two buckets.
+const EMPTY_FILE: &str =
+    "<svg xmlns='http://www.w3.org/2000/svg' viewBox='0 0 648 188' font-family='sans-serif' font-size='12' fill='#333333'>
+<rect width='648' height='188' fill='#ffffff'/>
+<text x='24' y='24'>buckets 2, level 0, pointer 0, records 0, pages 3, longest chain 1</text>
+<path fill='#4477aa' d='M24 50v-12h12v12z'/><path fill='#ddaa33' d='M104 50v-12h12v12z'/><text x='42' y='48'>level 0</text><text x='122' y='48'>level 1</text><text x='184' y='48'>buckets in a column: 1</text>
+<text x='24' y='68'>a box is a page, coloured as far as its slots are used</text>
+<g transform='translate(24 132)'>
+<path fill='#cbd8e6' d='M0 -0v-36h48v36z'/><path fill='#4477aa' d='M0 -0v-0h48v0z'/>
+<path fill='#cbd8e6' d='M64 -0v-36h48v36z'/><path fill='#4477aa' d='M64 -0v-0h48v0z'/>
+<path stroke='#ffffff' stroke-width='128' stroke-dasharray='4 36' d='M64 -40v40'/>
+<text x='24' y='16' text-anchor='middle'>0</text>
+<text x='88' y='16' text-anchor='middle'>1</text>
+<path d='M24 20l5 9h-10z'/><text x='24' y='43' text-anchor='middle'>n = 0</text>
+</g>
+</svg>
+";
+
+/// The image of an empty file of two buckets.
+fn empty_file(rt: &(impl AllocGlobal + Threads + Wait + Sync)) -> Result<Vec<u8>, Fail> {
+    let (_, image, _) = ran(rt, ["lhash", "build", "--initial", "2"].as_slice(), b"")?;
+    Ok(image)
+}
+
+#[test]
+fn an_empty_file_is_drawn(rt: HostRuntime) -> Result<(), Fail> {
+    let image = empty_file(&rt)?;
+    let (code, written, text) = ran(&rt, ["lhash", "draw"].as_slice(), image.as_slice())?;
+    assert_eq!(rt; text.as_str(), "");
+    assert_eq!(rt; written.as_slice(), EMPTY_FILE.as_bytes());
+    assert_eq!(rt; code, 0);
+    Ok(())
+}
+
+#[test]
+fn a_cut_off_image_is_not_drawn(rt: HostRuntime) -> Result<(), Fail> {
+    let mut image = empty_file(&rt)?;
+    image.truncate(3071);
+    let (code, written, text) = ran(&rt, ["lhash", "draw"].as_slice(), image.as_slice())?;
+    assert_eq!(rt; text.as_str(), "image I4");
+    assert_eq!(rt; code, 1);
+    assert!(rt; written.is_empty());
+    Ok(())
+}
+
+#[test]
+fn a_drawing_ends_where_a_write_fails(rt: HostRuntime) -> Result<(), Fail> {
+    let image = empty_file(&rt)?;
+    let mut input = image.as_slice();
+    let mut sink = Sink::new(rt.alloc(), 100, 3);
+    let status = run(&rt, ["lhash", "draw"].as_slice(), &mut input, &mut sink);
+    assert_eq!(rt; status.to_string(rt.alloc())?.as_str(), "write failed");
+    assert_eq!(rt; status.code(), 3);
+    assert_eq!(rt; sink.bytes.len(), 200);
+    assert!(rt; EMPTY_FILE.as_bytes().starts_with(sink.bytes.as_slice()));
+    Ok(())
+}
