@@ -20,6 +20,10 @@ use Rattle.lhash.specs.declared.drawing.tally.Tally.{Tally}
 abbrev pub part_of : ℕ → ℕ → ℕ → ℕ
 part_of height used slots = height * used / slots
 
+-- how high the records of some slots stand, of which a page's are 40 high, up to a limit
+abbrev pub load_of : ℕ → ℕ → ℕ → ℕ
+load_of records slots most = min (40 * records / slots) most
+
 -- the floor is below the title and the longest chain, of which 24 pages are drawn
 abbrev pub floor_of : ℕ → ℕ
 floor_of longest = 92 + 40 * min longest 24
@@ -71,7 +75,7 @@ more_of l bucket = record {
 abbrev pub group_tally : Lists → ℕ → Tally
 group_tally l column = tally_of l.config.capacity (lists_between l (first_bucket (size l) column) (end_bucket (size l) column))
 
--- a column of a group: as high as its longest chain, used as far as its pages have records
+-- a column of a group: as high as its longest chain, and used as high as a bucket is on average
 unfoldable pub group_bar : Lists → ℕ → Bar
 group_bar l column =
     let height : ℕ = 40 * min (group_tally l column).longest 24 - 4 in
@@ -80,7 +84,7 @@ group_bar l column =
       foot = 0;
       width = bar_width (size l);
       height = height;
-      used = part_of height (group_tally l column).records (l.config.capacity * (group_tally l column).pages);
+      used = load_of (group_tally l column).records (l.config.capacity * (end_bucket (size l) column - first_bucket (size l) column)) height;
       is_next = is_next_level l (first_bucket (size l) column);
     }
 

@@ -39,7 +39,7 @@ unfoldable pub caption_text : Caption → List ℕ
 caption_text c =
     if c.is_detailed
     then codes "<text x='24' y='68'>a box is a page, coloured as far as its slots are used</text>\n"
-    else codes "<text x='24' y='68'>a column is as high as the longest chain of its buckets, and coloured as far as their slots are used</text>\n"
+    else codes "<text x='24' y='68'>a column is as high as the longest chain of its buckets, and coloured as far as one of them is used on average</text>\n"
 
 -- the columns' origin, where the floor meets the first of them
 unfoldable pub plot_text : Plot → List ℕ

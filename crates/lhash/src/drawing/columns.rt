@@ -2,7 +2,7 @@
 ghost use Rattle.std.specs.Prelude.{◌≡◌, ◌+◌, ◌*◌, ◌/◌, ◌^◌, ◌<◌, ◌≤◌, min};
 ghost use Rattle.lh_bucket.specs.Listing.{IsListing, list_at, size};
 ghost use Rattle.lhash.specs.Columns.{chain_length, column_count, is_next_level, whole_tally};
-ghost use Rattle.lhash.specs.Drawing.{canvas_of, cuts_of, floor_of, group_bar, label_count, label_of, legend_of, mark_of, more_of, page_bar, part_of, title_of};
+ghost use Rattle.lhash.specs.Drawing.{canvas_of, cuts_of, floor_of, group_bar, label_count, label_of, legend_of, load_of, mark_of, more_of, page_bar, part_of, title_of};
 
 use crate::drawing::elements::{Bar, Canvas, Cuts, Label, Legend, Mark, More, Title};
 use crate::drawing::measures::{
@@ -42,6 +42,15 @@ fn part_of(height: u32, used: u128, slots: u128) -> u32
     ensures { result ≡ part_of height used slots }
 {
     (u128::from(height) * used / slots) as u32
+}
+
+/// How high the records of some slots stand, of which a page's are 40 high: to a given height at most.
+fn load_of(records: u128, slots: u128, most: u32) -> u32
+    requires some { 1 ≤ slots }
+    requires records { records < 2 ^ 100 }
+    ensures { result ≡ load_of records slots most }
+{
+    (40 * records / slots).min(u128::from(most)) as u32
 }
 
 /// What is counted of the whole file.
@@ -144,15 +153,16 @@ pub fn group_bar(listing: &Listing, column: u32) -> Bar
     let _ = root_of(listing);
     let buckets = listing.buckets();
     let first = first_bucket(buckets, column);
-    let tally = counted_between(listing, first, end_bucket(buckets, column));
+    let end = end_bucket(buckets, column);
+    let tally = counted_between(listing, first, end);
     let height = 40 * tally.longest.min(24) as u32 - 4;
-    let slots = u128::from(listing.config().capacity()) * tally.pages;
+    let slots = u128::from(listing.config().capacity()) * u128::from(end - first);
     Bar {
         left: left(buckets, column),
         foot: 0,
         width: bar_width(buckets),
         height,
-        used: part_of(height, tally.records, slots),
+        used: load_of(tally.records, slots, height),
         is_next: is_next_level(listing, first),
     }
 }

@@ -95,7 +95,7 @@ impl fmt::Display for Caption {
         } else {
             write!(
                 f,
-                "<text x='24' y='68'>a column is as high as the longest chain of its buckets, and coloured as far as their slots are used</text>\n"
+                "<text x='24' y='68'>a column is as high as the longest chain of its buckets, and coloured as far as one of them is used on average</text>\n"
             )
         }
     }
