@@ -19,7 +19,7 @@ use Rattle.lh_image.specs.Canonical.{canonical, header_in, page_count_in, pages_
 use Rattle.lh_image.specs.Chains.{IsPath, IsCovered, stands_in}
 use Rattle.lh_image.specs.Image.{IsImageBy}
 use Rattle.lh_image.specs.Layout.{header_of, header_text, page, page_at, kind, level, bucket, next, records}
-use Rattle.lh_image.proofs.Counting.{overflow_within, page_count_is, page_starts, records_few}
+use Rattle.lh_image.proofs.Counting.{overflow_found, overflow_within, page_count_is, page_starts, records_few}
 use Rattle.lh_image.proofs.HeaderText.{header_of_text, length-header_text}
 use Rattle.lh_image.proofs.Joining.{texts_more}
 use Rattle.lh_image.proofs.Placing.{StandsAt, part_at, at_front, behind, ahead, inside, text_at, length-texts, any_found, any_there}
@@ -27,15 +27,6 @@ use Rattle.lh_image.proofs.Placing.{StandsAt, part_at, at_front, behind, ahead, 
 map_map : {X Y Z : Type 0} (f : Y → Z) (g : X → Y) (xs : List X) → map f (map g xs) ≡ map (λ x. f (g x)) xs
 map_map f g [] = refl
 map_map f g (x ∷ xs) = ap (λ ys. f (g x) ∷ ys) (map_map f g xs)
-
--- an overflow page's bucket and place, by how many overflow pages stand before it
-overflow_found : (l : Lists) (n q : ℕ) → q < overflow_before l n → (i : ℕ) × (k : ℕ) × (i < n) × (suc k < page_count_in l i) × (q ≡ overflow_before l i + k)
-unfolding overflow_before
-overflow_found l zero q low = absurd (omega arith)
-overflow_found l (suc n) q low = elim (cases_lt q (overflow_before l n)) [
-  | inl before ↦ let r = overflow_found l n q before in (r.0, r.1, omega (arith, r.2), r.3, r.4)
-  | inr here ↦ (n, q - overflow_before l n, omega arith, omega arith, omega arith)
-]
 
 module _ (packing : PackingLaw) (pieces : PiecesLaw) (texts : PageTextLaw) (back : ReadBackLaw) (l : Lists) (listing : IsListing l) (few : page_total l ≤ 1048576) where
   one_page : (i : ℕ) → 1 ≤ page_count_in l i

@@ -27,7 +27,7 @@ use Rattle.lh_image.proofs.Last.{AreSound, covered, records_same, flat_same, cha
 use Rattle.lh_image.proofs.LinkFaults.{any_of_items}
 use Rattle.lh_image.proofs.Misfits.{not_before, before_is}
 use Rattle.lh_image.proofs.Ranges.{any_of, any_from}
-use Rattle.lh_image.proofs.Walks.{stands_at}
+use Rattle.lh_image.proofs.ShortPaths.{stands_at}
 
 stands_front : (k q : ℕ) (xs : List ℕ) → stands_in (take k xs) q ≡ true → stands_in xs q ≡ true
 unfolding stands_in

@@ -63,3 +63,12 @@ records_before l pieces b (suc n) low =
 
 pub records_few : (l : Lists) → PiecesLaw → IsCapacity l.config.capacity → page_total l ≤ 1048576 → count_of l.lists ≤ 14680064
 records_few l pieces b few = omega (arith, few, ap count_of (take-length l.lists), records_before l pieces b (size l) (omega arith))
+
+-- an overflow page's bucket and place, by how many overflow pages stand before it
+pub overflow_found : (l : Lists) (n q : ℕ) → q < overflow_before l n → (i : ℕ) × (k : ℕ) × (i < n) × (suc k < page_count_in l i) × (q ≡ overflow_before l i + k)
+unfolding overflow_before
+overflow_found l zero q low = absurd (omega arith)
+overflow_found l (suc n) q low = elim (cases_lt q (overflow_before l n)) [
+  | inl before ↦ let r = overflow_found l n q before in (r.0, r.1, omega (arith, r.2), r.3, r.4)
+  | inr here ↦ (n, q - overflow_before l n, omega arith, omega arith, omega arith)
+]

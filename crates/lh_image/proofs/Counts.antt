@@ -15,7 +15,7 @@ use Rattle.lh_image.specs.Image.{IsImageBy}
 use Rattle.lh_image.specs.Layout.{Header, initial, buckets, page_count, record_count, bucket, next, records}
 use Rattle.lh_image.proofs.Listings.{pages_are}
 use Rattle.lh_image.proofs.Totals.{sum_covered}
-use Rattle.lh_image.proofs.Walks.{paths_are_chains}
+use Rattle.lh_image.proofs.ShortPaths.{paths_are_chains}
 
 -- records of pages, one page after another
 joined_pages : (rec : ℕ → List Pair) (xs : List ℕ) → joined (map rec xs) ≡ flat_map rec xs

@@ -12,7 +12,8 @@ use Rattle.lh_image.specs.Chains.{chain, IsCovered}
 use Rattle.lh_image.specs.Layout.{Header, initial, capacity, buckets, max, page_count, record_count, page, kind, used, level, bucket, next, records}
 use Rattle.lh_image.specs.Faults.{bad_counts, is_short, has_trailing, bad_kind, bad_level, bad_used, has_bad_slot, has_misfit, numbers, is_at_home}
 use Rattle.lh_image.specs.Image.{IsImageBy, ImageLaw, OneListingLaw, listing_of}
-use Rattle.lh_image.proofs.Walks.{begins, covered_same, linked_from_covered, paths_are_chains}
+use Rattle.lh_image.proofs.ShortPaths.{paths_are_chains}
+use Rattle.lh_image.proofs.Walks.{begins, covered_same, linked_from_covered}
 use Rattle.lh_image.proofs.Linking.{clean_bucket_from, clean_next_from, clean_twice_from, clean_chains_from}
 use Rattle.lh_image.proofs.Sound.{IsSound, sound_law, ranged_law}
 use Rattle.lh_image.proofs.Packing.{used_rule, IsFilled, filled}

@@ -6,6 +6,7 @@ pub mod Placing
 pub mod CanonicalPages
 pub mod Pigeons
 pub mod Walks
+pub mod ShortPaths
 pub mod Paths
 pub mod Ranges
 pub mod Linking

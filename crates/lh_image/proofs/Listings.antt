@@ -18,7 +18,7 @@ use Rattle.lh_image.specs.Layout.{Header, initial, capacity, load, buckets, max,
 use Rattle.lh_image.specs.Faults.{numbers}
 use Rattle.lh_image.specs.Image.{IsImageBy, listing_of}
 use Rattle.lh_image.proofs.Totals.{sum_covered, sum_same}
-use Rattle.lh_image.proofs.Walks.{paths_are_chains}
+use Rattle.lh_image.proofs.ShortPaths.{paths_are_chains}
 
 -- the records of the chain of bucket i
 abbrev pub chain_records : List ℕ → ℕ → List Pair

@@ -10,7 +10,8 @@ use Rattle.lh_image.specs.Chains.{stands_in, IsPath}
 use Rattle.lh_page.specs.declared.pair.Pair.{Pair}
 use Rattle.lh_image.specs.Faults.{misfits}
 use Rattle.lh_page.specs.Records.{keys_of}
-use Rattle.lh_image.proofs.Walks.{path_only, path_from}
+use Rattle.lh_image.proofs.ShortPaths.{path_from}
+use Rattle.lh_image.proofs.Walks.{path_only}
 
 three : (a b x y z : Bool) → x ≡ (y || z) → (a || b || x) ≡ ((a || b || y) || z)
 three true b x y z e = refl

@@ -1,7 +1,8 @@
 -- Paths have no page in common, and a path has no page twice.
 use Rattle.std.proofs.Common.{◌≡◌, ℕ, ◌+◌, ◌<◌, List, length, drop, get_or, sym, ap, ◌∙◌, arith, length-drop}
 use Rattle.lh_image.specs.Chains.{IsPath, PathsLaw}
-use Rattle.lh_image.proofs.Walks.{path_from, path_only}
+use Rattle.lh_image.proofs.ShortPaths.{path_from}
+use Rattle.lh_image.proofs.Walks.{path_only}
 
 no_page_twice : (next : ℕ → ℕ) (xs : List ℕ) (h k m : ℕ) → IsPath next h xs → k < m → m < length xs → get_or xs k 0 ≡ get_or xs m 0 → ⊥
 no_page_twice next xs h k m path less below same =
