@@ -2,7 +2,7 @@
 ghost use Rattle.std.specs.Prelude.{◌≡◌};
 ghost use Rattle.lh_file.specs.FileState.{IsOf};
 
-use crate::streams::{Step, Stream, key_of, value_of};
+use crate::streams::{Step, Stream, is_value_of, key_of, value_of};
 use crate::tally::Tally;
 use lh_bucket::Reply;
 use lh_file::{Hand, HashFile, NoGate};
@@ -38,7 +38,7 @@ impl Caller {
         let reply = answer.reply();
         self.tally.note(&reply);
         let is_due = match reply {
-            Reply::Found(value) => value == value_of(self.seed, record),
+            Reply::Found(value) => is_value_of(&value, self.seed, record),
             _ => !is_there,
         };
         if !is_due {

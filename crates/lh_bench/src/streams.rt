@@ -55,6 +55,17 @@ pub fn key_of(seed: u64, number: u64) -> Key {
     }
 }
 
+/// Whether a value is the one of a record.
+pub fn is_value_of(value: &Value, seed: u64, number: u64) -> bool {
+    match <[u8; 16]>::try_from(value.bytes()) {
+        Ok(bytes) => {
+            u128::from_le_bytes(bytes)
+                == u128::from_le_bytes(bytes_of(seed ^ 0xa5a5_a5a5_a5a5_a5a5, number))
+        }
+        Err(_) => false,
+    }
+}
+
 pub fn value_of(seed: u64, number: u64) -> Value {
     match Value::new(&bytes_of(seed ^ 0xa5a5_a5a5_a5a5_a5a5, number)) {
         Ok(value) => value,
