@@ -1,4 +1,5 @@
 pub mod Acts
+pub mod Aiming
 pub mod Closed
 pub mod Closing
 pub mod Contents
@@ -15,11 +16,10 @@ pub mod RuleLaws
 pub mod Segments
 pub mod Served
 pub mod SettleFault
+pub mod SettleLaws
 pub mod Settled
 pub mod Steps
 pub mod Sums
-pub mod SettleLaws
 pub mod Tally
-pub mod Turn
 pub mod Views
 pub mod Words
