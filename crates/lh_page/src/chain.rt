@@ -8,7 +8,7 @@ ghost use Rattle.lh_page.specs.Records.{place_of, value_at, with_value, AbsentBe
 use crate::division::{chosen, keep_others, make_room};
 use crate::key::Key;
 use crate::key_set::KeySet;
-use crate::marks::{MARKED, find_marked, mark_at, marks_of};
+use crate::marks::{MARKED, find_marked, mark_at, marks_of, put_mark};
 use crate::memory::Memory;
 use crate::pair::Pair;
 use crate::value::Value;
@@ -105,8 +105,9 @@ impl Chain {
     {
         let place = self.pairs.len();
         make_room(&mut self.pairs, self.capacity)?;
+        // Made of the key at hand: reading it back would wait until the record has reached its memory.
+        put_mark(&mut self.marks, place, &pair.key);
         self.pairs.push_reserved(pair);
-        mark_at(&mut self.marks, &self.pairs, place);
         Ok(())
     }
 

@@ -1,6 +1,7 @@
 //! The row of one-byte marks in the head of a chain. A look-up reads the records of its key's mark alone.
 ghost use Rattle.std.specs.Prelude.{◌≡◌, ◌≢◌, ◌↔◌, ℕ, ◌<◌, length, slice_index, IfSome, IfNone};
 ghost use Rattle.std.specs.Int.{bit_at};
+ghost use Rattle.lh_page.specs.Mark.{mark_of};
 ghost use Rattle.lh_page.specs.Marks.{IsMarked, IsMarkedAt};
 ghost use Rattle.lh_page.specs.Records.{AbsentBelow, StandsFirst};
 
@@ -17,6 +18,17 @@ pub fn mark_at(marks: &mut [u8; MARKED], pairs: &[Pair], place: usize)
 {
     if place < MARKED && place < pairs.len() {
         marks[place] = pairs[place].key.mark();
+    }
+}
+
+/// Puts the mark of a key at a place, where it has room.
+pub fn put_mark(marks: &mut [u8; MARKED], place: usize, key: &Key)
+    ensures marked { place < MARKED → slice_index marks.new place ≡ mark_of key.now }
+    ensures room { length marks.new ≡ length marks.old }
+    ensures others { (i : ℕ) → i ≢ place → slice_index marks.new i ≡ slice_index marks.old i }
+{
+    if place < MARKED {
+        marks[place] = key.mark();
     }
 }
 

@@ -1,4 +1,8 @@
-use Rattle.std.proofs.Common.{◌≡◌, ◌++◌, ◌∷◌, [], ap, ◌∙◌, length, arith}
+use Rattle.std.proofs.Common.{◌≡◌, ◌++◌, ◌∷◌, [], ap, ◌∙◌, sym, length, arith}
+use Rattle.std.proofs.lemmas.List.{get_or_push}
+use Rattle.lh_page.specs.declared.pair.Pair.{Pair}
+use Rattle.lh_page.specs.Mark.{mark_of}
+use Rattle.lh_page.specs.Records.{no_pair}
 use Rattle.lh_page.proofs.Distinct.{distinct_push}
 use Rattle.lh_page.proofs.Marking.{marked_push}
 use Rattle.lh_page.proofs.chain.Chain.push.Goals as goal
@@ -10,8 +14,13 @@ invariant_of-self-2 c =
     let items : c.push_reserved.new.self.items ≡ k.pairs.items ++ c.args.pair ∷ [] = c.push_reserved.ensures.items ∙ ap (λ xs. xs ++ c.args.pair ∷ []) c.make_room.ensures.items in
     let last : c.len-place.result ≡ length k.pairs.items = omega arith in
     let absent = rw (← c.self.view_is) at c.requires in
+    let key = ap (λ (q : Pair). q.key) (get_or_push k.pairs.items c.args.pair no_pair c.len-place.result (sym last)) in
     record {
       list = record { capacity = h.list.capacity; distinct = rw items (distinct_push k.pairs.items c.args.pair h.list.distinct absent) };
-      room = c.mark_at.ensures.room ∙ h.room;
-      marked = rw items (marked_push k.marks c.mark_at.new.marks k.pairs.items c.args.pair c.len-place.result last h.marked (rw (c.deref.ensures.value, items) at c.mark_at.ensures));
+      room = c.put_mark.ensures.room ∙ h.room;
+      marked = rw items (marked_push k.marks c.put_mark.new.marks k.pairs.items c.args.pair c.len-place.result last h.marked (record {
+        marked = λ low within. c.put_mark.ensures.marked low ∙ ap mark_of (sym key);
+        room = c.put_mark.ensures.room;
+        others = c.put_mark.ensures.others;
+      }));
     }
