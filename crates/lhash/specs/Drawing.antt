@@ -4,13 +4,13 @@ use Rattle.lh_addr.specs.Growth.{level, pointer}
 use Rattle.lh_bucket.specs.Listing.{Lists, size, list_at}
 use Rattle.lhash.specs.Columns.{bar_width, centre, chain_length, column_count, end_bucket, first_bucket, group_size, is_detailed, is_next_level, label_step, left, lists_between, tally_of, whole_tally}
 use Rattle.lhash.specs.DrawingTexts.{bar_text, canvas_text, caption_text, cuts_text, label_text, legend_text, mark_text, more_text, plot_text, title_text}
-use Rattle.lhash.specs.declared.drawing.elements.Bar.{Bar}
+use Rattle.lhash.specs.declared.drawing.bars.Bar.{Bar}
 use Rattle.lhash.specs.declared.drawing.elements.Canvas.{Canvas}
-use Rattle.lhash.specs.declared.drawing.elements.Cuts.{Cuts}
+use Rattle.lhash.specs.declared.drawing.bars.Cuts.{Cuts}
 use Rattle.lhash.specs.declared.drawing.elements.Label.{Label}
 use Rattle.lhash.specs.declared.drawing.elements.Legend.{Legend}
 use Rattle.lhash.specs.declared.drawing.elements.Mark.{Mark}
-use Rattle.lhash.specs.declared.drawing.elements.More.{More}
+use Rattle.lhash.specs.declared.drawing.bars.More.{More}
 use Rattle.lhash.specs.declared.drawing.elements.Title.{Title}
 use Rattle.lhash.specs.declared.drawing.tally.Tally.{Tally}
 

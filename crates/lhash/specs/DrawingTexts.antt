@@ -6,10 +6,10 @@ use Rattle.lhash.specs.declared.drawing.elements.Title.{Title}
 use Rattle.lhash.specs.declared.drawing.elements.Legend.{Legend}
 use Rattle.lhash.specs.declared.drawing.elements.Caption.{Caption}
 use Rattle.lhash.specs.declared.drawing.elements.Plot.{Plot}
-use Rattle.lhash.specs.declared.drawing.elements.Part.{Part}
-use Rattle.lhash.specs.declared.drawing.elements.Bar.{Bar}
-use Rattle.lhash.specs.declared.drawing.elements.More.{More}
-use Rattle.lhash.specs.declared.drawing.elements.Cuts.{Cuts}
+use Rattle.lhash.specs.declared.drawing.bars.Part.{Part}
+use Rattle.lhash.specs.declared.drawing.bars.Bar.{Bar}
+use Rattle.lhash.specs.declared.drawing.bars.More.{More}
+use Rattle.lhash.specs.declared.drawing.bars.Cuts.{Cuts}
 use Rattle.lhash.specs.declared.drawing.elements.Label.{Label}
 use Rattle.lhash.specs.declared.drawing.elements.Mark.{Mark}
 

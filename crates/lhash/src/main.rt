@@ -16,6 +16,7 @@ mod drawing;
 mod drive;
 mod driven;
 mod fault;
+mod help;
 mod hexadecimal;
 mod image_texts;
 mod images;

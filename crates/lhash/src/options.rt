@@ -5,6 +5,7 @@ ghost use Rattle.clap.specs.Words.{found_of, kind_of, new_app, rows_of, rule_of}
 ghost use Rattle.lhash.specs.Options.{Answers, IsMaxBelowInitial, number_in, drive_app, option_rule, program_app, with_settings};
 ghost use Rattle.lhash.specs.OptionSteps.{HasNumber, HasSettings, HasThreads, IsAskedBy, IsFileCommand, IsImageCommand, IsRefusal, Reads, settings_in};
 
+use crate::help::{BUILD, CHECK, COMMANDS, DRAW, DRIVE, DUMP, Help, STEPS};
 use clap::error::ErrorKind;
 use clap::{Arg, ArgAction, ArgMatches, Command, Error};
 use lh_addr::limits::{
@@ -18,48 +19,6 @@ const MIN_THREADS: u32 = 1;
 
 /// The greatest number of threads that a script is run in.
 const MAX_THREADS: u32 = 64;
-
-/// What help says of a subcommand: what comes in and what goes out, and an example.
-#[derive(Clone, Copy)]
-struct Help {
-    about: &'static str,
-    example: &'static str,
-}
-
-const COMMANDS: Help = Help {
-    about: "Read a script of commands, and write the reply to each",
-    example: "Example: lhash commands < script.txt",
-};
-
-const STEPS: Help = Help {
-    about: "Read a script of steps, and write what became of each",
-    example: "Example: lhash steps < steps.txt",
-};
-
-const BUILD: Help = Help {
-    about: "Read a script of commands, and write the file that it leads to as an image",
-    example: "Example: lhash build < script.txt > file.lhf",
-};
-
-const CHECK: Help = Help {
-    about: "Read an image, and write what is counted of it",
-    example: "Example: lhash check < file.lhf",
-};
-
-const DUMP: Help = Help {
-    about: "Read an image, and write its records",
-    example: "Example: lhash dump < file.lhf",
-};
-
-const DRAW: Help = Help {
-    about: "Read an image, and write a drawing of its file as an SVG",
-    example: "Example: lhash draw < file.lhf > file.svg",
-};
-
-const DRIVE: Help = Help {
-    about: "Read a script of commands, run it in threads, and write totals",
-    example: "Example: lhash drive --threads 4 < script.txt",
-};
 
 /// What the words ask for.
 #[derive(Debug, Drop)]

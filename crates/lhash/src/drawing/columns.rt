@@ -4,7 +4,8 @@ ghost use Rattle.lh_bucket.specs.Listing.{IsListing, list_at, size};
 ghost use Rattle.lhash.specs.Columns.{chain_length, column_count, is_next_level, whole_tally};
 ghost use Rattle.lhash.specs.Drawing.{canvas_of, cuts_of, floor_of, group_bar, label_count, label_of, legend_of, load_of, mark_of, more_of, page_bar, part_of, title_of};
 
-use crate::drawing::elements::{Bar, Canvas, Cuts, Label, Legend, Mark, More, Title};
+use crate::drawing::bars::{Bar, Cuts, More};
+use crate::drawing::elements::{Canvas, Label, Legend, Mark, Title};
 use crate::drawing::measures::{
     bar_width, centre, column_count, end_bucket, first_bucket, group_size, label_step, left,
 };

@@ -1,0 +1,43 @@
+//! What help says of the subcommands.
+
+/// What help says of a subcommand: what comes in and what goes out, and an example.
+#[derive(Clone, Copy)]
+pub struct Help {
+    pub about: &'static str,
+    pub example: &'static str,
+}
+
+pub const COMMANDS: Help = Help {
+    about: "Read a script of commands, and write the reply to each",
+    example: "Example: lhash commands < script.txt",
+};
+
+pub const STEPS: Help = Help {
+    about: "Read a script of steps, and write what became of each",
+    example: "Example: lhash steps < steps.txt",
+};
+
+pub const BUILD: Help = Help {
+    about: "Read a script of commands, and write the file that it leads to as an image",
+    example: "Example: lhash build < script.txt > file.lhf",
+};
+
+pub const CHECK: Help = Help {
+    about: "Read an image, and write what is counted of it",
+    example: "Example: lhash check < file.lhf",
+};
+
+pub const DUMP: Help = Help {
+    about: "Read an image, and write its records",
+    example: "Example: lhash dump < file.lhf",
+};
+
+pub const DRAW: Help = Help {
+    about: "Read an image, and write a drawing of its file as an SVG",
+    example: "Example: lhash draw < file.lhf > file.svg",
+};
+
+pub const DRIVE: Help = Help {
+    about: "Read a script of commands, run it in threads, and write totals",
+    example: "Example: lhash drive --threads 4 < script.txt",
+};
