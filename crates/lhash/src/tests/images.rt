@@ -7,6 +7,7 @@ use std::thread::Threads;
 
 mod devices;
 mod forged;
+mod opened;
 
 /// The bytes of an image that are not zero: from which place on, and what.
 type Part = (usize, &'static [u8]);
