@@ -1,0 +1,125 @@
+//! Calls served one after another, and what wants memory.
+use super::{delete, insert, search, small};
+use crate::{Effect, Event, Ran, Refusal, SerialRan, run, serial};
+use lh_addr::Config;
+use lh_bucket::{Bucket, Call, PagedBucket, PlainBucket, Reply};
+use lh_page::Value;
+use std::alloc::Global;
+use std::test::Fail;
+
+/// The replies to calls, and the number of buckets after them.
+fn replies_of<B: Bucket>(
+    alloc: Global,
+    config: Config,
+    calls: &[Call],
+) -> Result<(Vec<Reply>, u32), Fail> {
+    let SerialRan { replies, world } = serial::<B>(alloc, config, calls)?;
+    Ok((replies, world.root().buckets()))
+}
+
+#[test]
+fn serial_answers_as_a_map(rt: HostRuntime) -> Result<(), Fail> {
+    let calls = [
+        delete(b"a")?,
+        insert(b"a", b"1")?,
+        insert(b"a", b"2")?,
+        search(b"a")?,
+        delete(b"a")?,
+        search(b"a")?,
+    ];
+    let want = [
+        Reply::Absent,
+        Reply::Inserted,
+        Reply::Exists,
+        Reply::Found(Value::new(b"1")?),
+        Reply::Deleted,
+        Reply::Absent,
+    ];
+    let (plain, _) = replies_of::<PlainBucket>(rt.alloc(), small()?, &calls)?;
+    let (paged, size) = replies_of::<PagedBucket>(rt.alloc(), small()?, &calls)?;
+    assert_eq!(rt; plain.as_slice(), want.as_slice());
+    assert_eq!(rt; paged.as_slice(), want.as_slice());
+    assert_eq!(rt; size, 1);
+    Ok(())
+}
+
+/// The lengths of the lists of a listing.
+fn lengths_of<B: Bucket>(
+    alloc: Global,
+    config: Config,
+    calls: &[Call],
+) -> Result<Vec<usize>, Fail> {
+    let SerialRan { replies: _, world } = serial::<B>(alloc, config, calls)?;
+    let listing = world.listing()?;
+    let mut lengths = Vec::new(alloc);
+    for bucket in 0..listing.buckets() {
+        lengths.push(listing.len_of(bucket))?;
+    }
+    Ok(lengths)
+}
+
+#[test]
+fn a_file_grows_past_the_threshold_and_not_at_it(rt: HostRuntime) -> Result<(), Fail> {
+    let calls = [
+        insert(b"a", b"1")?,
+        insert(b"b", b"2")?,
+        insert(b"c", b"3")?,
+        insert(b"d", b"4")?,
+        insert(b"e", b"5")?,
+    ];
+    let full = Config::new(1, 2, 100, 65536)?;
+    let fuller = Config::new(1, 2, 200, 65536)?;
+    let alloc = rt.alloc();
+    assert_eq!(rt;
+        lengths_of::<PlainBucket>(alloc, full, &calls)?.as_slice(),
+        [2, 2, 1].as_slice()
+    );
+    assert_eq!(rt;
+        lengths_of::<PagedBucket>(alloc, full, &calls)?.as_slice(),
+        [2, 2, 1].as_slice()
+    );
+    assert_eq!(rt; replies_of::<PagedBucket>(alloc, fuller, &calls)?.1, 2);
+    Ok(())
+}
+
+#[test]
+fn buckets_hold_their_records_in_order(rt: HostRuntime) -> Result<(), Fail> {
+    let calls = [
+        insert(b"a", b"1")?,
+        insert(b"b", b"2")?,
+        insert(b"c", b"3")?,
+    ];
+    let config = Config::new(1, 2, 100, 65536)?;
+    let SerialRan { replies: _, world } = serial::<PagedBucket>(rt.alloc(), config, &calls)?;
+    let mut keys = Vec::new(rt.alloc());
+    for i in 0..world.filled() {
+        let bucket = world.bucket(i);
+        for place in 0..bucket.len() {
+            keys.push((i, bucket.pair_at(place).key.bytes()[0]))?;
+        }
+    }
+    assert_eq!(rt;
+        keys.as_slice(),
+        [(0, b'a'), (0, b'c'), (1, b'b')].as_slice()
+    );
+    Ok(())
+}
+
+#[test]
+fn an_act_without_memory_may_be_taken_again(rt: HostRuntime) -> Result<(), Fail> {
+    let events = [
+        Event::Call(0, insert(b"a", b"1")?),
+        Event::Read(0),
+        Event::Lock(0),
+        Event::Act(0),
+        Event::Act(0),
+    ];
+    if let Ok(Ran { entries, world: _ }) = run::<PagedBucket>(rt.alloc(), small()?, &events) {
+        let inserted = Ok(Effect::Answered(Reply::Inserted));
+        let plenty = [inserted, Err(Refusal::WrongState)];
+        let refused = [Err(Refusal::Memory), inserted];
+        let acts = &entries.as_slice()[3..];
+        assert!(rt; acts == plenty.as_slice() || acts == refused.as_slice());
+    }
+    Ok(())
+}
