@@ -19,7 +19,7 @@ use std::mem;
 /// The records of one bucket, in a primary page and overflow pages of `capacity` records each.
 ///
 /// The record at place `i` stands in page `i / capacity`, so every page but the last is full and only the primary
-/// page may be empty. No key stands twice. Memory is taken by whole pages, and none before the first record.
+/// page may be empty. No key stands twice. Memory is taken by half pages, and none before the first record.
 #[derive(Debug, Drop)]
 pub struct Chain {
     capacity: u32,
@@ -130,7 +130,7 @@ impl Chain {
         ensures err { OnErr result (self.new ≡ self.old) }
     {
         let gone = chosen(*self.pairs.allocator(), &self.pairs, keys, self.capacity)?;
-        keep_others(&mut self.pairs, &gone);
+        keep_others(&mut self.pairs, &gone, self.capacity);
         self.marks = marks_of(&self.pairs);
         Ok(Chain {
             capacity: self.capacity,

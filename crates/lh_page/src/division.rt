@@ -9,7 +9,15 @@ use crate::memory::Memory;
 use crate::pair::Pair;
 use std::alloc::Global;
 
-/// Takes the memory of one page more where all pages are full.
+/// The records in half a page, or one more.
+fn half_page(capacity: u32) -> usize
+    requires { 1 ≤ capacity }
+    ensures { 1 ≤ result }
+{
+    capacity.div_ceil(2) as usize
+}
+
+/// Takes the memory of half a page more where there is no room.
 pub fn make_room(pairs: &mut Vec<Pair>, capacity: u32) -> Result<(), Memory>
     requires { 1 ≤ capacity }
     ensures room { OnOk result (vec_len pairs.new < vec_capacity pairs.new) }
@@ -17,7 +25,7 @@ pub fn make_room(pairs: &mut Vec<Pair>, capacity: u32) -> Result<(), Memory>
     ensures succeeds { vec_len pairs.old < vec_capacity pairs.old → IsOk result }
 {
     if pairs.len() == pairs.capacity() {
-        pairs.reserve_exact(capacity as usize)?;
+        pairs.reserve_exact(half_page(capacity))?;
     }
     Ok(())
 }
@@ -42,8 +50,36 @@ pub fn chosen<S: KeySet>(
     Ok(part)
 }
 
+/// Takes the records of a part out. The others close up, and the memory that they don't fill goes back
+/// by half pages.
+pub fn keep_others(pairs: &mut Vec<Pair>, part: &[Pair], capacity: u32)
+    requires { 1 ≤ capacity }
+    ensures { pairs.new.items ≡ without pairs.old.items part.now }
+{
+    close_up(pairs, part);
+    let half = half_page(capacity);
+    let halves = pairs.len().div_ceil(half);
+    give_back(pairs, halves.saturating_mul(half));
+}
+
+/// Moves the records into a block for `room` of them, where theirs is larger and there is memory for
+/// the move: a large block that is cut short leaves a rest into which nothing fits.
+fn give_back(pairs: &mut Vec<Pair>, room: usize)
+    ensures { pairs.new.items ≡ pairs.old.items }
+{
+    if pairs.capacity() <= room {
+        return;
+    }
+    let Ok(mut block) = Vec::with_capacity(*pairs.allocator(), room) else {
+        return;
+    };
+    if block.extend_from_slice(pairs).is_ok() {
+        *pairs = block;
+    }
+}
+
 /// Takes the records of a part out. The others close up.
-pub fn keep_others(pairs: &mut Vec<Pair>, part: &[Pair])
+fn close_up(pairs: &mut Vec<Pair>, part: &[Pair])
     ensures { pairs.new.items ≡ without pairs.old.items part.now }
 {
     let mut kept = 0;

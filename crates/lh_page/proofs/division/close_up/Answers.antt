@@ -1,7 +1,7 @@
 use Rattle.std.proofs.Common.{◌<◌, ◌≤◌, length, ◌∙◌, arith}
 use Rattle.lh_page.proofs.Dividing.{dividing_next, dividing_other, dividing_done}
-use Rattle.lh_page.proofs.division.keep_others.Goals as goal
-use Rattle.lh_page.proofs.division.keep_others.Goals.{then-comes_next, else-comes_next}
+use Rattle.lh_page.proofs.division.close_up.Goals as goal
+use Rattle.lh_page.proofs.division.close_up.Goals.{then-comes_next, else-comes_next}
 
 pub loop-i-preserved : goal.loop-i-preserved
 loop-i-preserved c =
