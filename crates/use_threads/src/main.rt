@@ -10,8 +10,7 @@ use lh_bucket::Listing;
 use lh_file::{Hand, HashFile, NoGate, settle};
 use lh_page::{Key, Value};
 use std::sync::Wait;
-use std::thread;
-use std::thread::{Promise, Threads};
+use std::thread::{self, Promise, Threads};
 
 type File = HashFile<NoGate>;
 
