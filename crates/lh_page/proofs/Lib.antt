@@ -2,7 +2,6 @@ pub mod Places
 pub mod Distinct
 pub mod Marking
 pub mod Pieces
-pub mod Dividing
 pub mod Padding
 pub mod Fields
 pub mod WrittenPages

@@ -4,7 +4,7 @@ use Rattle.std.proofs.Math.Nat.{div-eq_of_lt, add-div_right}
 use Rattle.std.proofs.lemmas.Bool.{leb-true, leb-false, le-leb, lt-leb, cases_Bool}
 use Rattle.std.proofs.lemmas.List.{append-nil, drop-drop, length-append, length-drop, length-take, length-take-le, take-append-drop, take_all, take_at, drop_at}
 use Rattle.lh_page.specs.declared.pair.Pair.{Pair}
-use Rattle.lh_page.specs.PackedList.{pieces, pages_of, IsPacked, joined, PackingLaw, PiecesLaw}
+use Rattle.lh_page.specs.PackedList.{pieces, IsPacked, joined, PackingLaw, PiecesLaw}
 
 one_page : (n b : ℕ) → 1 ≤ b → n ≤ b → 1 ≡ (n - 1) / b + 1
 one_page n b some few = let e : (n - 1) / b ≡ 0 = div-eq_of_lt (omega arith) in omega arith

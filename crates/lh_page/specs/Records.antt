@@ -1,5 +1,5 @@
 -- Lists of records, seen by their keys.
-use Rattle.std.specs.Prelude.{◌≡◌, ◌≢◌, ℕ, ◌<◌, ◌≤◌, List, [], ◌∷◌, map, length, slice_index_or, slice_set, Option, if◌then◌else◌}
+use Rattle.std.specs.Prelude.{◌≡◌, ◌≢◌, ℕ, ◌<◌, ◌≤◌, List, [], map, length, slice_index_or, slice_set, Option}
 use Rattle.std.specs.List.{All, position}
 use Rattle.std.specs.Str.{bytes_eq}
 use Rattle.lh_page.specs.declared.pair.Pair.{Pair}
@@ -36,12 +36,6 @@ AbsentBelow pairs n key = (k : ℕ) → k < n → k < length pairs → key_at pa
 -- the first record with the key stands at a place
 abbrev pub StandsFirst : List Pair → ℕ → List ℕ → Type 0
 StandsFirst pairs place key = (place < length pairs) × AbsentBelow pairs place key × (key_at pairs place ≡ key)
-
--- the records without those of a part of them in the same order
-unfoldable pub without : List Pair → List Pair → List Pair
-without [] part = []
-without (p ∷ ps) [] = p ∷ ps
-without (p ∷ ps) (q ∷ qs) = if bytes_eq q.key p.key then without ps qs else p ∷ without ps (q ∷ qs)
 
 -- a record whose key and value have lengths that keys and values have
 pub record IsRecord (pair : Pair) : Type 0 where

@@ -5,7 +5,7 @@ ghost use Rattle.lh_page.specs.Limits.{IsCapacity};
 ghost use Rattle.lh_page.specs.PackedList.{IsPackedList, pages_of};
 ghost use Rattle.lh_page.specs.Records.{place_of, value_at, with_value, AbsentBelow, StandsFirst};
 
-use crate::division::{chosen, keep_others, make_room};
+use crate::division::{append, divided};
 use crate::key::Key;
 use crate::key_set::KeySet;
 use crate::marks::{MARKED, find_marked, mark_at, marks_of, put_mark};
@@ -104,10 +104,9 @@ impl Chain {
         ensures err { OnErr result (self.new ≡ self.old) }
     {
         let place = self.pairs.len();
-        make_room(&mut self.pairs, self.capacity)?;
+        append(&mut self.pairs, pair, self.capacity)?;
         // Made of the key at hand: reading it back would wait until the record has reached its memory.
         put_mark(&mut self.marks, place, &pair.key);
-        self.pairs.push_reserved(pair);
         Ok(())
     }
 
@@ -129,13 +128,13 @@ impl Chain {
         ensures kept { OnOk result (self.new ≡ record self.old { pairs = filter (λ p. not (S.member keys.now p.key)) self.old.pairs }) }
         ensures err { OnErr result (self.new ≡ self.old) }
     {
-        let gone = chosen(*self.pairs.allocator(), &self.pairs, keys, self.capacity)?;
-        keep_others(&mut self.pairs, &gone, self.capacity);
-        self.marks = marks_of(&self.pairs);
+        let parts = divided(*self.pairs.allocator(), &self.pairs, keys, self.capacity)?;
+        self.marks = marks_of(&parts.kept);
+        self.pairs = parts.kept;
         Ok(Chain {
             capacity: self.capacity,
-            marks: marks_of(&gone),
-            pairs: gone,
+            marks: marks_of(&parts.gone),
+            pairs: parts.gone,
         })
     }
 

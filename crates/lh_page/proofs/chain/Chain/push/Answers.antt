@@ -11,7 +11,7 @@ pub invariant_of-self-2 : goal.invariant_of-self-2
 invariant_of-self-2 c =
     let k = c.self.inside in
     let h = c.self.invariant in
-    let items : c.push_reserved.new.self.items ≡ k.pairs.items ++ c.args.pair ∷ [] = c.push_reserved.ensures.items ∙ ap (λ xs. xs ++ c.args.pair ∷ []) c.make_room.ensures.items in
+    let items : c.append.new.pairs.items ≡ k.pairs.items ++ c.args.pair ∷ [] = c.in_ok-append.ensures.ok in
     let last : c.len-place.result ≡ length k.pairs.items = omega arith in
     let absent = rw (← c.self.view_is) at c.requires in
     let key = ap (λ (q : Pair). q.key) (get_or_push k.pairs.items c.args.pair no_pair c.len-place.result (sym last)) in
