@@ -32,13 +32,13 @@ pub enum Reply {
 
 impl Call {
     /// The key that the call is about.
-    pub fn key(&self) -> Key
-        ensures { result ≡ key_of self.now }
+    pub fn key(&self) -> &Key
+        ensures { result.now ≡ key_of self.now }
     {
         match self {
-            Call::Search(key) => *key,
-            Call::Insert(key, _) => *key,
-            Call::Delete(key) => *key,
+            Call::Search(key) => key,
+            Call::Insert(key, _) => key,
+            Call::Delete(key) => key,
         }
     }
 }

@@ -143,7 +143,7 @@ impl Bucket for PagedBucket {
     }
 
     fn look(&self, call: &Call, k: u8) -> Answer {
-        let reply = search_in(&self.chain, &call.key());
+        let reply = search_in(&self.chain, call.key());
         Answer::new(*call, reply, self.number, k, self.initial)
     }
 

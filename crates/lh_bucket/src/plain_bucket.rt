@@ -161,7 +161,7 @@ impl Bucket for PlainBucket {
     }
 
     fn look(&self, call: &Call, k: u8) -> Answer {
-        let reply = match value_at(&self.records, &call.key()) {
+        let reply = match value_at(&self.records, call.key()) {
             Some(value) => Reply::Found(value),
             None => Reply::Absent,
         };
