@@ -1,19 +1,25 @@
 //! Searches, inserts and deletes.
 ghost use Rattle.std.specs.Prelude.{◌≡◌, ◌↔◌, ◌<◌, ◌≤◌, true, Err, IfOk, IfErr, OnErr};
+ghost use Rattle.std.specs.Sync.RwLock.{read_guard_value, write_guard_value};
 ghost use Rattle.lh_bucket.specs.declared.call.Call.TheVariants as call;
+ghost use Rattle.lh_bucket.specs.declared.verdict.Verdict.TheVariants.{Here};
+ghost use Rattle.lh_bucket.specs.Bucket.{verdict};
+ghost use Rattle.lh_bucket.specs.PlainMap.{IsSearch};
 ghost use Rattle.lh_file.specs.declared.fault.FileFault.TheVariants.{Spent};
+ghost use Rattle.lh_file.specs.Aiming.{IsAimOf, IsReady};
 ghost use Rattle.lh_file.specs.FileState.{IsOf};
 ghost use Rattle.lh_file.specs.Served.{HasLooked, HasServed, IsNotSpent};
 
+use crate::aim::Aim;
 use crate::fault::FileFault;
 use crate::file::HashFile;
-use crate::gate::Gate;
+use crate::gate::{Gate, Point};
 use crate::hand::Hand;
 use crate::parts;
 use crate::right::Right;
-use lh_bucket::{Answer, Call, Reply};
+use lh_bucket::{Answer, Call, Memory, PagedBucket, Reply};
 use lh_page::{Key, Value};
-use std::sync::Wait;
+use std::sync::{RwLockReadGuard, RwLockWriteGuard, Wait};
 
 impl<G: Gate> HashFile<G> {
     /// Searches for a key: the answer's reply is the value, or that the key is absent.
@@ -26,7 +32,10 @@ impl<G: Gate> HashFile<G> {
         ensures err { OnErr result (HasLooked hand.old hand.new) }
         ensures of { IsOf self.now.state hand.new }
     {
-        self.serve(rt, hand, &Call::Search(key))
+        let call = Call::Search(key);
+        let aim = self.begin(hand, &call)?;
+        let (guard, aim) = self.shared(rt, aim)?;
+        Ok(self.look(guard, hand, &call, aim))
     }
 
     /// Inserts a record, unless the key is there. Where the load of the file asks for it afterwards, the
@@ -47,7 +56,7 @@ impl<G: Gate> HashFile<G> {
         ensures err { OnErr result (HasLooked hand.old hand.new) }
         ensures of { IsOf self.now.state hand.new }
     {
-        let answer = self.serve(rt, hand, &Call::Insert(key, value))?;
+        let answer = self.change(rt, hand, &Call::Insert(key, value))?;
         if answer.reply() == Reply::Inserted {
             self.grow(rt, hand);
         }
@@ -64,12 +73,11 @@ impl<G: Gate> HashFile<G> {
         ensures err { OnErr result (HasLooked hand.old hand.new) }
         ensures of { IsOf self.now.state hand.new }
     {
-        self.serve(rt, hand, &Call::Delete(key))
+        self.change(rt, hand, &Call::Delete(key))
     }
 
-    /// Serves a call: looks at its bucket by the root, and as long as that was split since, at the next
-    /// one, a level up. No level is above 16, so it takes at most 17 locks, one after another.
-    fn serve<R: Wait>(&self, rt: &R, hand: &mut Hand, call: &Call) -> Result<Answer, FileFault>
+    /// Serves a call that may change its bucket.
+    fn change<R: Wait>(&self, rt: &R, hand: &mut Hand, call: &Call) -> Result<Answer, FileFault>
         requires { IsOf self.now.state hand.old }
         ensures call { IfOk result (λ a. a.call ≡ call.now) }
         ensures served { IfOk result (λ a. HasServed hand.old a.call a.reply hand.new) }
@@ -78,13 +86,59 @@ impl<G: Gate> HashFile<G> {
         ensures err { OnErr result (HasLooked hand.old hand.new) }
         ensures of { IsOf self.now.state hand.new }
     {
-        if hand.left() == 0 {
-            return Err(FileFault::Spent { left: 0 });
+        let aim = self.begin(hand, call)?;
+        let (guard, aim) = self.alone(rt, aim)?;
+        Ok(self.act(guard, hand, call, aim)?)
+    }
+
+    /// Answers a search at its bucket, and drops the bucket's lock.
+    fn look(
+        &self,
+        guard: RwLockReadGuard<'_, PagedBucket>,
+        hand: &mut Hand,
+        call: &Call,
+        aim: Aim,
+    ) -> Answer
+        requires ready { IsReady self.now.state hand.old }
+        requires aim { IsAimOf call.now aim }
+        requires search { IsSearch call.now }
+        requires here { verdict (read_guard_value guard).head aim.code aim.level ≡ Here }
+        ensures call { result.call ≡ call.now }
+        ensures served { HasServed hand.old result.call result.reply hand.new }
+        ensures of { IsOf self.now.state hand.new }
+    {
+        let answer = parts::look_on(self, &guard, hand, call, aim.level);
+        self.gate.at(Point::Acted { bucket: aim.bucket });
+        // Release
+        drop(guard);
+        self.gate.at(Point::Released { bucket: aim.bucket });
+        answer
+    }
+
+    /// Serves a call that may change its bucket at that bucket, and drops the bucket's lock.
+    fn act(
+        &self,
+        mut guard: RwLockWriteGuard<'_, PagedBucket>,
+        hand: &mut Hand,
+        call: &Call,
+        aim: Aim,
+    ) -> Result<Answer, Memory>
+        requires ready { IsReady self.now.state hand.old }
+        requires aim { IsAimOf call.now aim }
+        requires here { verdict (write_guard_value guard).head aim.code aim.level ≡ Here }
+        ensures call { IfOk result (λ a. a.call ≡ call.now) }
+        ensures served { IfOk result (λ a. HasServed hand.old a.call a.reply hand.new) }
+        ensures err { OnErr result (hand.new ≡ hand.old) }
+        ensures of { IsOf self.now.state hand.new }
+    {
+        let answer = parts::act_on(self, &mut guard, hand, call, aim.level);
+        if answer.is_ok() {
+            self.gate.at(Point::Acted { bucket: aim.bucket });
         }
-        // Call
-        parts::make_room(self, hand)?;
-        let aim = self.read(hand, call);
-        self.walk(rt, hand, call, aim)
+        // Release
+        drop(guard);
+        self.gate.at(Point::Released { bucket: aim.bucket });
+        answer
     }
 
     /// One split, where the load of the file asks for it and the right to split is free.

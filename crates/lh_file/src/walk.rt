@@ -1,13 +1,12 @@
 //! How a call comes to its bucket.
-ghost use Rattle.std.specs.Prelude.{◌≡◌, ◌≤◌, None, IfOk, IfErr, OnErr};
+ghost use Rattle.std.specs.Prelude.{◌≡◌, ◌↔◌, ◌≤◌, None, Err, IfOk, IfErr, OnOk};
 ghost use Rattle.std.specs.Sync.RwLock.{read_guard_value, write_guard_value};
-ghost use Rattle.lh_addr.specs.Fnv.{code_of};
 ghost use Rattle.lh_bucket.specs.declared.verdict.Verdict.TheVariants.{Here};
 ghost use Rattle.lh_bucket.specs.Bucket.{verdict};
-ghost use Rattle.lh_bucket.specs.PlainMap.{key_of, IsSearch};
 ghost use Rattle.lh_file.specs.Aiming.{IsAimOf, IsReady};
 ghost use Rattle.lh_file.specs.FileState.{IsOf};
-ghost use Rattle.lh_file.specs.Served.{HasLooked, HasServed, IsNotSpent};
+ghost use Rattle.lh_file.specs.Served.{HasLooked, IsNotSpent};
+ghost use Rattle.lh_file.specs.declared.fault.FileFault.TheVariants.{Spent};
 
 use crate::aim::Aim;
 use crate::fault::FileFault;
@@ -17,18 +16,36 @@ use crate::hand::Hand;
 use crate::parts;
 use crate::segments::no_bucket;
 use lh_addr::fnv1a;
-use lh_bucket::{Answer, Bucket, Call, PagedBucket, Verdict};
+use lh_bucket::{Bucket, Call, PagedBucket, Verdict};
 use std::sync::{RwLockReadGuard, RwLockWriteGuard, Wait};
 
 impl<G: Gate> HashFile<G> {
+    /// Begins a call: the hand may make it, and has room for its act where the file records. The call's
+    /// aim is by the root as it is now.
+    pub(crate) fn begin(&self, hand: &mut Hand, call: &Call) -> Result<Aim, FileFault>
+        requires { IsOf self.now.state hand.old }
+        ensures ready { OnOk result (IsReady self.now.state hand.new) }
+        ensures aim { IfOk result (IsAimOf call.now) }
+        ensures spent { (result ≡ Err (Spent 0)) ↔ (hand.old.view.left ≡ 0) }
+        ensures not_spent { 1 ≤ hand.old.view.left → IfErr result IsNotSpent }
+        ensures looked { HasLooked hand.old hand.new }
+        ensures of { IsOf self.now.state hand.new }
+    {
+        if hand.left() == 0 {
+            return Err(FileFault::Spent { left: 0 });
+        }
+        // Call
+        parts::make_room(self, hand)?;
+        Ok(self.read(hand, call))
+    }
+
     /// The aim of a call, by the root as it is now.
-    pub(crate) fn read(&self, hand: &mut Hand, call: &Call) -> Aim
+    fn read(&self, hand: &mut Hand, call: &Call) -> Aim
         requires { IsOf self.now.state hand.old }
         ensures looked { HasLooked hand.old hand.new }
         ensures of { IsOf self.now.state hand.new }
         ensures room { hand.new.room ≡ hand.old.room }
-        ensures code { result.code ≡ code_of (key_of call.now) }
-        ensures low { result.level ≤ 16 }
+        ensures aim { IsAimOf call.now result }
     {
         let code = fnv1a(call.key().bytes());
         // Read
@@ -37,93 +54,16 @@ impl<G: Gate> HashFile<G> {
         Aim::at(&self.words.root_of(buckets), code)
     }
 
-    /// Serves a call at the bucket that it belongs to: a search takes its lock shared, any other call
-    /// exclusively.
-    pub(crate) fn walk<R: Wait>(
-        &self,
-        rt: &R,
-        hand: &mut Hand,
-        call: &Call,
-        aim: Aim,
-    ) -> Result<Answer, FileFault>
-        requires ready { IsReady self.now.state hand.old }
-        requires aim { IsAimOf call.now aim }
-        ensures call { IfOk result (λ a. a.call ≡ call.now) }
-        ensures served { IfOk result (λ a. HasServed hand.old a.call a.reply hand.new) }
-        ensures fault { IfErr result IsNotSpent }
-        ensures err { OnErr result (hand.new ≡ hand.old) }
-        ensures of { IsOf self.now.state hand.new }
-    {
-        match call {
-            Call::Search(_) => self.look(rt, hand, call, aim),
-            _ => self.act(rt, hand, call, aim),
-        }
-    }
-
-    /// Answers a search.
-    fn look<R: Wait>(
-        &self,
-        rt: &R,
-        hand: &mut Hand,
-        call: &Call,
-        aim: Aim,
-    ) -> Result<Answer, FileFault>
-        requires ready { IsReady self.now.state hand.old }
-        requires aim { IsAimOf call.now aim }
-        requires search { IsSearch call.now }
-        ensures call { IfOk result (λ a. a.call ≡ call.now) }
-        ensures served { IfOk result (λ a. HasServed hand.old a.call a.reply hand.new) }
-        ensures fault { IfErr result IsNotSpent }
-        ensures err { OnErr result (hand.new ≡ hand.old) }
-        ensures of { IsOf self.now.state hand.new }
-    {
-        let (guard, aim) = self.shared(rt, aim)?;
-        let bucket = &*guard;
-        let answer = parts::look_on(self, bucket, hand, call, aim.level);
-        self.gate.at(Point::Acted { bucket: aim.bucket });
-        // Release
-        drop(guard);
-        self.gate.at(Point::Released { bucket: aim.bucket });
-        Ok(answer)
-    }
-
-    /// Serves a call that may change its bucket.
-    fn act<R: Wait>(
-        &self,
-        rt: &R,
-        hand: &mut Hand,
-        call: &Call,
-        aim: Aim,
-    ) -> Result<Answer, FileFault>
-        requires ready { IsReady self.now.state hand.old }
-        requires aim { IsAimOf call.now aim }
-        ensures call { IfOk result (λ a. a.call ≡ call.now) }
-        ensures served { IfOk result (λ a. HasServed hand.old a.call a.reply hand.new) }
-        ensures fault { IfErr result IsNotSpent }
-        ensures err { OnErr result (hand.new ≡ hand.old) }
-        ensures of { IsOf self.now.state hand.new }
-    {
-        let (mut guard, aim) = self.alone(rt, aim)?;
-        let bucket = &mut *guard;
-        let answer = parts::act_on(self, bucket, hand, call, aim.level);
-        if answer.is_ok() {
-            self.gate.at(Point::Acted { bucket: aim.bucket });
-        }
-        // Release
-        drop(guard);
-        self.gate.at(Point::Released { bucket: aim.bucket });
-        Ok(answer?)
-    }
-
     /// Takes the lock of the bucket that an aim leads to, shared with other searches: goes from one bucket
     /// to the next, a level up, as long as they were split since.
-    fn shared<R: Wait>(
+    pub(crate) fn shared<R: Wait>(
         &self,
         rt: &R,
         aim: Aim,
     ) -> Result<(RwLockReadGuard<'_, PagedBucket>, Aim), FileFault>
         requires low { aim.level ≤ 16 }
         ensures here { IfOk result (λ r. verdict (read_guard_value r.0).head aim.code r.1.level ≡ Here) }
+        ensures code { IfOk result (λ r. r.1.code ≡ aim.code) }
         ensures low { IfOk result (λ r. r.1.level ≤ 16) }
         ensures fault { IfErr result IsNotSpent }
     {
@@ -152,13 +92,14 @@ impl<G: Gate> HashFile<G> {
     }
 
     /// Takes the lock of the bucket that an aim leads to, alone.
-    fn alone<R: Wait>(
+    pub(crate) fn alone<R: Wait>(
         &self,
         rt: &R,
         aim: Aim,
     ) -> Result<(RwLockWriteGuard<'_, PagedBucket>, Aim), FileFault>
         requires low { aim.level ≤ 16 }
         ensures here { IfOk result (λ r. verdict (write_guard_value r.0).head aim.code r.1.level ≡ Here) }
+        ensures code { IfOk result (λ r. r.1.code ≡ aim.code) }
         ensures low { IfOk result (λ r. r.1.level ≤ 16) }
         ensures fault { IfErr result IsNotSpent }
     {
