@@ -1,5 +1,5 @@
 -- Keys that stand twice in a list, and places in lists of lists.
-use Rattle.std.proofs.Common.{◌≡◌, ℕ, zero, suc, ◌+◌, ◌<◌, ◌≤◌, Bool, true, false, cond, ◌⊎◌, inl, inr, ⊎_elim, List, [], map, length, get_or, refl, sym, ap, subst, ◌∙◌, arith}
+use Rattle.std.proofs.Common.{◌≡◌, ℕ, zero, suc, ◌+◌, ◌<◌, ◌≤◌, Bool, true, false, cond, ◌⊎◌, inl, inr, ⊎_elim, List, [], Option, Some, None, map, length, get_or, refl, sym, ap, subst, ◌∙◌, arith}
 use Rattle.std.specs.Bool.{IsTrue}
 use Rattle.std.specs.Ordering.{nat_cmp}
 use Rattle.std.specs.Cmp.Lexicographic.{slice_cmp, texts_ties}
@@ -14,7 +14,11 @@ use Rattle.lh_addr.specs.Settings.{Settings, IsInRange}
 use Rattle.std.proofs.lemmas.Slice.Eq.{bytes_eq-Decides}
 use Rattle.lh_page.specs.declared.pair.Pair.{Pair}
 use Rattle.lh_page.specs.Records.{keys_of, key_at, no_pair, IsRecord}
-use Rattle.lh_bucket.specs.Listing.{PlaceFact, IsNew, IsHome, IsShape, IsListing, EachPlace, list_at}
+use Rattle.std.specs.Option.{IfNone, IfSome}
+use Rattle.lh_bucket.specs.declared.listing.ListingFault.{ListingFault}
+use Rattle.lh_bucket.specs.declared.listing.ListingFault.TheVariants.{Shape, Misplaced, Twice, Memory}
+use Rattle.lh_bucket.specs.ListingFault.{IsFaultAmong, IsFaultOf, IsTwiceAmong, IsTwiceIn}
+use Rattle.lh_bucket.specs.Listing.{PlaceFact, IsNew, IsAgain, IsHome, IsShape, IsListing, EachPlace, list_at}
 use Rattle.lh_bucket.proofs.MapOf.{equals}
 
 -- the key of a record that a loop reads
@@ -138,3 +142,46 @@ listing_empty config range =
       home = λ b p within. nowhere config.initial b p within;
       distinct = λ b. distinct_new (list_at (replicate config.initial []) b) (λ p within. nowhere config.initial b p within);
     }
+
+-- no key stands twice in the lists up to a bucket, where none does in the lists before it and none in its own
+pub none_twice : (lists : List (List Pair)) (n : ℕ) (ps : List Pair) (found result : Option ListingFault) → list_at lists n ≡ ps → IfNone result (found ≡ None) → IfNone result ((p : ℕ) → p < length ps → IsNew 0 ps p) → IfNone found (EachBefore IsNew lists n) → IfNone result (EachBefore IsNew lists (n + 1))
+none_twice lists n ps found None at none new before =
+    each_more IsNew lists n ps at new (subst (λ r. IfNone r (EachBefore IsNew lists n)) none before)
+none_twice lists n ps found (Some fault) at none new before = tt
+
+-- the first key that stands twice in the list of a bucket is the first in all lists, where none stands twice before it
+first_there : (lists : List (List Pair)) (n : ℕ) (ps : List Pair) → list_at lists n ≡ ps → EachBefore IsNew lists n → (fault : ListingFault) → IsTwiceIn n ps fault → IsTwiceAmong lists fault
+first_there lists n ps at before Shape twice = twice
+first_there lists n ps at before (Misplaced bucket place) twice = twice
+first_there lists n ps at before (Twice bucket place) (own, within, again, new) =
+    let here : list_at lists bucket ≡ ps = ap (list_at lists) own ∙ at in
+    record {
+      within = subst (λ (qs : List Pair). place < length qs) (sym here) within;
+      fault = subst (λ (qs : List Pair). IsAgain bucket qs place) (sym here) again;
+      here = subst (λ (qs : List Pair). (p : ℕ) → p < place → IsNew bucket qs p) (sym here) new;
+      before = subst (λ m. EachBefore IsNew lists m) (sym own) before;
+    }
+first_there lists n ps at before Memory twice = tt
+
+-- a key that stands twice is kept in mind, or is the first
+pub first_twice : (lists : List (List Pair)) (n : ℕ) (ps : List Pair) (found result : Option ListingFault) → list_at lists n ≡ ps → IfSome result (λ fault. (found ≡ Some fault) ⊎ ((found ≡ None) × IsTwiceIn n ps fault)) → IfNone found (EachBefore IsNew lists n) → IfSome found (IsTwiceAmong lists) → IfSome result (IsTwiceAmong lists)
+first_twice lists n ps found None at twice before among = tt
+first_twice lists n ps found (Some fault) at twice before among = ⊎_elim
+    (λ (known : found ≡ Some fault). subst (λ r. IfSome r (IsTwiceAmong lists)) known among)
+    (λ (new : (found ≡ None) × IsTwiceIn n ps fault). first_there lists n ps at (subst (λ r. IfNone r (EachBefore IsNew lists n)) new.0 before) fault new.1)
+    twice
+
+-- a key that stands twice is the first fault of lists in which each record is at home
+pub fault_of_twice : (initial buckets : ℕ) (lists : List (List Pair)) (result : Option ListingFault) → EachPlace (IsHome initial buckets) lists → IfSome result (IsTwiceAmong lists) → IfSome result (IsFaultAmong initial buckets lists)
+fault_of_twice initial buckets lists None home twice = tt
+fault_of_twice initial buckets lists (Some Shape) home twice = twice
+fault_of_twice initial buckets lists (Some (Misplaced bucket place)) home twice = absurd twice
+fault_of_twice initial buckets lists (Some (Twice bucket place)) home twice = (home, twice)
+fault_of_twice initial buckets lists (Some Memory) home twice = tt
+
+-- the first fault of lists of which there are as many as buckets is their first fault
+pub fault_is_first : (config : Settings) (buckets : ℕ) (lists : List (List Pair)) → IsShape config buckets lists → (fault : ListingFault) → IsFaultAmong config.initial buckets lists fault → IsFaultOf config buckets lists fault
+fault_is_first config buckets lists shape Shape fault = absurd fault
+fault_is_first config buckets lists shape (Misplaced bucket place) fault = (shape, fault)
+fault_is_first config buckets lists shape (Twice bucket place) fault = (shape, fault.0, fault.1)
+fault_is_first config buckets lists shape Memory fault = tt

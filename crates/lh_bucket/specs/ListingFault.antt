@@ -1,10 +1,34 @@
 -- When lists are no listing
-use Rattle.std.specs.Prelude.{ℕ, List}
+use Rattle.std.specs.Prelude.{◌≡◌, ℕ, ◌<◌, List, length}
 use Rattle.lh_addr.specs.Settings.{Settings}
 use Rattle.lh_page.specs.declared.pair.Pair.{Pair}
 use Rattle.lh_bucket.specs.declared.listing.ListingFault.{ListingFault}
 use Rattle.lh_bucket.specs.declared.listing.ListingFault.TheVariants.{Shape, Misplaced, Twice, Memory}
 use Rattle.lh_bucket.specs.Listing.{IsShape, IsHome, IsAway, IsNew, IsAgain, EachPlace, IsFirst}
+
+-- the key at a place of the list of a bucket is the first that stands twice there, or there was no memory to look for it
+abbrev pub IsTwiceIn : ℕ → List Pair → ListingFault → Type 0
+IsTwiceIn own pairs Shape = ⊥
+IsTwiceIn own pairs (Misplaced bucket place) = ⊥
+IsTwiceIn own pairs (Twice bucket place) =
+    (bucket ≡ own) × (place < length pairs) × IsAgain 0 pairs place × ((p : ℕ) → p < place → IsNew 0 pairs p)
+IsTwiceIn own pairs Memory = Unit {0}
+
+-- the first key that stands twice in some lists, or there was no memory to look for it
+abbrev pub IsTwiceAmong : List (List Pair) → ListingFault → Type 0
+IsTwiceAmong lists Shape = ⊥
+IsTwiceAmong lists (Misplaced bucket place) = ⊥
+IsTwiceAmong lists (Twice bucket place) = IsFirst IsNew IsAgain lists bucket place
+IsTwiceAmong lists Memory = Unit {0}
+
+-- the first fault of lists of which there are as many as buckets
+abbrev pub IsFaultAmong : ℕ → ℕ → List (List Pair) → ListingFault → Type 0
+IsFaultAmong initial buckets lists Shape = ⊥
+IsFaultAmong initial buckets lists (Misplaced bucket place) =
+    IsFirst (IsHome initial buckets) (IsAway initial buckets) lists bucket place
+IsFaultAmong initial buckets lists (Twice bucket place) =
+    EachPlace (IsHome initial buckets) lists × IsFirst IsNew IsAgain lists bucket place
+IsFaultAmong initial buckets lists Memory = Unit {0}
 
 -- when each fault is answered: the first that applies, at the least bucket and there at the least place
 abbrev pub IsFaultOf : Settings → ℕ → List (List Pair) → ListingFault → Type 0

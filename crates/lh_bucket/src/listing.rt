@@ -1,10 +1,11 @@
 //! Listings: whole files as lists of records.
-ghost use Rattle.std.specs.Prelude.{◌≡◌, ℕ, ◌+◌, ◌-◌, ◌^◌, ◌<◌, ◌≤◌, [], ◌∷◌, length, map, min, replicate, slice_get, Some, IsOk, IfOk, IfErr, IfSome, IfNone, MatchOption};
+ghost use Rattle.std.specs.Prelude.{◌≡◌, ℕ, ◌+◌, ◌-◌, ◌^◌, ◌<◌, ◌≤◌, [], ◌∷◌, length, map, min, replicate, slice_get, ◌⊎◌, Some, None, IsOk, IfOk, IfErr, IfSome, IfNone, MatchOption};
 ghost use Rattle.lh_addr.specs.Growth.{address};
 ghost use Rattle.std.specs.Bool.{OnTrue, OnFalse};
 ghost use Rattle.std.specs.List.{All};
 ghost use Rattle.lh_page.specs.Records.{key_at, IsRecord};
-ghost use Rattle.lh_bucket.specs.Listing.{IsHome, IsAway, IsNew, IsAgain, EachPlace, IsFirst, list_at};
+ghost use Rattle.lh_bucket.specs.Listing.{IsHome, IsAway, IsNew, IsAgain, EachPlace, list_at};
+ghost use Rattle.lh_bucket.specs.ListingFault.{IsFaultAmong, IsTwiceIn};
 
 use lh_addr::{Config, Root, fnv1a};
 use lh_page::{Memory, Pair};
@@ -119,33 +120,46 @@ fn again_in(alloc: Global, pairs: &[Pair]) -> Result<Option<usize>, Memory>
     Ok(None)
 }
 
-/// The first record that stands in another bucket's list: its bucket and its place.
-fn first_away(root: &Root, lists: &[Vec<Pair>]) -> Option<(u32, usize)>
-    requires { length lists.now ≤ 65536 }
-    ensures none { IfNone result (EachPlace (IsHome root.now.initial root.now.buckets) (map (λ v. v.items) lists.now)) }
-    ensures records { IfNone result ((bucket : ℕ) → All IsRecord (list_at (map (λ v. v.items) lists.now) bucket)) }
-    ensures first { IfSome result (λ f. IsFirst (IsHome root.now.initial root.now.buckets) (IsAway root.now.initial root.now.buckets) (map (λ v. v.items) lists.now) f.0 f.1) }
+/// The first key that stands twice, or want of memory to look for it: as found in the lists before this one,
+/// else in this one.
+fn twice_by(
+    alloc: Global,
+    found: Option<ListingFault>,
+    bucket: u32,
+    pairs: &[Pair],
+) -> Option<ListingFault>
+    ensures none { IfNone result (found ≡ None) }
+    ensures new { IfNone result ((p : ℕ) → p < length pairs.now → IsNew 0 pairs.now p) }
+    ensures twice { IfSome result (λ fault. (found ≡ Some fault) ⊎ ((found ≡ None) × IsTwiceIn bucket pairs.now fault)) }
 {
-    for (bucket, list) in lists.iter().enumerate() {
-        if let Some(place) = away_in(root, bucket as u32, list) {
-            return Some((bucket as u32, place));
-        }
+    if found.is_some() {
+        return found;
     }
-    None
+    match again_in(alloc, pairs) {
+        Ok(None) => None,
+        Ok(Some(place)) => Some(ListingFault::Twice { bucket, place }),
+        Err(Memory) => Some(ListingFault::Memory),
+    }
 }
 
-/// The first record whose key stands before it in its list too: its bucket and its place.
-fn first_again(alloc: Global, lists: &[Vec<Pair>]) -> Result<Option<(u32, usize)>, Memory>
+/// The first reason why so many lists are no listing. Each list is looked through once, while it is at hand:
+/// a key that stands twice is kept in mind, since a misplaced record behind it is told before it.
+fn first_fault(alloc: Global, root: &Root, lists: &[Vec<Pair>]) -> Option<ListingFault>
     requires { length lists.now ≤ 65536 }
-    ensures none { IfOk result (λ r. IfNone r (EachPlace IsNew (map (λ v. v.items) lists.now))) }
-    ensures first { IfOk result (λ r. IfSome r (λ f. IsFirst IsNew IsAgain (map (λ v. v.items) lists.now) f.0 f.1)) }
+    ensures home { IfNone result (EachPlace (IsHome root.now.initial root.now.buckets) (map (λ v. v.items) lists.now)) }
+    ensures records { IfNone result ((bucket : ℕ) → All IsRecord (list_at (map (λ v. v.items) lists.now) bucket)) }
+    ensures new { IfNone result (EachPlace IsNew (map (λ v. v.items) lists.now)) }
+    ensures fault { IfSome result (IsFaultAmong root.now.initial root.now.buckets (map (λ v. v.items) lists.now)) }
 {
+    let mut twice = None;
     for (bucket, list) in lists.iter().enumerate() {
-        if let Some(place) = again_in(alloc, list)? {
-            return Ok(Some((bucket as u32, place)));
+        let bucket = bucket as u32;
+        if let Some(place) = away_in(root, bucket, list) {
+            return Some(ListingFault::Misplaced { bucket, place });
         }
+        twice = twice_by(alloc, twice, bucket, list);
     }
-    Ok(None)
+    twice
 }
 
 impl Listing {
@@ -183,13 +197,9 @@ impl Listing {
             Some(root) => root,
             None => unreachable!(),
         };
-        if let Some((bucket, place)) = first_away(&root, &lists) {
-            return Err(ListingFault::Misplaced { bucket, place });
-        }
-        match first_again(alloc, &lists) {
-            Ok(Some((bucket, place))) => Err(ListingFault::Twice { bucket, place }),
-            Ok(None) => Ok(Listing { config, lists }),
-            Err(Memory) => Err(ListingFault::Memory),
+        match first_fault(alloc, &root, &lists) {
+            Some(fault) => Err(fault),
+            None => Ok(Listing { config, lists }),
         }
     }
 
