@@ -1,8 +1,8 @@
 -- Buckets of a listing
-use Rattle.std.proofs.Common.{◌≡◌, ℕ, ◌<◌, ◌≤◌, length, Some, get_or, slice_get, refl, sym, ap, ◌∙◌, subst, arith}
+use Rattle.std.proofs.Common.{◌≡◌, ℕ, ◌<◌, length, Some, slice_get, refl, sym, ap, ◌∙◌}
 use Rattle.std.proofs.lemmas.Option.{get_or_from_slice_get}
 use Rattle.lh_addr.specs.Fnv.{code_of}
-use Rattle.lh_addr.specs.Growth.{address, level_of, hash_at, AddressLaw}
+use Rattle.lh_addr.specs.Growth.{address, level_of, AddressLaw}
 use Rattle.lh_page.specs.declared.pair.Pair.{Pair}
 use Rattle.lh_page.specs.Records.{key_at, no_pair}
 use Rattle.lh_bucket.specs.declared.verdict.Verdict.TheVariants.{Here}

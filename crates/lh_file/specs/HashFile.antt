@@ -1,5 +1,5 @@
 -- What contracts see of a running file
-use Rattle.std.specs.Prelude.{◌≡◌, ℕ, List, map, length}
+use Rattle.std.specs.Prelude.{◌≡◌, ℕ, List, map}
 use Rattle.once_cell.specs.Once.{cell_name}
 use Rattle.lh_addr.specs.Settings.{IsInRange}
 use Rattle.lh_file.specs.Closed.{ClosedFile}

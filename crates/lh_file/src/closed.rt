@@ -117,6 +117,23 @@ impl Closed {
         }
     }
 
+    /// The file as a listing of its buckets, or the first fault that its lists have as such, like `listing`.
+    /// The records are moved, so that none is copied; with a fault they are gone.
+    pub fn into_listing(self, alloc: Global) -> Result<Listing, ListingFault>
+        ensures ok { IfOk result (λ listing. listing ≡ record { config = self.config; lists = take (size_of self.root) self.lists }) }
+        ensures err { IfErr result (IsFaultOf self.config (size_of self.root) (take (size_of self.root) self.lists)) }
+    {
+        let buckets = self.buckets();
+        let Closed {
+            config,
+            root: _,
+            stamps: _,
+            mut lists,
+        } = self;
+        lists.truncate(buckets as usize);
+        Listing::new(alloc, config, buckets, lists)
+    }
+
     pub(crate) fn lists(&self) -> &[Vec<Pair>]
         ensures value { map (λ v. v.items) result.now ≡ self.now.lists }
         ensures few { length result.now ≤ 65536 }

@@ -30,6 +30,19 @@ fn a_closed_file_has_a_listing(rt: HostRuntime) -> Result<(), Fail> {
 }
 
 #[test]
+fn a_closed_file_becomes_its_listing(rt: HostRuntime) -> Result<(), Fail> {
+    let listing = closed(rt.alloc(), 6, 0, &[AE, BD, C, &[]])?.into_listing(rt.alloc())?;
+    assert_eq!(rt; (listing.buckets(), listing.len()), (3, 5));
+    assert_eq!(rt; listing.config(), config()?);
+    let fault = closed(rt.alloc(), 6, 0, &[AE, BD])?.into_listing(rt.alloc());
+    assert_eq!(rt;
+        fault.map(|listing| listing.len()),
+        Err(ListingFault::Shape)
+    );
+    Ok(())
+}
+
+#[test]
 fn a_closed_file_tells_the_fault_of_its_listing(rt: HostRuntime) -> Result<(), Fail> {
     let misplaced = ListingFault::Misplaced {
         bucket: 1,

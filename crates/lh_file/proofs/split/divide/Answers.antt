@@ -1,4 +1,4 @@
-use Rattle.std.proofs.Common.{rules, ◌≡◌, ◌<◌, arith}
+use Rattle.std.proofs.Common.{rules, ◌≡◌, arith}
 use Rattle.lh_file.proofs.Levels.{level_below, root_of}
 use Rattle.lh_file.proofs.split.divide.Goals as goal
 

@@ -1,4 +1,3 @@
-use Rattle.std.proofs.Common.{sym}
 use Rattle.lh_file.proofs.Serving.{looked_same, looked_equal}
 use Rattle.lh_file.proofs.file.HashFile.grow.Goals as goal
 
