@@ -14,6 +14,7 @@ pub mod Orders
 pub mod Placed
 pub mod RootSteps
 pub mod Serving
+pub mod Tables
 pub mod Tallies
 pub mod Values
 pub mod Verdicts

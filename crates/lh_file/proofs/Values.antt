@@ -1,23 +1,19 @@
 -- What a map of records has, by the values that the records have under a key.
-use Rattle.std.proofs.Common.{◌≡◌, ◌≢◌, ℕ, Bool, true, false, cond, List, [], ◌∷◌, ◌++◌, map, length, Option, Some, None, is_some, refl, sym, ap, subst, ◌∙◌, append-nil, arith}
+use Rattle.std.proofs.Common.{◌≡◌, ◌≢◌, ℕ, Bool, true, false, cond, List, [], ◌∷◌, ◌++◌, map, Option, Some, None, is_some, refl, sym, ap, subst, ◌∙◌, append-nil}
 use Rattle.std.specs.declared.cmp.Ordering.TheVariants.{Less, Equal, Greater}
 use Rattle.std.specs.Ordering.{nat_cmp, eq_by_cmp, is_eq, ordering_reverse}
 use Rattle.std.specs.Cmp.Lexicographic.{slice_cmp, nat_list_cmp_total, texts_ties}
 use Rattle.std.specs.Str.{bytes_eq}
-use Rattle.std.specs.List.{filter, slice_get, AllByRecursion}
-use Rattle.std.specs.Option.{IsSome}
+use Rattle.std.specs.List.{filter, slice_get}
 use Rattle.std.specs.FinMap.{get, insert, remove, empty, retain_keys, get-retain_keys, get-empty, get-insert, get-remove, same_map, from_entries, IsAntisymmetric, slice_cmp-IsAntisymmetric, nat_cmp-IsAntisymmetric}
 use Rattle.std.proofs.lemmas.Bool.{false_from_ne_true, false≢true}
 use Rattle.std.proofs.lemmas.List.{map-append}
 use Rattle.std.proofs.lemmas.List.Elements.{filter-append}
-use Rattle.std.proofs.lemmas.Map.Keys.{sorted_head}
-use Rattle.std.proofs.lemmas.Option.{none-some, same_Some}
+use Rattle.std.proofs.lemmas.Option.{same_Some}
 use Rattle.std.proofs.lemmas.Slice.Eq.{bytes_eq-Decides}
 use Rattle.lh_page.specs.declared.pair.Pair.{Pair}
-use Rattle.lh_page.specs.Records.{keys_of}
 use Rattle.lh_bucket.specs.declared.call.Call.TheVariants.{Insert, Delete}
 use Rattle.lh_bucket.specs.PlainMap.{Records, after, outcome}
-use Rattle.lh_bucket.specs.PlainBucket.{IsInKeyOrder}
 use Rattle.lh_bucket.specs.Records.{entry_of, map_of}
 use Rattle.lh_file.specs.Contents.{IsBefore, values_under}
 use Rattle.lh_file.specs.Replay.{inserts_of}
@@ -45,10 +41,6 @@ same_records m n h = same_map nat_list_cmp_total exact m n h
 pub get-map_of-nil : (q : List ℕ) → get (map_of []) q ≡ None
 unfolding map_of
 get-map_of-nil q = get-empty (slice_cmp nat_cmp) q
-
-pub map_of-nil : map_of [] ≡ empty
-unfolding map_of
-map_of-nil = refl
 
 pub get-map_of-cons : (p : Pair) (ps : List Pair) (q : List ℕ) → get (map_of (p ∷ ps)) q ≡ cond (bytes_eq q p.key) (Some p.value) (get (map_of ps) q)
 unfolding map_of
@@ -143,32 +135,6 @@ get-inserts (p ∷ ps) m q =
 pub outcome-inserts : (ps : List Pair) → outcome empty (inserts_of ps) ≡ map_of ps
 outcome-inserts ps = same_records _ _ (λ q.
     get-inserts ps empty q ∙ ap (λ o. either_one o (get (map_of ps) q)) (get-empty (slice_cmp nat_cmp) q))
-
-pub first_none : (ps : List Pair) → length ps ≡ 0 → (q : List ℕ) → get (map_of ps) q ≡ None
-first_none [] e q = get-map_of-nil q
-first_none (p ∷ ps) e q = absurd (omega arith)
-
--- a key that comes before all keys of some records
-under_all : (ps : List Pair) (k q : List ℕ) → AllByRecursion (λ y. slice_cmp nat_cmp k y ≡ Less) (keys_of ps) → IsBefore q k → get (map_of ps) q ≡ None
-under_all [] k q h b = get-map_of-nil q
-under_all (p ∷ ps) k q h b =
-    get-map_of-cons p ps q
-    ∙ ap (λ t. cond t (Some p.value) (get (map_of ps) q)) (before-apart q p.key (nat_list_cmp_total.trans q k p.key b h.0))
-    ∙ under_all ps k q h.1 b
-
--- the first of records in the order of their keys has the least key
-pub first_there : (ps : List Pair) (r : Pair) → slice_get ps 0 ≡ Some r → IsSome (get (map_of ps) r.key)
-first_there [] r e = absurd (none-some r e)
-first_there (p ∷ ps) r e =
-    ap is_some (get-map_of-cons p ps r.key ∙ ap (λ t. cond t (Some p.value) (get (map_of ps) r.key)) (ap (λ (x : Pair). bytes_eq r.key x.key) (same_Some p r e) ∙ itself r.key))
-
-pub first_least : (ps : List Pair) (r : Pair) → slice_get ps 0 ≡ Some r → IsInKeyOrder ps → (q : List ℕ) → IsBefore q r.key → get (map_of ps) q ≡ None
-first_least [] r e sorted q b = absurd (none-some r e)
-first_least (p ∷ ps) r e sorted q b =
-    let before : IsBefore q p.key = subst (λ (x : Pair). IsBefore q x.key) (sym (same_Some p r e)) b in
-    get-map_of-cons p ps q
-    ∙ ap (λ t. cond t (Some p.value) (get (map_of ps) q)) (before-apart q p.key before)
-    ∙ under_all ps p.key q (sorted_head (slice_cmp nat_cmp) p.key (keys_of ps) sorted) before
 
 -- a key that comes before the lesser of two comes before the greater
 pub before_greater : (k s : List ℕ) → slice_cmp nat_cmp k s ≢ Less → (q : List ℕ) → IsBefore q s → IsBefore q k

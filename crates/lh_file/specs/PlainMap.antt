@@ -1,7 +1,9 @@
--- A bucket as a plain map of its own
-use Rattle.std.specs.Prelude.{Some}
-use Rattle.lh_bucket.specs.Bucket.{Head}
+-- A hash table as a plain map
+use Rattle.std.specs.Prelude.{ℕ, List, map}
+use Rattle.std.specs.FinMap.{from_entries}
+use Rattle.lh_bucket.specs.PlainMap.{Records}
+use Rattle.lh_file.specs.declared.plain_map.Name.{Name}
 
--- the only bucket of a file that never splits
-abbrev pub lone : Head
-lone = record { number = 0; initial = 1; capacity = 1; level = Some 0 }
+-- the finite map that has the values of a table's entries under their keys
+abbrev pub records_of : List (Name × List ℕ) → Records
+records_of entries = from_entries (map (λ e. (e.0.0, e.1)) entries)

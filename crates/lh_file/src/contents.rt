@@ -13,7 +13,7 @@ use lh_page::{Key, Pair, Value};
 use std::cmp::Ordering;
 
 /// The lesser of two keys.
-fn lesser(first: Option<Key>, second: Key) -> Key
+pub(crate) fn lesser(first: Option<Key>, second: Key) -> Key
     ensures either { (first ≡ Some result) ⊎ (result ≡ second) }
     ensures second { (key : List ℕ) → IsBefore key result → IsBefore key second }
     ensures first { IfSome first (λ f. (key : List ℕ) → IsBefore key result → IsBefore key f) }

@@ -1,46 +1,100 @@
 //! The plain map that a history is compared with.
-ghost use Rattle.std.specs.Prelude.{◌≡◌, ℕ, List, None, IfOk, OnOk, IfSome, IfNone};
+ghost use Rattle.std.specs.Prelude.{◌≡◌, ℕ, List, None, IfOk, OnOk, IfSome, IfNone, is_some, if◌then◌else◌};
 ghost use Rattle.std.specs.Option.{IsSome};
-ghost use Rattle.std.specs.FinMap.{get, empty};
+ghost use Rattle.std.specs.FinMap.{get, empty, insert, remove};
 ghost use Rattle.lh_bucket.specs.declared.call.Call.TheVariants as call;
 ghost use Rattle.lh_bucket.specs.PlainMap.{reply, after};
 ghost use Rattle.lh_file.specs.Contents.{IsBefore};
+ghost use Rattle.lh_file.specs.PlainMap.{records_of};
 
-use lh_bucket::laws::here_is_own_level;
-use lh_bucket::{Bucket, Call, Memory, PlainBucket, Reply};
+use crate::contents::lesser;
+use lh_bucket::{Call, Memory, Reply};
 use lh_page::{Key, Value};
 use std::alloc::Global;
+use std::collections::HashMap;
+use std::hash::{Hash, Hasher};
 use std::marker::Model;
 
-/// A plain map from keys to values: a file of one bucket that never splits.
+/// A key as the map looks for it, by a hash of its bytes.
+#[derive(Clone, Copy, PartialEq, Eq)]
+struct Name(Key);
+
+impl Hash for Name {
+    ghost use Rattle.std.specs.Prelude.{◌∷◌, []};
+    ghost use Rattle.std.specs.Cmp.Rules.{hashing};
+    ghost use Rattle.std.proofs.Common.{rules};
+
+    ghost hash_input = { λ name. name.0 ∷ [] };
+
+    ghost respects_eq = { Prim.search (hashing, rules) };
+
+    fn hash<H: Hasher>(&self, state: &mut H) {
+        state.write(self.0.bytes());
+    }
+}
+
+/// A plain map from keys to values, in a hash table: how its keys are hashed shows in no answer.
 #[derive(Drop)]
 pub(crate) struct PlainMap {
-    bucket: PlainBucket,
+    records: HashMap<Name, Value>,
 }
 
 impl Model for PlainMap {
-    ghost use Rattle.std.specs.Prelude.{◌≡◌};
     ghost use Rattle.std.specs.Coded.{coded_ℕ, coded_list};
     ghost use Rattle.std.specs.FinMap.{code};
     ghost use Rattle.lh_bucket.specs.PlainMap.{Records};
-    ghost use Rattle.lh_bucket.specs.Bucket.{content};
-    ghost use Rattle.lh_file.specs.PlainMap.{lone};
+    ghost use Rattle.lh_file.specs.PlainMap.{records_of};
 
     ghost Value = { Records };
 
     ghost coded = { code (coded_list coded_ℕ) (coded_list coded_ℕ) };
 
-    ghost view = { λ m. content m.bucket };
+    ghost view = { λ m. records_of m.records.entries };
+}
 
-    ghost invariant = { λ m. m.bucket.head ≡ lone };
+/// The value that a table has at a key.
+fn value_at(records: &HashMap<Name, Value>, key: &Key) -> Option<Value>
+    ensures { result ≡ get (records_of records.now.entries) key.now }
+{
+    records.get(&Name(*key)).copied()
+}
+
+/// Adds a record whose key is not there yet.
+fn add(records: &mut HashMap<Name, Value>, key: Key, value: Value) -> Result<(), Memory>
+    ensures { OnOk result (records_of records.new.entries ≡ insert (records_of records.old.entries) key value) }
+{
+    records.insert(Name(key), value)?;
+    Ok(())
+}
+
+/// Takes a key out, and says what value it had.
+fn take(records: &mut HashMap<Name, Value>, key: &Key) -> Option<Value>
+    ensures value { result ≡ get (records_of records.old.entries) key.now }
+    ensures left { records_of records.new.entries ≡ (if is_some result then remove (records_of records.old.entries) key.now else records_of records.old.entries) }
+{
+    records.remove(&Name(*key))
+}
+
+/// The least key of a table.
+fn least_of(records: &HashMap<Name, Value>) -> Option<Key>
+    ensures none { IfNone result ((key : List ℕ) → get (records_of records.now.entries) key ≡ None) }
+    ensures there { IfSome result (λ key. IsSome (get (records_of records.now.entries) key)) }
+    ensures least { IfSome result (λ key. (other : List ℕ) → IsBefore other key → get (records_of records.now.entries) other ≡ None) }
+{
+    let mut least: Option<Key> = None;
+    for name in records.keys() {
+        least = Some(lesser(least, name.0));
+    }
+    least
 }
 
 impl PlainMap {
     pub(crate) fn new(alloc: Global) -> Result<PlainMap, Memory>
         ensures { IfOk result (λ m. m ≡ empty) }
     {
-        let bucket = PlainBucket::make(alloc, 1, 1, 0, Some(0))?;
-        Ok(PlainMap { bucket })
+        Ok(PlainMap {
+            records: HashMap::new(alloc),
+        })
     }
 
     /// Serves a call.
@@ -48,9 +102,23 @@ impl PlainMap {
         ensures reply { IfOk result (λ r. r ≡ reply self.old call.now) }
         ensures after { OnOk result (self.new ≡ after self.old call.now) }
     {
-        here_is_own_level();
-        let answer = self.bucket.serve(call, 0)?;
-        Ok(answer.reply())
+        match call {
+            Call::Search(key) => match value_at(&self.records, key) {
+                Some(value) => Ok(Reply::Found(value)),
+                None => Ok(Reply::Absent),
+            },
+            Call::Insert(key, value) => match value_at(&self.records, key) {
+                Some(_) => Ok(Reply::Exists),
+                None => {
+                    add(&mut self.records, *key, *value)?;
+                    Ok(Reply::Inserted)
+                }
+            },
+            Call::Delete(key) => match take(&mut self.records, key) {
+                Some(_) => Ok(Reply::Deleted),
+                None => Ok(Reply::Absent),
+            },
+        }
     }
 
     /// Takes a key out, and says what value it had.
@@ -58,14 +126,7 @@ impl PlainMap {
         ensures value { result ≡ get self.old key.now }
         ensures after { self.new ≡ after self.old (call.Delete key.now) }
     {
-        here_is_own_level();
-        let found = self.bucket.look(&Call::Search(*key), 0).reply();
-        let deleted = self.bucket.serve(&Call::Delete(*key), 0).is_ok();
-        prove!(deleted);
-        match found {
-            Reply::Found(value) => Some(value),
-            _ => None,
-        }
+        take(&mut self.records, key)
     }
 
     /// The least key.
@@ -74,10 +135,6 @@ impl PlainMap {
         ensures there { IfSome result (λ key. IsSome (get self.now key)) }
         ensures least { IfSome result (λ key. (other : List ℕ) → IsBefore other key → get self.now other ≡ None) }
     {
-        if self.bucket.len() == 0 {
-            None
-        } else {
-            Some(self.bucket.pair_at(0).key)
-        }
+        least_of(&self.records)
     }
 }

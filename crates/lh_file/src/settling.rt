@@ -57,8 +57,8 @@ fn judge(
 /// what they leave, each record in the bucket of its address. Answers the history, or the first
 /// fault.
 ///
-/// It takes time as sorting the acts and the records does. Want of memory aside, it answers the
-/// history exactly where the file is settled, and a fault exactly where that one is due.
+/// It takes time as sorting the acts does, as long as few keys share a hash. Want of memory aside, it
+/// answers the history exactly where the file is settled, and a fault exactly where that one is due.
 ///
 /// ```text
 /// let (closed, acts) = file.close(hand)?;
