@@ -169,26 +169,11 @@ impl Control {
         ensures err { OnErr result (self.new ≡ self.old) }
     {
         match event {
-            Event::Call(place, call) => match self.doing_at(place) {
-                Some(doing) => self.put(place, Self::called(call, doing)),
-                None => Err(Refusal::WrongState),
-            },
-            Event::Read(place) => match self.doing_at(place) {
-                Some(doing) => self.put(place, self.read(doing)),
-                None => Err(Refusal::WrongState),
-            },
-            Event::Lock(place) => match self.doing_at(place) {
-                Some(doing) => self.put(place, self.lock(doing)),
-                None => Err(Refusal::WrongState),
-            },
-            Event::Rehash(place) => match self.doing_at(place) {
-                Some(doing) => self.put(place, self.rehash(doing)),
-                None => Err(Refusal::WrongState),
-            },
-            Event::Release(place) => match self.doing_at(place) {
-                Some(doing) => self.put(place, Self::released(doing)),
-                None => Err(Refusal::WrongState),
-            },
+            Event::Call(place, call) => self.call(place, call),
+            Event::Read(place) => self.read(place),
+            Event::Lock(place) => self.lock(place),
+            Event::Rehash(place) => self.rehash(place),
+            Event::Release(place) => self.release(place),
             Event::SplitBegin => self.begin_split(),
             Event::SplitLock => self.lock_both(),
             Event::SplitRelease => self.free_both(),

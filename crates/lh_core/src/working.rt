@@ -1,9 +1,10 @@
 //! The steps of the sixteen places.
 ghost use Rattle.std.specs.Prelude.{◌≡◌, ◌<◌, Ok, Err, Some, None, IfOk, IfErr, OnErr, IfSome, slice_get};
+ghost use Rattle.std.specs.Option.{option_copied};
 ghost use Rattle.lh_core.specs.declared.event.Event.TheVariants as event;
 ghost use Rattle.lh_core.specs.Aims.{Leads};
-ghost use Rattle.lh_core.specs.Rules.{called, read, lock, rehash, release, put, allowed};
-ghost use Rattle.lh_core.specs.Control.{IsControl, IsTold, IsActOf, KeepsFile, state_of, place_step, step_to, acted};
+ghost use Rattle.lh_core.specs.Rules.{called, read, lock, rehash, release, at_place, allowed};
+ghost use Rattle.lh_core.specs.Control.{IsControl, IsTold, IsActOf, KeepsFile, state_of, step_to, acted};
 
 use crate::control::{Act, Control};
 use crate::effect::{Effect, Refusal};
@@ -12,121 +13,117 @@ use lh_addr::{fnv1a, hash_at};
 use lh_bucket::Call;
 
 impl Control {
-    pub(crate) fn called(call: Call, doing: WorkerState) -> Result<(Effect, WorkerState), Refusal>
-        ensures value { place_step result ≡ called call doing }
-        ensures told { IfOk result (λ p. IsTold p.0) }
-    {
-        match doing {
-            WorkerState::Idle => Ok((Effect::Called, WorkerState::Called(call))),
-            _ => Err(Refusal::WrongState),
-        }
-    }
-
-    pub(crate) fn read(&self, doing: WorkerState) -> Result<(Effect, WorkerState), Refusal>
-        requires { IsControl self.now }
-        ensures value { place_step result ≡ read self.now.config (state_of self.now) doing }
-        ensures told { IfOk result (λ p. IsTold p.0) }
-    {
-        match doing {
-            WorkerState::Called(call) => {
-                let bucket = self.root.address(fnv1a(call.key().bytes()));
-                let level = self.root.level_of(bucket);
-                Ok((
-                    Effect::Aim { level, bucket },
-                    WorkerState::Aimed(call, level, bucket),
-                ))
-            }
-            _ => Err(Refusal::WrongState),
-        }
-    }
-
-    pub(crate) fn lock(&self, doing: WorkerState) -> Result<(Effect, WorkerState), Refusal>
-        requires control { IsControl self.now }
-        requires aim { Leads self.now.config.initial self.now.filled.buckets doing }
-        ensures value { place_step result ≡ lock self.now.config (state_of self.now) doing }
-        ensures told { IfOk result (λ p. IsTold p.0) }
-    {
-        match doing {
-            WorkerState::Aimed(call, k, bucket) => {
-                if self.is_barred(&call, bucket) {
-                    Err(Refusal::Held)
-                } else {
-                    let level = self.level(bucket);
-                    Ok((
-                        Effect::Locked { bucket, level },
-                        WorkerState::Holding(call, k, bucket),
-                    ))
-                }
-            }
-            _ => Err(Refusal::WrongState),
-        }
-    }
-
-    pub(crate) fn rehash(&self, doing: WorkerState) -> Result<(Effect, WorkerState), Refusal>
-        requires control { IsControl self.now }
-        requires aim { Leads self.now.config.initial self.now.filled.buckets doing }
-        ensures value { place_step result ≡ rehash self.now.config (state_of self.now) doing }
-        ensures told { IfOk result (λ p. IsTold p.0) }
-    {
-        match doing {
-            WorkerState::Holding(call, k, bucket) => {
-                if k == self.level(bucket) {
-                    Err(Refusal::NothingToRehash)
-                } else {
-                    let level = k + 1;
-                    let bucket = hash_at(self.config.initial(), level, fnv1a(call.key().bytes()));
-                    Ok((
-                        Effect::Aim { level, bucket },
-                        WorkerState::Aimed(call, level, bucket),
-                    ))
-                }
-            }
-            _ => Err(Refusal::WrongState),
-        }
-    }
-
-    pub(crate) fn released(doing: WorkerState) -> Result<(Effect, WorkerState), Refusal>
-        ensures value { place_step result ≡ release doing }
-        ensures told { IfOk result (λ p. IsTold p.0) }
-    {
-        match doing {
-            WorkerState::Holding(_, _, _) => Ok((Effect::GivenUp, WorkerState::Idle)),
-            WorkerState::Acted(_, _) => Ok((Effect::Released, WorkerState::Idle)),
-            _ => Err(Refusal::WrongState),
-        }
-    }
-
     /// What a place is doing, if there is such a place.
-    pub(crate) fn doing_at(&self, place: u8) -> Option<WorkerState>
+    fn doing_at(&self, place: u8) -> Option<&WorkerState>
         requires { IsControl self.now }
-        ensures value { result ≡ slice_get self.now.places place }
-        ensures leads { IfSome result (λ doing. (place < 16) × Leads self.now.config.initial self.now.filled.buckets doing) }
+        ensures value { option_copied result ≡ slice_get self.now.places place }
+        ensures leads { IfSome result (λ doing. (place < 16) × Leads self.now.config.initial self.now.filled.buckets doing.now) }
     {
-        self.places.get(place as usize).copied()
+        self.places.get(place as usize)
     }
 
-    /// Takes a step of one place, unless it is refused.
-    pub(crate) fn put(
-        &mut self,
-        place: u8,
-        step: Result<(Effect, WorkerState), Refusal>,
-    ) -> Result<Effect, Refusal>
-        requires control { IsControl self.old }
-        requires there { place < 16 }
-        requires told { IfOk step (λ p. IsTold p.0) }
-        ensures value { step_to result self.new ≡ put (state_of self.old) place (place_step step) }
+    /// A call comes in at a place.
+    pub(crate) fn call(&mut self, place: u8, call: Call) -> Result<Effect, Refusal>
+        requires { IsControl self.old }
+        ensures value { step_to result self.new ≡ at_place (state_of self.old) place (called call) }
         ensures told { IfOk result IsTold }
         ensures keeps { KeepsFile self.old self.new }
         ensures filled { self.new.filled ≡ self.old.filled }
         ensures err { OnErr result (self.new ≡ self.old) }
     {
-        match step {
-            Ok((effect, doing)) => {
-                self.places[place as usize] = doing;
-                Ok(effect)
+        match self.doing_at(place) {
+            Some(WorkerState::Idle) => {
+                self.places[place as usize] = WorkerState::Called(call);
+                Ok(Effect::Called)
             }
-            Err(refusal) => Err(refusal),
+            _ => Err(Refusal::WrongState),
         }
+    }
+
+    /// A place reads the root.
+    pub(crate) fn read(&mut self, place: u8) -> Result<Effect, Refusal>
+        requires { IsControl self.old }
+        ensures value { step_to result self.new ≡ at_place (state_of self.old) place (read self.old.config (state_of self.old)) }
+        ensures told { IfOk result IsTold }
+        ensures keeps { KeepsFile self.old self.new }
+        ensures filled { self.new.filled ≡ self.old.filled }
+        ensures err { OnErr result (self.new ≡ self.old) }
+    {
+        match self.doing_at(place) {
+            Some(WorkerState::Called(call)) => {
+                let bucket = self.root.address(fnv1a(call.key().bytes()));
+                let level = self.root.level_of(bucket);
+                self.places[place as usize] = WorkerState::Aimed(*call, level, bucket);
+                Ok(Effect::Aim { level, bucket })
+            }
+            _ => Err(Refusal::WrongState),
+        }
+    }
+
+    /// A place locks the bucket of its aim.
+    pub(crate) fn lock(&mut self, place: u8) -> Result<Effect, Refusal>
+        requires { IsControl self.old }
+        ensures value { step_to result self.new ≡ at_place (state_of self.old) place (lock self.old.config (state_of self.old)) }
+        ensures told { IfOk result IsTold }
+        ensures keeps { KeepsFile self.old self.new }
+        ensures filled { self.new.filled ≡ self.old.filled }
+        ensures err { OnErr result (self.new ≡ self.old) }
+    {
+        match self.doing_at(place) {
+            Some(WorkerState::Aimed(call, k, bucket)) => {
+                let bucket = *bucket;
+                if self.is_barred(call, bucket) {
+                    Err(Refusal::Held)
+                } else {
+                    let level = self.level(bucket);
+                    self.places[place as usize] = WorkerState::Holding(*call, *k, bucket);
+                    Ok(Effect::Locked { bucket, level })
+                }
+            }
+            _ => Err(Refusal::WrongState),
+        }
+    }
+
+    /// A place lets a bucket go that was split, and aims one level up.
+    pub(crate) fn rehash(&mut self, place: u8) -> Result<Effect, Refusal>
+        requires { IsControl self.old }
+        ensures value { step_to result self.new ≡ at_place (state_of self.old) place (rehash self.old.config (state_of self.old)) }
+        ensures told { IfOk result IsTold }
+        ensures keeps { KeepsFile self.old self.new }
+        ensures filled { self.new.filled ≡ self.old.filled }
+        ensures err { OnErr result (self.new ≡ self.old) }
+    {
+        match self.doing_at(place) {
+            Some(WorkerState::Holding(call, k, bucket)) => {
+                if *k == self.level(*bucket) {
+                    Err(Refusal::NothingToRehash)
+                } else {
+                    let level = *k + 1;
+                    let bucket = hash_at(self.config.initial(), level, fnv1a(call.key().bytes()));
+                    self.places[place as usize] = WorkerState::Aimed(*call, level, bucket);
+                    Ok(Effect::Aim { level, bucket })
+                }
+            }
+            _ => Err(Refusal::WrongState),
+        }
+    }
+
+    /// A place lets its bucket go.
+    pub(crate) fn release(&mut self, place: u8) -> Result<Effect, Refusal>
+        requires { IsControl self.old }
+        ensures value { step_to result self.new ≡ at_place (state_of self.old) place (release) }
+        ensures told { IfOk result IsTold }
+        ensures keeps { KeepsFile self.old self.new }
+        ensures filled { self.new.filled ≡ self.old.filled }
+        ensures err { OnErr result (self.new ≡ self.old) }
+    {
+        let effect = match self.doing_at(place) {
+            Some(WorkerState::Holding(_, _, _)) => Effect::GivenUp,
+            Some(WorkerState::Acted(_, _)) => Effect::Released,
+            _ => return Err(Refusal::WrongState),
+        };
+        self.places[place as usize] = WorkerState::Idle;
+        Ok(effect)
     }
 
     /// The act that a place may take now.
@@ -138,13 +135,13 @@ impl Control {
     {
         match self.doing_at(place) {
             Some(WorkerState::Holding(call, level, bucket)) => {
-                if level < self.level(bucket) {
+                if *level < self.level(*bucket) {
                     Err(Refusal::MustRehash)
                 } else {
                     Ok(Act {
-                        call,
-                        level,
-                        bucket,
+                        call: *call,
+                        level: *level,
+                        bucket: *bucket,
                     })
                 }
             }
