@@ -108,22 +108,22 @@ module _ (c d : Control) (row : List Seen) where
     );
   }
 
-  pub acted : (w : ℕ) (act : Act) (y : Reply) (rows : List Seen) → IsActOf c w act → KeepsFile c d → d.filled ≡ c.filled → allowed c.config (state_of c) (event.Act w) ≡ Ok (None, acted_state (state_of c) w act) → state_of d ≡ acted_state (state_of c) w act → ((m : Records) → StandsFor (world_of c row) m → y ≡ reply m act.call) → ((m : Records) → StandsFor (world_of c row) m → IsPlaced c.config.initial c.filled.buckets (after m act.call) rows) → IsStep (world_of c row) (event.Act w) (Ok (effect.Answered y)) (world_of d rows)
+  pub acted : (w : ℕ) (act : Act) (y : Reply) (rows : List Seen) → IsActOf c w act → KeepsFile c d → d.filled ≡ c.filled → allowed c.config (state_of c) (event.Act w) ≡ Ok (None, acted_state (state_of c) w act) → state_of d ≡ acted_state (state_of c) w act → ((m : Records) → StandsFor (world_of c row) m → y ≡ reply m act.call.now) → ((m : Records) → StandsFor (world_of c row) m → IsPlaced c.config.initial c.filled.buckets (after m act.call.now) rows) → IsStep (world_of c row) (event.Act w) (Ok (effect.Answered y)) (world_of d rows)
   acted w act y rows i r same ok state told stands =
-      let calls : served_by (state_of c) (event.Act w) ≡ Some act.call = ap call_held i.held in
+      let calls : served_by (state_of c) (event.Act w) ≡ Some act.call.now = ap call_held i.held in
       record {
         config = r.config;
         ruled = ok ∙ ap (λ b. Ok (None, b)) (sym state);
         follows = λ m p. (
           ap Some (told m p) ∙ ap (reply_to m) (sym calls),
-          subst (StandsFor (world_of d rows)) (ap (map_after m) (sym calls)) (placed_same (after m act.call) rows r same (stands m p)),
+          subst (StandsFor (world_of d rows)) (ap (map_after m) (sym calls)) (placed_same (after m act.call.now) rows r same (stands m p)),
         );
       }
 
-  pub act_wanted : (w : ℕ) (act : Act) → IsActOf c w act → allowed c.config (state_of c) (event.Act w) ≡ Ok (None, acted_state (state_of c) w act) → IsInsert act.call → IsStep (world_of c row) (event.Act w) (Err Memory) (world_of c row)
+  pub act_wanted : (w : ℕ) (act : Act) → IsActOf c w act → allowed c.config (state_of c) (event.Act w) ≡ Ok (None, acted_state (state_of c) w act) → IsInsert act.call.now → IsStep (world_of c row) (event.Act w) (Err Memory) (world_of c row)
   act_wanted w act i ok insert =
-      let calls : served_by (state_of c) (event.Act w) ≡ Some act.call = ap call_held i.held in
-      record { config = refl; ruled = (refl, inr (refl, ap is_insert calls ∙ insert_is act.call insert, is_ok ok)); follows = λ m p. p }
+      let calls : served_by (state_of c) (event.Act w) ≡ Some act.call.now = ap call_held i.held in
+      record { config = refl; ruled = (refl, inr (refl, ap is_insert calls ∙ insert_is act.call.now insert, is_ok ok)); follows = λ m p. p }
 
   pub moved : (f : Effect) (rows : List Seen) → IsTold f → KeepsFile c d → state_of d ≡ with_moved (state_of c) → allowed c.config (state_of c) event.SplitMove ≡ Ok (Some f, with_moved (state_of c)) → ((m : Records) → StandsFor (world_of c row) m → IsPlaced c.config.initial (c.root.buckets + 1) m rows) → IsStep (world_of c row) event.SplitMove (Ok f) (world_of d rows)
   moved f rows t r state ok stands = record {

@@ -59,13 +59,13 @@ IsQuiet _ = Unit {0}
 pub record IsActOf (c : Control) (place : ℕ) (act : Act) : Type 0 where
   pub there : place < 16
   pub low : act.level ≤ 16
-  pub held : slice_get c.places place ≡ Some (Holding act.call act.level act.bucket)
-  pub aim : IsAim c.config.initial c.filled.buckets (code_of (key_of act.call)) act.level act.bucket
+  pub held : slice_get c.places place ≡ Some (Holding act.call.now act.level act.bucket)
+  pub aim : IsAim c.config.initial c.filled.buckets (code_of (key_of act.call.now)) act.level act.bucket
   pub level : act.level ≡ level_of c.config.initial c.filled.buckets act.bucket
 
 -- the state after an act
 abbrev pub acted : State → ℕ → Act → State
-acted state place act = with_place state place (Acted act.call act.bucket)
+acted state place act = with_place state place (Acted act.call.now act.bucket)
 
 -- a world with these buckets
 abbrev pub world_of : Control → List Seen → WorldSeen

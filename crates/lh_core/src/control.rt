@@ -20,10 +20,10 @@ pub(crate) struct Control {
     pub(crate) splitter: SplitState,
 }
 
-/// A call that is to be served at a bucket, at the bucket's own level.
+/// A place's call that is to be served at a bucket, at the bucket's own level.
 #[derive(Clone, Copy)]
-pub(crate) struct Act {
-    pub(crate) call: Call,
+pub(crate) struct Act<'a> {
+    pub(crate) call: &'a Call,
     pub(crate) level: u8,
     pub(crate) bucket: u32,
 }

@@ -31,21 +31,21 @@ pub(crate) fn serve<B: Bucket>(
     control: &Control,
     buckets: &mut Vec<B>,
     place: u8,
-    act: &Act,
+    act: &Act<'_>,
 ) -> Result<Reply, Memory>
     requires act { IsActOf control.now place act.now }
     requires world { IsWorld (world_of control.now (map B.seen buckets.old.items)) }
     ensures row { IsRow control.now.config control.now.filled.buckets (map B.seen buckets.new.items) }
-    ensures reply { (m : Records) → StandsFor (world_of control.now (map B.seen buckets.old.items)) m → IfOk result (λ r. r ≡ reply m act.now.call) }
-    ensures stands { (m : Records) → StandsFor (world_of control.now (map B.seen buckets.old.items)) m → OnOk result (StandsFor (world_of control.now (map B.seen buckets.new.items)) (after m act.now.call)) }
+    ensures reply { (m : Records) → StandsFor (world_of control.now (map B.seen buckets.old.items)) m → IfOk result (λ r. r ≡ reply m act.now.call.now) }
+    ensures stands { (m : Records) → StandsFor (world_of control.now (map B.seen buckets.old.items)) m → OnOk result (StandsFor (world_of control.now (map B.seen buckets.new.items)) (after m act.now.call.now)) }
     ensures unchanged { OnErr result (map B.seen buckets.new.items ≡ map B.seen buckets.old.items) }
-    ensures insert { OnErr result (IsInsert act.now.call) }
+    ensures insert { OnErr result (IsInsert act.now.call.now) }
 {
     linear_hashing();
     let _ = control;
     let _ = place;
     let bucket = &mut buckets[act.bucket as usize];
-    match bucket.serve(&act.call, act.level) {
+    match bucket.serve(act.call, act.level) {
         Ok(answer) => Ok(answer.reply()),
         Err(_) => Err(Memory),
     }

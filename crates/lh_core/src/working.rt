@@ -2,6 +2,7 @@
 ghost use Rattle.std.specs.Prelude.{◌≡◌, ◌<◌, Ok, Err, Some, None, IfOk, IfErr, OnErr, IfSome, slice_get};
 ghost use Rattle.std.specs.Option.{option_copied};
 ghost use Rattle.lh_core.specs.declared.event.Event.TheVariants as event;
+ghost use Rattle.lh_core.specs.declared.control.Act.{Act as ActOf};
 ghost use Rattle.lh_core.specs.Aims.{Leads};
 ghost use Rattle.lh_core.specs.Rules.{called, read, lock, rehash, release, at_place, allowed};
 ghost use Rattle.lh_core.specs.Control.{IsControl, IsTold, IsActOf, KeepsFile, state_of, step_to, acted};
@@ -127,7 +128,7 @@ impl Control {
     }
 
     /// The act that a place may take now.
-    pub(crate) fn act(&self, place: u8) -> Result<Act, Refusal>
+    pub(crate) fn act(&self, place: u8) -> Result<Act<'_>, Refusal>
         requires { IsControl self.now }
         ensures allowed { IfOk result (λ act. allowed self.now.config (state_of self.now) (event.Act place) ≡ Ok (None, acted (state_of self.now) place act)) }
         ensures act { IfOk result (IsActOf self.now place) }
@@ -139,7 +140,7 @@ impl Control {
                     Err(Refusal::MustRehash)
                 } else {
                     Ok(Act {
-                        call: *call,
+                        call,
                         level: *level,
                         bucket: *bucket,
                     })
@@ -151,13 +152,15 @@ impl Control {
     }
 
     /// Notes that a place has acted.
-    pub(crate) fn note_act(&mut self, place: u8, act: &Act)
+    pub(crate) fn note_act(&mut self, place: u8)
         requires control { IsControl self.old }
         requires there { place < 16 }
-        ensures state { state_of self.new ≡ acted (state_of self.old) place act.now }
+        ensures state { (act : ActOf) → IsActOf self.old place act → state_of self.new ≡ acted (state_of self.old) place act }
         ensures keeps { KeepsFile self.old self.new }
         ensures filled { self.new.filled ≡ self.old.filled }
     {
-        self.places[place as usize] = WorkerState::Acted(act.call, act.bucket);
+        if let WorkerState::Holding(call, _, bucket) = self.places[place as usize] {
+            self.places[place as usize] = WorkerState::Acted(call, bucket);
+        }
     }
 }

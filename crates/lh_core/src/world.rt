@@ -84,7 +84,7 @@ impl<B: Bucket> World<B> {
         match self.control.act(place) {
             Ok(act) => match serve(&self.control, &mut self.buckets, place, &act) {
                 Ok(reply) => {
-                    self.control.note_act(place, &act);
+                    self.control.note_act(place);
                     Ok(Effect::Answered(reply))
                 }
                 Err(Memory) => Err(Refusal::Memory),
@@ -118,10 +118,7 @@ impl<B: Bucket> World<B> {
         ensures unchanged { OnErr result (self.new ≡ self.old) }
     {
         linear_hashing();
-        match self.control.turn(event) {
-            Ok(effect) => Ok(effect),
-            Err(refusal) => Err(refusal),
-        }
+        self.control.turn(event)
     }
 
     fn advance(&mut self, event: Event) -> Result<Effect, Refusal>
