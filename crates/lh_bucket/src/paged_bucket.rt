@@ -1,9 +1,10 @@
 //! A bucket that is a packed chain of pages.
-ghost use Rattle.std.specs.Prelude.{not, ◌≡◌, ◌≤◌, IsOk, IfOk, OnOk, OnErr};
+ghost use Rattle.std.specs.Prelude.{not, ◌≡◌, ◌≤◌, if◌then◌else◌, IsOk, IfOk, OnOk, OnErr};
 ghost use Rattle.std.specs.List.{filter};
 ghost use Rattle.std.specs.FinMap.{get, retain_keys};
 ghost use Rattle.lh_addr.specs.Fnv.{code_of};
 ghost use Rattle.lh_bucket.specs.declared.call.Call.TheVariants.{Insert, Delete};
+ghost use Rattle.lh_bucket.specs.declared.call.Reply.TheVariants.{Absent, Inserted, Exists, Deleted};
 ghost use Rattle.lh_bucket.specs.declared.verdict.Verdict.TheVariants.{Here};
 ghost use Rattle.lh_bucket.specs.PlainMap.{found, reply, after, key_of, IsInsert};
 ghost use Rattle.lh_bucket.specs.Records.{map_of};
@@ -50,32 +51,36 @@ fn search_in(chain: &Chain, key: &Key) -> Reply
     }
 }
 
-/// Serves an insert at a chain.
-fn insert_into(chain: &mut Chain, key: Key, value: Value) -> Result<Reply, Memory>
-    ensures reply { IfOk result (λ r. r ≡ reply (map_of chain.old.pairs) (Insert key value)) }
-    ensures list { OnOk result (chain.new ≡ record chain.old { pairs = served chain.old.pairs (Insert key value) }) }
+/// Puts a record last in a chain, unless its key is there: whether it was put.
+fn insert_into(chain: &mut Chain, key: &Key, value: &Value) -> Result<bool, Memory>
+    ensures reply { IfOk result (λ is_new. (if is_new then Inserted else Exists) ≡ reply (map_of chain.old.pairs) (Insert key.now value.now)) }
+    ensures list { OnOk result (chain.new ≡ record chain.old { pairs = served chain.old.pairs (Insert key.now value.now) }) }
     ensures err { OnErr result (chain.new ≡ chain.old) }
 {
-    match chain.find(&key) {
-        Some(_) => Ok(Reply::Exists),
+    match chain.find(key) {
+        Some(_) => Ok(false),
         None => {
-            chain.push(Pair { key, value })?;
-            Ok(Reply::Inserted)
+            let pair = Pair {
+                key: *key,
+                value: *value,
+            };
+            chain.push(pair)?;
+            Ok(true)
         }
     }
 }
 
-/// Serves a delete at a chain.
-fn delete_from(chain: &mut Chain, key: &Key) -> Reply
-    ensures reply { result ≡ reply (map_of chain.old.pairs) (Delete key.now) }
+/// Takes the record with a key out of a chain: whether it was there.
+fn delete_from(chain: &mut Chain, key: &Key) -> bool
+    ensures reply { (if result then Deleted else Absent) ≡ reply (map_of chain.old.pairs) (Delete key.now) }
     ensures list { chain.new ≡ record chain.old { pairs = served chain.old.pairs (Delete key.now) } }
 {
     match chain.find(key) {
         Some(place) => {
             chain.remove(place);
-            Reply::Deleted
+            true
         }
-        None => Reply::Absent,
+        None => false,
     }
 }
 
@@ -88,8 +93,22 @@ fn serve_at(chain: &mut Chain, call: &Call) -> Result<Reply, Memory>
 {
     match call {
         Call::Search(key) => Ok(search_in(chain, key)),
-        Call::Insert(key, value) => insert_into(chain, *key, *value),
-        Call::Delete(key) => Ok(delete_from(chain, key)),
+        Call::Insert(key, value) => {
+            let is_new = insert_into(chain, key, value)?;
+            Ok(if is_new {
+                Reply::Inserted
+            } else {
+                Reply::Exists
+            })
+        }
+        Call::Delete(key) => {
+            let was_there = delete_from(chain, key);
+            Ok(if was_there {
+                Reply::Deleted
+            } else {
+                Reply::Absent
+            })
+        }
     }
 }
 

@@ -1,6 +1,6 @@
 //! Searches, inserts and deletes.
 ghost use Rattle.std.specs.Prelude.{◌≡◌, ◌↔◌, ◌<◌, ◌≤◌, true, Err, IfOk, IfErr, OnErr};
-ghost use Rattle.std.specs.Sync.RwLock.{read_guard_value, write_guard_value};
+ghost use Rattle.std.specs.Sync.RwLock.{read_guard_value};
 ghost use Rattle.lh_bucket.specs.declared.call.Call.TheVariants as call;
 ghost use Rattle.lh_bucket.specs.declared.verdict.Verdict.TheVariants.{Here};
 ghost use Rattle.lh_bucket.specs.Bucket.{verdict};
@@ -17,9 +17,9 @@ use crate::gate::{Gate, Point};
 use crate::hand::Hand;
 use crate::parts;
 use crate::right::Right;
-use lh_bucket::{Answer, Call, Memory, PagedBucket, Reply};
+use lh_bucket::{Answer, Call, PagedBucket, Reply};
 use lh_page::{Key, Value};
-use std::sync::{RwLockReadGuard, RwLockWriteGuard, Wait};
+use std::sync::{RwLockReadGuard, Wait};
 
 impl<G: Gate> HashFile<G> {
     /// Searches for a key: the answer's reply is the value, or that the key is absent.
@@ -87,8 +87,18 @@ impl<G: Gate> HashFile<G> {
         ensures of { IsOf self.now.state hand.new }
     {
         let aim = self.begin(hand, call)?;
-        let (guard, aim) = self.alone(rt, aim)?;
-        Ok(self.act(guard, hand, call, aim)?)
+        let (mut guard, aim) = self.alone(rt, aim)?;
+        match parts::act_on(self, &mut guard, hand, call, aim.level) {
+            Ok(answer) => {
+                self.gate.at(Point::Acted { bucket: aim.bucket });
+                self.release(guard, aim);
+                Ok(answer)
+            }
+            Err(fault) => {
+                self.release(guard, aim);
+                Err(FileFault::from(fault))
+            }
+        }
     }
 
     /// Answers a search at its bucket, and drops the bucket's lock.
@@ -109,36 +119,15 @@ impl<G: Gate> HashFile<G> {
     {
         let answer = parts::look_on(self, &guard, hand, call, aim.level);
         self.gate.at(Point::Acted { bucket: aim.bucket });
-        // Release
-        drop(guard);
-        self.gate.at(Point::Released { bucket: aim.bucket });
+        self.release(guard, aim);
         answer
     }
 
-    /// Serves a call that may change its bucket at that bucket, and drops the bucket's lock.
-    fn act(
-        &self,
-        mut guard: RwLockWriteGuard<'_, PagedBucket>,
-        hand: &mut Hand,
-        call: &Call,
-        aim: Aim,
-    ) -> Result<Answer, Memory>
-        requires ready { IsReady self.now.state hand.old }
-        requires aim { IsAimOf call.now aim }
-        requires here { verdict (write_guard_value guard).head aim.code aim.level ≡ Here }
-        ensures call { IfOk result (λ a. a.call ≡ call.now) }
-        ensures served { IfOk result (λ a. HasServed hand.old a.call a.reply hand.new) }
-        ensures err { OnErr result (hand.new ≡ hand.old) }
-        ensures of { IsOf self.now.state hand.new }
-    {
-        let answer = parts::act_on(self, &mut guard, hand, call, aim.level);
-        if answer.is_ok() {
-            self.gate.at(Point::Acted { bucket: aim.bucket });
-        }
+    /// Drops the lock of the bucket that an aim led to.
+    fn release<L: Drop>(&self, guard: L, aim: Aim) {
         // Release
         drop(guard);
         self.gate.at(Point::Released { bucket: aim.bucket });
-        answer
     }
 
     /// One split, where the load of the file asks for it and the right to split is free.
