@@ -18,7 +18,7 @@ exponent_below k n h below = elim (cases_lt k 16) [
 ]
 
 -- one level more doubles the size
-size_doubles : (initial k : ℕ) → initial * 2 ^ (k + 1) ≡ 2 * (initial * 2 ^ k)
+pub size_doubles : (initial k : ℕ) → initial * 2 ^ (k + 1) ≡ 2 * (initial * 2 ^ k)
 size_doubles initial k = rw (add-one, pow-suc) (grind arith)
 
 -- the root of a file

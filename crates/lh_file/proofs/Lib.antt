@@ -9,6 +9,7 @@ pub mod Fields
 pub mod Histories
 pub mod Levels
 pub mod Lists
+pub mod Logarithms
 pub mod Opening
 pub mod Orders
 pub mod Placed

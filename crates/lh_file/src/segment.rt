@@ -22,11 +22,15 @@ pub(crate) fn segment_of(initial: u32, bucket: u32) -> usize
     ensures below { result < 17 }
     ensures is_in { IsIn initial result bucket }
 {
-    let times = bucket / initial;
-    if times == 0 {
-        0
+    if bucket < initial {
+        return 0;
+    }
+    // The logarithm of a quotient is the difference of the logarithms, or one less: no division is needed.
+    let times = bucket.ilog2() - initial.ilog2();
+    if bucket < initial << times {
+        times as usize
     } else {
-        times.ilog2() as usize + 1
+        times as usize + 1
     }
 }
 
