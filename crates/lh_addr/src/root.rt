@@ -1,7 +1,7 @@
 //! The root of a file: how far it has grown, and what follows of addresses and levels.
 ghost use Rattle.std.specs.Prelude.{◌≡◌, ◌+◌, ◌*◌, ◌<◌, ◌≤◌, ◌↔◌, ◌^◌, IsSome, IfSome};
 
-use crate::hash_at;
+use crate::hash::modulo;
 use crate::limits::{MAX_BUCKETS, MAX_INITIAL, MIN_INITIAL};
 use std::marker::Model;
 
@@ -104,9 +104,12 @@ impl Root {
         ensures value { result ≡ address self.now.initial self.now.buckets c }
         ensures within { result < self.now.buckets }
     {
-        let bucket = hash_at(self.initial, self.level, c);
+        let size = self.full_size() as u64;
+        let bucket = modulo(c, size) as u32;
+        // Taken before it is known to be wanted: a processor guesses half of the branches wrong.
+        let raised = modulo(c, 2 * size) as u32;
         if bucket < self.pointer() {
-            hash_at(self.initial, self.level + 1, c)
+            raised
         } else {
             bucket
         }
