@@ -92,11 +92,13 @@ fn keep<'a, G: Gate>(
     workers.push(worker).is_ok()
 }
 
-/// Waits for a worker, and joins its hand into another one.
+/// Waits for a worker, and makes one hand of its hand and another one. A hand that did nothing is joined
+/// into the worker's, so that no act is copied.
 fn join<G: Gate, R: Threads + Wait>(
     rt: &R,
     file: &HashFile<G>,
     hand: Hand,
+    did_nothing: bool,
     worker: PromisedHandle<Worked, OfFile<'_, G>>,
 ) -> Result<Hand, DriveFault>
     requires hand { IsOf file.now.state hand }
@@ -108,7 +110,12 @@ fn join<G: Gate, R: Threads + Wait>(
     if let Some(fault) = fault {
         return Err(DriveFault::from(fault));
     }
-    match file.join_hands(hand, part) {
+    let joined = if did_nothing && !hand.has_right() {
+        file.join_hands(part, hand)
+    } else {
+        file.join_hands(hand, part)
+    };
+    match joined {
         Ok(joined) => Ok(joined),
         Err(_) => Err(DriveFault::Memory),
     }
@@ -161,8 +168,10 @@ pub fn work_in_threads<G: Gate + Sync, R: Threads + Wait + Sync>(
                     break;
                 }
             }
+            let mut did_nothing = true;
             for worker in workers {
-                all = join(rt, file, all, worker)?;
+                all = join(rt, file, all, did_nothing, worker)?;
+                did_nothing = false;
             }
             match missing {
                 Some(fault) => Err(fault),
