@@ -149,6 +149,11 @@ none_twice lists n ps found None at none new before =
     each_more IsNew lists n ps at new (subst (λ r. IfNone r (EachBefore IsNew lists n)) none before)
 none_twice lists n ps found (Some fault) at none new before = tt
 
+-- the same of a list in which no key stands twice, so that nothing new is found
+pub none_twice_more : (lists : List (List Pair)) (n : ℕ) (ps : List Pair) (found : Option ListingFault) → list_at lists n ≡ ps → ((p : ℕ) → p < length ps → IsNew 0 ps p) → IfNone found (EachBefore IsNew lists n) → IfNone found (EachBefore IsNew lists (n + 1))
+none_twice_more lists n ps None at new before = each_more IsNew lists n ps at new before
+none_twice_more lists n ps (Some fault) at new before = tt
+
 -- the first key that stands twice in the list of a bucket is the first in all lists, where none stands twice before it
 first_there : (lists : List (List Pair)) (n : ℕ) (ps : List Pair) → list_at lists n ≡ ps → EachBefore IsNew lists n → (fault : ListingFault) → IsTwiceIn n ps fault → IsTwiceAmong lists fault
 first_there lists n ps at before Shape twice = twice

@@ -1,5 +1,5 @@
 -- A whole file as lists of records, one for each bucket
-use Rattle.std.specs.Prelude.{◌≡◌, ◌≢◌, ℕ, ◌<◌, ◌≤◌, List, [], ◌∷◌, ◌++◌, length, sum_by, slice_index_or}
+use Rattle.std.specs.Prelude.{◌≡◌, ◌≢◌, ℕ, ◌/◌, ◌^◌, ◌<◌, ◌≤◌, Bool, true, false, List, [], ◌∷◌, ◌++◌, length, sum_by, slice_index_or}
 use Rattle.std.specs.List.{IsDistinct, All}
 use Rattle.std.specs.Str.{bytes_eq}
 use Rattle.lh_addr.specs.Fnv.{code_of}
@@ -55,6 +55,14 @@ IsNew bucket pairs place = (earlier : ℕ) → earlier < place → key_at pairs 
 -- a record before the place has its key
 abbrev pub IsAgain : PlaceFact
 IsAgain bucket pairs place = (earlier : ℕ) × (earlier < place) × (key_at pairs earlier ≡ key_at pairs place)
+
+-- the first eight of the 64 bits of a code
+unfoldable pub top_of : ℕ → ℕ
+top_of code = code / 2 ^ 56
+
+-- the tops of the codes of the first records' keys are among these
+abbrev pub AreTopsOf : List Bool → List Pair → ℕ → Type 0
+AreTopsOf tops pairs n = (p : ℕ) → p < n → slice_index_or tops (top_of (code_of (key_at pairs p))) false ≡ true
 
 -- a fact holds at each place of each list
 abbrev pub EachPlace : PlaceFact → List (List Pair) → Type 0

@@ -19,6 +19,7 @@ mod call;
 pub mod laws;
 mod leaving;
 mod listing;
+mod listing_faults;
 mod paged_bucket;
 mod plain_bucket;
 mod verdict;

@@ -1,16 +1,10 @@
 //! Listings: whole files as lists of records.
-ghost use Rattle.std.specs.Prelude.{◌≡◌, ℕ, ◌+◌, ◌-◌, ◌^◌, ◌<◌, ◌≤◌, [], ◌∷◌, length, map, min, replicate, slice_get, ◌⊎◌, Some, None, IsOk, IfOk, IfErr, IfSome, IfNone, MatchOption};
-ghost use Rattle.lh_addr.specs.Growth.{address};
-ghost use Rattle.std.specs.Bool.{OnTrue, OnFalse};
-ghost use Rattle.std.specs.List.{All};
-ghost use Rattle.lh_page.specs.Records.{key_at, IsRecord};
-ghost use Rattle.lh_bucket.specs.Listing.{IsHome, IsAway, IsNew, IsAgain, EachPlace, list_at};
-ghost use Rattle.lh_bucket.specs.ListingFault.{IsFaultAmong, IsTwiceIn};
+ghost use Rattle.std.specs.Prelude.{◌≡◌, ◌^◌, ◌<◌, ◌-◌, [], length, map, min, replicate, slice_get, Some, IfOk, IfErr};
 
-use lh_addr::{Config, Root, fnv1a};
+use crate::listing_faults::first_fault;
+use lh_addr::{Config, Root};
 use lh_page::{Memory, Pair};
 use std::alloc::Global;
-use std::collections::BTreeSet;
 use std::marker::Model;
 use thiserror::Error;
 
@@ -50,116 +44,6 @@ impl Model for Listing {
     ghost view = { λ l. record { config = l.config; lists = map (λ v. v.items) l.lists.items } };
 
     ghost invariant = { λ l. IsListing (record { config = l.config; lists = map (λ v. v.items) l.lists.items }) };
-}
-
-/// The place of the first record that belongs to another bucket than this one.
-fn away_in(root: &Root, bucket: u32, pairs: &[Pair]) -> Option<usize>
-    ensures none { IfNone result ((p : ℕ) → p < length pairs.now → IsHome root.now.initial root.now.buckets bucket pairs.now p) }
-    ensures records { IfNone result (All IsRecord pairs.now) }
-    ensures within { IfSome result (λ place. place < length pairs.now) }
-    ensures away { IfSome result (λ place. IsAway root.now.initial root.now.buckets bucket pairs.now place) }
-    ensures before { IfSome result (λ place. (p : ℕ) → p < place → IsHome root.now.initial root.now.buckets bucket pairs.now p) }
-{
-    for (place, pair) in pairs.iter().enumerate() {
-        let _ = pair.value.bytes();
-        if root.address(fnv1a(pair.key.bytes())) != bucket {
-            return Some(place);
-        }
-    }
-    None
-}
-
-/// Lists of so many records at most are searched record by record, which takes no memory.
-const FEW: usize = 32;
-
-/// Whether the key at a place stands before it too.
-fn stands_before(pairs: &[Pair], place: usize) -> bool
-    requires { place < length pairs.now }
-    ensures again { OnTrue result (IsAgain 0 pairs.now place) }
-    ensures new { OnFalse result (IsNew 0 pairs.now place) }
-{
-    for earlier in 0..place {
-        if pairs[earlier].key == pairs[place].key {
-            return true;
-        }
-    }
-    false
-}
-
-/// The place of the first record whose key stands before it too, in a list that is not long.
-fn again_among(pairs: &[Pair]) -> Option<usize>
-    ensures none { IfNone result ((p : ℕ) → p < length pairs.now → IsNew 0 pairs.now p) }
-    ensures within { IfSome result (λ place. place < length pairs.now) }
-    ensures again { IfSome result (λ place. IsAgain 0 pairs.now place) }
-    ensures before { IfSome result (λ place. (p : ℕ) → p < place → IsNew 0 pairs.now p) }
-{
-    for place in 0..pairs.len() {
-        if stands_before(pairs, place) {
-            return Some(place);
-        }
-    }
-    None
-}
-
-/// The place of the first record whose key stands before it too.
-fn again_in(alloc: Global, pairs: &[Pair]) -> Result<Option<usize>, Memory>
-    ensures none { IfOk result (λ r. IfNone r ((p : ℕ) → p < length pairs.now → IsNew 0 pairs.now p)) }
-    ensures within { IfOk result (λ r. IfSome r (λ place. place < length pairs.now)) }
-    ensures again { IfOk result (λ r. IfSome r (λ place. IsAgain 0 pairs.now place)) }
-    ensures before { IfOk result (λ r. IfSome r (λ place. (p : ℕ) → p < place → IsNew 0 pairs.now p)) }
-{
-    if pairs.len() <= FEW {
-        return Ok(again_among(pairs));
-    }
-    let mut seen = BTreeSet::new(alloc);
-    for (place, pair) in pairs.iter().enumerate() {
-        if !seen.insert(pair.key)? {
-            return Ok(Some(place));
-        }
-    }
-    Ok(None)
-}
-
-/// The first key that stands twice, or want of memory to look for it: as found in the lists before this one,
-/// else in this one.
-fn twice_by(
-    alloc: Global,
-    found: Option<ListingFault>,
-    bucket: u32,
-    pairs: &[Pair],
-) -> Option<ListingFault>
-    ensures none { IfNone result (found ≡ None) }
-    ensures new { IfNone result ((p : ℕ) → p < length pairs.now → IsNew 0 pairs.now p) }
-    ensures twice { IfSome result (λ fault. (found ≡ Some fault) ⊎ ((found ≡ None) × IsTwiceIn bucket pairs.now fault)) }
-{
-    if found.is_some() {
-        return found;
-    }
-    match again_in(alloc, pairs) {
-        Ok(None) => None,
-        Ok(Some(place)) => Some(ListingFault::Twice { bucket, place }),
-        Err(Memory) => Some(ListingFault::Memory),
-    }
-}
-
-/// The first reason why so many lists are no listing. Each list is looked through once, while it is at hand:
-/// a key that stands twice is kept in mind, since a misplaced record behind it is told before it.
-fn first_fault(alloc: Global, root: &Root, lists: &[Vec<Pair>]) -> Option<ListingFault>
-    requires { length lists.now ≤ 65536 }
-    ensures home { IfNone result (EachPlace (IsHome root.now.initial root.now.buckets) (map (λ v. v.items) lists.now)) }
-    ensures records { IfNone result ((bucket : ℕ) → All IsRecord (list_at (map (λ v. v.items) lists.now) bucket)) }
-    ensures new { IfNone result (EachPlace IsNew (map (λ v. v.items) lists.now)) }
-    ensures fault { IfSome result (IsFaultAmong root.now.initial root.now.buckets (map (λ v. v.items) lists.now)) }
-{
-    let mut twice = None;
-    for (bucket, list) in lists.iter().enumerate() {
-        let bucket = bucket as u32;
-        if let Some(place) = away_in(root, bucket, list) {
-            return Some(ListingFault::Misplaced { bucket, place });
-        }
-        twice = twice_by(alloc, twice, bucket, list);
-    }
-    twice
 }
 
 impl Listing {

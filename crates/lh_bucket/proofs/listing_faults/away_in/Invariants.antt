@@ -2,7 +2,7 @@ use Rattle.std.proofs.Common.{ℕ, ◌<◌}
 use Rattle.lh_page.specs.Records.{IsRecord}
 use Rattle.std.specs.List.{AllWithin}
 use Rattle.lh_bucket.specs.Listing.{IsHome}
-use Rattle.lh_bucket.proofs.listing.away_in.Given as goal
+use Rattle.lh_bucket.proofs.listing_faults.away_in.Given as goal
 
 abbrev pub invariant-loop-place : goal.invariant-loop-place
 invariant-loop-place l = record {

@@ -5,7 +5,7 @@ use Rattle.lh_page.specs.Records.{IsRecord}
 use Rattle.lh_bucket.specs.Listing.{IsHome, IsNew, list_at}
 use Rattle.lh_bucket.specs.ListingFault.{IsTwiceAmong}
 use Rattle.lh_bucket.proofs.Listings.{EachBefore}
-use Rattle.lh_bucket.proofs.listing.first_fault.Given as goal
+use Rattle.lh_bucket.proofs.listing_faults.first_fault.Given as goal
 
 abbrev pub invariant-loop-bucket : goal.invariant-loop-bucket
 invariant-loop-bucket l = record {

@@ -4,7 +4,7 @@ use Rattle.std.specs.Cmp.Lexicographic.{slice_cmp}
 use Rattle.std.specs.BTreeSet.{contains}
 use Rattle.std.proofs.lemmas.Bool.{not-true}
 use Rattle.lh_bucket.proofs.Listings.{key_read, seen_more}
-use Rattle.lh_bucket.proofs.listing.again_in.Goals as goal
+use Rattle.lh_bucket.proofs.listing_faults.again_in.Goals as goal
 
 pub loop-place-preserved : goal.loop-place-preserved
 loop-place-preserved c =
