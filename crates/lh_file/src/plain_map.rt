@@ -89,12 +89,12 @@ fn least_of(records: &HashMap<Name, Value>) -> Option<Key>
 }
 
 impl PlainMap {
-    pub(crate) fn new(alloc: Global) -> Result<PlainMap, Memory>
+    /// An empty map, with room for so many records; more of them make it grow.
+    pub(crate) fn with_capacity(alloc: Global, records: usize) -> Result<PlainMap, Memory>
         ensures { IfOk result (λ m. m ≡ empty) }
     {
-        Ok(PlainMap {
-            records: HashMap::new(alloc),
-        })
+        let records = HashMap::with_capacity(alloc, records)?;
+        Ok(PlainMap { records })
     }
 
     /// Serves a call.

@@ -25,11 +25,11 @@ fn load_bucket(records: &mut PlainMap, listing: &Listing, bucket: u32) -> Result
     Ok(())
 }
 
-/// The map that a listing stands for.
-fn load(alloc: Global, listing: &Listing) -> Result<PlainMap, Memory>
+/// The map that a listing stands for, with room for so many records.
+fn load(alloc: Global, listing: &Listing, room: usize) -> Result<PlainMap, Memory>
     ensures { IfOk result (λ m. m ≡ map_in listing.now) }
 {
-    let mut records = PlainMap::new(alloc)?;
+    let mut records = PlainMap::with_capacity(alloc, room)?;
     for bucket in 0..listing.buckets() {
         load_bucket(&mut records, listing, bucket)?;
     }
@@ -44,17 +44,19 @@ fn is_same(given: &Reply, due: &Reply) -> bool
     given == due
 }
 
-/// What the calls of a history leave of a listing's map, or the first reply that is not the map's.
+/// What the calls of a history leave of a listing's map, or the first reply that is not the map's. There
+/// is room for so many records from the start.
 pub(crate) fn replay(
     alloc: Global,
     opening: &Listing,
     history: &[ActLine],
+    room: usize,
 ) -> Result<PlainMap, SettleFault>
     ensures legal { IfOk result (λ _. IsLegal opening.now history.now) }
     ensures left { IfOk result (λ m. m ≡ left_by opening.now history.now) }
     ensures err { IfErr result (IsReplayFault opening.now history.now) }
 {
-    let mut records = load(alloc, opening)?;
+    let mut records = load(alloc, opening, room)?;
     for (place, act) in history.iter().enumerate() {
         let due = records.serve(&act.call)?;
         if !is_same(&act.reply, &due) {

@@ -37,7 +37,7 @@ fn judge(
     if let Some(stamp) = missing_stamp(&history, closed.stamps()) {
         return Err(SettleFault::MissingStamp(stamp));
     }
-    let records = replay(alloc, opening, &history)?;
+    let records = replay(alloc, opening, &history, closed.records() as usize)?;
     if let Some(key) = first_stray(records, closed.lists()) {
         return Err(SettleFault::Content(key));
     }
