@@ -85,6 +85,7 @@ fn delete_from(chain: &mut Chain, key: &Key) -> bool
 }
 
 /// Serves a call at a chain.
+#[inline(always)]
 fn serve_at(chain: &mut Chain, call: &Call) -> Result<Reply, Memory>
     ensures reply { IfOk result (λ r. r ≡ reply (map_of chain.old.pairs) call.now) }
     ensures list { OnOk result (chain.new ≡ record chain.old { pairs = served chain.old.pairs call.now }) }
@@ -166,6 +167,8 @@ impl Bucket for PagedBucket {
         Answer::new(*call, reply, self.number, k, self.initial)
     }
 
+    // Inlined with what it calls, so that an answer is made where its caller has room for it.
+    #[inline(always)]
     fn serve(&mut self, call: &Call, k: u8) -> Result<Answer, Memory>
         requires low { k ≤ 16 }
         requires here { verdict self.old.head (code_of (key_of call.now)) k ≡ Here }
