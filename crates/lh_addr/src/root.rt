@@ -106,7 +106,7 @@ impl Root {
     {
         let size = self.full_size() as u64;
         let bucket = modulo(c, size) as u32;
-        // Taken before it is known to be wanted: a processor guesses half of the branches wrong.
+        // Taken before it is known to be wanted: a processor guesses that wrong for up to half of the codes.
         let raised = modulo(c, 2 * size) as u32;
         if bucket < self.pointer() {
             raised
