@@ -1,20 +1,13 @@
 -- What the parts of a call do to its hand, one after another
 use Rattle.std.proofs.Common.{◌≡◌, ℕ, ◌+◌, ◌-◌, ◌<◌, ◌≤◌, true, false, [], ◌∷◌, ◌++◌, All, refl, sym, ap, ◌∙◌, subst, arith}
-use Rattle.std.proofs.Common.{Result, Ok, Err}
-use Rattle.std.specs.Result.{OnErr}
 use Rattle.lh_bucket.specs.declared.call.Call.{Call}
 use Rattle.lh_bucket.specs.declared.call.Reply.{Reply}
 use Rattle.lh_file.specs.FileState.{FileState, IsOf}
 use Rattle.lh_file.specs.HandState.{HandState, IsSame, knowing, with_right}
-use Rattle.lh_file.specs.Recording.{Acted, inserts_of, deletes_of, kept_of}
+use Rattle.lh_file.specs.Recording.{Acted, IsAct, inserts_of, deletes_of, kept_of}
 use Rattle.lh_file.specs.Served.{HasLooked, HasServed}
 use Rattle.lh_file.specs.Views.{rooted}
 use Rattle.lh_file.specs.declared.view.View.{View}
-
--- what holds in any case holds after an error
-pub on_err : {X E : Type 0} {P : Type 0} (r : Result X E) → P → OnErr r P
-on_err (Ok x) p = tt
-on_err (Err x) p = p
 
 -- a hand that nothing happened to
 pub looked_same : (h : HandState) → HasLooked h h
