@@ -4,7 +4,7 @@ use Rattle.lh_bucket.specs.declared.call.Call.{Call}
 use Rattle.lh_bucket.specs.declared.call.Reply.{Reply}
 use Rattle.lh_file.specs.FileState.{FileState, IsOf}
 use Rattle.lh_file.specs.HandState.{HandState, IsSame, knowing, with_right}
-use Rattle.lh_file.specs.Recording.{Acted, IsAct, inserts_of, deletes_of, kept_of}
+use Rattle.lh_file.specs.Recording.{Acted, inserts_of, deletes_of, kept_of}
 use Rattle.lh_file.specs.Served.{HasLooked, HasServed}
 use Rattle.lh_file.specs.Views.{rooted}
 use Rattle.lh_file.specs.declared.view.View.{View}
