@@ -22,6 +22,8 @@ use std::sync::{RwLockReadGuard, RwLockWriteGuard, Wait};
 impl<G: Gate> HashFile<G> {
     /// Begins a call: the hand may make it, and has room for its act where the file records. The call's
     /// aim is by the root as it is now.
+    // Inlined, since a search waits for its aim: it is then handed on in registers.
+    #[inline(always)]
     pub(crate) fn begin(&self, hand: &mut Hand, call: &Call) -> Result<Aim, FileFault>
         requires { IsOf self.now.state hand.old }
         ensures ready { OnOk result (IsReady self.now.state hand.new) }
