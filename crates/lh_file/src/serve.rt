@@ -77,6 +77,8 @@ impl<G: Gate> HashFile<G> {
     }
 
     /// Serves a call that may change its bucket.
+    // Inlined in an insert and in a delete, each of which knows its call.
+    #[inline(always)]
     fn change<R: Wait>(&self, rt: &R, hand: &mut Hand, call: &Call) -> Result<Answer, FileFault>
         requires { IsOf self.now.state hand.old }
         ensures call { IfOk result (λ a. a.call ≡ call.now) }

@@ -94,6 +94,8 @@ impl<G: Gate> HashFile<G> {
     }
 
     /// Takes the lock of the bucket that an aim leads to, alone.
+    // Inlined, so that the lock is handed on in a register.
+    #[inline(always)]
     pub(crate) fn alone<R: Wait>(
         &self,
         rt: &R,
