@@ -5,3 +5,4 @@ pub mod Chained
 pub mod MapOf
 pub mod PlainBuckets
 pub mod Kept
+pub mod Filling

@@ -34,4 +34,6 @@ pub use plain_bucket::PlainBucket;
 pub use verdict::Verdict;
 
 #[cfg(test)]
+mod filled_tests;
+#[cfg(test)]
 mod tests;

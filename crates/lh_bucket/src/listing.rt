@@ -124,6 +124,15 @@ impl Listing {
         self.lists[bucket as usize].len()
     }
 
+    /// The records of a bucket, in the order of their places.
+    pub fn pairs_of(&self, bucket: u32) -> &[Pair]
+        requires { bucket < size self.now }
+        ensures value { result.now ≡ list_at self.now.lists bucket }
+        ensures kept { IsListing self.now }
+    {
+        &self.lists[bucket as usize]
+    }
+
     /// The record at a place of a bucket.
     pub fn pair_at(&self, bucket: u32, place: usize) -> Pair
         requires bucket { bucket < size self.now }

@@ -41,6 +41,46 @@ impl Model for PagedBucket {
     ghost invariant = { λ b. IsKept (record { head = record { number = b.number; initial = b.initial; capacity = b.chain.capacity; level = b.level }; pairs = b.chain.pairs }) };
 }
 
+impl PagedBucket {
+    ghost use Rattle.std.specs.Prelude.{ℕ, ◌<◌, length, Some};
+    ghost use Rattle.std.specs.List.{IsDistinct};
+    ghost use Rattle.std.specs.Str.{bytes_eq};
+    ghost use Rattle.lh_addr.specs.Growth.{hash_at};
+    ghost use Rattle.lh_addr.specs.Limits.{IsInitial, IsCapacity};
+    ghost use Rattle.lh_page.specs.Records.{keys_of, key_at};
+
+    /// A bucket of a file that began with `initial` buckets (1 to 256) and has pages of `capacity` records
+    /// (1 to 14). It is filled at a level of at most 16, with these records in their order. No key stands
+    /// twice among them, so none is looked for.
+    pub fn filled(
+        alloc: Global,
+        initial: u32,
+        capacity: u32,
+        number: u32,
+        level: u8,
+        pairs: &[Pair],
+    ) -> Result<PagedBucket, Memory>
+        requires initial { IsInitial initial }
+        requires capacity { IsCapacity capacity }
+        requires level { level ≤ 16 }
+        requires distinct { IsDistinct bytes_eq (keys_of pairs.now) }
+        requires home { (place : ℕ) → place < length pairs.now → hash_at initial level (code_of (key_at pairs.now place)) ≡ number }
+        ensures { IfOk result (λ b. b ≡ record { head = record { number = number; initial = initial; capacity = capacity; level = Some level }; pairs = pairs.now }) }
+    {
+        let mut chain = Chain::new(alloc, capacity)?;
+        for pair in pairs {
+            chain.push(*pair)?;
+        }
+        let bucket = PagedBucket {
+            number,
+            initial,
+            level: Some(level),
+            chain,
+        };
+        Ok(bucket)
+    }
+}
+
 /// Answers a search at a chain.
 fn search_in(chain: &Chain, key: &Key) -> Reply
     ensures { result ≡ found (get (map_of chain.now.pairs) key.now) }

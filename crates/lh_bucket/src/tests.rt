@@ -49,7 +49,7 @@ fn fill<B: Bucket>(bucket: &mut B, keys: &[u8], k: u8) -> Result<(), Fail>
 }
 
 /// The first bytes of the keys, in the order of their places.
-fn keys_of<B: Bucket>(alloc: Global, bucket: &B) -> Result<Vec<u8>, Fail> {
+pub(crate) fn keys_of<B: Bucket>(alloc: Global, bucket: &B) -> Result<Vec<u8>, Fail> {
     let mut keys = Vec::new(alloc);
     for place in 0..bucket.len() {
         keys.push(bucket.pair_at(place).key.bytes()[0])?;
@@ -240,7 +240,7 @@ fn refused_growth_changes_nothing(rt: HostRuntime) -> Result<(), Fail> {
 }
 
 /// Lists of records with these first bytes of keys.
-fn lists_of(alloc: Global, keys: &[&[u8]]) -> Result<Vec<Vec<Pair>>, Fail> {
+pub(crate) fn lists_of(alloc: Global, keys: &[&[u8]]) -> Result<Vec<Vec<Pair>>, Fail> {
     let mut lists = Vec::new(alloc);
     for list in keys {
         let mut pairs = Vec::new(alloc);

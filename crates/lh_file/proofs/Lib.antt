@@ -10,7 +10,6 @@ pub mod Histories
 pub mod Levels
 pub mod Lists
 pub mod Logarithms
-pub mod Opening
 pub mod Orders
 pub mod Placed
 pub mod RootSteps

@@ -1,7 +1,7 @@
 //! How a file is opened.
 ghost use Rattle.std.specs.Prelude.{◌≡◌, ◌-◌, ◌<◌, ◌≤◌, ◌^◌, min, IfOk};
 ghost use Rattle.lh_addr.specs.Settings.{Settings};
-ghost use Rattle.lh_bucket.specs.Listing.{size, count_of};
+ghost use Rattle.lh_bucket.specs.Listing.{size, list_at, count_of};
 ghost use Rattle.lh_file.specs.FileState.{IsOpened};
 ghost use Rattle.lh_file.specs.Segments.{head_of};
 
@@ -11,10 +11,9 @@ use crate::hand::Hand;
 use crate::segment::{Segment, end_of, first_of, segment_of, unfilled};
 use crate::segments::Segments;
 use crate::words::Words;
-use lh_addr::laws::{address_is_only_bucket, root_is_only_pair};
+use lh_addr::laws::address_is_only_bucket;
 use lh_addr::{Config, Root, fnv1a};
-use lh_bucket::laws::here_is_own_level;
-use lh_bucket::{Bucket, Call, Listing, Memory, PagedBucket};
+use lh_bucket::{Listing, Memory, PagedBucket};
 use std::alloc::Global;
 
 /// A bucket with the records that a listing has for it.
@@ -22,25 +21,19 @@ fn filled(alloc: Global, listing: &Listing, root: &Root, number: u32) -> Result<
     requires initial { root.now.initial ≡ listing.now.config.initial }
     requires buckets { root.now.buckets ≡ size listing.now }
     requires below { number < size listing.now }
-    ensures { IfOk result (λ bucket. bucket.head ≡ head_of listing.now number) }
+    ensures head { IfOk result (λ bucket. bucket.head ≡ head_of listing.now number) }
+    ensures pairs { IfOk result (λ bucket. bucket.pairs ≡ list_at listing.now.lists number) }
 {
-    root_is_only_pair();
     address_is_only_bucket();
-    here_is_own_level();
     let config = listing.config();
-    let level = root.level_of(number);
-    let mut bucket = PagedBucket::make(
+    PagedBucket::filled(
         alloc,
         config.initial(),
         config.capacity(),
         number,
-        Some(level),
-    )?;
-    for place in 0..listing.len_of(number) {
-        let pair = listing.pair_at(number, place);
-        bucket.serve(&Call::Insert(pair.key, pair.value), level)?;
-    }
-    Ok(bucket)
+        root.level_of(number),
+        listing.pairs_of(number),
+    )
 }
 
 impl Segment {
