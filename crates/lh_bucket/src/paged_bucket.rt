@@ -67,10 +67,7 @@ impl PagedBucket {
         requires home { (place : ℕ) → place < length pairs.now → hash_at initial level (code_of (key_at pairs.now place)) ≡ number }
         ensures { IfOk result (λ b. b ≡ record { head = record { number = number; initial = initial; capacity = capacity; level = Some level }; pairs = pairs.now }) }
     {
-        let mut chain = Chain::new(alloc, capacity)?;
-        for pair in pairs {
-            chain.push(*pair)?;
-        }
+        let chain = Chain::from_pairs(alloc, capacity, pairs)?;
         let bucket = PagedBucket {
             number,
             initial,

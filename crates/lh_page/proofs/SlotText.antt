@@ -1,7 +1,7 @@
 -- The bytes of one slot, written and read.
-use Rattle.std.proofs.Common.{◌≡◌, ◌≢◌, ℕ, zero, suc, ◌+◌, ◌-◌, ◌≤◌, true, false, eqb, List, [], ◌∷◌, ◌++◌, length, take, drop, replicate, Some, refl, sym, ap, ◌∙◌, arith, rules, length-take-le}
+use Rattle.std.proofs.Common.{◌≡◌, ◌≢◌, ℕ, zero, suc, ◌+◌, ◌-◌, ◌≤◌, Bool, true, false, eqb, List, [], ◌∷◌, ◌++◌, length, take, drop, replicate, Some, refl, sym, ap, ◌∙◌, arith, rules, length-take-le}
 use Rattle.std.proofs.lemmas.Bool.{and_parts, eqb-true, eqb-false, ne_eqb, ltb-false, le-ltb, or_parts, or_from, not-false, not_from_true}
-use Rattle.std.proofs.lemmas.List.{append_assoc, same_lists, places, drop-drop, drop_at, take_at, take_all, length-drop, length-take, length-replicate}
+use Rattle.std.proofs.lemmas.List.{append_assoc, same_lists, places, drop-drop, drop_at, take_at, take_all, length-drop, length-take, length-replicate, drop-take}
 use Rattle.lh_page.specs.declared.pair.Pair.{Pair}
 use Rattle.lh_page.specs.Mark.{padded}
 use Rattle.lh_page.specs.PageFields.{all_zero, key_length, value_length, pair_of, is_bad_record}
@@ -26,6 +26,20 @@ all_zero-zeros (suc n) = all_zero-zeros n
 pub zeros_of_length : (bytes : List ℕ) (n : ℕ) → length bytes ≡ n → all_zero bytes ≡ true → bytes ≡ zeros n
 zeros_of_length bytes n long e = zeros_from bytes e ∙ ap zeros long
 
+-- a part of some bytes has zeros behind its first ones
+pub zeros_behind : (s : List ℕ) (p k n : ℕ) → k ≤ n → p + n ≤ length s → all_zero (take (n - k) (drop (p + k) s)) ≡ true → drop k (take n (drop p s)) ≡ replicate (n - k) 0
+zeros_behind s p k n le within clear =
+    let whole : k + (n - k) ≡ n = omega arith in
+    let long : length (take (n - k) (drop (p + k) s)) ≡ n - k = omega (arith, length-take (n - k) (drop (p + k) s), length-drop (p + k) s) in
+    ap (λ m. drop k (take m (drop p s))) (sym whole) ∙ drop-take k (n - k) (drop p s) ∙ ap (take (n - k)) (drop-drop k p s)
+    ∙ zeros_of_length (take (n - k) (drop (p + k) s)) (n - k) long clear
+
+-- what was found to be zeros behind the first bytes of a part, which ends at place q
+pub found_clear : (s : List ℕ) (p q k n : ℕ) (r : Bool) → q ≡ p + n → r ≡ all_zero (take (q - (p + k)) (drop (p + k) s)) → r ≡ true → all_zero (take (n - k) (drop (p + k) s)) ≡ true
+found_clear s p q k n r end is clear =
+    let less : n - k ≡ q - (p + k) = omega arith in
+    ap (λ m. all_zero (take m (drop (p + k) s))) less ∙ sym is ∙ clear
+
 -- ---- fields side by side
 
 pub take-add : (m n : ℕ) (bytes : List ℕ) → take (m + n) bytes ≡ take m bytes ++ take n (drop m bytes)
@@ -42,12 +56,12 @@ padded-field k n bytes le within clear =
 
 -- ---- what a slot without a fault has
 
-record IsGood (s : List ℕ) : Type 0 where
-  some : 1 ≤ key_length s
-  key : key_length s ≤ 30
-  value : value_length s ≤ 40
-  behind_key : all_zero (field s (2 + key_length s) (30 - key_length s)) ≡ true
-  behind_value : all_zero (field s (32 + value_length s) (40 - value_length s)) ≡ true
+pub record IsGood (s : List ℕ) : Type 0 where
+  pub some : 1 ≤ key_length s
+  pub key : key_length s ≤ 30
+  pub value : value_length s ≤ 40
+  pub behind_key : all_zero (field s (2 + key_length s) (30 - key_length s)) ≡ true
+  pub behind_value : all_zero (field s (32 + value_length s) (40 - value_length s)) ≡ true
 
 good_parts : (s : List ℕ) → is_bad_record s ≡ false → IsGood s
 unfolding is_bad_record
@@ -65,7 +79,7 @@ good_parts s good =
       behind_value = not-false _ p.1;
     }
 
-good_from : (s : List ℕ) → IsGood s → is_bad_record s ≡ false
+pub good_from : (s : List ℕ) → IsGood s → is_bad_record s ≡ false
 unfolding is_bad_record
 good_from s h =
     or_from _ _ (or_from _ _ (or_from _ _ (or_from _ _ (ne_eqb _ _ (λ e. omega (arith, h.some, e))) (le-ltb _ _ h.key)) (le-ltb _ _ h.value))

@@ -1,11 +1,12 @@
 //! Packed chains of records.
 ghost use Rattle.std.specs.Prelude.{not, ◌≡◌, ◌+◌, ◌<◌, [], ◌∷◌, ◌++◌, length, slice_get, Some, None, IsOk, IfOk, IfSome, IfNone, OnOk, OnErr};
-ghost use Rattle.std.specs.List.{filter, swap_remove};
+ghost use Rattle.std.specs.List.{IsDistinct, filter, swap_remove};
+ghost use Rattle.std.specs.Str.{bytes_eq};
 ghost use Rattle.lh_page.specs.Limits.{IsCapacity};
 ghost use Rattle.lh_page.specs.PackedList.{IsPackedList, pages_of};
-ghost use Rattle.lh_page.specs.Records.{place_of, value_at, with_value, AbsentBelow, StandsFirst};
+ghost use Rattle.lh_page.specs.Records.{keys_of, place_of, value_at, with_value, AbsentBelow, StandsFirst};
 
-use crate::division::{append, divided};
+use crate::division::{append, copied, divided};
 use crate::key::Key;
 use crate::key_set::KeySet;
 use crate::marks::{MARKED, find_marked, mark_at, marks_of, put_mark};
@@ -51,6 +52,19 @@ impl Chain {
             marks: [0; MARKED],
             pairs: Vec::new(alloc),
         })
+    }
+
+    /// A chain with pages of 1 to 14 records that has these records in their order. No key stands twice
+    /// among them, so none is looked for.
+    pub fn from_pairs(alloc: Global, capacity: u32, pairs: &[Pair]) -> Result<Self, Memory>
+        requires capacity { IsCapacity capacity }
+        requires distinct { IsDistinct bytes_eq (keys_of pairs.now) }
+        ensures { IfOk result (λ chain. chain ≡ record { capacity = capacity; pairs = pairs.now }) }
+    {
+        let mut chain = Chain::new(alloc, capacity)?;
+        chain.pairs = copied(alloc, pairs, capacity)?;
+        chain.marks = marks_of(pairs);
+        Ok(chain)
     }
 
     /// The number of records that a page holds.

@@ -22,6 +22,24 @@ fn half_page(capacity: u32) -> usize
     capacity.div_ceil(2) as usize
 }
 
+/// The records in so many half pages as these fill.
+fn in_half_pages(records: usize, capacity: u32) -> usize
+    requires { 1 ≤ capacity }
+{
+    let half = half_page(capacity);
+    records.div_ceil(half).saturating_mul(half)
+}
+
+/// A copy of records, in the memory of so many half pages as they fill.
+pub fn copied(alloc: Global, pairs: &[Pair], capacity: u32) -> Result<Vec<Pair>, Memory>
+    requires { 1 ≤ capacity }
+    ensures { IfOk result (λ copy. copy.items ≡ pairs.now) }
+{
+    let mut copy = Vec::with_capacity(alloc, in_half_pages(pairs.len(), capacity))?;
+    copy.extend_from_slice(pairs)?;
+    Ok(copy)
+}
+
 /// Appends a record. Where there is no room for it, the list takes the memory of half a page more.
 pub fn append(pairs: &mut Vec<Pair>, pair: Pair, capacity: u32) -> Result<(), Memory>
     requires { 1 ≤ capacity }
@@ -47,8 +65,7 @@ pub fn divided<S: KeySet>(
     ensures gone { IfOk result (λ parts. parts.gone.items ≡ filter (λ p. S.member keys.now p.key) pairs.now) }
     ensures kept { IfOk result (λ parts. parts.kept.items ≡ filter (λ p. not (S.member keys.now p.key)) pairs.now) }
 {
-    let half = half_page(capacity);
-    let room = pairs.len().div_ceil(2).div_ceil(half).saturating_mul(half);
+    let room = in_half_pages(pairs.len().div_ceil(2), capacity);
     let mut gone = Vec::with_capacity(alloc, room)?;
     let mut kept = Vec::with_capacity(alloc, room)?;
     for pair in pairs {

@@ -1,5 +1,5 @@
 //! Keys: short byte strings that are kept in place and copied freely.
-ghost use Rattle.std.specs.Prelude.{◌≡◌, ◌≢◌, ℕ, ◌≤◌, ◌↔◌, List, [], ◌∷◌, length, Some, IsOk, IfOk, IfErr, nat_eq, refl};
+ghost use Rattle.std.specs.Prelude.{◌≡◌, ◌≢◌, ℕ, ◌≤◌, ◌-◌, ◌↔◌, List, [], ◌∷◌, length, take, drop, replicate, Some, IsOk, IfOk, IfErr, nat_eq, refl};
 ghost use Rattle.std.specs.Ordering.{nat_cmp};
 ghost use Rattle.std.specs.Bool.{OnTrue, OnFalse};
 ghost use Rattle.std.specs.Cmp.{partial_equiv_from_equiv};
@@ -65,6 +65,16 @@ impl Key {
             bytes: padded,
             len: length as u8,
         })
+    }
+
+    /// The key in the first bytes of a row with zeros behind them.
+    pub(crate) fn from_row(bytes: [u8; LONGEST_KEY], len: u8) -> Self
+        requires some { 1 ≤ len }
+        requires within { len ≤ LONGEST_KEY }
+        requires padded { drop len bytes ≡ replicate (30 - len) 0 }
+        ensures { result ≡ take len bytes }
+    {
+        Key { bytes, len }
     }
 
     pub fn bytes(&self) -> &[u8]

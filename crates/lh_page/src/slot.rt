@@ -15,21 +15,23 @@ pub fn read_slot(bytes: &[u8]) -> Option<Pair>
     requires { length bytes.now ≡ 72 }
     ensures { result ≡ (if is_bad_record bytes.now then None else Some (pair_of bytes.now)) }
 {
-    let key = bytes[0] as usize;
-    let value = bytes[1] as usize;
+    let key_length = bytes[0];
+    let value_length = bytes[1];
+    let (key, value) = (key_length as usize, value_length as usize);
     if key == 0 || key > LONGEST_KEY || value > LONGEST_VALUE {
         return None;
     }
     if !is_zero(&bytes[2 + key..32]) || !is_zero(&bytes[32 + value..72]) {
         return None;
     }
-    match (
-        Key::new(&bytes[2..2 + key]),
-        Value::new(&bytes[32..32 + value]),
-    ) {
-        (Ok(key), Ok(value)) => Some(Pair { key, value }),
-        _ => None,
-    }
+    let mut key_row = [0; LONGEST_KEY];
+    key_row.copy_from_slice(&bytes[2..32]);
+    let mut value_row = [0; LONGEST_VALUE];
+    value_row.copy_from_slice(&bytes[32..72]);
+    Some(Pair {
+        key: Key::from_row(key_row, key_length),
+        value: Value::from_row(value_row, value_length),
+    })
 }
 
 /// Writes a record into a slot.

@@ -1,5 +1,5 @@
 //! Values: short byte strings that are kept in place and copied freely.
-ghost use Rattle.std.specs.Prelude.{◌≡◌, ℕ, ◌≤◌, ◌↔◌, List, [], length, Some, IsOk, IfOk, IfErr, nat_eq, refl};
+ghost use Rattle.std.specs.Prelude.{◌≡◌, ℕ, ◌≤◌, ◌↔◌, List, [], length, Some, IsOk, IfOk, IfErr, nat_eq, refl, ◌-◌, take, drop, replicate};
 ghost use Rattle.std.specs.Ordering.{nat_cmp};
 ghost use Rattle.std.specs.Cmp.{partial_equiv_from_equiv};
 ghost use Rattle.std.specs.Cmp.Lexicographic.{pointwise, slice_cmp, nat_list_eq_equiv, nat_list_cmp_total, texts_po, texts_ties};
@@ -80,6 +80,15 @@ impl Value {
             bytes: [0; LONGEST_VALUE],
             len: 0,
         }
+    }
+
+    /// The value in the first bytes of a row with zeros behind them.
+    pub(crate) fn from_row(bytes: [u8; LONGEST_VALUE], len: u8) -> Self
+        requires within { len ≤ LONGEST_VALUE }
+        requires padded { drop len bytes ≡ replicate (40 - len) 0 }
+        ensures { result ≡ take len bytes }
+    {
+        Value { bytes, len }
     }
 
     pub fn bytes(&self) -> &[u8]
