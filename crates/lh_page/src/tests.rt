@@ -166,6 +166,22 @@ fn finds_replaces_and_divides(rt: HostRuntime) -> Result<(), Fail> {
     Ok(())
 }
 
+#[test]
+#[tactic(auto, using(crate::proofs::Distinct::distinct_one))]
+fn a_chain_is_made_of_records(rt: HostRuntime) -> Result<(), Fail> {
+    let pairs = [pair_of(b"a", b"1")?];
+    let mut chain = match Chain::from_pairs(rt.alloc(), 1, &pairs) {
+        Ok(chain) => chain,
+        Err(Memory) => Chain::from_pairs(rt.alloc(), 1, &pairs)?,
+    };
+    add(&rt, &mut chain, b"b", b"2")?;
+    expect_keys(&rt, &chain, b"ab");
+    assert_eq!(rt; chain.pages(), 2);
+    assert_eq!(rt; chain.find(&Key::new(b"a")?), Some(0));
+    assert_eq!(rt; chain.pair_at(0), pair_of(b"a", b"1")?);
+    Ok(())
+}
+
 /// The primary page of bucket 0 at level 2, with a and e.
 fn worked_page() -> Result<Page, Fail> {
     let mut pairs = Pairs::new();
