@@ -31,6 +31,7 @@ impl Aim {
             bucket,
         }
     }
+
     /// The fault of a call that met this bucket, which its aim can't lead to.
     pub(crate) fn defect(self, found: &PagedBucket) -> FileFault
         ensures { IsNotSpent result }

@@ -12,7 +12,7 @@ use crate::segment::{Segment, end_of, first_of, segment_of, unfilled};
 use crate::segments::Segments;
 use crate::words::Words;
 use lh_addr::laws::address_is_only_bucket;
-use lh_addr::{Config, Root, fnv1a};
+use lh_addr::{Config, Root};
 use lh_bucket::{Listing, Memory, PagedBucket};
 use std::alloc::Global;
 
