@@ -20,10 +20,10 @@ use Rattle.lh_core.specs.World.{WorldSeen, no_bucket}
 use Rattle.lh_image.specs.declared.fault.WriteImageFault.TheVariants.{TooLarge as TooMany, WriteFault}
 use Rattle.lh_image.specs.Canonical.{canonical}
 use Rattle.lh_image.specs.Writing.{IsWritten}
-use Rattle.lhash.specs.Commands.{command}
+use Rattle.lh_script.specs.Commands.{command}
 use Rattle.lhash.specs.Images.{EndsBuilding, IsLedTo}
 use Rattle.lhash.specs.Run.{ReadsScript}
-use Rattle.lhash.specs.Scripts.{script}
+use Rattle.lh_script.specs.Scripts.{script}
 use Rattle.lhash.specs.declared.status.DeviceFault.TheVariants.{Read, Write}
 use Rattle.lhash.specs.declared.status.InputFault.TheVariants.{Script, Image, TooLarge}
 use Rattle.lhash.specs.declared.status.Status.{Status}

@@ -4,7 +4,7 @@ use Rattle.std.proofs.KnownBytes.{Appends-trans, Appends-kept, Consumes-trans, C
 use Rattle.std.proofs.lemmas.Grind.{common_steps}
 use Rattle.std.specs.Io.KnownBytes.{Appends, Consumes, IsAtEnd, Keeps}
 use Rattle.lhash.specs.Devices.{ReadsOnto, IsReadOf, TakesBeginning}
-use Rattle.lhash.proofs.Splitting.{part_from}
+use Rattle.lh_script.proofs.Splitting.{part_from}
 
 pub reads_none : (a : Option (List ℕ)) → Consumes a a []
 reads_none a = Consumes-nil a

@@ -6,12 +6,12 @@ use Rattle.std.proofs.KnownBytes.{Keeps-refl}
 use Rattle.lh_addr.specs.Settings.{Settings}
 use Rattle.lh_bucket.specs.declared.call.Call.{Call as CallOf}
 use Rattle.lh_file.specs.declared.settle_fault.SettleFault.TheVariants as settle
-use Rattle.lhash.specs.Commands.{command}
+use Rattle.lh_script.specs.Commands.{command}
 use Rattle.lhash.specs.Devices.{TakesBeginning}
 use Rattle.lhash.specs.Driven.{driven_text}
 use Rattle.lhash.specs.Driving.{EndsDriving, IsDriven, IsDriveFault, ended_by}
 use Rattle.lhash.specs.Run.{ReadsScript}
-use Rattle.lhash.specs.Scripts.{script}
+use Rattle.lh_script.specs.Scripts.{script}
 use Rattle.lhash.specs.declared.drive.DriveFault.{DriveFault}
 use Rattle.lhash.specs.declared.drive.DriveFault.TheVariants.{Settle, Call, Thread, Memory}
 use Rattle.lhash.specs.declared.driven.Driven.{Driven}

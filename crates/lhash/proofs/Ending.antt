@@ -12,14 +12,14 @@ use Rattle.lh_core.specs.World.{WorldSeen}
 use Rattle.lh_core.specs.declared.event.Event.{Event}
 use Rattle.lhash.specs.Devices.{IsReadOf, TakesBeginning}
 use Rattle.lhash.specs.Run.{Ends, EndsSteps, ReadsScript, due, is_want}
-use Rattle.lhash.specs.StepTexts.{steps_text}
-use Rattle.lhash.specs.Steps.{step}
-use Rattle.lhash.specs.declared.fault.ScriptFault.{ScriptFault}
+use Rattle.lh_script.specs.StepTexts.{steps_text}
+use Rattle.lh_script.specs.Steps.{step}
+use Rattle.lh_script.specs.declared.fault.ScriptFault.{ScriptFault}
 use Rattle.lhash.specs.declared.status.DeviceFault.TheVariants.{Read, Write}
 use Rattle.lhash.specs.declared.status.InputFault.TheVariants.{Script, Image, TooLarge}
 use Rattle.lhash.specs.declared.status.Status.{Status}
 use Rattle.lhash.specs.declared.status.Status.TheVariants.{Done, Input, Words, Device, Memory, NotSettled}
-use Rattle.lhash.specs.Scripts.{Reading, script}
+use Rattle.lh_script.specs.Scripts.{Reading, script}
 
 -- a run that read no script ends without a write
 pub unread : {A : Type 0} (status : Status) (given : Result (List A) ScriptFault) (output : List A → List ℕ) (a : Option (List ℕ)) →

@@ -10,7 +10,7 @@ use Rattle.lh_image.specs.declared.fault.ImageFault.TheVariants.{ReadFault, Memo
 use Rattle.lh_image.specs.Census.{census_of}
 use Rattle.lh_image.specs.Reading.{IsTold, reading_of}
 use Rattle.lhash.specs.Devices.{TakesBeginning}
-use Rattle.lhash.specs.Drawing.{drawing_of}
+use Rattle.lh_draw.specs.Drawing.{drawing_of}
 use Rattle.lhash.specs.ImageTexts.{check_text, dump_text}
 use Rattle.lhash.specs.Images.{check_due, draw_due, dump_due, refused_as, told_of}
 use Rattle.lhash.specs.Run.{Ends}

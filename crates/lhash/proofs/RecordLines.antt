@@ -9,7 +9,7 @@ use Rattle.lh_page.specs.declared.pair.Pair.{Pair}
 use Rattle.lh_bucket.specs.Listing.{Lists, list_at, size}
 use Rattle.lhash.specs.Devices.{Sends, TakesBeginning}
 use Rattle.lhash.specs.ImageTexts.{bucket_text, dump_text, record_text}
-use Rattle.lhash.specs.Texts.{line}
+use Rattle.lh_script.specs.Texts.{line}
 use Rattle.lhash.proofs.ReplyLines.{pieces-split}
 use Rattle.lhash.proofs.Sending.{begins_longer}
 

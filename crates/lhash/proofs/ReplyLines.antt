@@ -4,8 +4,8 @@ use Rattle.std.proofs.lemmas.List.{take_all}
 use Rattle.lh_bucket.specs.declared.call.Reply.{Reply}
 use Rattle.lh_core.specs.Log.{Entry}
 use Rattle.lhash.specs.Devices.{TakesBeginning}
-use Rattle.lhash.specs.StepTexts.{entry_text, steps_text}
-use Rattle.lhash.specs.Texts.{line, reply_text, size_text, commands_text}
+use Rattle.lh_script.specs.StepTexts.{entry_text, steps_text}
+use Rattle.lh_script.specs.Texts.{line, reply_text, size_text, commands_text}
 use Rattle.lhash.proofs.Sending.{begins_longer}
 
 abbrev pub lines_of : {X : Type 0} → (X → List ℕ) → List X → List ℕ

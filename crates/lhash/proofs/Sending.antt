@@ -5,7 +5,7 @@ use Rattle.std.specs.Fmt.{AppendsText, with_newline}
 use Rattle.std.specs.Io.KnownBytes.{Appends}
 use Rattle.std.proofs.KnownBytes.{Appends-trans, Appends-nil}
 use Rattle.lhash.specs.Devices.{Sends, TakesBeginning}
-use Rattle.lhash.specs.Texts.{line}
+use Rattle.lh_script.specs.Texts.{line}
 
 -- nothing is sent, and nothing waits
 pub sends_nothing : (a : Option (List ℕ)) (waiting : List ℕ) → waiting ≡ [] → Sends a a waiting []

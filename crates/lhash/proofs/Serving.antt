@@ -3,16 +3,16 @@ use Rattle.std.proofs.Common.{◌≡◌, ℕ, ◌<◌, ◌≤◌, List, Option, 
 use Rattle.std.specs.Io.KnownBytes.{Keeps}
 use Rattle.clap.specs.Walk.{Text}
 use Rattle.lh_addr.specs.Settings.{Settings}
-use Rattle.lhash.specs.Options.{Accepts, AsksForHelp, Answers, Asks, IsMaxBelowInitial, settings_given}
+use Rattle.lh_options.specs.Options.{Accepts, AsksForHelp, Answers, Asks, IsMaxBelowInitial, settings_given}
 use Rattle.lhash.specs.Driving.{EndsDriving}
 use Rattle.lhash.specs.Images.{EndsBuilding, check_due, draw_due, dump_due}
 use Rattle.lhash.specs.Run.{Ends, EndsSteps, commands_due}
 use Rattle.lhash.specs.Serving.{IsHelped, IsServable, IsTurnedAway, IsWordsOf, Serves, below_initial}
 use Rattle.lhash.proofs.Ending.{no_memory}
-use Rattle.lhash.proofs.Requests.{image-settings}
-use Rattle.lhash.proofs.Unlike.{unlike}
-use Rattle.lhash.specs.declared.options.Request.{Request}
-use Rattle.lhash.specs.declared.options.Request.TheVariants.{Commands, Steps, Build, Check, Draw, Dump, Drive, Help, Refused, MaxBelowInitial}
+use Rattle.lh_options.proofs.Requests.{image-settings}
+use Rattle.lh_options.proofs.Unlike.{unlike}
+use Rattle.lh_options.specs.declared.options.Request.{Request}
+use Rattle.lh_options.specs.declared.options.Request.TheVariants.{Commands, Steps, Build, Check, Draw, Dump, Drive, Help, Refused, MaxBelowInitial}
 use Rattle.lhash.specs.declared.status.DeviceFault.TheVariants.{Read, Write}
 use Rattle.lhash.specs.declared.status.Status.{Status}
 use Rattle.lhash.specs.declared.status.Status.TheVariants.{Done, Input, Words, Device, Memory, NotSettled}

@@ -3,10 +3,10 @@ use Rattle.std.proofs.Common.{◌≡◌, ◌∙◌, true, false, if◌then◌els
 use Rattle.std.proofs.Math.Numerals.{add-one}
 use Rattle.std.proofs.lemmas.Bool.{cases_lt}
 use Rattle.lh_bucket.specs.Listing.{Lists, size}
-use Rattle.lhash.specs.Columns.{column_count, is_detailed}
+use Rattle.lh_draw.specs.Columns.{column_count, is_detailed}
 use Rattle.lhash.specs.Devices.{Sends, TakesBeginning}
-use Rattle.lhash.specs.Drawing.{chain_text, columns_text, group_bar, in_turn}
-use Rattle.lhash.specs.DrawingTexts.{bar_text}
+use Rattle.lh_draw.specs.Drawing.{chain_text, columns_text, group_bar, in_turn}
+use Rattle.lh_draw.specs.DrawingTexts.{bar_text}
 use Rattle.lhash.proofs.Sending.{begins_longer}
 
 -- one text more

@@ -3,7 +3,7 @@ use Rattle.std.specs.Prelude.{◌≡◌, ℕ, Bool, true, false, List, ◌++◌,
 use Rattle.lh_bucket.specs.declared.call.Reply.{Reply}
 use Rattle.lh_bucket.specs.declared.call.Reply.TheVariants.{Found, Absent, Inserted, Exists, Deleted}
 use Rattle.lhash.specs.ImageTexts.{number_line}
-use Rattle.lhash.specs.Texts.{line}
+use Rattle.lh_script.specs.Texts.{line}
 use Rattle.lhash.specs.declared.driven.Driven.{Driven}
 
 -- whether a reply is a value that was found

@@ -13,10 +13,10 @@ use Rattle.lh_file.specs.declared.fault.FileFault.{FileFault}
 use Rattle.lh_file.specs.declared.fault.FileFault.TheVariants as file
 use Rattle.lh_file.specs.declared.settle_fault.SettleFault.{SettleFault}
 use Rattle.lh_file.specs.declared.settle_fault.SettleFault.TheVariants as settle
-use Rattle.lhash.specs.Commands.{command}
+use Rattle.lh_script.specs.Commands.{command}
 use Rattle.lhash.specs.Driven.{Counts, driven_text}
 use Rattle.lhash.specs.Run.{EndsTelling}
-use Rattle.lhash.specs.Scripts.{script}
+use Rattle.lh_script.specs.Scripts.{script}
 use Rattle.lhash.specs.declared.drive.DriveFault.{DriveFault}
 use Rattle.lhash.specs.declared.drive.DriveFault.TheVariants.{Settle, Call, Thread, Memory}
 use Rattle.lhash.specs.declared.driven.Driven.{Driven}

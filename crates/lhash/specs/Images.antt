@@ -15,11 +15,11 @@ use Rattle.lh_image.specs.declared.fault.ImageFault.TheVariants.{ReadFault, Memo
 use Rattle.lh_image.specs.Canonical.{canonical, page_total}
 use Rattle.lh_image.specs.Census.{census_of}
 use Rattle.lh_image.specs.Reading.{reading_of}
-use Rattle.lhash.specs.Commands.{command}
-use Rattle.lhash.specs.Drawing.{drawing_of}
+use Rattle.lh_script.specs.Commands.{command}
+use Rattle.lh_draw.specs.Drawing.{drawing_of}
 use Rattle.lhash.specs.ImageTexts.{check_text, dump_text}
 use Rattle.lhash.specs.Run.{EndsTelling}
-use Rattle.lhash.specs.Scripts.{script}
+use Rattle.lh_script.specs.Scripts.{script}
 use Rattle.lhash.specs.declared.status.DeviceFault.TheVariants.{Read}
 use Rattle.lhash.specs.declared.status.InputFault.{InputFault}
 use Rattle.lhash.specs.declared.status.InputFault.TheVariants.{Image, TooLarge}

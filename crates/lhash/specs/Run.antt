@@ -5,7 +5,7 @@ use Rattle.std.specs.List.{list_any}
 use Rattle.std.specs.FinMap.{empty}
 use Rattle.std.specs.Io.KnownBytes.{Keeps, Appends}
 use Rattle.lh_addr.specs.Settings.{Settings}
-use Rattle.lhash.specs.Commands.{command}
+use Rattle.lh_script.specs.Commands.{command}
 use Rattle.lhash.specs.Devices.{TakesBeginning}
 use Rattle.lh_bucket.specs.PlainMap.{replies}
 use Rattle.lh_core.specs.Serial.{size_of}
@@ -14,11 +14,11 @@ use Rattle.lh_core.specs.Log.{Entry}
 use Rattle.lh_core.specs.World.{WorldSeen}
 use Rattle.lh_core.specs.declared.effect.Refusal.TheVariants as refusal
 use Rattle.lh_core.specs.declared.event.Event.{Event}
-use Rattle.lhash.specs.Scripts.{script}
-use Rattle.lhash.specs.StepTexts.{steps_text}
-use Rattle.lhash.specs.Steps.{step}
-use Rattle.lhash.specs.Texts.{commands_text}
-use Rattle.lhash.specs.declared.fault.ScriptFault.{ScriptFault}
+use Rattle.lh_script.specs.Scripts.{script}
+use Rattle.lh_script.specs.StepTexts.{steps_text}
+use Rattle.lh_script.specs.Steps.{step}
+use Rattle.lh_script.specs.Texts.{commands_text}
+use Rattle.lh_script.specs.declared.fault.ScriptFault.{ScriptFault}
 use Rattle.lhash.specs.declared.status.DeviceFault.TheVariants.{Read, Write}
 use Rattle.lhash.specs.declared.status.InputFault.{InputFault}
 use Rattle.lhash.specs.declared.status.InputFault.TheVariants.{Script}

@@ -2,7 +2,7 @@
 use Rattle.std.specs.Prelude.{ℕ, List, [], ◌++◌, codes}
 use Rattle.std.specs.String.{string_bytes}
 use Rattle.lh_image.specs.Texts.{image_fault_text}
-use Rattle.lhash.specs.FaultTexts.{script_fault_text}
+use Rattle.lh_script.specs.FaultTexts.{script_fault_text}
 use Rattle.lhash.specs.declared.status.DeviceFault.{DeviceFault}
 use Rattle.lhash.specs.declared.status.DeviceFault.TheVariants.{Read, Write}
 use Rattle.lhash.specs.declared.status.InputFault.{InputFault}

@@ -1,18 +1,17 @@
 //! The subcommands `commands` and `steps`, from the bytes of a script to the bytes of what is told.
 ghost use Rattle.std.specs.Prelude.{◌≡◌, IfSome};
 ghost use Rattle.std.specs.List.{list_any};
-ghost use Rattle.lhash.specs.Commands.{command};
+ghost use Rattle.lh_script.specs.Commands.{command};
 ghost use Rattle.lhash.specs.Run.{Ends, EndsSteps, ReadsScript, commands_due, is_want};
-ghost use Rattle.lhash.specs.Scripts.{script};
+ghost use Rattle.lh_script.specs.Scripts.{script};
 
 use crate::device::{ReadError, WriteFailed, read_up_to};
-use crate::fault::ParseError;
 use crate::output::{room, write_entries, write_replies};
-use crate::script::{MOST_BYTES, Statement, parse};
 use crate::status::{DeviceFault, InputFault, Status};
 use lh_addr::Config;
 use lh_bucket::{Call, PagedBucket};
 use lh_core::{Effect, Event, Refusal, run, serial};
+use lh_script::{MOST_BYTES, ParseError, Statement, parse};
 use std::alloc::Global;
 use std::io::{Read, Write};
 

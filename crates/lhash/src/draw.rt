@@ -3,25 +3,22 @@ ghost use Rattle.std.specs.Prelude.{◌≡◌, ◌++◌, ◌<◌, ◌≤◌, ℕ
 ghost use Rattle.std.specs.String.{string_bytes};
 ghost use Rattle.std.specs.Io.KnownBytes.{Appends};
 ghost use Rattle.lh_bucket.specs.Listing.{size};
-ghost use Rattle.lhash.specs.Columns.{column_count, whole_tally};
+ghost use Rattle.lh_draw.specs.Columns.{column_count, whole_tally};
 ghost use Rattle.lhash.specs.Devices.{Sends, TakesBeginning};
-ghost use Rattle.lhash.specs.Drawing.{chain_text, columns_text, drawing_of, foot_text, group_bar, head_text, in_turn};
-ghost use Rattle.lhash.specs.DrawingTexts.{bar_text};
+ghost use Rattle.lh_draw.specs.Drawing.{chain_text, columns_text, drawing_of, foot_text, group_bar, head_text, in_turn};
+ghost use Rattle.lh_draw.specs.DrawingTexts.{bar_text};
 ghost use Rattle.lhash.specs.Images.{draw_due};
 ghost use Rattle.lhash.specs.Run.{Ends};
 
 use crate::device::{WriteFailed, write_all};
-use crate::drawing::columns::{
-    canvas_of, cuts_of, floor_of, group_bar, label_count, label_of, legend_of, mark_of, more_of,
-    page_bar, title_of, whole_tally,
-};
-use crate::drawing::elements::{Caption, Plot};
-use crate::drawing::measures::{column_count, is_detailed};
-use crate::drawing::tally::chain_length;
 use crate::images::unreadable;
 use crate::output::{put, room};
 use crate::status::{DeviceFault, Status};
 use lh_bucket::Listing;
+use lh_draw::{
+    Caption, Plot, canvas_of, chain_length, column_count, cuts_of, floor_of, group_bar,
+    is_detailed, label_count, label_of, legend_of, mark_of, more_of, page_bar, title_of, whole_tally,
+};
 use lh_image::read_image;
 use std::alloc::Global;
 use std::io::{Read, Write};

@@ -2,9 +2,9 @@
 ghost use Rattle.std.specs.Prelude.{Some};
 ghost use Rattle.lhash.specs.ImageTexts.{check_text, record_text};
 
-use crate::texts::{KeyText, ValueText};
 use lh_image::Census;
 use lh_page::Pair;
+use lh_script::{KeyText, ValueText};
 use std::fmt;
 
 /// A census as seven lines, each a name and a number.

@@ -9,28 +9,15 @@
 #![tactic(auto)]
 
 mod answer;
-mod commands;
 mod device;
 mod draw;
-mod drawing;
 mod drive;
 mod driven;
-mod fault;
-mod help;
-mod hexadecimal;
 mod image_texts;
 mod images;
-mod lines;
-mod operands;
-mod option_laws;
-mod options;
 mod output;
 mod program;
-mod script;
 mod status;
-mod step_texts;
-mod steps;
-mod texts;
 mod unsettled;
 mod workers;
 

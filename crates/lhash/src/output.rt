@@ -5,15 +5,14 @@ ghost use Rattle.std.specs.Io.KnownBytes.{Appends};
 ghost use Rattle.lh_bucket.specs.Listing.{list_at, size};
 ghost use Rattle.lhash.specs.Devices.{TakesBeginning, Sends};
 ghost use Rattle.lhash.specs.ImageTexts.{bucket_text, dump_text};
-ghost use Rattle.lhash.specs.StepTexts.{steps_text};
-ghost use Rattle.lhash.specs.Texts.{commands_text, line, reply_text, size_text};
+ghost use Rattle.lh_script.specs.StepTexts.{steps_text};
+ghost use Rattle.lh_script.specs.Texts.{commands_text, line, reply_text, size_text};
 
 use crate::device::{WriteFailed, write_all};
 use crate::image_texts::RecordText;
-use crate::step_texts::EntryText;
-use crate::texts::{ReplyText, SizeText};
 use lh_bucket::{Listing, Reply};
 use lh_core::{Effect, Refusal};
+use lh_script::{EntryText, ReplyText, SizeText};
 use std::alloc::{AllocError, Global};
 use std::fmt::Display;
 use std::io::Write;

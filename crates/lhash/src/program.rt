@@ -4,7 +4,7 @@ ghost use Rattle.std.specs.Io.KnownBytes.{Keeps};
 ghost use Rattle.lh_addr.specs.Settings.{Settings};
 ghost use Rattle.lhash.specs.Driving.{EndsDriving};
 ghost use Rattle.lhash.specs.Images.{EndsBuilding, check_due, draw_due, dump_due};
-ghost use Rattle.lhash.specs.Options.{Accepts, Asks, settings_given};
+ghost use Rattle.lh_options.specs.Options.{Accepts, Asks, settings_given};
 ghost use Rattle.lhash.specs.Run.{Ends, EndsSteps, commands_due};
 ghost use Rattle.lhash.specs.Serving.{IsHelped, IsServable, IsTurnedAway, IsWordsOf, Serves, below_initial};
 
@@ -13,8 +13,8 @@ use crate::device::write_all;
 use crate::draw::answer_draw;
 use crate::drive::answer_drive;
 use crate::images::{answer_build, answer_check, answer_dump};
-use crate::options::{Request, request_of};
 use crate::status::{DeviceFault, Status};
+use lh_options::{Request, request_of};
 use std::alloc::Global;
 use std::io::{Read, Write};
 use std::sync::Wait;

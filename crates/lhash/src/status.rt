@@ -2,9 +2,9 @@
 ghost use Rattle.std.specs.Prelude.{◌≡◌, Some};
 ghost use Rattle.lhash.specs.Status.{code_of, status_text};
 
-use crate::fault::ScriptFault;
 use crate::unsettled::Unsettled;
 use lh_image::ImageFault;
+use lh_script::ScriptFault;
 use std::fmt;
 
 /// What is wrong with an input.

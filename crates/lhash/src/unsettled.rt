@@ -2,8 +2,8 @@
 ghost use Rattle.std.specs.Prelude.{Some};
 ghost use Rattle.lhash.specs.Unsettled.{unsettled_text};
 
-use crate::texts::KeyText;
 use lh_page::Key;
+use lh_script::KeyText;
 use std::fmt;
 
 /// Why what threads did to a file is not settled. Want of memory is no such fault.

@@ -2,9 +2,9 @@ use Rattle.std.proofs.Common.{◌≡◌, ◌<◌, ap, arith}
 use Rattle.std.specs.Prelude.{min}
 use Rattle.std.proofs.lemmas.Result.{on_ok_weaker}
 use Rattle.lh_bucket.specs.Listing.{list_at}
-use Rattle.lhash.specs.Columns.{chain_length}
-use Rattle.lhash.specs.Drawing.{chain_text}
-use Rattle.lhash.specs.DrawingTexts.{bar_text, more_text}
+use Rattle.lh_draw.specs.Columns.{chain_length}
+use Rattle.lh_draw.specs.Drawing.{chain_text}
+use Rattle.lh_draw.specs.DrawingTexts.{bar_text, more_text}
 use Rattle.lhash.proofs.Sending.{on_err, on_err_weaker}
 use Rattle.lhash.proofs.Turns.{part_sent, part_stopped, stops_longer, turn_begins, turn_ends, turn_goes_on, turn_stops}
 use Rattle.lhash.proofs.draw.write_chain.Goals as goal

@@ -1,8 +1,8 @@
 use Rattle.std.proofs.Common.{ℕ, List, ◌++◌, Option}
 use Rattle.std.specs.String.{string_bytes}
 use Rattle.lhash.specs.Devices.{Sends}
-use Rattle.lhash.specs.Drawing.{in_turn, page_bar}
-use Rattle.lhash.specs.DrawingTexts.{bar_text}
+use Rattle.lh_draw.specs.Drawing.{in_turn, page_bar}
+use Rattle.lh_draw.specs.DrawingTexts.{bar_text}
 use Rattle.lhash.proofs.draw.write_chain.Given as goal
 
 abbrev pub invariant-loop-page : goal.invariant-loop-page

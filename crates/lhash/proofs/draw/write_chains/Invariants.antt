@@ -1,7 +1,7 @@
 use Rattle.std.proofs.Common.{ℕ, List, ◌++◌, Option}
 use Rattle.std.specs.String.{string_bytes}
 use Rattle.lhash.specs.Devices.{Sends}
-use Rattle.lhash.specs.Drawing.{chain_text, in_turn}
+use Rattle.lh_draw.specs.Drawing.{chain_text, in_turn}
 use Rattle.lhash.proofs.draw.write_chains.Given as goal
 
 abbrev pub invariant-loop-bucket : goal.invariant-loop-bucket

@@ -1,7 +1,7 @@
 use Rattle.std.proofs.Common.{◌≡◌, ◌∙◌, true, false, ap, sym}
 use Rattle.std.proofs.lemmas.Result.{on_ok_weaker}
 use Rattle.lh_bucket.specs.Listing.{size}
-use Rattle.lhash.specs.Columns.{is_detailed}
+use Rattle.lh_draw.specs.Columns.{is_detailed}
 use Rattle.lhash.proofs.Sending.{on_err_weaker}
 use Rattle.lhash.proofs.Turns.{columns_of_few, columns_of_many, text_sent, text_stopped}
 use Rattle.lhash.proofs.draw.write_columns.Goals as goal

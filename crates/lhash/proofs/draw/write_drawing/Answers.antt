@@ -3,7 +3,7 @@ use Rattle.std.specs.Io.KnownBytes.{Appends}
 use Rattle.std.specs.String.{string_bytes}
 use Rattle.std.proofs.lemmas.Result.{on_ok_weaker}
 use Rattle.lhash.specs.Devices.{Sends, TakesBeginning}
-use Rattle.lhash.specs.Drawing.{drawing_of}
+use Rattle.lh_draw.specs.Drawing.{drawing_of}
 use Rattle.lhash.proofs.Sending.{begins_longer, on_err, on_err_weaker, sends_all, sends_nothing, stops_within}
 use Rattle.lhash.proofs.draw.write_drawing.Goals as goal
 

@@ -1,7 +1,7 @@
 use Rattle.std.proofs.Common.{◌≡◌, ◌<◌, refl, ap, arith}
 use Rattle.std.proofs.lemmas.Result.{on_ok_weaker}
-use Rattle.lhash.specs.Drawing.{foot_text, label_count}
-use Rattle.lhash.specs.DrawingTexts.{cuts_text, label_text, mark_text}
+use Rattle.lh_draw.specs.Drawing.{foot_text, label_count}
+use Rattle.lh_draw.specs.DrawingTexts.{cuts_text, label_text, mark_text}
 use Rattle.lhash.proofs.Sending.{on_err, on_err_weaker}
 use Rattle.lhash.proofs.Turns.{part_sent, part_stopped, stops_longer, text_sent, text_stopped, turn_begins, turn_ends, turn_goes_on, turn_stops}
 use Rattle.lhash.proofs.draw.write_foot.Goals as goal

@@ -1,8 +1,8 @@
 use Rattle.std.proofs.Common.{ℕ, List, ◌++◌, Option}
 use Rattle.std.specs.String.{string_bytes}
 use Rattle.lhash.specs.Devices.{Sends}
-use Rattle.lhash.specs.Drawing.{cuts_of, in_turn, label_of}
-use Rattle.lhash.specs.DrawingTexts.{cuts_text, label_text}
+use Rattle.lh_draw.specs.Drawing.{cuts_of, in_turn, label_of}
+use Rattle.lh_draw.specs.DrawingTexts.{cuts_text, label_text}
 use Rattle.lhash.proofs.draw.write_foot.Given as goal
 
 abbrev pub invariant-loop-place : goal.invariant-loop-place

@@ -1,7 +1,7 @@
 use Rattle.std.proofs.Common.{◌∙◌, ◌<◌, ℕ, ap, subst}
 use Rattle.lh_bucket.specs.Listing.{size}
-use Rattle.lhash.specs.Columns.{column_count}
-use Rattle.lhash.specs.DrawingTexts.{bar_text}
+use Rattle.lh_draw.specs.Columns.{column_count}
+use Rattle.lh_draw.specs.DrawingTexts.{bar_text}
 use Rattle.lhash.proofs.Sending.{on_err}
 use Rattle.lhash.proofs.Turns.{turn_begins, turn_goes_on, turn_stops}
 use Rattle.lhash.proofs.draw.write_groups.Goals as goal

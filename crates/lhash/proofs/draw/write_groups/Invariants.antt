@@ -1,8 +1,8 @@
 use Rattle.std.proofs.Common.{ℕ, List, ◌++◌, Option}
 use Rattle.std.specs.String.{string_bytes}
 use Rattle.lhash.specs.Devices.{Sends}
-use Rattle.lhash.specs.Drawing.{group_bar, in_turn}
-use Rattle.lhash.specs.DrawingTexts.{bar_text}
+use Rattle.lh_draw.specs.Drawing.{group_bar, in_turn}
+use Rattle.lh_draw.specs.DrawingTexts.{bar_text}
 use Rattle.lhash.proofs.draw.write_groups.Given as goal
 
 abbrev pub invariant-loop-column : goal.invariant-loop-column

@@ -1,9 +1,9 @@
 use Rattle.std.proofs.Common.{◌≡◌, ◌∙◌, ap}
 use Rattle.std.proofs.lemmas.Result.{on_ok_weaker}
 use Rattle.lh_bucket.specs.Listing.{size}
-use Rattle.lhash.specs.Columns.{is_detailed, whole_tally}
-use Rattle.lhash.specs.Drawing.{floor_of, head_text}
-use Rattle.lhash.specs.DrawingTexts.{canvas_text, caption_text, legend_text, plot_text, title_text}
+use Rattle.lh_draw.specs.Columns.{is_detailed, whole_tally}
+use Rattle.lh_draw.specs.Drawing.{floor_of, head_text}
+use Rattle.lh_draw.specs.DrawingTexts.{canvas_text, caption_text, legend_text, plot_text, title_text}
 use Rattle.lhash.proofs.Sending.{on_err, on_err_weaker}
 use Rattle.lhash.proofs.Turns.{part_sent, part_stopped, stops_longer, text_sent, text_stopped}
 use Rattle.lhash.proofs.draw.write_head.Goals as goal

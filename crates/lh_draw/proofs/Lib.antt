@@ -1,0 +1,2 @@
+pub mod ColumnPlaces
+pub mod Tallies

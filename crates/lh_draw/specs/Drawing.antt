@@ -1,0 +1,146 @@
+-- What is drawn of a file: a column for each bucket, or for each group of buckets where there are many
+use Rattle.std.specs.Prelude.{ℕ, zero, suc, ◌+◌, ◌-◌, ◌*◌, ◌/◌, min, max, if◌then◌else◌, List, [], ◌++◌, length}
+use Rattle.lh_addr.specs.Growth.{level, pointer}
+use Rattle.lh_bucket.specs.Listing.{Lists, size, list_at}
+use Rattle.lh_draw.specs.Columns.{bar_width, centre, chain_length, column_count, end_bucket, first_bucket, group_size, is_detailed, is_next_level, label_step, left, lists_between, tally_of, whole_tally}
+use Rattle.lh_draw.specs.DrawingTexts.{bar_text, canvas_text, caption_text, cuts_text, label_text, legend_text, mark_text, more_text, plot_text, title_text}
+use Rattle.lh_draw.specs.declared.bars.Bar.{Bar}
+use Rattle.lh_draw.specs.declared.elements.Canvas.{Canvas}
+use Rattle.lh_draw.specs.declared.bars.Cuts.{Cuts}
+use Rattle.lh_draw.specs.declared.elements.Label.{Label}
+use Rattle.lh_draw.specs.declared.elements.Legend.{Legend}
+use Rattle.lh_draw.specs.declared.elements.Mark.{Mark}
+use Rattle.lh_draw.specs.declared.bars.More.{More}
+use Rattle.lh_draw.specs.declared.elements.Title.{Title}
+use Rattle.lh_draw.specs.declared.tally.Tally.{Tally}
+
+-- ---- the parts of a drawing; lengths are in pixels, and a page is 36 high, 40 above the one before it in its chain
+
+-- such a part of a height as is used of some slots
+abbrev pub part_of : ℕ → ℕ → ℕ → ℕ
+part_of height used slots = height * used / slots
+
+-- how high the records of some slots stand, of which a page's are 40 high, up to a limit
+abbrev pub load_of : ℕ → ℕ → ℕ → ℕ
+load_of records slots most = min (40 * records / slots) most
+
+-- the floor is below the title and the longest chain, of which 24 pages are drawn
+abbrev pub floor_of : ℕ → ℕ
+floor_of longest = 92 + 40 * min longest 24
+
+unfoldable pub canvas_of : Lists → Canvas
+canvas_of l = record {
+  width = 48 + max (left (size l) (column_count (size l))) 600;
+  height = floor_of (whole_tally l).longest + 56;
+}
+
+-- the pages are counted with the header, as `check` does
+unfoldable pub title_of : Lists → Title
+title_of l = record {
+  buckets = size l;
+  level = level l.config.initial (size l);
+  pointer = pointer l.config.initial (size l);
+  records = (whole_tally l).records;
+  pages = (whole_tally l).pages + 1;
+  longest = (whole_tally l).longest;
+}
+
+unfoldable pub legend_of : Lists → Legend
+legend_of l = record {
+  level = level l.config.initial (size l);
+  next = level l.config.initial (size l) + 1;
+  group = group_size (size l);
+}
+
+-- page p of a bucket, used as far as it has records
+unfoldable pub page_bar : Lists → ℕ → ℕ → Bar
+page_bar l bucket p =
+    let capacity : ℕ = l.config.capacity in
+    record {
+      left = left (size l) bucket;
+      foot = 40 * p;
+      width = bar_width (size l);
+      height = 36;
+      used = part_of 36 (min (length (list_at l.lists bucket) - capacity * p) capacity) capacity;
+      is_next = is_next_level l bucket;
+    }
+
+unfoldable pub more_of : Lists → ℕ → More
+more_of l bucket = record {
+  centre = centre (size l) bucket;
+  pages = chain_length l.config.capacity (list_at l.lists bucket);
+}
+
+-- the buckets of a column, counted
+abbrev pub group_tally : Lists → ℕ → Tally
+group_tally l column = tally_of l.config.capacity (lists_between l (first_bucket (size l) column) (end_bucket (size l) column))
+
+-- a column of a group: as high as its longest chain, and used as high as a bucket is on average
+unfoldable pub group_bar : Lists → ℕ → Bar
+group_bar l column =
+    let height : ℕ = 40 * min (group_tally l column).longest 24 - 4 in
+    record {
+      left = left (size l) column;
+      foot = 0;
+      width = bar_width (size l);
+      height = height;
+      used = load_of (group_tally l column).records (l.config.capacity * (end_bucket (size l) column - first_bucket (size l) column)) height;
+      is_next = is_next_level l (first_bucket (size l) column);
+    }
+
+unfoldable pub cuts_of : Lists → Cuts
+cuts_of l = record {
+  middle = left (size l) (column_count (size l)) / 2;
+  width = left (size l) (column_count (size l));
+  height = 40 * min (whole_tally l).longest 24;
+}
+
+unfoldable pub label_count : Lists → ℕ
+label_count l = (column_count (size l) - 1) / label_step (size l) + 1
+
+unfoldable pub label_of : Lists → ℕ → Label
+label_of l place = record {
+  centre = centre (size l) (place * label_step (size l));
+  bucket = first_bucket (size l) (place * label_step (size l));
+}
+
+unfoldable pub mark_of : Lists → Mark
+mark_of l =
+    let n : ℕ = pointer l.config.initial (size l) in
+    record { centre = centre (size l) (n / group_size (size l)); pointer = n }
+
+-- ---- the drawing
+
+-- the texts of the numbers below n, one after another
+unfoldable pub in_turn : (ℕ → List ℕ) → ℕ → List ℕ
+in_turn text zero = []
+in_turn text (suc n) = in_turn text n ++ text n
+
+-- a bucket's pages from the floor up, and how many more there are
+unfoldable pub chain_text : Lists → ℕ → List ℕ
+chain_text l bucket =
+    in_turn (λ p. bar_text (page_bar l bucket p)) (min (chain_length l.config.capacity (list_at l.lists bucket)) 24)
+    ++ more_text (more_of l bucket)
+
+unfoldable pub columns_text : Lists → List ℕ
+columns_text l =
+    if is_detailed (size l)
+    then in_turn (chain_text l) (size l)
+    else in_turn (λ column. bar_text (group_bar l column)) (column_count (size l))
+
+-- what stands before the columns
+unfoldable pub head_text : Lists → List ℕ
+head_text l =
+    canvas_text (canvas_of l)
+    ++ title_text (title_of l)
+    ++ legend_text (legend_of l)
+    ++ caption_text (record { is_detailed = is_detailed (size l) })
+    ++ plot_text (record { floor = floor_of (whole_tally l).longest })
+
+-- what stands behind them: the cuts, the numbers of buckets, and the split pointer
+unfoldable pub foot_text : Lists → List ℕ
+foot_text l = cuts_text (cuts_of l) ++ in_turn (λ place. label_text (label_of l place)) (label_count l) ++ mark_text (mark_of l)
+
+-- what `draw` writes
+unfoldable pub drawing_of : Lists → List ℕ
+drawing_of l = head_text l ++ columns_text l ++ foot_text l

@@ -1,0 +1,219 @@
+//! The parts of a drawing, made of what is counted of a file.
+ghost use Rattle.std.specs.Prelude.{◌≡◌, ◌+◌, ◌*◌, ◌/◌, ◌^◌, ◌<◌, ◌≤◌, min};
+ghost use Rattle.lh_bucket.specs.Listing.{IsListing, list_at, size};
+ghost use Rattle.lh_draw.specs.Columns.{chain_length, column_count, is_next_level, whole_tally};
+ghost use Rattle.lh_draw.specs.Drawing.{canvas_of, cuts_of, floor_of, group_bar, label_count, label_of, legend_of, load_of, mark_of, more_of, page_bar, part_of, title_of};
+
+use crate::bars::{Bar, Cuts, More};
+use crate::elements::{Canvas, Label, Legend, Mark, Title};
+use crate::measures::{
+    bar_width, centre, column_count, end_bucket, first_bucket, group_size, label_step, left,
+};
+use crate::tally::{Tally, chain_length, counted_between};
+use lh_addr::Root;
+use lh_bucket::Listing;
+
+/// The root of the file that a listing is of.
+fn root_of(listing: &Listing) -> Root
+    ensures value { result ≡ record { initial = listing.now.config.initial; buckets = size listing.now } }
+    ensures some { 1 ≤ size listing.now }
+    ensures most { size listing.now ≤ 65536 }
+{
+    match Root::new(listing.config().initial(), listing.buckets()) {
+        Some(root) => root,
+        None => unreachable!(),
+    }
+}
+
+/// Whether a bucket was split at the file's level, or came of such a split.
+fn is_next_level(listing: &Listing, bucket: u32) -> bool
+    requires { bucket < size listing.now }
+    ensures { result ≡ is_next_level listing.now bucket }
+{
+    let root = root_of(listing);
+    root.level() < root.level_of(bucket)
+}
+
+/// Such a part of a height as is used of some slots.
+fn part_of(height: u32, used: u128, slots: u128) -> u32
+    requires height { height ≤ 1000 }
+    requires some { 1 ≤ slots }
+    requires used { used ≤ slots }
+    requires slots { slots < 2 ^ 100 }
+    ensures { result ≡ part_of height used slots }
+{
+    (u128::from(height) * used / slots) as u32
+}
+
+/// How high the records of some slots stand, of which a page's are 40 high: to a given height at most.
+fn load_of(records: u128, slots: u128, most: u32) -> u32
+    requires some { 1 ≤ slots }
+    requires records { records < 2 ^ 100 }
+    ensures { result ≡ load_of records slots most }
+{
+    (40 * records / slots).min(u128::from(most)) as u32
+}
+
+/// What is counted of the whole file.
+pub fn whole_tally(listing: &Listing) -> Tally
+    ensures value { result ≡ whole_tally listing.now }
+    ensures pages { result.pages < 2 ^ 96 }
+{
+    counted_between(listing, 0, listing.buckets())
+}
+
+/// Where the floor is, below the title and the longest chain that is drawn.
+pub fn floor_of(longest: usize) -> u32
+    ensures value { result ≡ floor_of longest }
+    ensures high { result ≤ 1100 }
+{
+    92 + 40 * longest.min(24) as u32
+}
+
+/// What is drawn on.
+pub fn canvas_of(listing: &Listing, longest: usize) -> Canvas
+    requires { longest ≡ (whole_tally listing.now).longest }
+    ensures { result ≡ canvas_of listing.now }
+{
+    let _ = root_of(listing);
+    let buckets = listing.buckets();
+    Canvas {
+        width: 48 + left(buckets, column_count(buckets)).max(600),
+        height: floor_of(longest) + 56,
+    }
+}
+
+/// The title of a drawing.
+pub fn title_of(listing: &Listing, tally: &Tally) -> Title
+    requires tally { tally.now ≡ whole_tally listing.now }
+    requires pages { tally.now.pages < 2 ^ 96 }
+    ensures { result ≡ title_of listing.now }
+{
+    let root = root_of(listing);
+    Title {
+        buckets: listing.buckets(),
+        level: root.level(),
+        pointer: root.pointer(),
+        records: tally.records,
+        pages: tally.pages + 1,
+        longest: tally.longest,
+    }
+}
+
+/// The legend of a drawing.
+pub fn legend_of(listing: &Listing) -> Legend
+    ensures { result ≡ legend_of listing.now }
+{
+    let level = root_of(listing).level();
+    Legend {
+        level,
+        next: level + 1,
+        group: group_size(listing.buckets()),
+    }
+}
+
+/// A page of the chain of a bucket, in the bucket's column.
+pub fn page_bar(listing: &Listing, bucket: u32, page: u32) -> Bar
+    requires few { size listing.now ≤ 128 }
+    requires bucket { bucket < size listing.now }
+    requires page { page < min 24 (chain_length listing.now.config.capacity (list_at listing.now.lists bucket)) }
+    ensures { result ≡ page_bar listing.now bucket page }
+{
+    let buckets = listing.buckets();
+    let capacity = listing.config().capacity() as usize;
+    let behind = listing
+        .len_of(bucket)
+        .saturating_sub(capacity * page as usize);
+    Bar {
+        left: left(buckets, bucket),
+        foot: 40 * page,
+        width: bar_width(buckets),
+        height: 36,
+        used: part_of(36, behind.min(capacity) as u128, capacity as u128),
+        is_next: is_next_level(listing, bucket),
+    }
+}
+
+/// How many pages of a bucket's chain are not drawn.
+pub fn more_of(listing: &Listing, bucket: u32) -> More
+    requires few { size listing.now ≤ 128 }
+    requires bucket { bucket < size listing.now }
+    ensures { result ≡ more_of listing.now bucket }
+{
+    More {
+        centre: centre(listing.buckets(), bucket),
+        pages: chain_length(listing, bucket),
+    }
+}
+
+/// The bar of a column that shows a group of buckets.
+pub fn group_bar(listing: &Listing, column: u32) -> Bar
+    requires { column < column_count (size listing.now) }
+    ensures { result ≡ group_bar listing.now column }
+{
+    let _ = root_of(listing);
+    let buckets = listing.buckets();
+    let first = first_bucket(buckets, column);
+    let end = end_bucket(buckets, column);
+    let tally = counted_between(listing, first, end);
+    let height = 40 * tally.longest.min(24) as u32 - 4;
+    let slots = u128::from(listing.config().capacity()) * u128::from(end - first);
+    Bar {
+        left: left(buckets, column),
+        foot: 0,
+        width: bar_width(buckets),
+        height,
+        used: load_of(tally.records, slots, height),
+        is_next: is_next_level(listing, first),
+    }
+}
+
+/// The lines that cut the columns into pages.
+pub fn cuts_of(listing: &Listing, longest: usize) -> Cuts
+    requires { longest ≡ (whole_tally listing.now).longest }
+    ensures { result ≡ cuts_of listing.now }
+{
+    let _ = root_of(listing);
+    let buckets = listing.buckets();
+    let width = left(buckets, column_count(buckets));
+    Cuts {
+        middle: width / 2,
+        width,
+        height: 40 * longest.min(24) as u32,
+    }
+}
+
+/// How many columns have a label.
+pub fn label_count(listing: &Listing) -> u32
+    ensures { result ≡ label_count listing.now }
+{
+    let _ = root_of(listing);
+    let buckets = listing.buckets();
+    (column_count(buckets) - 1) / label_step(buckets) + 1
+}
+
+/// The label of every so many columns.
+pub fn label_of(listing: &Listing, place: u32) -> Label
+    requires { place < label_count listing.now }
+    ensures { result ≡ label_of listing.now place }
+{
+    let _ = root_of(listing);
+    let buckets = listing.buckets();
+    let column = place * label_step(buckets);
+    Label {
+        centre: centre(buckets, column),
+        bucket: first_bucket(buckets, column),
+    }
+}
+
+/// The split pointer's mark.
+pub fn mark_of(listing: &Listing) -> Mark
+    ensures { result ≡ mark_of listing.now }
+{
+    let pointer = root_of(listing).pointer();
+    let buckets = listing.buckets();
+    Mark {
+        centre: centre(buckets, pointer / group_size(buckets)),
+        pointer,
+    }
+}

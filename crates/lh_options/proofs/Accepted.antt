@@ -1,0 +1,195 @@
+-- Words in which clap finds no fault name the subcommand, whose rows have the four settings
+use Rattle.std.proofs.Common.{◌≡◌, ◌∙◌, ◌⊎◌, ◌||◌, ℕ, zero, suc, inl, inr, Bool, true, false, refl, sym, ap, List, [], ◌∷◌, Option, Some, None, codes, arith}
+use Rattle.std.specs.Prelude.{find, option_and_then, slice_get}
+use Rattle.std.specs.Str.{bytes_eq}
+use Rattle.std.proofs.lemmas.Slice.Eq.{bytes_eq-Decides}
+use Rattle.clap.specs.Walk.{Row, Text, nothing_held, rows_after}
+use Rattle.clap.specs.Simple.{Shape, argument_words, built, subcommand_of}
+use Rattle.clap.specs.Faults.{level_fault}
+use Rattle.lh_options.specs.Options.{Accepts, commands_app, number_in, number_of, program_app, settings_from}
+use Rattle.lh_options.specs.OptionSteps.{HasSettings, HasThreads, IsFileCommand, IsImageCommand, settings_in}
+use Rattle.lh_options.proofs.Levels.{entered-some, find-passes}
+use Rattle.lh_options.proofs.RowLemmas.{Every, FitsHere, HasTarget, IsTarget, find-every, level-every, level-row}
+use Rattle.lh_options.proofs.NumberLemmas.{number-fits}
+use Rattle.lh_options.proofs.Unlike.{unlike}
+
+-- the four options are among the rules of the subcommand, each alone with its name
+pub record HasOptions (s : Shape) : Type 0 where
+  pub initial : Every (IsTarget (codes "initial") (codes "1") 1 256) s.rules × HasTarget (codes "initial") (codes "1") 1 256 s.rules
+  pub capacity : Every (IsTarget (codes "capacity") (codes "14") 1 14) s.rules × HasTarget (codes "capacity") (codes "14") 1 14 s.rules
+  pub load : Every (IsTarget (codes "load") (codes "100") 10 200) s.rules × HasTarget (codes "load") (codes "100") 10 200 s.rules
+  pub max : Every (IsTarget (codes "max") (codes "65536") 1 65536) s.rules × HasTarget (codes "max") (codes "65536") 1 65536 s.rules
+
+settings-after : (s : Shape) → HasOptions s → (words : List Text) → level_fault s [] nothing_held words false [] ≡ [] → HasSettings (rows_after s.rules [] words)
+settings-after s h words e =
+    let initial = level-row (codes "initial") (codes "1") 1 256 s h.initial.0 h.initial.1 [] words false [] e in
+    let capacity = level-row (codes "capacity") (codes "14") 1 14 s h.capacity.0 h.capacity.1 [] words false [] e in
+    let load = level-row (codes "load") (codes "100") 10 200 s h.load.0 h.load.1 [] words false [] e in
+    let max = level-row (codes "max") (codes "65536") 1 65536 s h.max.0 h.max.1 [] words false [] e in
+    record {
+      initial = number-fits (codes "initial") (codes "1") 1 256 (omega arith) _ initial.0 initial.1 initial.2;
+      capacity = number-fits (codes "capacity") (codes "14") 1 14 (omega arith) _ capacity.0 capacity.1 capacity.2;
+      load = number-fits (codes "load") (codes "100") 10 200 (omega arith) _ load.0 load.1 load.2;
+      max = number-fits (codes "max") (codes "65536") 1 65536 (omega arith) _ max.0 max.1 max.2;
+    }
+
+-- an option that is none of the rules has no row, and so no number
+no-number : (name : Text) (s : Shape) → Every (IsTarget name (codes "1") 1 0) s.rules → (words : List Text) → level_fault s [] nothing_held words false [] ≡ []
+    → number_in (rows_after s.rules [] words) name ≡ None
+no-number name s none words e = go (find (λ r. bytes_eq r.id name) (rows_after s.rules [] words)) refl
+  where
+    go : (o : Option Row) → find (λ r. bytes_eq r.id name) (rows_after s.rules [] words) ≡ o → number_in (rows_after s.rules [] words) name ≡ None
+    go None is = ap (λ (found : Option Row). option_and_then number_of (option_and_then (λ (x : Row). slice_get x.values 0) found)) is
+    go (Some r) is =
+        let every = level-every name (codes "1") 1 0 s none [] words false [] e in
+        let fits = find-every (FitsHere name (codes "1") 1 0) (λ r. bytes_eq r.id name) _ r every is (find-passes (λ r. bytes_eq r.id name) (rows_after s.rules [] words) r is) in
+        let number = number-fits name (codes "1") 1 0 (omega arith) _ r is fits in
+        absurd (omega (arith, number.low, number.high))
+
+-- a subcommand without options gives no settings
+no-settings : (s : Shape) → Every (IsTarget (codes "initial") (codes "1") 1 0) s.rules → (words : List Text) → level_fault s [] nothing_held words false [] ≡ []
+    → settings_in (rows_after s.rules [] words) ≡ None
+unfolding settings_in
+no-settings s none words e =
+    let rows = rows_after s.rules [] words in
+    ap (λ initial. settings_from initial (number_in rows (codes "capacity")) (number_in rows (codes "load")) (number_in rows (codes "max"))) (no-number (codes "initial") s none words e)
+
+abbrev shape_at : ℕ → List Shape → Shape
+shape_at n [] = commands_app.top
+shape_at zero (s ∷ rest) = s
+shape_at (suc n) (s ∷ rest) = shape_at n rest
+
+-- the subcommands, as building leaves them
+abbrev commands_built : Shape
+commands_built = shape_at 0 (built program_app).subs
+
+abbrev steps_built : Shape
+steps_built = shape_at 1 (built program_app).subs
+
+abbrev build_built : Shape
+build_built = shape_at 2 (built program_app).subs
+
+abbrev check_built : Shape
+check_built = shape_at 3 (built program_app).subs
+
+abbrev dump_built : Shape
+dump_built = shape_at 4 (built program_app).subs
+
+commands-options : HasOptions commands_built
+commands-options = record {
+  initial = (((λ _. refl), ((λ h. cc), ((λ h. cc), ((λ h. cc), ((λ h. cc), tt))))), inl refl);
+  capacity = (((λ h. cc), ((λ _. refl), ((λ h. cc), ((λ h. cc), ((λ h. cc), tt))))), inr (inl refl));
+  load = (((λ h. cc), ((λ h. cc), ((λ _. refl), ((λ h. cc), ((λ h. cc), tt))))), inr (inr (inl refl)));
+  max = (((λ h. cc), ((λ h. cc), ((λ h. cc), ((λ _. refl), ((λ h. cc), tt))))), inr (inr (inr (inl refl))));
+}
+
+steps-options : HasOptions steps_built
+steps-options = record {
+  initial = (((λ _. refl), ((λ h. cc), ((λ h. cc), ((λ h. cc), ((λ h. cc), tt))))), inl refl);
+  capacity = (((λ h. cc), ((λ _. refl), ((λ h. cc), ((λ h. cc), ((λ h. cc), tt))))), inr (inl refl));
+  load = (((λ h. cc), ((λ h. cc), ((λ _. refl), ((λ h. cc), ((λ h. cc), tt))))), inr (inr (inl refl)));
+  max = (((λ h. cc), ((λ h. cc), ((λ h. cc), ((λ _. refl), ((λ h. cc), tt))))), inr (inr (inr (inl refl))));
+}
+
+build-options : HasOptions build_built
+build-options = record {
+  initial = (((λ _. refl), ((λ h. cc), ((λ h. cc), ((λ h. cc), ((λ h. cc), tt))))), inl refl);
+  capacity = (((λ h. cc), ((λ _. refl), ((λ h. cc), ((λ h. cc), ((λ h. cc), tt))))), inr (inl refl));
+  load = (((λ h. cc), ((λ h. cc), ((λ _. refl), ((λ h. cc), ((λ h. cc), tt))))), inr (inr (inl refl)));
+  max = (((λ h. cc), ((λ h. cc), ((λ h. cc), ((λ _. refl), ((λ h. cc), tt))))), inr (inr (inr (inl refl))));
+}
+
+abbrev draw_built : Shape
+draw_built = shape_at 6 (built program_app).subs
+
+abbrev drive_built : Shape
+drive_built = shape_at 5 (built program_app).subs
+
+drive-options : HasOptions drive_built
+drive-options = record {
+  initial = (((λ _. refl), ((λ h. cc), ((λ h. cc), ((λ h. cc), ((λ h. cc), ((λ h. cc), tt)))))), inl refl);
+  capacity = (((λ h. cc), ((λ _. refl), ((λ h. cc), ((λ h. cc), ((λ h. cc), ((λ h. cc), tt)))))), inr (inl refl));
+  load = (((λ h. cc), ((λ h. cc), ((λ _. refl), ((λ h. cc), ((λ h. cc), ((λ h. cc), tt)))))), inr (inr (inl refl)));
+  max = (((λ h. cc), ((λ h. cc), ((λ h. cc), ((λ _. refl), ((λ h. cc), ((λ h. cc), tt)))))), inr (inr (inr (inl refl))));
+}
+
+-- the number of threads
+threads-after : (words : List Text) → level_fault drive_built [] nothing_held words false [] ≡ [] → HasThreads (rows_after drive_built.rules [] words)
+threads-after words e =
+    let own : Every (IsTarget (codes "threads") (codes "4") 1 64) drive_built.rules = ((λ h. cc), ((λ h. cc), ((λ h. cc), ((λ h. cc), ((λ _. refl), ((λ h. cc), tt)))))) in
+    let has : HasTarget (codes "threads") (codes "4") 1 64 drive_built.rules = inr (inr (inr (inr (inl refl)))) in
+    let row = level-row (codes "threads") (codes "4") 1 64 drive_built own has [] words false [] e in
+    number-fits (codes "threads") (codes "4") 1 64 (omega arith) _ row.0 row.1 row.2
+
+is_help : (t : Text) → (bytes_eq (codes "help") t || false) ≡ true → bytes_eq t (codes "help") ≡ true
+is_help t e = (bytes_eq-Decides t (codes "help")).1 (sym ((bytes_eq-Decides (codes "help") t).0 (go (bytes_eq (codes "help") t) e)))
+  where
+    go : (b : Bool) → (b || false) ≡ true → b ≡ true
+    go true f = refl
+    go false f = f
+
+-- the subcommands that the words may name, and what holds of their rows
+abbrev pub IsEntered : Text → List Row → Type 0
+IsEntered name rows = (IsFileCommand name × HasSettings rows × (name ≡ codes "drive" → HasThreads rows)) ⊎ (IsImageCommand name × (settings_in rows ≡ None))
+
+-- a subcommand of another name has no such number
+no-drive : (name : Text) (rows : List Row) → bytes_eq name (codes "drive") ≡ false → name ≡ codes "drive" → HasThreads rows
+no-drive name rows other is = absurd (unlike name (codes "drive") other is)
+
+-- accepted words name such a subcommand
+pub accepted-rows : (words : List Text) → Accepts words → (e : Text × List Row) × (subcommand_of program_app words ≡ Some e) × IsEntered e.0 e.1
+unfolding Accepts
+accepted-rows words e = entered-some (built program_app) IsEntered (
+  (λ t is other ws f. inl (inl refl, settings-after commands_built commands-options ws f, no-drive (codes "commands") _ refl)),
+  (
+    (λ t is other ws f. inl (inr (inl refl), settings-after steps_built steps-options ws f, no-drive (codes "steps") _ refl)),
+    (
+      (λ t is other ws f. inl (inr (inr (inl refl)), settings-after build_built build-options ws f, no-drive (codes "build") _ refl)),
+      (
+        (λ t is other ws f. inr (inl refl, no-settings check_built ((λ h. cc), tt) ws f)),
+        (
+          (λ t is other ws f. inr (inr (inl refl), no-settings dump_built ((λ h. cc), tt) ws f)),
+          (
+            (λ t is other ws f. inl (inr (inr (inr refl)), settings-after drive_built drive-options ws f, λ _. threads-after ws f)),
+            (
+              (λ t is other ws f. inr (inr (inr refl), no-settings draw_built ((λ h. cc), tt) ws f)),
+              ((λ t is other ws f. let same = is_help t is in cc), tt),
+            ),
+          ),
+        ),
+      ),
+    ),
+  ),
+)
+    refl refl (argument_words (built program_app) words) e
+
+-- no subcommand has settings and reads an image
+apart : (name : Text) → IsFileCommand name → IsImageCommand name → ⊥
+apart name (inl a) (inl b) = unlike (codes "commands") (codes "check") refl (sym a ∙ b)
+apart name (inl a) (inr (inl b)) = unlike (codes "commands") (codes "dump") refl (sym a ∙ b)
+apart name (inl a) (inr (inr b)) = unlike (codes "commands") (codes "draw") refl (sym a ∙ b)
+apart name (inr (inl a)) (inl b) = unlike (codes "steps") (codes "check") refl (sym a ∙ b)
+apart name (inr (inl a)) (inr (inl b)) = unlike (codes "steps") (codes "dump") refl (sym a ∙ b)
+apart name (inr (inl a)) (inr (inr b)) = unlike (codes "steps") (codes "draw") refl (sym a ∙ b)
+apart name (inr (inr (inl a))) (inl b) = unlike (codes "build") (codes "check") refl (sym a ∙ b)
+apart name (inr (inr (inl a))) (inr (inl b)) = unlike (codes "build") (codes "dump") refl (sym a ∙ b)
+apart name (inr (inr (inl a))) (inr (inr b)) = unlike (codes "build") (codes "draw") refl (sym a ∙ b)
+apart name (inr (inr (inr a))) (inl b) = unlike (codes "drive") (codes "check") refl (sym a ∙ b)
+apart name (inr (inr (inr a))) (inr (inl b)) = unlike (codes "drive") (codes "dump") refl (sym a ∙ b)
+apart name (inr (inr (inr a))) (inr (inr b)) = unlike (codes "drive") (codes "draw") refl (sym a ∙ b)
+
+pub entered-named : (name : Text) (rows : List Row) → IsEntered name rows → IsFileCommand name ⊎ IsImageCommand name
+entered-named name rows (inl h) = inl h.0
+entered-named name rows (inr h) = inr h.0
+
+pub entered-settings : (name : Text) (rows : List Row) → IsEntered name rows → IsFileCommand name → HasSettings rows
+entered-settings name rows (inl h) is = h.1
+entered-settings name rows (inr h) is = absurd (apart name is h.0)
+
+pub entered-threads : (name : Text) (rows : List Row) → IsEntered name rows → name ≡ codes "drive" → HasThreads rows
+entered-threads name rows (inl h) is = h.2 is
+entered-threads name rows (inr h) is = absurd (apart name (inr (inr (inr is))) h.0)
+
+pub entered-none : (name : Text) (rows : List Row) → IsEntered name rows → IsImageCommand name → settings_in rows ≡ None
+entered-none name rows (inl h) is = absurd (apart name h.0 is)
+entered-none name rows (inr h) is = h.1

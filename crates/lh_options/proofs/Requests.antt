@@ -1,0 +1,180 @@
+-- From what the functions give to what a request says of the words
+use Rattle.std.proofs.Common.{◌≡◌, ◌∙◌, ◌<◌, ◌≤◌, ℕ, inl, inr, refl, sym, ap, subst, List, [], ◌∷◌, length, nat_lt, Option, Some, None, codes, true, if◌then◌else◌}
+use Rattle.std.specs.Prelude.{option_map, option_and_then}
+use Rattle.std.proofs.lemmas.Bool.{cases_lt, ltb-true}
+use Rattle.std.specs.List.{list_all}
+use Rattle.std.specs.Char.{digit_value}
+use Rattle.clap.proofs.WalkLemmas.{both}
+use Rattle.std.specs.Str.Parse.{AllDigits, IsNumeral, digits_value, without_leading_plus}
+use Rattle.clap.specs.ValueTests.{is_numeral}
+use Rattle.clap.specs.Kinds.{HasKind, IsAmong, Kinds}
+use Rattle.clap.specs.Values.{kind_of}
+use Rattle.clap.specs.Walk.{Row, Text}
+use Rattle.clap.specs.Matches.{subcommand_name_of}
+use Rattle.clap.specs.Simple.{App, HasMatchesOf, subcommand_of, subcommand_rows_of}
+use Rattle.clap.specs.Faults.{fault_of, is_simple_and_free}
+use Rattle.clap.specs.declared.error.Error.{Error}
+use Rattle.clap.specs.declared.error.kind.ErrorKind.{ErrorKind}
+use Rattle.clap.specs.declared.parser.matches.ArgMatches.{ArgMatches}
+use Rattle.clap.specs.declared.parser.matches.ArgMatches.TheViews.{out-ArgMatches}
+use Rattle.lh_addr.specs.Limits.{IsSize}
+use Rattle.lh_addr.specs.Settings.{Settings}
+use Rattle.lh_addr.specs.Config.{IsFirstOutOfRange}
+use Rattle.lh_addr.specs.declared.config.Range.{Range}
+use Rattle.lh_addr.specs.declared.config.Range.TheVariants.{Max}
+use Rattle.lh_options.specs.Options.{Accepts, Answers, Asks, AsksForHelp, IsMaxBelowInitial, IsRefused, number_in, number_of, program_app, settings_from, settings_given, subcommand_named}
+use Rattle.lh_options.specs.OptionSteps.{HasNumber, IsAskedBy, IsImageCommand, IsRefusal, settings_in}
+use Rattle.lh_options.specs.declared.options.Request.{Request}
+use Rattle.lh_options.specs.declared.options.Request.TheVariants as request
+use Rattle.lh_options.proofs.Accepted.{IsEntered, accepted-rows, entered-none}
+
+-- the settings are the four numbers
+pub settings-are : (rows : List Row) (initial capacity load max : ℕ) → number_in rows (codes "initial") ≡ Some initial → number_in rows (codes "capacity") ≡ Some capacity
+    → number_in rows (codes "load") ≡ Some load → number_in rows (codes "max") ≡ Some max
+    → settings_in rows ≡ Some (record { initial = initial; capacity = capacity; load = load; max = max })
+unfolding settings_in
+settings-are rows initial capacity load max a b c d = λ i. settings_from (a i) (b i) (c i) (d i)
+
+-- the test says that there is a digit, and that all are digits
+pub digits-all : (ds : Text) → is_numeral ds ≡ true → IsNumeral 10 ds
+digits-all ds e =
+    let parts = both (nat_lt 0 (length ds)) _ e in
+    (ltb-true 0 (length ds) parts.0, each ds parts.1)
+  where
+    each : (xs : Text) → list_all (λ d. nat_lt (digit_value d) 10) xs ≡ true → AllDigits 10 xs
+    each [] f = tt
+    each (x ∷ xs) f =
+        let parts = both (nat_lt (digit_value x) 10) _ f in
+        (ltb-true (digit_value x) 10 parts.0, each xs parts.1)
+
+-- a text of digits writes the number of its digits
+number_of-numeral : (text : Text) → is_numeral (without_leading_plus text) ≡ true → number_of text ≡ Some (digits_value 10 (without_leading_plus text))
+number_of-numeral text e = ap (λ b. if b then Some (digits_value 10 (without_leading_plus text)) else None) e
+
+pub number-is : (rows : List Row) (name : Text) (least most : ℕ) (given : HasNumber rows name least most)
+    → number_in rows name ≡ Some (digits_value 10 (without_leading_plus given.text))
+number-is rows name least most given = ap (option_and_then number_of) given.first ∙ number_of-numeral given.text given.numeral
+
+pub number-at-most : (rows : List Row) (name : Text) (least most n : ℕ) → HasNumber rows name least most → number_in rows name ≡ Some n → n ≤ most
+number-at-most rows name least most n given is =
+    let read : number_in rows name ≡ Some (digits_value 10 (without_leading_plus given.text)) = number-is rows name least most given in
+    let same : digits_value 10 (without_leading_plus given.text) ≡ n = cc in
+    subst (λ (k : ℕ). k ≤ most) same given.high
+
+-- a size that is out of its limits, and not too great, is too small
+below-initial : (initial max : ℕ) → max ≤ 65536 → (IsSize initial max → ⊥) → max < initial
+below-initial initial max high out = elim (cases_lt max initial) [ inl below ↦ below | inr above ↦ absurd (out (above, high)) ]
+
+-- settings that are refused for their greatest number of buckets, which is not too great, have it too small
+pub max-refused : (s : Settings) (e : Range) → IsFirstOutOfRange s e → e ≡ Max → s.max ≤ 65536 → s.max < s.initial
+max-refused s e out is high =
+    let at_max : IsFirstOutOfRange s Max = subst (IsFirstOutOfRange s) is out in
+    below-initial s.initial s.max high at_max.3
+
+option_map-twice : {A B C : Type 0} (f : B → C) (g : A → B) (o : Option A) → option_map f (option_map g o) ≡ option_map (λ x. f (g x)) o
+option_map-twice f g None = refl
+option_map-twice f g (Some x) = refl
+
+name-of-rows : (m : ArgMatches) → option_map (λ p. p.0) (subcommand_rows_of m) ≡ subcommand_name_of m
+name-of-rows m = option_map-twice _ _ (out-ArgMatches m).subcommand
+
+-- the subcommand that a parse of accepted words entered
+entered-is : (m : ArgMatches) (words : List Text) (name : Text) (rows : List Row) → subcommand_rows_of m ≡ subcommand_of program_app words
+    → Some name ≡ subcommand_name_of m → Some rows ≡ option_map (λ p. p.1) (subcommand_rows_of m) → Accepts words
+    → (subcommand_of program_app words ≡ Some (name, rows)) × IsEntered name rows
+entered-is m words name rows same named with_rows accepts =
+    let got = accepted-rows words accepts in
+    let is : subcommand_rows_of m ≡ Some got.0 = same ∙ got.1 in
+    let same_name : Some name ≡ Some got.0.0 = named ∙ (sym (name-of-rows m) ∙ ap (option_map (λ p. p.0)) is) in
+    let same_rows : Some rows ≡ Some got.0.1 = with_rows ∙ ap (option_map (λ p. p.1)) is in
+    let name_is : got.0.0 ≡ name = cc in
+    let rows_are : got.0.1 ≡ rows = cc in
+    (got.1 ∙ (λ i. Some (name_is i, rows_are i)), subst (IsEntered name) rows_are (subst (λ (n : Text). IsEntered n got.0.1) name_is got.2))
+
+-- the settings that the words give are those in the rows of the subcommand
+settings-at : (words : List Text) (name : Text) (rows : List Row) → subcommand_of program_app words ≡ Some (name, rows) → settings_given words ≡ settings_in rows
+unfolding settings_given settings_in
+settings-at words name rows is = λ i. settings_from
+    (option_and_then (λ s. number_in s.1 (codes "initial")) (is i)) (option_and_then (λ s. number_in s.1 (codes "capacity")) (is i))
+    (option_and_then (λ s. number_in s.1 (codes "load")) (is i)) (option_and_then (λ s. number_in s.1 (codes "max")) (is i))
+
+-- words that ask for a subcommand which reads an image give no settings
+pub image-settings : (words : List Text) (name : Text) → Asks words name → IsImageCommand name → settings_given words ≡ None
+unfolding subcommand_named
+image-settings words name asks is =
+    let got = accepted-rows words asks.0 in
+    let named : Some got.0.0 ≡ Some name = sym (ap (option_map (λ s. s.0)) got.1) ∙ asks.1 in
+    let name_is : got.0.0 ≡ name = cc in
+    settings-at words got.0.0 got.0.1 got.1 ∙ entered-none name got.0.1 (subst (λ (n : Text). IsEntered n got.0.1) name_is got.2) is
+
+asked : (words : List Text) (name : Text) (rows : List Row) (r : Request) → Accepts words → subcommand_of program_app words ≡ Some (name, rows)
+    → IsAskedBy name rows r → Answers words r
+unfolding subcommand_named
+asked words name rows (request.Commands config) accepts is h =
+    ((accepts, ap (option_map (λ s. s.0)) is ∙ ap (λ (n : Text). Some n) h.0), settings-at words name rows is ∙ h.1, h.2)
+asked words name rows (request.Steps config) accepts is h =
+    ((accepts, ap (option_map (λ s. s.0)) is ∙ ap (λ (n : Text). Some n) h.0), settings-at words name rows is ∙ h.1, h.2)
+asked words name rows (request.Build config) accepts is h =
+    ((accepts, ap (option_map (λ s. s.0)) is ∙ ap (λ (n : Text). Some n) h.0), settings-at words name rows is ∙ h.1, h.2)
+asked words name rows request.Check accepts is h =
+    (accepts, ap (option_map (λ s. s.0)) is ∙ ap (λ (n : Text). Some n) h)
+asked words name rows request.Dump accepts is h =
+    (accepts, ap (option_map (λ s. s.0)) is ∙ ap (λ (n : Text). Some n) h)
+asked words name rows request.Draw accepts is h =
+    (accepts, ap (option_map (λ s. s.0)) is ∙ ap (λ (n : Text). Some n) h)
+asked words name rows (request.Drive config threads) accepts is h = (
+  (accepts, ap (option_map (λ s. s.0)) is ∙ ap (λ (n : Text). Some n) h.0),
+  settings-at words name rows is ∙ h.1,
+  h.2,
+  ap (option_and_then (λ s. number_in s.1 (codes "threads"))) is ∙ h.3,
+  h.4,
+  h.5,
+)
+asked words name rows request.MaxBelowInitial accepts is h =
+    (accepts, subst IsMaxBelowInitial (sym (settings-at words name rows is)) h)
+asked words name rows (request.Help text) accepts is h = absurd h
+asked words name rows (request.Refused text) accepts is h = absurd h
+
+-- one of some kinds, where there is none
+none-among : (k : ErrorKind) (kinds : Kinds) → IsAmong k kinds → kinds ≡ [] → ⊥
+none-among k kinds among none = subst (IsAmong k) none among
+
+pub refusal-answers : (words : List Text) (e : Error) (r : Request) → HasKind (fault_of program_app words) e → IsRefusal (kind_of e) r → Answers words r
+unfolding Accepts AsksForHelp IsRefused
+refusal-answers words e (request.Help text) (inl memory) (inl h) = cc
+refusal-answers words e (request.Help text) (inl memory) (inr h) = cc
+refusal-answers words e (request.Help text) (inr among) h = (none-among (kind_of e) _ among, (kind_of e, among, h))
+refusal-answers words e (request.Refused text) (inl memory) h = absurd (h.1 memory)
+refusal-answers words e (request.Refused text) (inr among) h = (none-among (kind_of e) _ among, (kind_of e, among, h.0))
+refusal-answers words e (request.Commands config) among h = absurd h
+refusal-answers words e (request.Steps config) among h = absurd h
+refusal-answers words e (request.Build config) among h = absurd h
+refusal-answers words e (request.Drive config threads) among h = absurd h
+refusal-answers words e request.Check among h = absurd h
+refusal-answers words e request.Dump among h = absurd h
+refusal-answers words e request.Draw among h = absurd h
+refusal-answers words e request.MaxBelowInitial among h = absurd h
+
+-- what a parse that succeeds says of the words, and of the subcommand that it entered
+pub record HasEntered (words : List Text) (name : Text) (rows : List Row) : Type 0 where
+  pub accepts : Accepts words
+  pub is : subcommand_of program_app words ≡ Some (name, rows)
+  pub asked : IsEntered name rows
+
+pub entered-from : (a : App) (m : ArgMatches) (words : List Text) (name : Text) (rows : List Row) → a ≡ program_app
+    → (is_simple_and_free a ≡ true → fault_of a words ≡ []) → HasMatchesOf a words m
+    → Some name ≡ subcommand_name_of m → Some rows ≡ option_map (λ p. p.1) (subcommand_rows_of m) → HasEntered words name rows
+unfolding Accepts
+entered-from a m words name rows is none matches named with_rows =
+    let no_fault : is_simple_and_free program_app ≡ true → fault_of program_app words ≡ [] =
+    subst (λ (x : App). is_simple_and_free x ≡ true → fault_of x words ≡ []) is none in
+    let same : HasMatchesOf program_app words m = subst (λ (x : App). HasMatchesOf x words m) is matches in
+    let entered = entered-is m words name rows (same refl).1 named with_rows (no_fault refl) in
+    record { accepts = no_fault refl; is = entered.0; asked = entered.1 }
+
+pub failed-from : (a : App) (words : List Text) (e : Error) → a ≡ program_app → (is_simple_and_free a ≡ true → HasKind (fault_of a words) e)
+    → HasKind (fault_of program_app words) e
+failed-from a words e is failed = (subst (λ (x : App). is_simple_and_free x ≡ true → HasKind (fault_of x words) e) is failed) refl
+
+pub asked-answers : (words : List Text) (name : Text) (rows : List Row) (r : Request) → HasEntered words name rows → IsAskedBy name rows r → Answers words r
+asked-answers words name rows r entered h = asked words name rows r entered.accepts entered.is h

@@ -1,0 +1,111 @@
+-- Each example computes.
+use Rattle.std.proofs.Common.{refl, inl, inr, codes}
+use Rattle.clap.proofs.OnLiterals.{clap_on_literals}
+use Rattle.clap.specs.declared.error.kind.ErrorKind.TheVariants as kind
+use Rattle.lh_options.specs.OptionLaws.{Gives, GivesBuild, GivesDrive, GivesSteps, Refuses, build_given, check_alone, check_with_option, draw_alone, drive_alone, drive_given, dump_alone, help_asked, initial_twice, initial_zero, max_below_initial, max_given, max_over_limit, no_options, no_subcommand, steps_given, threads_over_limit, threads_zero, unknown_option, version_asked}
+use Rattle.lh_options.specs.Options.{Accepts, Asks, AsksForHelp, settings_given, subcommand_named}
+use Rattle.lh_options.proofs.laws.words_give_options.Goals as goal
+
+left_out : Gives no_options (record { initial = 1; capacity = 14; load = 100; max = 65536 })
+unfolding clap_on_literals Accepts settings_given subcommand_named
+left_out = ((refl, refl), refl)
+
+given : Gives max_given (record { initial = 3; capacity = 14; load = 100; max = 7 })
+unfolding clap_on_literals Accepts settings_given subcommand_named
+given = ((refl, refl), refl)
+
+below : Gives max_below_initial (record { initial = 8; capacity = 14; load = 100; max = 7 })
+unfolding clap_on_literals Accepts settings_given subcommand_named
+below = ((refl, refl), refl)
+
+steps : GivesSteps steps_given (record { initial = 1; capacity = 2; load = 200; max = 65536 })
+unfolding clap_on_literals Accepts settings_given subcommand_named
+steps = ((refl, refl), refl)
+
+build : GivesBuild build_given (record { initial = 1; capacity = 14; load = 100; max = 1 })
+unfolding clap_on_literals Accepts settings_given subcommand_named
+build = ((refl, refl), refl)
+
+drive : GivesDrive drive_given (record { initial = 3; capacity = 14; load = 100; max = 65536 }) 64
+unfolding clap_on_literals Accepts settings_given subcommand_named
+drive = ((refl, refl), refl, refl)
+
+drive_left_out : GivesDrive drive_alone (record { initial = 1; capacity = 14; load = 100; max = 65536 }) 4
+unfolding clap_on_literals Accepts settings_given subcommand_named
+drive_left_out = ((refl, refl), refl, refl)
+
+check : Asks check_alone (codes "check")
+unfolding clap_on_literals Accepts subcommand_named
+check = (refl, refl)
+
+dump : Asks dump_alone (codes "dump")
+unfolding clap_on_literals Accepts subcommand_named
+dump = (refl, refl)
+
+draw : Asks draw_alone (codes "draw")
+unfolding clap_on_literals Accepts subcommand_named
+draw = (refl, refl)
+
+without_options : Refuses check_with_option
+unfolding clap_on_literals Accepts
+without_options = λ e. cc
+
+none : Refuses no_subcommand
+unfolding clap_on_literals Accepts
+none = λ e. cc
+
+too_small : Refuses initial_zero
+unfolding clap_on_literals Accepts
+too_small = λ e. cc
+
+no_thread : Refuses threads_zero
+unfolding clap_on_literals Accepts
+no_thread = λ e. cc
+
+too_many_threads : Refuses threads_over_limit
+unfolding clap_on_literals Accepts
+too_many_threads = λ e. cc
+
+too_great : Refuses max_over_limit
+unfolding clap_on_literals Accepts
+too_great = λ e. cc
+
+twice : Refuses initial_twice
+unfolding clap_on_literals Accepts
+twice = λ e. cc
+
+unknown : Refuses unknown_option
+unfolding clap_on_literals Accepts
+unknown = λ e. cc
+
+help : AsksForHelp help_asked
+unfolding clap_on_literals AsksForHelp
+help = (kind.DisplayHelp, inl refl, inl refl)
+
+version : AsksForHelp version_asked
+unfolding clap_on_literals AsksForHelp
+version = (kind.DisplayVersion, inl refl, inr refl)
+
+pub returns : goal.returns
+returns c = record {
+  left_out = left_out;
+  given = given;
+  below = below;
+  steps = steps;
+  build = build;
+  drive = drive;
+  drive_left_out = drive_left_out;
+  check = check;
+  dump = dump;
+  draw = draw;
+  without_options = without_options;
+  none = none;
+  too_small = too_small;
+  no_thread = no_thread;
+  too_many_threads = too_many_threads;
+  too_great = too_great;
+  twice = twice;
+  unknown = unknown;
+  help = help;
+  version = version;
+}

@@ -1,0 +1,42 @@
+use Rattle.std.proofs.Common.{map}
+use Rattle.std.proofs.lemmas.Result.{IfOk-weaker}
+use Rattle.clap.specs.Words.{found_of, rows_of}
+use Rattle.lh_options.proofs.Accepted.{entered-named, entered-settings, entered-threads}
+use Rattle.lh_options.proofs.Requests.{asked-answers, entered-from, failed-from, refusal-answers}
+use Rattle.lh_options.proofs.options.request_of.Goals as goal
+
+pub asked-requires-clause-named : goal.asked-requires-clause-named
+asked-requires-clause-named c =
+    let words = map (λ s. s.now) c.args.words.now in
+    let entered = entered-from _ c.in-Ok.matches words c.in-Some.name.now (rows_of (found_of c.in-Some.matches.now))
+    c.in_ok-program.ensures.0 c.in-Ok.ensures.kinds c.in-Ok.ensures.matches c.in-Some.ensures.name c.in-Some.ensures.rows in
+    entered-named _ _ entered.asked
+
+pub asked-requires-clause-settings : goal.asked-requires-clause-settings
+asked-requires-clause-settings c =
+    let words = map (λ s. s.now) c.args.words.now in
+    let entered = entered-from _ c.in-Ok.matches words c.in-Some.name.now (rows_of (found_of c.in-Some.matches.now))
+    c.in_ok-program.ensures.0 c.in-Ok.ensures.kinds c.in-Ok.ensures.matches c.in-Some.ensures.name c.in-Some.ensures.rows in
+    entered-settings _ _ entered.asked
+
+pub asked-requires-clause-threads : goal.asked-requires-clause-threads
+asked-requires-clause-threads c =
+    let words = map (λ s. s.now) c.args.words.now in
+    let entered = entered-from _ c.in-Ok.matches words c.in-Some.name.now (rows_of (found_of c.in-Some.matches.now))
+    c.in_ok-program.ensures.0 c.in-Ok.ensures.kinds c.in-Ok.ensures.matches c.in-Some.ensures.name c.in-Some.ensures.rows in
+    entered-threads _ _ entered.asked
+
+pub returns-in-Err : goal.returns-in-Err
+returns-in-Err c =
+    let words = map (λ s. s.now) c.args.words.now in
+    let failed = failed-from _ words c.in-Err.error c.in_ok-program.ensures.0 c.in-Err.ensures.kinds in
+    IfOk-weaker c.refusal.result _ _ (λ r h. refusal-answers words c.in-Err.error r failed h) c.refusal.ensures
+
+pub returns-in-Some : goal.returns-in-Some
+returns-in-Some c =
+    let words = map (λ s. s.now) c.args.words.now in
+    let name = c.in-Some.name.now in
+    let rows = rows_of (found_of c.in-Some.matches.now) in
+    let entered = entered-from _ c.in-Ok.matches words name rows
+    c.in_ok-program.ensures.0 c.in-Ok.ensures.kinds c.in-Ok.ensures.matches c.in-Some.ensures.name c.in-Some.ensures.rows in
+    asked-answers words name rows c.asked.result entered c.asked.ensures

@@ -1,0 +1,3 @@
+pub mod OptionLaws
+pub mod OptionSteps
+pub mod Options

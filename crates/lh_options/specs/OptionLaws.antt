@@ -1,0 +1,85 @@
+-- Words that are written out, and what they give
+use Rattle.std.specs.Prelude.{◌≡◌, ℕ, List, [], ◌∷◌, Some, codes}
+use Rattle.clap.specs.Walk.{Text}
+use Rattle.lh_addr.specs.Settings.{Settings}
+use Rattle.lh_options.specs.Options.{Accepts, Asks, number_given, settings_given}
+
+abbrev pub no_options : List Text
+no_options = codes "lhash" ∷ codes "commands" ∷ []
+
+abbrev pub max_given : List Text
+max_given = codes "lhash" ∷ codes "commands" ∷ codes "--initial" ∷ codes "3" ∷ codes "--max=7" ∷ []
+
+abbrev pub steps_given : List Text
+steps_given = codes "lhash" ∷ codes "steps" ∷ codes "--capacity=2" ∷ codes "--load" ∷ codes "200" ∷ []
+
+abbrev pub no_subcommand : List Text
+no_subcommand = codes "lhash" ∷ []
+
+abbrev pub initial_zero : List Text
+initial_zero = codes "lhash" ∷ codes "commands" ∷ codes "--initial" ∷ codes "0" ∷ []
+
+abbrev pub max_over_limit : List Text
+max_over_limit = codes "lhash" ∷ codes "commands" ∷ codes "--max=65537" ∷ []
+
+abbrev pub max_below_initial : List Text
+max_below_initial = codes "lhash" ∷ codes "commands" ∷ codes "--max" ∷ codes "7" ∷ codes "--initial" ∷ codes "+8" ∷ []
+
+abbrev pub initial_twice : List Text
+initial_twice = codes "lhash" ∷ codes "commands" ∷ codes "--initial=3" ∷ codes "--initial=3" ∷ []
+
+abbrev pub unknown_option : List Text
+unknown_option = codes "lhash" ∷ codes "commands" ∷ codes "--threads" ∷ codes "3" ∷ []
+
+abbrev pub help_asked : List Text
+help_asked = codes "lhash" ∷ codes "commands" ∷ codes "--help" ∷ []
+
+abbrev pub version_asked : List Text
+version_asked = codes "lhash" ∷ codes "--version" ∷ []
+
+abbrev pub build_given : List Text
+build_given = codes "lhash" ∷ codes "build" ∷ codes "--max" ∷ codes "1" ∷ []
+
+abbrev pub check_alone : List Text
+check_alone = codes "lhash" ∷ codes "check" ∷ []
+
+abbrev pub dump_alone : List Text
+dump_alone = codes "lhash" ∷ codes "dump" ∷ []
+
+abbrev pub draw_alone : List Text
+draw_alone = codes "lhash" ∷ codes "draw" ∷ []
+
+abbrev pub check_with_option : List Text
+check_with_option = codes "lhash" ∷ codes "check" ∷ codes "--max" ∷ codes "1" ∷ []
+
+abbrev pub drive_alone : List Text
+drive_alone = codes "lhash" ∷ codes "drive" ∷ []
+
+abbrev pub drive_given : List Text
+drive_given = codes "lhash" ∷ codes "drive" ∷ codes "--threads" ∷ codes "64" ∷ codes "--initial=3" ∷ []
+
+abbrev pub threads_zero : List Text
+threads_zero = codes "lhash" ∷ codes "drive" ∷ codes "--threads=0" ∷ []
+
+abbrev pub threads_over_limit : List Text
+threads_over_limit = codes "lhash" ∷ codes "drive" ∷ codes "--threads" ∷ codes "65" ∷ []
+
+-- the words are accepted, name `commands`, and give these settings
+abbrev pub Gives : List Text → Settings → Type 0
+Gives words s = Asks words (codes "commands") × (settings_given words ≡ Some s)
+
+-- the words are accepted, name `steps`, and give these settings
+abbrev pub GivesSteps : List Text → Settings → Type 0
+GivesSteps words s = Asks words (codes "steps") × (settings_given words ≡ Some s)
+
+-- the words are accepted, name `build`, and give these settings
+abbrev pub GivesBuild : List Text → Settings → Type 0
+GivesBuild words s = Asks words (codes "build") × (settings_given words ≡ Some s)
+
+-- the words are accepted, name `drive`, and give these settings and this number of threads
+abbrev pub GivesDrive : List Text → Settings → ℕ → Type 0
+GivesDrive words s threads = Asks words (codes "drive") × (settings_given words ≡ Some s) × (number_given words (codes "threads") ≡ Some threads)
+
+-- the words are not accepted
+abbrev pub Refuses : List Text → Type 0
+Refuses words = ¬ Accepts words

@@ -1,0 +1,73 @@
+-- What the functions on the way from the words to a request say of commands, rows and errors
+use Rattle.std.specs.Prelude.{◌≡◌, ◌≤◌, ◌⊎◌, ℕ, List, Option, Some, codes, true, false}
+use Rattle.std.specs.Str.Parse.{digits_value, without_leading_plus}
+use Rattle.clap.specs.ValueTests.{is_numeral}
+use Rattle.clap.specs.Words.{App, Row, Text, app_of, first_of, one_of}
+use Rattle.clap.specs.declared.builder.command.Command.{Command}
+use Rattle.clap.specs.declared.builder.command.Command.TheViews.{out-Command}
+use Rattle.clap.specs.declared.error.kind.ErrorKind.{ErrorKind}
+use Rattle.clap.specs.declared.error.kind.ErrorKind.TheVariants as kind
+use Rattle.lh_addr.specs.Settings.{Settings, IsInRange}
+use Rattle.lh_options.specs.Options.{IsMaxBelowInitial, IsShown, number_in, settings_from}
+use Rattle.lh_options.specs.declared.options.Request.{Request}
+use Rattle.lh_options.specs.declared.options.Request.TheVariants as request
+
+-- clap reads the words by this command, and no option is global
+abbrev pub Reads : App → Command → Type 0
+Reads app c = (app_of c ≡ app) × ((out-Command c).has_globals ≡ false)
+
+-- the first value of an option, from the words or by default, is a decimal number from least to most
+pub record HasNumber (rows : List Row) (name : Text) (least most : ℕ) : Type 0 where
+  pub text : Text
+  pub first : first_of name rows ≡ Some text
+  pub as_read : one_of name rows ≡ Some text
+  pub numeral : is_numeral (without_leading_plus text) ≡ true
+  pub low : least ≤ digits_value 10 (without_leading_plus text)
+  pub high : digits_value 10 (without_leading_plus text) ≤ most
+
+-- each of the four settings has a number in its range
+pub record HasSettings (rows : List Row) : Type 0 where
+  pub initial : HasNumber rows (codes "initial") 1 256
+  pub capacity : HasNumber rows (codes "capacity") 1 14
+  pub load : HasNumber rows (codes "load") 10 200
+  pub max : HasNumber rows (codes "max") 1 65536
+
+-- the number of threads is in its range
+abbrev pub HasThreads : List Row → Type 0
+HasThreads rows = HasNumber rows (codes "threads") 1 64
+
+-- the four settings in the rows of a subcommand
+unfoldable pub settings_in : List Row → Option Settings
+settings_in rows = settings_from
+    (number_in rows (codes "initial")) (number_in rows (codes "capacity"))
+    (number_in rows (codes "load")) (number_in rows (codes "max"))
+
+-- the name of a subcommand with the options of a file's settings
+abbrev pub IsFileCommand : Text → Type 0
+IsFileCommand name = (name ≡ codes "commands") ⊎ ((name ≡ codes "steps") ⊎ ((name ≡ codes "build") ⊎ (name ≡ codes "drive")))
+
+-- the name of a subcommand that reads an image, without options
+abbrev pub IsImageCommand : Text → Type 0
+IsImageCommand name = (name ≡ codes "check") ⊎ ((name ≡ codes "dump") ⊎ (name ≡ codes "draw"))
+
+-- what a request says of the subcommand's name and rows
+abbrev pub IsAskedBy : Text → List Row → Request → Type 0
+IsAskedBy name rows (request.Commands config) =
+    (name ≡ codes "commands") × (settings_in rows ≡ Some config) × IsInRange config
+IsAskedBy name rows (request.Steps config) =
+    (name ≡ codes "steps") × (settings_in rows ≡ Some config) × IsInRange config
+IsAskedBy name rows (request.Build config) =
+    (name ≡ codes "build") × (settings_in rows ≡ Some config) × IsInRange config
+IsAskedBy name rows request.Check = name ≡ codes "check"
+IsAskedBy name rows request.Dump = name ≡ codes "dump"
+IsAskedBy name rows request.Draw = name ≡ codes "draw"
+IsAskedBy name rows (request.Drive config threads) =
+    (name ≡ codes "drive") × (settings_in rows ≡ Some config) × IsInRange config × (number_in rows (codes "threads") ≡ Some threads) × (1 ≤ threads) × (threads ≤ 64)
+IsAskedBy name rows request.MaxBelowInitial = IsMaxBelowInitial (settings_in rows)
+IsAskedBy name rows _ = ⊥
+
+-- what a request says of the kind of clap's error
+abbrev pub IsRefusal : ErrorKind → Request → Type 0
+IsRefusal k (request.Help text) = IsShown k
+IsRefusal k (request.Refused text) = (IsShown k → ⊥) × (k ≡ kind.OutOfMemory → ⊥)
+IsRefusal k _ = ⊥

@@ -1,0 +1,56 @@
+//! What the options give, at words that are written out.
+ghost use Rattle.std.specs.Prelude.{codes};
+ghost use Rattle.lh_options.specs.OptionLaws.{
+  Gives,
+  GivesBuild,
+  GivesDrive,
+  GivesSteps,
+  build_given,
+  check_alone,
+  check_with_option,
+  drive_alone,
+  drive_given,
+  draw_alone,
+  dump_alone,
+  help_asked,
+  initial_twice,
+  initial_zero,
+  max_below_initial,
+  max_given,
+  max_over_limit,
+  no_options,
+  no_subcommand,
+  Refuses,
+  steps_given,
+  threads_over_limit,
+  threads_zero,
+  unknown_option,
+  version_asked,
+};
+ghost use Rattle.lh_options.specs.Options.{Asks, AsksForHelp};
+
+/// The words give the options the numbers that stand in them, and an option that is left out its
+/// default. A number out of its range, an option given twice and an unknown one are refused, and so is
+/// each option of a subcommand that reads an image.
+pub fn words_give_options()
+    ensures left_out { Gives no_options (record { initial = 1; capacity = 14; load = 100; max = 65536 }) }
+    ensures given { Gives max_given (record { initial = 3; capacity = 14; load = 100; max = 7 }) }
+    ensures below { Gives max_below_initial (record { initial = 8; capacity = 14; load = 100; max = 7 }) }
+    ensures steps { GivesSteps steps_given (record { initial = 1; capacity = 2; load = 200; max = 65536 }) }
+    ensures build { GivesBuild build_given (record { initial = 1; capacity = 14; load = 100; max = 1 }) }
+    ensures drive { GivesDrive drive_given (record { initial = 3; capacity = 14; load = 100; max = 65536 }) 64 }
+    ensures drive_left_out { GivesDrive drive_alone (record { initial = 1; capacity = 14; load = 100; max = 65536 }) 4 }
+    ensures check { Asks check_alone (codes "check") }
+    ensures dump { Asks dump_alone (codes "dump") }
+    ensures draw { Asks draw_alone (codes "draw") }
+    ensures without_options { Refuses check_with_option }
+    ensures none { Refuses no_subcommand }
+    ensures too_small { Refuses initial_zero }
+    ensures no_thread { Refuses threads_zero }
+    ensures too_many_threads { Refuses threads_over_limit }
+    ensures too_great { Refuses max_over_limit }
+    ensures twice { Refuses initial_twice }
+    ensures unknown { Refuses unknown_option }
+    ensures help { AsksForHelp help_asked }
+    ensures version { AsksForHelp version_asked }
+{}

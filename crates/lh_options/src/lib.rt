@@ -1,0 +1,15 @@
+//! The command line: what the words ask for, by the options of each subcommand.
+//!
+//! ```text
+//! request_of(alloc, &["lhash", "commands", "--initial", "3"])?    // Request::Commands(config)
+//! ```
+#![tactic(auto)]
+
+mod help;
+pub mod laws;
+mod options;
+
+pub use options::{Request, request_of};
+
+#[cfg(test)]
+mod tests;

@@ -1,0 +1,239 @@
+//! The command line.
+ghost use Rattle.std.specs.Prelude.{◌≡◌, ◌⊎◌, IfOk, IfSome, IfNone, Some, codes, false, map};
+ghost use Rattle.lh_addr.specs.Settings.{IsInRange};
+ghost use Rattle.clap.specs.Words.{found_of, kind_of, new_app, rows_of, rule_of};
+ghost use Rattle.lh_options.specs.Options.{Answers, IsMaxBelowInitial, number_in, drive_app, option_rule, program_app, with_settings};
+ghost use Rattle.lh_options.specs.OptionSteps.{HasNumber, HasSettings, HasThreads, IsAskedBy, IsFileCommand, IsImageCommand, IsRefusal, Reads, settings_in};
+
+use crate::help::{BUILD, CHECK, COMMANDS, DRAW, DRIVE, DUMP, Help, STEPS};
+use clap::error::ErrorKind;
+use clap::{Arg, ArgAction, ArgMatches, Command, Error};
+use lh_addr::limits::{
+    MAX_BUCKETS, MAX_CAPACITY, MAX_INITIAL, MAX_LOAD, MIN_CAPACITY, MIN_INITIAL, MIN_LOAD,
+};
+use lh_addr::{Config, Range};
+use std::alloc::{AllocError, Global};
+
+/// The least number of threads that a script is run in.
+const MIN_THREADS: u32 = 1;
+
+/// The greatest number of threads that a script is run in.
+const MAX_THREADS: u32 = 64;
+
+/// What the words ask for.
+#[derive(Debug, Drop)]
+pub enum Request {
+    /// The subcommand `commands`, with the configuration that its options give.
+    Commands(Config),
+    /// The subcommand `steps`, with the configuration that its options give.
+    Steps(Config),
+    /// The subcommand `build`, with the configuration that its options give.
+    Build(Config),
+    /// The subcommand `check`.
+    Check,
+    /// The subcommand `dump`.
+    Dump,
+    /// The subcommand `draw`.
+    Draw,
+    /// The subcommand `drive`, with the configuration and the number of threads that its options give.
+    Drive(Config, u32),
+    /// Help or the version, and its text.
+    Help(String),
+    /// Words that are refused, and why, in one line.
+    Refused(String),
+    /// `--max` is less than `--initial`.
+    MaxBelowInitial,
+}
+
+/// An option with a whole number, from `least` to `most`.
+fn option<'a>(
+    alloc: Global,
+    name: &'a str,
+    help: &'a str,
+    default: &'a str,
+    least: u32,
+    most: u32,
+) -> Arg<'a>
+    ensures local { result.global ≡ false }
+    ensures rule { rule_of result ≡ option_rule name.now default.now least most }
+{
+    Arg::new(alloc, name)
+        .long(name)
+        .help(help)
+        .action(ArgAction::Set)
+        .value_parser(clap::value_parser!(u32).range(i64::from(least)..=i64::from(most)))
+        .default_value(default)
+}
+
+/// A subcommand with the options of a file's configuration.
+fn file_command<'a>(alloc: Global, name: &'a str, help: Help) -> Result<Command<'a>, AllocError>
+    ensures { IfOk result (Reads (with_settings (new_app name.now))) }
+{
+    Command::new(alloc, name)
+        .about(help.about)
+        .after_help(help.example)
+        .arg(option(
+            alloc,
+            "initial",
+            "Initial number of buckets",
+            "1",
+            MIN_INITIAL,
+            MAX_INITIAL,
+        ))?
+        .arg(option(
+            alloc,
+            "capacity",
+            "Records that a page holds",
+            "14",
+            MIN_CAPACITY,
+            MAX_CAPACITY,
+        ))?
+        .arg(option(
+            alloc,
+            "load",
+            "Load threshold in percent",
+            "100",
+            MIN_LOAD,
+            MAX_LOAD,
+        ))?
+        .arg(option(
+            alloc,
+            "max",
+            "Greatest number of buckets",
+            "65536",
+            MIN_INITIAL,
+            MAX_BUCKETS,
+        ))
+}
+
+/// A subcommand without options, which reads an image.
+fn image_command<'a>(alloc: Global, name: &'a str, help: Help) -> Command<'a>
+    ensures { Reads (new_app name.now) result }
+{
+    Command::new(alloc, name)
+        .about(help.about)
+        .after_help(help.example)
+}
+
+/// The subcommand that runs a script in threads: a file's options, and one for the threads.
+fn drive_command<'a>(alloc: Global) -> Result<Command<'a>, AllocError>
+    ensures { IfOk result (Reads drive_app) }
+{
+    file_command(alloc, "drive", DRIVE)?.arg(option(
+        alloc,
+        "threads",
+        "Number of threads",
+        "4",
+        MIN_THREADS,
+        MAX_THREADS,
+    ))
+}
+
+fn program<'a>(alloc: Global) -> Result<Command<'a>, AllocError>
+    ensures { IfOk result (Reads program_app) }
+{
+    Command::new(alloc, "lhash")
+        .about("A linear hash file")
+        .version("0.1.0")
+        .subcommand_required(true)
+        .subcommand(file_command(alloc, "commands", COMMANDS)?)?
+        .subcommand(file_command(alloc, "steps", STEPS)?)?
+        .subcommand(file_command(alloc, "build", BUILD)?)?
+        .subcommand(image_command(alloc, "check", CHECK))?
+        .subcommand(image_command(alloc, "dump", DUMP))?
+        .subcommand(drive_command(alloc)?)?
+        .subcommand(image_command(alloc, "draw", DRAW))
+}
+
+/// The number of an option.
+fn number(matches: &ArgMatches<'_>, name: &str) -> u32
+    requires { HasNumber (rows_of (found_of matches.now)) name.now 0 4294967295 }
+    ensures { number_in (rows_of (found_of matches.now)) name.now ≡ Some result }
+{
+    match matches.get_one::<u32>(name) {
+        Some(number) => number,
+        None => unreachable!(),
+    }
+}
+
+/// The configuration that the options give, or `None` where `--max` is less than `--initial`.
+fn config_of(matches: &ArgMatches<'_>) -> Option<Config>
+    requires { HasSettings (rows_of (found_of matches.now)) }
+    ensures some { IfSome result (λ config. settings_in (rows_of (found_of matches.now)) ≡ Some config) }
+    ensures in_range { IfSome result IsInRange }
+    ensures none { IfNone result (IsMaxBelowInitial (settings_in (rows_of (found_of matches.now)))) }
+{
+    let initial = number(matches, "initial");
+    let capacity = number(matches, "capacity");
+    let load = number(matches, "load");
+    let max = number(matches, "max");
+    match Config::new(initial, capacity, load, max) {
+        Ok(config) => Some(config),
+        Err(Range::Max) => None,
+        Err(_) => unreachable!(),
+    }
+}
+
+/// What a subcommand asks for.
+fn asked(name: &str, matches: &ArgMatches<'_>) -> Request
+    requires named { IsFileCommand name.now ⊎ IsImageCommand name.now }
+    requires settings { IsFileCommand name.now → HasSettings (rows_of (found_of matches.now)) }
+    requires threads { name.now ≡ codes "drive" → HasThreads (rows_of (found_of matches.now)) }
+    ensures { IsAskedBy name.now (rows_of (found_of matches.now)) result }
+{
+    match name {
+        "commands" => match config_of(matches) {
+            Some(config) => Request::Commands(config),
+            None => Request::MaxBelowInitial,
+        },
+        "steps" => match config_of(matches) {
+            Some(config) => Request::Steps(config),
+            None => Request::MaxBelowInitial,
+        },
+        "build" => match config_of(matches) {
+            Some(config) => Request::Build(config),
+            None => Request::MaxBelowInitial,
+        },
+        "check" => Request::Check,
+        "dump" => Request::Dump,
+        "draw" => Request::Draw,
+        "drive" => match config_of(matches) {
+            Some(config) => Request::Drive(config, number(matches, "threads")),
+            None => Request::MaxBelowInitial,
+        },
+        _ => unreachable!(),
+    }
+}
+
+/// The first line of the error's text, which says what is wrong.
+fn first_line(alloc: Global, error: &Error) -> Result<String, AllocError> {
+    let text = error.to_string(alloc)?;
+    let line = text.as_str().lines().next().unwrap_or("");
+    String::from_str(alloc, line.strip_prefix("error: ").unwrap_or(line))
+}
+
+/// What is left of words that clap does not take.
+fn refusal(alloc: Global, error: &Error) -> Result<Request, AllocError>
+    ensures { IfOk result (IsRefusal (kind_of error.now)) }
+{
+    match error.kind() {
+        ErrorKind::OutOfMemory => Err(AllocError),
+        ErrorKind::DisplayHelp => Ok(Request::Help(error.to_string(alloc)?)),
+        ErrorKind::DisplayVersion => Ok(Request::Help(error.to_string(alloc)?)),
+        _ => Ok(Request::Refused(first_line(alloc, error)?)),
+    }
+}
+
+/// What the words ask for, of which the first is the program's name.
+pub fn request_of<'a>(alloc: Global, words: &'a [&'a str]) -> Result<Request, AllocError>
+    ensures { IfOk result (Answers (map (λ s. s.now) words.now)) }
+{
+    match program(alloc)?.try_get_matches_from(words) {
+        Err(error) => refusal(alloc, &error),
+        Ok(matches) => match matches.subcommand() {
+            Some((name, matches)) => Ok(asked(name, matches)),
+            None => unreachable!(),
+        },
+    }
+}
+

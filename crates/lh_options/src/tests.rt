@@ -1,0 +1,2 @@
+//! Words from end to end.
+mod options;

@@ -1,0 +1,6 @@
+pub mod Digits
+pub mod Pairs
+pub mod Scripts
+pub mod Splitting
+pub mod StepLines
+pub mod Verbs

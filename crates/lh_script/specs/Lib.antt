@@ -1,0 +1,9 @@
+pub mod Commands
+pub mod FaultTexts
+pub mod Hexadecimal
+pub mod Lines
+pub mod Operands
+pub mod Scripts
+pub mod StepTexts
+pub mod Steps
+pub mod Texts

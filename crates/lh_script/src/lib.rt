@@ -1,0 +1,28 @@
+//! Scripts, and the texts of what they lead to: the tables of words and lines, both ways.
+//!
+//! `parse` reads a script of commands or of steps, whole: its statements in their order, or the first line at fault.
+//! The other way, a reply, an effect, a refusal and a byte string each have a text, as what a type displays.
+//!
+//! ```text
+//! let calls: Vec<Call> = parse(alloc, b"insert 61 31\nsearch 61")?;    // an insert and a search
+//! ReplyText(&reply).to_string(alloc)?                                  // found 31
+//! ```
+#![tactic(auto)]
+
+mod commands;
+mod fault;
+mod hexadecimal;
+mod lines;
+mod operands;
+mod script;
+mod step_texts;
+mod steps;
+mod texts;
+
+pub use fault::{LineFault, ParseError, ScriptFault};
+pub use script::{MOST_BYTES, Statement, parse};
+pub use step_texts::{EffectText, EntryText, RefusalText};
+pub use texts::{KeyText, ReplyText, SizeText, ValueText};
+
+#[cfg(test)]
+mod tests;

@@ -1,0 +1,3 @@
+//! Scripts from end to end.
+mod commands;
+mod steps;

@@ -1,5 +1,0 @@
-use Rattle.lhash.proofs.CommandShapes.{about-reads, example-reads}
-use Rattle.lhash.proofs.options.image_command.Goals as goal
-
-pub returns : goal.returns
-returns c = example-reads _ _ _ _ c.after_help.ensures (about-reads _ _ _ _ c.about.ensures (c.new.ensures.app, c.new.ensures.local))
