@@ -1,4 +1,5 @@
 pub mod Accepted
+pub mod Asking
 pub mod CommandShapes
 pub mod Levels
 pub mod NumberLemmas

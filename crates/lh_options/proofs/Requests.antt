@@ -22,11 +22,11 @@ use Rattle.lh_addr.specs.Settings.{Settings}
 use Rattle.lh_addr.specs.Config.{IsFirstOutOfRange}
 use Rattle.lh_addr.specs.declared.config.Range.{Range}
 use Rattle.lh_addr.specs.declared.config.Range.TheVariants.{Max}
-use Rattle.lh_options.specs.Options.{Accepts, Answers, Asks, AsksForHelp, IsMaxBelowInitial, IsRefused, number_in, number_of, program_app, settings_from, settings_given, subcommand_named}
-use Rattle.lh_options.specs.OptionSteps.{HasNumber, IsAskedBy, IsImageCommand, IsRefusal, settings_in}
+use Rattle.lh_options.specs.Options.{Accepts, Answers, AsksForHelp, IsRefused, IsServable, asked_by, asked_for, number_given, number_in, number_of, program_app, settings_from, settings_given, subcommand_named}
+use Rattle.lh_options.specs.OptionSteps.{HasNumber, IsRefusal, asked_in, settings_in}
 use Rattle.lh_options.specs.declared.options.Request.{Request}
 use Rattle.lh_options.specs.declared.options.Request.TheVariants as request
-use Rattle.lh_options.proofs.Accepted.{IsEntered, accepted-rows, entered-none}
+use Rattle.lh_options.proofs.Accepted.{IsEntered, accepted-rows}
 
 -- the settings are the four numbers
 pub settings-are : (rows : List Row) (initial capacity load max : ℕ) → number_in rows (codes "initial") ≡ Some initial → number_in rows (codes "capacity") ≡ Some capacity
@@ -98,54 +98,26 @@ settings-at words name rows is = λ i. settings_from
     (option_and_then (λ s. number_in s.1 (codes "initial")) (is i)) (option_and_then (λ s. number_in s.1 (codes "capacity")) (is i))
     (option_and_then (λ s. number_in s.1 (codes "load")) (is i)) (option_and_then (λ s. number_in s.1 (codes "max")) (is i))
 
--- words that ask for a subcommand which reads an image give no settings
-pub image-settings : (words : List Text) (name : Text) → Asks words name → IsImageCommand name → settings_given words ≡ None
+-- what the words ask for is what the subcommand asks for by its rows
+asked-is : (words : List Text) (name : Text) (rows : List Row) → subcommand_of program_app words ≡ Some (name, rows) → asked_for words ≡ asked_in name rows
 unfolding subcommand_named
-image-settings words name asks is =
-    let got = accepted-rows words asks.0 in
-    let named : Some got.0.0 ≡ Some name = sym (ap (option_map (λ s. s.0)) got.1) ∙ asks.1 in
-    let name_is : got.0.0 ≡ name = cc in
-    settings-at words got.0.0 got.0.1 got.1 ∙ entered-none name got.0.1 (subst (λ (n : Text). IsEntered n got.0.1) name_is got.2) is
-
-asked : (words : List Text) (name : Text) (rows : List Row) (r : Request) → Accepts words → subcommand_of program_app words ≡ Some (name, rows)
-    → IsAskedBy name rows r → Answers words r
-unfolding subcommand_named
-asked words name rows (request.Commands config) accepts is h =
-    ((accepts, ap (option_map (λ s. s.0)) is ∙ ap (λ (n : Text). Some n) h.0), settings-at words name rows is ∙ h.1, h.2)
-asked words name rows (request.Steps config) accepts is h =
-    ((accepts, ap (option_map (λ s. s.0)) is ∙ ap (λ (n : Text). Some n) h.0), settings-at words name rows is ∙ h.1, h.2)
-asked words name rows (request.Build config) accepts is h =
-    ((accepts, ap (option_map (λ s. s.0)) is ∙ ap (λ (n : Text). Some n) h.0), settings-at words name rows is ∙ h.1, h.2)
-asked words name rows request.Check accepts is h =
-    (accepts, ap (option_map (λ s. s.0)) is ∙ ap (λ (n : Text). Some n) h)
-asked words name rows request.Dump accepts is h =
-    (accepts, ap (option_map (λ s. s.0)) is ∙ ap (λ (n : Text). Some n) h)
-asked words name rows request.Draw accepts is h =
-    (accepts, ap (option_map (λ s. s.0)) is ∙ ap (λ (n : Text). Some n) h)
-asked words name rows (request.Drive config threads) accepts is h = (
-  (accepts, ap (option_map (λ s. s.0)) is ∙ ap (λ (n : Text). Some n) h.0),
-  settings-at words name rows is ∙ h.1,
-  h.2,
-  ap (option_and_then (λ s. number_in s.1 (codes "threads"))) is ∙ h.3,
-  h.4,
-  h.5,
-)
-asked words name rows request.MaxBelowInitial accepts is h =
-    (accepts, subst IsMaxBelowInitial (sym (settings-at words name rows is)) h)
-asked words name rows (request.Help text) accepts is h = absurd h
-asked words name rows (request.Refused text) accepts is h = absurd h
+asked-is words name rows is =
+    let named : subcommand_named words ≡ Some name = ap (option_map (λ s. s.0)) is in
+    let threads : number_given words (codes "threads") ≡ number_in rows (codes "threads") = ap (option_and_then (λ s. number_in s.1 (codes "threads"))) is in
+    λ i. option_and_then (λ n. asked_by n (settings-at words name rows is i) (threads i)) (named i)
 
 -- one of some kinds, where there is none
 none-among : (k : ErrorKind) (kinds : Kinds) → IsAmong k kinds → kinds ≡ [] → ⊥
 none-among k kinds among none = subst (IsAmong k) none among
 
+-- an error of clap's turns the words away, or is want of memory
 pub refusal-answers : (words : List Text) (e : Error) (r : Request) → HasKind (fault_of program_app words) e → IsRefusal (kind_of e) r → Answers words r
 unfolding Accepts AsksForHelp IsRefused
 refusal-answers words e (request.Help text) (inl memory) (inl h) = cc
 refusal-answers words e (request.Help text) (inl memory) (inr h) = cc
-refusal-answers words e (request.Help text) (inr among) h = (none-among (kind_of e) _ among, (kind_of e, among, h))
+refusal-answers words e (request.Help text) (inr among) h = inr (none-among (kind_of e) _ among, (kind_of e, among, h))
 refusal-answers words e (request.Refused text) (inl memory) h = absurd (h.1 memory)
-refusal-answers words e (request.Refused text) (inr among) h = (none-among (kind_of e) _ among, (kind_of e, among, h.0))
+refusal-answers words e (request.Refused text) (inr among) h = inr (none-among (kind_of e) _ among, (kind_of e, among, h.0))
 refusal-answers words e (request.Commands config) among h = absurd h
 refusal-answers words e (request.Steps config) among h = absurd h
 refusal-answers words e (request.Build config) among h = absurd h
@@ -154,6 +126,11 @@ refusal-answers words e request.Check among h = absurd h
 refusal-answers words e request.Dump among h = absurd h
 refusal-answers words e request.Draw among h = absurd h
 refusal-answers words e request.MaxBelowInitial among h = absurd h
+
+-- a request that turns words away runs nothing
+pub refusal-servable : (k : ErrorKind) (r : Request) → IsRefusal k r → IsServable r
+refusal-servable k (request.Drive config threads) h = absurd h
+refusal-servable k _ h = tt
 
 -- what a parse that succeeds says of the words, and of the subcommand that it entered
 pub record HasEntered (words : List Text) (name : Text) (rows : List Row) : Type 0 where
@@ -176,5 +153,5 @@ pub failed-from : (a : App) (words : List Text) (e : Error) → a ≡ program_ap
     → HasKind (fault_of program_app words) e
 failed-from a words e is failed = (subst (λ (x : App). is_simple_and_free x ≡ true → HasKind (fault_of x words) e) is failed) refl
 
-pub asked-answers : (words : List Text) (name : Text) (rows : List Row) (r : Request) → HasEntered words name rows → IsAskedBy name rows r → Answers words r
-asked-answers words name rows r entered h = asked words name rows r entered.accepts entered.is h
+pub asked-answers : (words : List Text) (name : Text) (rows : List Row) (r : Request) → HasEntered words name rows → asked_in name rows ≡ Some r → Answers words r
+asked-answers words name rows r entered h = inl (entered.accepts, asked-is words name rows entered.is ∙ h)

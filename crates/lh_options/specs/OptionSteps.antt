@@ -7,8 +7,8 @@ use Rattle.clap.specs.declared.builder.command.Command.{Command}
 use Rattle.clap.specs.declared.builder.command.Command.TheViews.{out-Command}
 use Rattle.clap.specs.declared.error.kind.ErrorKind.{ErrorKind}
 use Rattle.clap.specs.declared.error.kind.ErrorKind.TheVariants as kind
-use Rattle.lh_addr.specs.Settings.{Settings, IsInRange}
-use Rattle.lh_options.specs.Options.{IsMaxBelowInitial, IsShown, number_in, settings_from}
+use Rattle.lh_addr.specs.Settings.{Settings}
+use Rattle.lh_options.specs.Options.{IsShown, asked_by, number_in, settings_from}
 use Rattle.lh_options.specs.declared.options.Request.{Request}
 use Rattle.lh_options.specs.declared.options.Request.TheVariants as request
 
@@ -50,21 +50,9 @@ IsFileCommand name = (name ≡ codes "commands") ⊎ ((name ≡ codes "steps") �
 abbrev pub IsImageCommand : Text → Type 0
 IsImageCommand name = (name ≡ codes "check") ⊎ ((name ≡ codes "dump") ⊎ (name ≡ codes "draw"))
 
--- what a request says of the subcommand's name and rows
-abbrev pub IsAskedBy : Text → List Row → Request → Type 0
-IsAskedBy name rows (request.Commands config) =
-    (name ≡ codes "commands") × (settings_in rows ≡ Some config) × IsInRange config
-IsAskedBy name rows (request.Steps config) =
-    (name ≡ codes "steps") × (settings_in rows ≡ Some config) × IsInRange config
-IsAskedBy name rows (request.Build config) =
-    (name ≡ codes "build") × (settings_in rows ≡ Some config) × IsInRange config
-IsAskedBy name rows request.Check = name ≡ codes "check"
-IsAskedBy name rows request.Dump = name ≡ codes "dump"
-IsAskedBy name rows request.Draw = name ≡ codes "draw"
-IsAskedBy name rows (request.Drive config threads) =
-    (name ≡ codes "drive") × (settings_in rows ≡ Some config) × IsInRange config × (number_in rows (codes "threads") ≡ Some threads) × (1 ≤ threads) × (threads ≤ 64)
-IsAskedBy name rows request.MaxBelowInitial = IsMaxBelowInitial (settings_in rows)
-IsAskedBy name rows _ = ⊥
+-- what a subcommand asks for by its rows
+abbrev pub asked_in : Text → List Row → Option Request
+asked_in name rows = asked_by name (settings_in rows) (number_in rows (codes "threads"))
 
 -- what a request says of the kind of clap's error
 abbrev pub IsRefusal : ErrorKind → Request → Type 0

@@ -1,14 +1,16 @@
 -- The command line: the program's command, the numbers that the words give its options, and what a request says of the words
-use Rattle.std.specs.Prelude.{◌≡◌, ◌⊎◌, ◌<◌, ◌≤◌, ℕ, List, [], ◌∷◌, Option, Some, None, codes, pos, true, option_map, option_and_then, if◌then◌else◌}
+use Rattle.std.specs.Prelude.{◌≡◌, ◌⊎◌, ◌<◌, ◌≤◌, ℕ, List, [], ◌∷◌, Option, Some, None, codes, pos, true, nat_lt, option_map, option_and_then, if◌then◌else◌}
+use Rattle.std.specs.Str.{bytes_eq}
 use Rattle.std.specs.Str.Parse.{digits_value, without_leading_plus}
 use Rattle.clap.specs.ValueTests.{is_numeral}
-use Rattle.clap.specs.Words.{App, Row, Rule, Text, fault_of, first_of, new_app, new_rule, subcommand_of, with_rule, with_subcommand}
+pub use Rattle.clap.specs.Walk.{Text}
+use Rattle.clap.specs.Words.{App, Row, Rule, fault_of, first_of, new_app, new_rule, subcommand_of, with_rule, with_subcommand}
 use Rattle.clap.specs.Kinds.{IsAmong}
 use Rattle.clap.specs.declared.builder.action.ArgAction.TheVariants.{Set}
 use Rattle.clap.specs.declared.builder.value_parser.ValueParser.TheVariants as parser
 use Rattle.clap.specs.declared.error.kind.ErrorKind.{ErrorKind}
 use Rattle.clap.specs.declared.error.kind.ErrorKind.TheVariants as kind
-use Rattle.lh_addr.specs.Settings.{Settings, IsInRange}
+use Rattle.lh_addr.specs.Settings.{Settings}
 use Rattle.lh_options.specs.declared.options.Request.{Request}
 use Rattle.lh_options.specs.declared.options.Request.TheVariants as request
 
@@ -128,19 +130,44 @@ unfoldable pub IsRefused : List Text → Type 0
 IsRefused words =
     (k : ErrorKind) × IsAmong k (fault_of program_app words) × (IsShown k → ⊥)
 
--- what a request says of the words
+-- what is asked for with settings, which are refused where `--max` is less than `--initial`
+abbrev pub in_order : Option Settings → (Settings → Option Request) → Option Request
+in_order None ask = None
+in_order (Some s) ask = if nat_lt s.max s.initial then Some request.MaxBelowInitial else ask s
+
+-- what is asked for without settings
+abbrev pub alone : Option Settings → Request → Option Request
+alone None r = Some r
+alone (Some s) r = None
+
+-- what a subcommand asks for, with the settings and the number of threads that the words give
+unfoldable pub asked_by : Text → Option Settings → Option ℕ → Option Request
+asked_by name settings threads =
+    if bytes_eq name (codes "commands") then in_order settings (λ s. Some (request.Commands s))
+    else if bytes_eq name (codes "steps") then in_order settings (λ s. Some (request.Steps s))
+    else if bytes_eq name (codes "build") then in_order settings (λ s. Some (request.Build s))
+    else if bytes_eq name (codes "drive") then in_order settings (λ s. option_map (λ n. request.Drive s n) threads)
+    else if bytes_eq name (codes "check") then alone settings request.Check
+    else if bytes_eq name (codes "dump") then alone settings request.Dump
+    else if bytes_eq name (codes "draw") then alone settings request.Draw
+    else None
+
+-- what words ask for that are accepted
+abbrev pub asked_for : List Text → Option Request
+asked_for words =
+    option_and_then (λ name. asked_by name (settings_given words) (number_given words (codes "threads"))) (subcommand_named words)
+
+-- why words that are not accepted are turned away: they ask for a text that is shown, or are refused
+abbrev pub IsTurned : List Text → Request → Type 0
+IsTurned words (request.Help text) = AsksForHelp words
+IsTurned words (request.Refused text) = IsRefused words
+IsTurned words _ = ⊥
+
+-- what a request says of the words: accepted words ask for it, or other words are turned away by it
 abbrev pub Answers : List Text → Request → Type 0
-Answers words (request.Commands config) =
-    Asks words (codes "commands") × (settings_given words ≡ Some config) × IsInRange config
-Answers words (request.Steps config) =
-    Asks words (codes "steps") × (settings_given words ≡ Some config) × IsInRange config
-Answers words (request.Build config) =
-    Asks words (codes "build") × (settings_given words ≡ Some config) × IsInRange config
-Answers words request.Check = Asks words (codes "check")
-Answers words request.Dump = Asks words (codes "dump")
-Answers words request.Draw = Asks words (codes "draw")
-Answers words (request.Drive config threads) =
-    Asks words (codes "drive") × (settings_given words ≡ Some config) × IsInRange config × (number_given words (codes "threads") ≡ Some threads) × (1 ≤ threads) × (threads ≤ 64)
-Answers words request.MaxBelowInitial = Accepts words × IsMaxBelowInitial (settings_given words)
-Answers words (request.Help text) = ¬ Accepts words × AsksForHelp words
-Answers words (request.Refused text) = ¬ Accepts words × IsRefused words
+Answers words r = (Accepts words × (asked_for words ≡ Some r)) ⊎ (¬ Accepts words × IsTurned words r)
+
+-- what is asked for can be done: a script is run in 1 to 64 threads
+abbrev pub IsServable : Request → Type 0
+IsServable (request.Drive config threads) = (1 ≤ threads) × (threads ≤ 64)
+IsServable _ = Unit {0}

@@ -1,9 +1,9 @@
 //! The command line.
-ghost use Rattle.std.specs.Prelude.{◌≡◌, ◌⊎◌, IfOk, IfSome, IfNone, Some, codes, false, map};
+ghost use Rattle.std.specs.Prelude.{◌≡◌, ◌⊎◌, IfOk, IfSome, IfNone, None, Some, codes, false, map};
 ghost use Rattle.lh_addr.specs.Settings.{IsInRange};
 ghost use Rattle.clap.specs.Words.{found_of, kind_of, new_app, rows_of, rule_of};
-ghost use Rattle.lh_options.specs.Options.{Answers, IsMaxBelowInitial, number_in, drive_app, option_rule, program_app, with_settings};
-ghost use Rattle.lh_options.specs.OptionSteps.{HasNumber, HasSettings, HasThreads, IsAskedBy, IsFileCommand, IsImageCommand, IsRefusal, Reads, settings_in};
+ghost use Rattle.lh_options.specs.Options.{Answers, IsMaxBelowInitial, IsServable, number_in, drive_app, option_rule, program_app, with_settings};
+ghost use Rattle.lh_options.specs.OptionSteps.{HasNumber, HasSettings, HasThreads, IsFileCommand, IsImageCommand, IsRefusal, Reads, asked_in, settings_in};
 
 use crate::help::{BUILD, CHECK, COMMANDS, DRAW, DRIVE, DUMP, Help, STEPS};
 use clap::error::ErrorKind;
@@ -175,11 +175,14 @@ fn config_of(matches: &ArgMatches<'_>) -> Option<Config>
 }
 
 /// What a subcommand asks for.
+#[tactic(auto, using(crate::proofs::Asking::commands, crate::proofs::Asking::steps, crate::proofs::Asking::build, crate::proofs::Asking::drive, crate::proofs::Asking::check, crate::proofs::Asking::dump, crate::proofs::Asking::draw, crate::proofs::Asking::out_of_order))]
 fn asked(name: &str, matches: &ArgMatches<'_>) -> Request
     requires named { IsFileCommand name.now ⊎ IsImageCommand name.now }
     requires settings { IsFileCommand name.now → HasSettings (rows_of (found_of matches.now)) }
     requires threads { name.now ≡ codes "drive" → HasThreads (rows_of (found_of matches.now)) }
-    ensures { IsAskedBy name.now (rows_of (found_of matches.now)) result }
+    requires none { IsImageCommand name.now → settings_in (rows_of (found_of matches.now)) ≡ None }
+    ensures value { asked_in name.now (rows_of (found_of matches.now)) ≡ Some result }
+    ensures servable { IsServable result }
 {
     match name {
         "commands" => match config_of(matches) {
@@ -226,7 +229,8 @@ fn refusal(alloc: Global, error: &Error) -> Result<Request, AllocError>
 
 /// What the words ask for, of which the first is the program's name.
 pub fn request_of<'a>(alloc: Global, words: &'a [&'a str]) -> Result<Request, AllocError>
-    ensures { IfOk result (Answers (map (λ s. s.now) words.now)) }
+    ensures answers { IfOk result (Answers (map (λ s. s.now) words.now)) }
+    ensures servable { IfOk result IsServable }
 {
     match program(alloc)?.try_get_matches_from(words) {
         Err(error) => refusal(alloc, &error),
@@ -236,4 +240,3 @@ pub fn request_of<'a>(alloc: Global, words: &'a [&'a str]) -> Result<Request, Al
         },
     }
 }
-

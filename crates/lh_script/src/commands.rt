@@ -11,7 +11,6 @@ use crate::script::Statement;
 use lh_bucket::Call;
 use lh_page::{Key, Value};
 
-
 fn is_search(word: &[u8]) -> bool
     ensures { result ≡ is_word word.now (codes "search") }
 {

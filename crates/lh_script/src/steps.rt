@@ -28,7 +28,6 @@ use lh_bucket::Call;
 use lh_core::Event;
 use lh_page::{Key, Value};
 
-
 fn is_decimal_digit(byte: u8) -> bool
     ensures { result ≡ is_decimal byte }
 {

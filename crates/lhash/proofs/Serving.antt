@@ -1,239 +1,134 @@
--- What serving a request says of the words that asked for it.
-use Rattle.std.proofs.Common.{◌≡◌, ℕ, ◌<◌, ◌≤◌, List, Option, None, Some, IfSome, inl, inr, refl, sym, subst, ◌∙◌, arith, codes}
+-- What follows of a run for the words of each kind
+use Rattle.std.proofs.Common.{◌≡◌, ◌∙◌, ◌⊎◌, ℕ, ◌<◌, ◌≤◌, List, Option, None, Some, IfSome, Result, inl, inr, refl, sym, ap, subst, codes}
+use Rattle.std.specs.Prelude.{option_and_then, option_map}
 use Rattle.std.specs.Io.KnownBytes.{Keeps}
-use Rattle.clap.specs.Walk.{Text}
 use Rattle.lh_addr.specs.Settings.{Settings}
-use Rattle.lh_options.specs.Options.{Accepts, AsksForHelp, Answers, Asks, IsMaxBelowInitial, settings_given}
+use Rattle.lh_options.specs.Options.{Accepts, Answers, Asks, AsksForHelp, IsTurned, Text, asked_by, asked_for, number_given, settings_given, subcommand_named}
+use Rattle.lh_options.proofs.Asking.{asked_named, build, commands, drive, refused_alone, steps, undriven}
+use Rattle.lh_options.specs.declared.options.Request.{Request}
+use Rattle.lh_options.specs.declared.options.Request.TheVariants as request
 use Rattle.lhash.specs.Driving.{EndsDriving}
 use Rattle.lhash.specs.Images.{EndsBuilding, check_due, draw_due, dump_due}
 use Rattle.lhash.specs.Run.{Ends, EndsSteps, commands_due}
-use Rattle.lhash.specs.Serving.{IsHelped, IsServable, IsTurnedAway, IsWordsOf, Serves, below_initial}
-use Rattle.lhash.proofs.Ending.{no_memory}
-use Rattle.lh_options.proofs.Requests.{image-settings}
-use Rattle.lh_options.proofs.Unlike.{unlike}
-use Rattle.lh_options.specs.declared.options.Request.{Request}
-use Rattle.lh_options.specs.declared.options.Request.TheVariants.{Commands, Steps, Build, Check, Draw, Dump, Drive, Help, Refused, MaxBelowInitial}
+use Rattle.lhash.specs.Serving.{Ending, EndsCommands, EndsTold, IsHelped, IsRun, IsTurnedAway, IsWordsOf, RefusesBelow, Serves, ServesFile, ServesImage, TurnsAway, below_initial}
 use Rattle.lhash.specs.declared.status.DeviceFault.TheVariants.{Read, Write}
+use Rattle.lhash.specs.declared.status.InputFault.{InputFault}
 use Rattle.lhash.specs.declared.status.Status.{Status}
 use Rattle.lhash.specs.declared.status.Status.TheVariants.{Done, Input, Words, Device, Memory, NotSettled}
 
-same_settings : (a b : Settings) (given : Option Settings) → given ≡ Some a → given ≡ Some b → a ≡ b
-same_settings a b given e f = let k : Some a ≡ Some b = sym e ∙ f in cc
+-- what ended for want of memory, with nothing written, ended in a way that allows it
+unwritten : (EndsWith : Ending) (status : Status) (left before now : Option (List ℕ)) →
+    ((input : List ℕ) → Keeps before now → EndsWith input Memory before now) → status ≡ Memory → Keeps before now →
+    IfSome left (λ input. EndsWith input status before now)
+unwritten EndsWith status None before now allows is keeps = tt
+unwritten EndsWith status (Some input) before now allows is keeps = subst (λ (s : Status). EndsWith input s before now) (sym is) (allows input keeps)
 
-not_below : (settings : Settings) (given : Option Settings) → given ≡ Some settings → settings.initial ≤ settings.max → IsMaxBelowInitial given → ⊥
-not_below settings given e within below = let low : settings.max < settings.initial = subst IsMaxBelowInitial e below in omega arith
+-- accepted words with settings out of order are refused for them
+below_asked : (words : List Text) (name : Option Text) → subcommand_named words ≡ name → (settings : Settings) → settings_given words ≡ Some settings →
+    settings.max < settings.initial → (r : Request) → asked_for words ≡ Some r → r ≡ request.MaxBelowInitial
+below_asked words None named settings given below r is =
+    let none : asked_for words ≡ None = ap (option_and_then (λ n. asked_by n (settings_given words) (number_given words (codes "threads")))) named in
+    absurd cc
+below_asked words (Some name) named settings given below r is =
+    let one : asked_for words ≡ asked_by name (settings_given words) (number_given words (codes "threads")) =
+    ap (option_and_then (λ n. asked_by n (settings_given words) (number_given words (codes "threads")))) named in
+    let by : asked_by name (settings_given words) (number_given words (codes "threads")) ≡ asked_by name (Some settings) (number_given words (codes "threads")) =
+    ap (λ s. asked_by name s (number_given words (codes "threads"))) given in
+    refused_alone name (number_given words (codes "threads")) settings r below (sym (one ∙ by) ∙ is)
 
--- words ask for one subcommand
-one_name : (words : List Text) (first second : Text) → Asks words first → Asks words second → (first ≡ second → ⊥) → ⊥
-one_name words first second one other apart = let same : Some first ≡ Some second = sym one.1 ∙ other.1 in apart cc
+-- a run for words that ask for one thing served it, or ended for want of memory
+served : (words : List Text) (status : Status) (left rest before now : Option (List ℕ)) (name : Text) (r : Request) (EndsWith : Ending) →
+    (Serves r status left rest before now → IfSome left (λ input. EndsWith input status before now)) →
+    ((input : List ℕ) → Keeps before now → EndsWith input Memory before now) →
+    Asks words name → asked_by name (settings_given words) (number_given words (codes "threads")) ≡ Some r →
+    IsRun words status left rest before now → IfSome left (λ input. EndsWith input status before now)
+served words status left rest before now name r EndsWith ends allows asks is (inl run) =
+    let same : Some run.0 ≡ Some r = sym (asked_named words name run.0 asks run.1) ∙ is in
+    let one : run.0 ≡ r = cc in
+    ends (subst (λ (x : Request). Serves x status left rest before now) one run.2)
+served words status left rest before now name r EndsWith ends allows asks is (inr run) =
+    unwritten EndsWith status left before now allows run.0 run.2
 
--- accepted words with settings in order are served by their settings
-pub serves_settings : (words : List Text) (request : Request) (status : Status) (left rest before now : Option (List ℕ)) →
-    Answers words request → Serves request status left rest before now →
-    (settings : Settings) → Asks words (codes "commands") → settings_given words ≡ Some settings → settings.initial ≤ settings.max →
-    IfSome left (λ input. Ends status (commands_due settings input) before now)
-serves_settings words (Commands config) status left rest before now answers serves settings asks given within =
-    subst (λ (s : Settings). IfSome left (λ input. Ends status (commands_due s input) before now)) (same_settings config settings (settings_given words) answers.1 given) serves
-serves_settings words (Steps config) status left rest before now answers serves settings asks given within =
-    absurd (one_name words (codes "steps") (codes "commands") answers.0 asks (unlike (codes "steps") (codes "commands") refl))
-serves_settings words (Build config) status left rest before now answers serves settings asks given within =
-    absurd (one_name words (codes "build") (codes "commands") answers.0 asks (unlike (codes "build") (codes "commands") refl))
-serves_settings words Check status left rest before now answers serves settings asks given within =
-    absurd (one_name words (codes "check") (codes "commands") answers asks (unlike (codes "check") (codes "commands") refl))
-serves_settings words Dump status left rest before now answers serves settings asks given within =
-    absurd (one_name words (codes "dump") (codes "commands") answers asks (unlike (codes "dump") (codes "commands") refl))
-serves_settings words Draw status left rest before now answers serves settings asks given within =
-    absurd (one_name words (codes "draw") (codes "commands") answers asks (unlike (codes "draw") (codes "commands") refl))
-serves_settings words (Drive config threads) status left rest before now answers serves settings asks given within =
-    absurd (one_name words (codes "drive") (codes "commands") answers.0 asks (unlike (codes "drive") (codes "commands") refl))
-serves_settings words (Help text) status left rest before now answers serves settings asks given within = absurd (answers.0 asks.0)
-serves_settings words (Refused text) status left rest before now answers serves settings asks given within = absurd (answers.0 asks.0)
-serves_settings words MaxBelowInitial status left rest before now answers serves settings asks given within =
-    absurd (not_below settings (settings_given words) given within answers.1)
+pub serves_commands : ServesFile (codes "commands") EndsCommands
+serves_commands words status left rest before now settings asks given within run =
+    served words status left rest before now (codes "commands") (request.Commands settings) (EndsCommands settings)
+    (λ h. h) (λ input keeps. keeps) asks (commands (codes "commands") _ _ settings refl given within) run
 
--- and so are words that ask for steps
-pub serves_steps : (words : List Text) (request : Request) (status : Status) (left rest before now : Option (List ℕ)) →
-    Answers words request → Serves request status left rest before now →
-    (settings : Settings) → Asks words (codes "steps") → settings_given words ≡ Some settings → settings.initial ≤ settings.max →
-    IfSome left (λ input. EndsSteps settings input status before now)
-serves_steps words (Commands config) status left rest before now answers serves settings asks given within =
-    absurd (one_name words (codes "commands") (codes "steps") answers.0 asks (unlike (codes "commands") (codes "steps") refl))
-serves_steps words (Steps config) status left rest before now answers serves settings asks given within =
-    subst (λ (s : Settings). IfSome left (λ input. EndsSteps s input status before now)) (same_settings config settings (settings_given words) answers.1 given) serves
-serves_steps words (Build config) status left rest before now answers serves settings asks given within =
-    absurd (one_name words (codes "build") (codes "steps") answers.0 asks (unlike (codes "build") (codes "steps") refl))
-serves_steps words Check status left rest before now answers serves settings asks given within =
-    absurd (one_name words (codes "check") (codes "steps") answers asks (unlike (codes "check") (codes "steps") refl))
-serves_steps words Dump status left rest before now answers serves settings asks given within =
-    absurd (one_name words (codes "dump") (codes "steps") answers asks (unlike (codes "dump") (codes "steps") refl))
-serves_steps words Draw status left rest before now answers serves settings asks given within =
-    absurd (one_name words (codes "draw") (codes "steps") answers asks (unlike (codes "draw") (codes "steps") refl))
-serves_steps words (Drive config threads) status left rest before now answers serves settings asks given within =
-    absurd (one_name words (codes "drive") (codes "steps") answers.0 asks (unlike (codes "drive") (codes "steps") refl))
-serves_steps words (Help text) status left rest before now answers serves settings asks given within = absurd (answers.0 asks.0)
-serves_steps words (Refused text) status left rest before now answers serves settings asks given within = absurd (answers.0 asks.0)
-serves_steps words MaxBelowInitial status left rest before now answers serves settings asks given within =
-    absurd (not_below settings (settings_given words) given within answers.1)
+pub serves_steps : ServesFile (codes "steps") EndsSteps
+unfolding EndsSteps
+serves_steps words status left rest before now settings asks given within run =
+    served words status left rest before now (codes "steps") (request.Steps settings) (EndsSteps settings)
+    (λ h. h) (λ input keeps. keeps) asks (steps (codes "steps") _ _ settings refl given within) run
 
--- and words that ask for an image
-pub serves_build : (words : List Text) (request : Request) (status : Status) (left rest before now : Option (List ℕ)) →
-    Answers words request → Serves request status left rest before now →
-    (settings : Settings) → Asks words (codes "build") → settings_given words ≡ Some settings → settings.initial ≤ settings.max →
-    IfSome left (λ input. EndsBuilding settings input status before now)
-serves_build words (Commands config) status left rest before now answers serves settings asks given within =
-    absurd (one_name words (codes "commands") (codes "build") answers.0 asks (unlike (codes "commands") (codes "build") refl))
-serves_build words (Steps config) status left rest before now answers serves settings asks given within =
-    absurd (one_name words (codes "steps") (codes "build") answers.0 asks (unlike (codes "steps") (codes "build") refl))
-serves_build words (Build config) status left rest before now answers serves settings asks given within =
-    subst (λ (s : Settings). IfSome left (λ input. EndsBuilding s input status before now)) (same_settings config settings (settings_given words) answers.1 given) serves
-serves_build words Check status left rest before now answers serves settings asks given within =
-    absurd (one_name words (codes "check") (codes "build") answers asks (unlike (codes "check") (codes "build") refl))
-serves_build words Dump status left rest before now answers serves settings asks given within =
-    absurd (one_name words (codes "dump") (codes "build") answers asks (unlike (codes "dump") (codes "build") refl))
-serves_build words Draw status left rest before now answers serves settings asks given within =
-    absurd (one_name words (codes "draw") (codes "build") answers asks (unlike (codes "draw") (codes "build") refl))
-serves_build words (Drive config threads) status left rest before now answers serves settings asks given within =
-    absurd (one_name words (codes "drive") (codes "build") answers.0 asks (unlike (codes "drive") (codes "build") refl))
-serves_build words (Help text) status left rest before now answers serves settings asks given within = absurd (answers.0 asks.0)
-serves_build words (Refused text) status left rest before now answers serves settings asks given within = absurd (answers.0 asks.0)
-serves_build words MaxBelowInitial status left rest before now answers serves settings asks given within =
-    absurd (not_below settings (settings_given words) given within answers.1)
+pub serves_build : ServesFile (codes "build") EndsBuilding
+unfolding EndsBuilding
+serves_build words status left rest before now settings asks given within run =
+    served words status left rest before now (codes "build") (request.Build settings) (EndsBuilding settings)
+    (λ h. h) (λ input keeps. keeps) asks (build (codes "build") _ _ settings refl given within) run
 
--- and words that ask for a run in threads
-pub serves_drive : (words : List Text) (request : Request) (status : Status) (left rest before now : Option (List ℕ)) →
-    Answers words request → Serves request status left rest before now →
-    (settings : Settings) → Asks words (codes "drive") → settings_given words ≡ Some settings → settings.initial ≤ settings.max →
-    IfSome left (λ input. EndsDriving settings input status before now)
-serves_drive words (Commands config) status left rest before now answers serves settings asks given within =
-    absurd (one_name words (codes "commands") (codes "drive") answers.0 asks (unlike (codes "commands") (codes "drive") refl))
-serves_drive words (Steps config) status left rest before now answers serves settings asks given within =
-    absurd (one_name words (codes "steps") (codes "drive") answers.0 asks (unlike (codes "steps") (codes "drive") refl))
-serves_drive words (Build config) status left rest before now answers serves settings asks given within =
-    absurd (one_name words (codes "build") (codes "drive") answers.0 asks (unlike (codes "build") (codes "drive") refl))
-serves_drive words Check status left rest before now answers serves settings asks given within =
-    absurd (one_name words (codes "check") (codes "drive") answers asks (unlike (codes "check") (codes "drive") refl))
-serves_drive words Dump status left rest before now answers serves settings asks given within =
-    absurd (one_name words (codes "dump") (codes "drive") answers asks (unlike (codes "dump") (codes "drive") refl))
-serves_drive words Draw status left rest before now answers serves settings asks given within =
-    absurd (one_name words (codes "draw") (codes "drive") answers asks (unlike (codes "draw") (codes "drive") refl))
-serves_drive words (Drive config threads) status left rest before now answers serves settings asks given within =
-    subst (λ (s : Settings). IfSome left (λ input. EndsDriving s input status before now)) (same_settings config settings (settings_given words) answers.1 given) serves
-serves_drive words (Help text) status left rest before now answers serves settings asks given within = absurd (answers.0 asks.0)
-serves_drive words (Refused text) status left rest before now answers serves settings asks given within = absurd (answers.0 asks.0)
-serves_drive words MaxBelowInitial status left rest before now answers serves settings asks given within =
-    absurd (not_below settings (settings_given words) given within answers.1)
+-- words that ask for a run in threads give their number, or ask for nothing
+driven : (words : List Text) (status : Status) (left rest before now : Option (List ℕ)) (settings : Settings) (threads : Option ℕ) →
+    number_given words (codes "threads") ≡ threads → Asks words (codes "drive") → settings_given words ≡ Some settings → settings.initial ≤ settings.max →
+    IsRun words status left rest before now → IfSome left (λ input. EndsDriving settings input status before now)
+unfolding EndsDriving
+driven words status left rest before now settings (Some n) counted asks given within run =
+    served words status left rest before now (codes "drive") (request.Drive settings n) (EndsDriving settings)
+    (λ h. h) (λ input keeps. keeps) asks (drive (codes "drive") _ _ settings n refl given counted within) run
+driven words status left rest before now settings None counted asks given within (inl run) =
+    let none = undriven (codes "drive") _ _ settings refl given counted within in
+    let some = asked_named words (codes "drive") run.0 asks run.1 in
+    absurd cc
+driven words status left rest before now settings None counted asks given within (inr run) =
+    unwritten (EndsDriving settings) status left before now (λ input keeps. keeps) run.0 run.2
 
-none_below : (given : Option Settings) → given ≡ None → IsMaxBelowInitial given → ⊥
-none_below given e below = subst IsMaxBelowInitial e below
+pub serves_drive : ServesFile (codes "drive") EndsDriving
+serves_drive words status left rest before now settings asks given within run =
+    driven words status left rest before now settings (number_given words (codes "threads")) refl asks given within run
 
--- words that ask for a census of an image are served
-pub serves_check : (words : List Text) (request : Request) (status : Status) (left rest before now : Option (List ℕ)) →
-    Answers words request → Serves request status left rest before now →
-    Asks words (codes "check") →
-    IfSome left (λ input. Ends status (check_due input) before now)
-serves_check words (Commands config) status left rest before now answers serves asks =
-    absurd (one_name words (codes "commands") (codes "check") answers.0 asks (unlike (codes "commands") (codes "check") refl))
-serves_check words (Steps config) status left rest before now answers serves asks =
-    absurd (one_name words (codes "steps") (codes "check") answers.0 asks (unlike (codes "steps") (codes "check") refl))
-serves_check words (Build config) status left rest before now answers serves asks =
-    absurd (one_name words (codes "build") (codes "check") answers.0 asks (unlike (codes "build") (codes "check") refl))
-serves_check words Check status left rest before now answers serves asks =
-    serves
-serves_check words Dump status left rest before now answers serves asks =
-    absurd (one_name words (codes "dump") (codes "check") answers asks (unlike (codes "dump") (codes "check") refl))
-serves_check words Draw status left rest before now answers serves asks =
-    absurd (one_name words (codes "draw") (codes "check") answers asks (unlike (codes "draw") (codes "check") refl))
-serves_check words (Drive config threads) status left rest before now answers serves asks =
-    absurd (one_name words (codes "drive") (codes "check") answers.0 asks (unlike (codes "drive") (codes "check") refl))
-serves_check words (Help text) status left rest before now answers serves asks = absurd (answers.0 asks.0)
-serves_check words (Refused text) status left rest before now answers serves asks = absurd (answers.0 asks.0)
-serves_check words MaxBelowInitial status left rest before now answers serves asks =
-    absurd (none_below (settings_given words) (image-settings words (codes "check") asks (inl refl)) answers.1)
+-- a run for words that ask for a subcommand which takes no settings served it, or ended for want of memory
+serves_alone : (words : List Text) (status : Status) (left rest before now : Option (List ℕ)) (name : Text) (r : Request) (EndsWith : Ending)
+    (settings : Option Settings) → settings_given words ≡ settings →
+    (Serves r status left rest before now → IfSome left (λ input. EndsWith input status before now)) →
+    ((input : List ℕ) → Keeps before now → EndsWith input Memory before now) → Asks words name →
+    ((threads : Option ℕ) → asked_by name None threads ≡ Some r) → ((s : Settings) (threads : Option ℕ) → asked_by name (Some s) threads ≡ None) →
+    IsRun words status left rest before now → IfSome left (λ input. EndsWith input status before now)
+serves_alone words status left rest before now name r EndsWith None given ends allows asks alone none run =
+    served words status left rest before now name r EndsWith ends allows asks
+    (ap (λ s. asked_by name s (number_given words (codes "threads"))) given ∙ alone (number_given words (codes "threads"))) run
+serves_alone words status left rest before now name r EndsWith (Some s) given ends allows asks alone none (inl run) =
+    let some = asked_named words name run.0 asks run.1 in
+    let same : asked_by name (settings_given words) (number_given words (codes "threads")) ≡ None =
+    ap (λ x. asked_by name x (number_given words (codes "threads"))) given ∙ none s (number_given words (codes "threads")) in
+    absurd cc
+serves_alone words status left rest before now name r EndsWith (Some s) given ends allows asks alone none (inr run) =
+    unwritten EndsWith status left before now allows run.0 run.2
 
--- and words that ask for its records
-pub serves_dump : (words : List Text) (request : Request) (status : Status) (left rest before now : Option (List ℕ)) →
-    Answers words request → Serves request status left rest before now →
-    Asks words (codes "dump") →
-    IfSome left (λ input. Ends status (dump_due input) before now)
-serves_dump words (Commands config) status left rest before now answers serves asks =
-    absurd (one_name words (codes "commands") (codes "dump") answers.0 asks (unlike (codes "commands") (codes "dump") refl))
-serves_dump words (Steps config) status left rest before now answers serves asks =
-    absurd (one_name words (codes "steps") (codes "dump") answers.0 asks (unlike (codes "steps") (codes "dump") refl))
-serves_dump words (Build config) status left rest before now answers serves asks =
-    absurd (one_name words (codes "build") (codes "dump") answers.0 asks (unlike (codes "build") (codes "dump") refl))
-serves_dump words Check status left rest before now answers serves asks =
-    absurd (one_name words (codes "check") (codes "dump") answers asks (unlike (codes "check") (codes "dump") refl))
-serves_dump words Dump status left rest before now answers serves asks =
-    serves
-serves_dump words Draw status left rest before now answers serves asks =
-    absurd (one_name words (codes "draw") (codes "dump") answers asks (unlike (codes "draw") (codes "dump") refl))
-serves_dump words (Drive config threads) status left rest before now answers serves asks =
-    absurd (one_name words (codes "drive") (codes "dump") answers.0 asks (unlike (codes "drive") (codes "dump") refl))
-serves_dump words (Help text) status left rest before now answers serves asks = absurd (answers.0 asks.0)
-serves_dump words (Refused text) status left rest before now answers serves asks = absurd (answers.0 asks.0)
-serves_dump words MaxBelowInitial status left rest before now answers serves asks =
-    absurd (none_below (settings_given words) (image-settings words (codes "dump") asks (inr (inl refl))) answers.1)
+pub serves_check : ServesImage (codes "check") (EndsTold check_due)
+unfolding asked_by
+serves_check words status left rest before now asks run =
+    serves_alone words status left rest before now (codes "check") request.Check (EndsTold check_due) (settings_given words) refl
+    (λ h. h) (λ input keeps. keeps) asks (λ threads. refl) (λ s threads. refl) run
 
--- and words that ask for a drawing
-pub serves_draw : (words : List Text) (request : Request) (status : Status) (left rest before now : Option (List ℕ)) →
-    Answers words request → Serves request status left rest before now →
-    Asks words (codes "draw") →
-    IfSome left (λ input. Ends status (draw_due input) before now)
-serves_draw words (Commands config) status left rest before now answers serves asks =
-    absurd (one_name words (codes "commands") (codes "draw") answers.0 asks (unlike (codes "commands") (codes "draw") refl))
-serves_draw words (Steps config) status left rest before now answers serves asks =
-    absurd (one_name words (codes "steps") (codes "draw") answers.0 asks (unlike (codes "steps") (codes "draw") refl))
-serves_draw words (Build config) status left rest before now answers serves asks =
-    absurd (one_name words (codes "build") (codes "draw") answers.0 asks (unlike (codes "build") (codes "draw") refl))
-serves_draw words Check status left rest before now answers serves asks =
-    absurd (one_name words (codes "check") (codes "draw") answers asks (unlike (codes "check") (codes "draw") refl))
-serves_draw words Draw status left rest before now answers serves asks =
-    serves
-serves_draw words Dump status left rest before now answers serves asks =
-    absurd (one_name words (codes "dump") (codes "draw") answers asks (unlike (codes "dump") (codes "draw") refl))
-serves_draw words (Drive config threads) status left rest before now answers serves asks =
-    absurd (one_name words (codes "drive") (codes "draw") answers.0 asks (unlike (codes "drive") (codes "draw") refl))
-serves_draw words (Help text) status left rest before now answers serves asks = absurd (answers.0 asks.0)
-serves_draw words (Refused text) status left rest before now answers serves asks = absurd (answers.0 asks.0)
-serves_draw words MaxBelowInitial status left rest before now answers serves asks =
-    absurd (none_below (settings_given words) (image-settings words (codes "draw") asks (inr (inr refl))) answers.1)
+pub serves_dump : ServesImage (codes "dump") (EndsTold dump_due)
+unfolding asked_by
+serves_dump words status left rest before now asks run =
+    serves_alone words status left rest before now (codes "dump") request.Dump (EndsTold dump_due) (settings_given words) refl
+    (λ h. h) (λ input keeps. keeps) asks (λ threads. refl) (λ s threads. refl) run
 
--- what is asked for can be done
-pub is_servable : (words : List Text) (request : Request) → Answers words request → IsServable request
-is_servable words (Drive config threads) answers = answers.4
-is_servable words _ answers = tt
+pub serves_draw : ServesImage (codes "draw") (EndsTold draw_due)
+unfolding asked_by
+serves_draw words status left rest before now asks run =
+    serves_alone words status left rest before now (codes "draw") request.Draw (EndsTold draw_due) (settings_given words) refl
+    (λ h. h) (λ input keeps. keeps) asks (λ threads. refl) (λ s threads. refl) run
 
--- and where memory ran out before
-pub without_memory : (settings : Settings) (left a : Option (List ℕ)) → IfSome left (λ input. EndsSteps settings input Memory a a)
-without_memory settings None a = tt
-without_memory settings (Some input) a = no_memory settings input a
-
--- accepted words whose greatest number of buckets is below the initial one are refused
-pub refuses_below : (words : List Text) (request : Request) (status : Status) (left rest before now : Option (List ℕ)) →
-    Answers words request → Serves request status left rest before now →
-    (settings : Settings) → Accepts words → settings_given words ≡ Some settings → settings.max < settings.initial →
-    IsWordsOf below_initial status × Keeps left rest × Keeps before now
-refuses_below words (Commands config) status left rest before now answers serves settings accepts given below =
-    let same : config ≡ settings = same_settings config settings (settings_given words) answers.1 given in
-    let within : settings.initial ≤ settings.max = subst (λ (s : Settings). s.initial ≤ s.max) same answers.2.max.0 in absurd (omega arith)
-refuses_below words (Steps config) status left rest before now answers serves settings accepts given below =
-    let same : config ≡ settings = same_settings config settings (settings_given words) answers.1 given in
-    let within : settings.initial ≤ settings.max = subst (λ (s : Settings). s.initial ≤ s.max) same answers.2.max.0 in absurd (omega arith)
-refuses_below words (Build config) status left rest before now answers serves settings accepts given below =
-    let same : config ≡ settings = same_settings config settings (settings_given words) answers.1 given in
-    let within : settings.initial ≤ settings.max = subst (λ (s : Settings). s.initial ≤ s.max) same answers.2.max.0 in absurd (omega arith)
-refuses_below words Check status left rest before now answers serves settings accepts given below =
-    let none : settings_given words ≡ None = image-settings words (codes "check") answers (inl refl) in absurd cc
-refuses_below words Dump status left rest before now answers serves settings accepts given below =
-    let none : settings_given words ≡ None = image-settings words (codes "dump") answers (inr (inl refl)) in absurd cc
-refuses_below words Draw status left rest before now answers serves settings accepts given below =
-    let none : settings_given words ≡ None = image-settings words (codes "draw") answers (inr (inr refl)) in absurd cc
-refuses_below words (Drive config threads) status left rest before now answers serves settings accepts given below =
-    let same : config ≡ settings = same_settings config settings (settings_given words) answers.1 given in
-    let within : settings.initial ≤ settings.max = subst (λ (s : Settings). s.initial ≤ s.max) same answers.2.max.0 in absurd (omega arith)
-refuses_below words (Help text) status left rest before now answers serves settings accepts given below = absurd (answers.0 accepts)
-refuses_below words (Refused text) status left rest before now answers serves settings accepts given below = absurd (answers.0 accepts)
-refuses_below words MaxBelowInitial status left rest before now answers serves settings accepts given below = serves
+-- what is refused for its settings
+pub refuses_below : RefusesBelow
+refuses_below words status left rest before now settings accepts given below (inl (r, inl answers, serves)) =
+    let is = below_asked words (subcommand_named words) refl settings given below r answers.1 in
+    subst (λ (x : Request). Serves x status left rest before now) is serves
+refuses_below words status left rest before now settings accepts given below (inl (r, inr answers, serves)) = absurd (answers.0 accepts)
+refuses_below words status left rest before now settings accepts given below (inr run) =
+    (subst (IsWordsOf below_initial) (sym run.0) tt, run.1, run.2)
 
 helped : (words : List Text) (status : Status) (before now : Option (List ℕ)) → AsksForHelp words → IsHelped status → IsTurnedAway words status before now
 helped words Done before now asks h = asks
@@ -244,18 +139,23 @@ helped words (Device Write) before now asks h = asks
 helped words Memory before now asks h = absurd h
 helped words (NotSettled fault) before now asks h = absurd h
 
--- other words are turned away
-pub turns_away : (words : List Text) (request : Request) (status : Status) (left rest before now : Option (List ℕ)) →
-    Answers words request → Serves request status left rest before now → ¬ Accepts words →
-    IsTurnedAway words status before now × Keeps left rest
-turns_away words (Commands config) status left rest before now answers serves refused = absurd (refused answers.0.0)
-turns_away words (Steps config) status left rest before now answers serves refused = absurd (refused answers.0.0)
-turns_away words (Build config) status left rest before now answers serves refused = absurd (refused answers.0.0)
-turns_away words Check status left rest before now answers serves refused = absurd (refused answers.0)
-turns_away words Dump status left rest before now answers serves refused = absurd (refused answers.0)
-turns_away words Draw status left rest before now answers serves refused = absurd (refused answers.0)
-turns_away words (Drive config threads) status left rest before now answers serves refused = absurd (refused answers.0.0)
-turns_away words (Help text) status left rest before now answers serves refused = (helped words status before now answers.1 serves.0, serves.1)
-turns_away words (Refused text) status left rest before now answers serves refused =
-    (subst (λ (s : Status). IsTurnedAway words s before now) (sym serves.0) (answers.1, serves.2), serves.1)
-turns_away words MaxBelowInitial status left rest before now answers serves refused = absurd (refused answers.0)
+turned : (words : List Text) (r : Request) (status : Status) (left rest before now : Option (List ℕ)) →
+    IsTurned words r → Serves r status left rest before now → IsTurnedAway words status before now × Keeps left rest
+turned words (request.Help text) status left rest before now is serves = (helped words status before now is serves.0, serves.1)
+turned words (request.Refused text) status left rest before now is serves =
+    (subst (λ (s : Status). IsTurnedAway words s before now) (sym serves.0) (is, serves.2), serves.1)
+turned words (request.Commands config) status left rest before now is serves = absurd is
+turned words (request.Steps config) status left rest before now is serves = absurd is
+turned words (request.Build config) status left rest before now is serves = absurd is
+turned words (request.Drive config threads) status left rest before now is serves = absurd is
+turned words request.Check status left rest before now is serves = absurd is
+turned words request.Dump status left rest before now is serves = absurd is
+turned words request.Draw status left rest before now is serves = absurd is
+turned words request.MaxBelowInitial status left rest before now is serves = absurd is
+
+-- what is turned away
+pub turns_away : TurnsAway
+turns_away words status left rest before now refused (inl (r, inl answers, serves)) = absurd (refused answers.0)
+turns_away words status left rest before now refused (inl (r, inr answers, serves)) = turned words r status left rest before now answers.1 serves
+turns_away words status left rest before now refused (inr run) =
+    (subst (λ (s : Status). IsTurnedAway words s before now) (sym run.0) run.2, run.1)

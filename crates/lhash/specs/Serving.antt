@@ -1,15 +1,16 @@
 -- What became of the words that a run was given
-use Rattle.std.specs.Prelude.{◌≡◌, ℕ, ◌≤◌, List, Option, IfSome, codes}
+use Rattle.std.specs.Prelude.{◌≡◌, ◌⊎◌, ℕ, ◌<◌, ◌≤◌, List, Option, Some, IfSome, Result, codes}
 use Rattle.std.specs.String.{string_bytes}
 use Rattle.std.specs.Io.KnownBytes.{Keeps}
-use Rattle.clap.specs.Walk.{Text}
 use Rattle.lhash.specs.Driving.{EndsDriving}
 use Rattle.lhash.specs.Images.{EndsBuilding, check_due, draw_due, dump_due}
-use Rattle.lh_options.specs.Options.{AsksForHelp, IsRefused}
+use Rattle.lh_addr.specs.Settings.{Settings}
+use Rattle.lh_options.specs.Options.{Accepts, Answers, Asks, AsksForHelp, IsRefused, Text, settings_given}
 use Rattle.lhash.specs.Run.{Ends, EndsSteps, commands_due}
 use Rattle.lh_options.specs.declared.options.Request.{Request}
 use Rattle.lh_options.specs.declared.options.Request.TheVariants.{Commands, Steps, Build, Check, Draw, Dump, Drive, Help, Refused, MaxBelowInitial}
 use Rattle.lhash.specs.declared.status.DeviceFault.TheVariants.{Write}
+use Rattle.lhash.specs.declared.status.InputFault.{InputFault}
 use Rattle.lhash.specs.declared.status.Status.{Status}
 use Rattle.lhash.specs.declared.status.Status.TheVariants.{Done, Words, Device, Memory}
 
@@ -28,11 +29,6 @@ IsHelped _ = ⊥
 -- `--max` is below `--initial`
 abbrev pub below_initial : List ℕ
 below_initial = codes "max is less than initial"
-
--- what is asked for can be done: a script is run in a thread at least
-abbrev pub IsServable : Request → Type 0
-IsServable (Drive config threads) = 1 ≤ threads
-IsServable _ = Unit {0}
 
 -- what a request led to, with what the reader had left and has, and what the writer held and holds
 abbrev pub Serves : Request → Status → Option (List ℕ) → Option (List ℕ) → Option (List ℕ) → Option (List ℕ) → Type 0
@@ -54,3 +50,49 @@ IsTurnedAway words Memory before now = Keeps before now
 IsTurnedAway words Done before now = AsksForHelp words
 IsTurnedAway words (Device Write) before now = AsksForHelp words
 IsTurnedAway words _ before now = ⊥
+
+-- What a run did with words: what they ask for, or memory ran out before that was known, with nothing read and nothing written.
+abbrev pub IsRun : List Text → Status → Option (List ℕ) → Option (List ℕ) → Option (List ℕ) → Option (List ℕ) → Type 0
+IsRun words status left rest before now =
+    ((request : Request) × Answers words request × Serves request status left rest before now)
+    ⊎ ((status ≡ Memory) × Keeps left rest × Keeps before now)
+
+-- ---- what follows of a run for words of each kind
+
+-- how a run ends, by what the reader had left and what the writer held and holds
+abbrev pub Ending : Type 1
+Ending = List ℕ → Status → Option (List ℕ) → Option (List ℕ) → Type 0
+
+-- a status where the replies to a script's calls are to be written
+abbrev pub EndsCommands : Settings → Ending
+EndsCommands settings input status before now = Ends status (commands_due settings input) before now
+
+-- a status where this is to be written of an image
+abbrev pub EndsTold : (List ℕ → Result (List ℕ) InputFault) → Ending
+EndsTold due input status before now = Ends status (due input) before now
+
+-- a run for words that ask for this subcommand and give settings in order ends by them
+abbrev pub ServesFile : Text → (Settings → Ending) → Type 0
+ServesFile name EndsWith =
+    (words : List Text) (status : Status) (left rest before now : Option (List ℕ)) (settings : Settings) →
+    Asks words name → settings_given words ≡ Some settings → settings.initial ≤ settings.max →
+    IsRun words status left rest before now → IfSome left (λ input. EndsWith settings input status before now)
+
+-- a run for words that ask for this subcommand, which reads an image, ends so
+abbrev pub ServesImage : Text → Ending → Type 0
+ServesImage name EndsWith =
+    (words : List Text) (status : Status) (left rest before now : Option (List ℕ)) →
+    Asks words name → IsRun words status left rest before now → IfSome left (λ input. EndsWith input status before now)
+
+-- a run for words that give settings out of order refuses them
+abbrev pub RefusesBelow : Type 0
+RefusesBelow =
+    (words : List Text) (status : Status) (left rest before now : Option (List ℕ)) (settings : Settings) →
+    Accepts words → settings_given words ≡ Some settings → settings.max < settings.initial →
+    IsRun words status left rest before now → IsWordsOf below_initial status × Keeps left rest × Keeps before now
+
+-- a run for words that are not accepted turns them away, and nothing is read
+abbrev pub TurnsAway : Type 0
+TurnsAway =
+    (words : List Text) (status : Status) (left rest before now : Option (List ℕ)) →
+    ¬ Accepts words → IsRun words status left rest before now → IsTurnedAway words status before now × Keeps left rest

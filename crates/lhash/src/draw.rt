@@ -17,7 +17,8 @@ use crate::status::{DeviceFault, Status};
 use lh_bucket::Listing;
 use lh_draw::{
     Caption, Plot, canvas_of, chain_length, column_count, cuts_of, floor_of, group_bar,
-    is_detailed, label_count, label_of, legend_of, mark_of, more_of, page_bar, title_of, whole_tally,
+    is_detailed, label_count, label_of, legend_of, mark_of, more_of, page_bar, title_of,
+    whole_tally,
 };
 use lh_image::read_image;
 use std::alloc::Global;

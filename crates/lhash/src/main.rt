@@ -15,6 +15,7 @@ mod drive;
 mod driven;
 mod image_texts;
 mod images;
+pub mod laws;
 mod output;
 mod program;
 mod status;
@@ -25,13 +26,14 @@ pub use drive::{DriveFault, drive_with};
 pub use driven::Driven;
 use program::refuse;
 pub use program::run;
-use status::Status;
+pub use status::{DeviceFault, InputFault, Status};
 use std::env;
 use std::io::{BufReader, ErrorKind, Read, Write};
 use std::process::ExitCode;
 use std::rt::Runtime;
 use std::sync::Wait;
 use std::thread::Threads;
+pub use unsettled::Unsettled;
 
 /// The most bytes that one read of the process's input is asked for.
 const READ_AHEAD: usize = 65_536;

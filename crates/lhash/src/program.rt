@@ -1,12 +1,7 @@
 //! The program, from words and bytes to bytes and a status.
-ghost use Rattle.std.specs.Prelude.{◌≡◌, ◌≤◌, ◌<◌, IfSome, codes, map, Some};
-ghost use Rattle.std.specs.Io.KnownBytes.{Keeps};
-ghost use Rattle.lh_addr.specs.Settings.{Settings};
-ghost use Rattle.lhash.specs.Driving.{EndsDriving};
-ghost use Rattle.lhash.specs.Images.{EndsBuilding, check_due, draw_due, dump_due};
-ghost use Rattle.lh_options.specs.Options.{Accepts, Asks, settings_given};
-ghost use Rattle.lhash.specs.Run.{Ends, EndsSteps, commands_due};
-ghost use Rattle.lhash.specs.Serving.{IsHelped, IsServable, IsTurnedAway, IsWordsOf, Serves, below_initial};
+ghost use Rattle.std.specs.Prelude.{◌≡◌, map};
+ghost use Rattle.lh_options.specs.Options.{IsServable};
+ghost use Rattle.lhash.specs.Serving.{IsHelped, IsRun, IsWordsOf, Serves};
 
 use crate::answer::{answer_commands, answer_steps};
 use crate::device::write_all;
@@ -50,7 +45,8 @@ fn serve<A: Threads + Wait + Sync, R: Read, W: Write>(
     writer: &mut W,
 ) -> Status
     requires { IsServable request }
-    ensures { Serves request result (R.remaining reader.old) (R.remaining reader.new) (W.contents writer.old) (W.contents writer.new) }
+    ensures { Serves request result (R.remaining reader.old) (R.remaining reader.new)
+        (W.contents writer.old) (W.contents writer.new) }
 {
     match request {
         Request::Commands(config) => answer_commands(alloc, config, reader, writer),
@@ -68,39 +64,16 @@ fn serve<A: Threads + Wait + Sync, R: Read, W: Write>(
     }
 }
 
-/// Does what the words ask for, of which the first is the program's name.
+/// Does what the words ask for, of which the first is the program's name. What that says for each subcommand stands in
+/// [`laws`](crate::laws).
 pub fn run<'a, A: AllocGlobal + Threads + Wait + Sync, R: Read, W: Write>(
     rt: &A,
     words: &'a [&'a str],
     reader: &mut R,
     writer: &mut W,
 ) -> Status
-    ensures served { let texts = map (λ s. s.now) words.now in
-        (settings : Settings) → Asks texts (codes "commands") → settings_given texts ≡ Some settings → settings.initial ≤ settings.max →
-        IfSome (R.remaining reader.old) (λ input. Ends result (commands_due settings input) (W.contents writer.old) (W.contents writer.new)) }
-    ensures served_steps { let texts = map (λ s. s.now) words.now in
-        (settings : Settings) → Asks texts (codes "steps") → settings_given texts ≡ Some settings → settings.initial ≤ settings.max →
-        IfSome (R.remaining reader.old) (λ input. EndsSteps settings input result (W.contents writer.old) (W.contents writer.new)) }
-    ensures served_build { let texts = map (λ s. s.now) words.now in
-        (settings : Settings) → Asks texts (codes "build") → settings_given texts ≡ Some settings → settings.initial ≤ settings.max →
-        IfSome (R.remaining reader.old) (λ input. EndsBuilding settings input result (W.contents writer.old) (W.contents writer.new)) }
-    ensures served_check { let texts = map (λ s. s.now) words.now in
-        Asks texts (codes "check") →
-        IfSome (R.remaining reader.old) (λ input. Ends result (check_due input) (W.contents writer.old) (W.contents writer.new)) }
-    ensures served_dump { let texts = map (λ s. s.now) words.now in
-        Asks texts (codes "dump") →
-        IfSome (R.remaining reader.old) (λ input. Ends result (dump_due input) (W.contents writer.old) (W.contents writer.new)) }
-    ensures served_draw { let texts = map (λ s. s.now) words.now in
-        Asks texts (codes "draw") →
-        IfSome (R.remaining reader.old) (λ input. Ends result (draw_due input) (W.contents writer.old) (W.contents writer.new)) }
-    ensures served_drive { let texts = map (λ s. s.now) words.now in
-        (settings : Settings) → Asks texts (codes "drive") → settings_given texts ≡ Some settings → settings.initial ≤ settings.max →
-        IfSome (R.remaining reader.old) (λ input. EndsDriving settings input result (W.contents writer.old) (W.contents writer.new)) }
-    ensures max_below_initial { let texts = map (λ s. s.now) words.now in
-        (settings : Settings) → Accepts texts → settings_given texts ≡ Some settings → settings.max < settings.initial →
-        IsWordsOf below_initial result × Keeps (R.remaining reader.old) (R.remaining reader.new) × Keeps (W.contents writer.old) (W.contents writer.new) }
-    ensures turned_away { let texts = map (λ s. s.now) words.now in
-        ¬ Accepts texts → IsTurnedAway texts result (W.contents writer.old) (W.contents writer.new) × Keeps (R.remaining reader.old) (R.remaining reader.new) }
+    ensures { IsRun (map (λ s. s.now) words.now) result (R.remaining reader.old) (R.remaining reader.new)
+        (W.contents writer.old) (W.contents writer.new) }
 {
     let alloc = rt.alloc();
     match request_of(alloc, words) {

@@ -1,8 +1,8 @@
 use Rattle.std.proofs.Common.{map}
 use Rattle.std.proofs.lemmas.Result.{IfOk-weaker}
 use Rattle.clap.specs.Words.{found_of, rows_of}
-use Rattle.lh_options.proofs.Accepted.{entered-named, entered-settings, entered-threads}
-use Rattle.lh_options.proofs.Requests.{asked-answers, entered-from, failed-from, refusal-answers}
+use Rattle.lh_options.proofs.Accepted.{entered-named, entered-none, entered-settings, entered-threads}
+use Rattle.lh_options.proofs.Requests.{asked-answers, entered-from, failed-from, refusal-answers, refusal-servable}
 use Rattle.lh_options.proofs.options.request_of.Goals as goal
 
 pub asked-requires-clause-named : goal.asked-requires-clause-named
@@ -26,17 +26,27 @@ asked-requires-clause-threads c =
     c.in_ok-program.ensures.0 c.in-Ok.ensures.kinds c.in-Ok.ensures.matches c.in-Some.ensures.name c.in-Some.ensures.rows in
     entered-threads _ _ entered.asked
 
-pub returns-in-Err : goal.returns-in-Err
-returns-in-Err c =
+pub asked-requires-clause-none : goal.asked-requires-clause-none
+asked-requires-clause-none c =
+    let words = map (λ s. s.now) c.args.words.now in
+    let entered = entered-from _ c.in-Ok.matches words c.in-Some.name.now (rows_of (found_of c.in-Some.matches.now))
+    c.in_ok-program.ensures.0 c.in-Ok.ensures.kinds c.in-Ok.ensures.matches c.in-Some.ensures.name c.in-Some.ensures.rows in
+    entered-none _ _ entered.asked
+
+pub returns-in-Err-clause-answers : goal.returns-in-Err-clause-answers
+returns-in-Err-clause-answers c =
     let words = map (λ s. s.now) c.args.words.now in
     let failed = failed-from _ words c.in-Err.error c.in_ok-program.ensures.0 c.in-Err.ensures.kinds in
     IfOk-weaker c.refusal.result _ _ (λ r h. refusal-answers words c.in-Err.error r failed h) c.refusal.ensures
 
-pub returns-in-Some : goal.returns-in-Some
-returns-in-Some c =
+pub returns-in-Err-clause-servable : goal.returns-in-Err-clause-servable
+returns-in-Err-clause-servable c = IfOk-weaker c.refusal.result _ _ (refusal-servable _) c.refusal.ensures
+
+pub returns-in-Some-clause-answers : goal.returns-in-Some-clause-answers
+returns-in-Some-clause-answers c =
     let words = map (λ s. s.now) c.args.words.now in
     let name = c.in-Some.name.now in
     let rows = rows_of (found_of c.in-Some.matches.now) in
     let entered = entered-from _ c.in-Ok.matches words name rows
     c.in_ok-program.ensures.0 c.in-Ok.ensures.kinds c.in-Ok.ensures.matches c.in-Some.ensures.name c.in-Some.ensures.rows in
-    asked-answers words name rows c.asked.result entered c.asked.ensures
+    asked-answers words name rows c.asked.result entered c.asked.ensures.value

@@ -3,7 +3,7 @@ use Rattle.std.specs.Io.KnownBytes.{Appends}
 use Rattle.std.specs.String.{string_bytes}
 use Rattle.std.proofs.lemmas.Result.{on_ok_weaker}
 use Rattle.lhash.specs.Devices.{Sends, TakesBeginning}
-use Rattle.lhash.specs.StepTexts.{steps_text}
+use Rattle.lh_script.specs.StepTexts.{steps_text}
 use Rattle.lhash.proofs.ReplyLines.{entry_lines, begins_steps, steps_text-all}
 use Rattle.lhash.proofs.Sending.{on_err, on_err_weaker, sends_all, stops_within}
 use Rattle.lhash.proofs.output.write_entries.Goals as goal

@@ -1,7 +1,7 @@
 use Rattle.std.proofs.Common.{flat_map, take}
 use Rattle.std.specs.String.{string_bytes}
 use Rattle.lhash.specs.Devices.{Sends}
-use Rattle.lhash.specs.Texts.{line, reply_text}
+use Rattle.lh_script.specs.Texts.{line, reply_text}
 use Rattle.lhash.proofs.output.write_replies.Given as goal
 
 abbrev pub invariant-loop-reply : goal.invariant-loop-reply

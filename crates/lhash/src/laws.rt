@@ -1,0 +1,53 @@
+//! What follows of a run for the words that it was given, by the subcommand that they name. Each law is the contract of
+//! a function that does nothing.
+ghost use Rattle.std.specs.Prelude.{codes};
+ghost use Rattle.lhash.specs.Driving.{EndsDriving};
+ghost use Rattle.lhash.specs.Images.{EndsBuilding, check_due, draw_due, dump_due};
+ghost use Rattle.lhash.specs.Run.{EndsSteps};
+ghost use Rattle.lhash.specs.Serving.{EndsCommands, EndsTold, RefusesBelow, ServesFile, ServesImage, TurnsAway};
+
+/// Words that ask for `commands` have the replies of one plain map to the script's calls written, and the number of
+/// buckets that the split policy gives; or the run ends at the script's first fault, with nothing written.
+pub fn commands_is_served()
+    ensures { ServesFile (codes "commands") EndsCommands }
+{}
+
+/// Words that ask for `steps` have a line written for each event of the script, by what the headline tells of them.
+pub fn steps_is_served()
+    ensures { ServesFile (codes "steps") EndsSteps }
+{}
+
+/// Words that ask for `build` have the image written of the file that the script's calls lead to.
+pub fn build_is_served()
+    ensures { ServesFile (codes "build") EndsBuilding }
+{}
+
+/// Words that ask for `drive` have the totals written of a settled, legal history.
+pub fn drive_is_served()
+    ensures { ServesFile (codes "drive") EndsDriving }
+{}
+
+/// Words that ask for `check` have the census written of the listing that the input is an image of.
+pub fn check_is_served()
+    ensures { ServesImage (codes "check") (EndsTold check_due) }
+{}
+
+/// Words that ask for `dump` have the records written of the listing that the input is an image of.
+pub fn dump_is_served()
+    ensures { ServesImage (codes "dump") (EndsTold dump_due) }
+{}
+
+/// Words that ask for `draw` have the drawing written of the listing that the input is an image of.
+pub fn draw_is_served()
+    ensures { ServesImage (codes "draw") (EndsTold draw_due) }
+{}
+
+/// Words whose `--max` is less than their `--initial` are refused, with nothing read and nothing written.
+pub fn settings_out_of_order_are_refused()
+    ensures { RefusesBelow }
+{}
+
+/// Words that clap doesn't accept are refused, or ask for help or the version; nothing is read.
+pub fn other_words_are_turned_away()
+    ensures { TurnsAway }
+{}
