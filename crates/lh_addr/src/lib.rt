@@ -7,6 +7,7 @@
 //! of C. S. Ellis, "Concurrency in Linear Hashing", ACM TODS 12(2), 1987.
 #![tactic(auto)]
 
+mod aim;
 mod config;
 mod fnv;
 mod hash;
@@ -15,6 +16,7 @@ pub mod limits;
 mod root;
 mod root_word;
 
+pub use aim::Aim;
 pub use config::{Config, Range};
 pub use fnv::fnv1a;
 pub use hash::hash_at;

@@ -1,6 +1,8 @@
 //! The root of a file: how far it has grown, and what follows of addresses and levels.
 ghost use Rattle.std.specs.Prelude.{◌≡◌, ◌+◌, ◌*◌, ◌<◌, ◌≤◌, ◌↔◌, ◌^◌, IsSome, IfSome};
 
+use crate::aim::Aim;
+use crate::config::Config;
 use crate::hash::modulo;
 use crate::limits::{MAX_BUCKETS, MAX_INITIAL, MIN_INITIAL};
 use std::marker::Model;
@@ -12,7 +14,9 @@ use std::marker::Model;
 /// ```text
 /// let root = Root::new(1, 3)?;                 // level 1, pointer 1
 /// root.address(fnv1a(b"b"))                    // 1
+/// root.aim(fnv1a(b"b"))                        // bucket 1, at level 1
 /// root.next_split()                            // (1, 3, 2): bucket 1 into 1 and 3, at level 2
+/// root.grown().pointer()                       // 0: of 4 buckets, at level 2, none is split yet
 /// ```
 #[derive(Clone, Copy, Debug, PartialEq, Eq)]
 pub struct Root {
@@ -55,12 +59,28 @@ impl Root {
         {
             return None;
         }
+        Some(Root::of(initial, buckets))
+    }
+
+    fn of(initial: u32, buckets: u32) -> Root
+        requires { IsExtent (record { initial = initial; buckets = buckets }) }
+        ensures { result ≡ record { initial = initial; buckets = buckets } }
+    {
         let level = (buckets / initial).ilog2() as u8;
-        Some(Root {
+        Root {
             initial,
             buckets,
             level,
-        })
+        }
+    }
+
+    /// The root of the file with one bucket more.
+    pub fn grown(&self) -> Root
+        requires { self.now.buckets < 65536 }
+        ensures value { result ≡ record { initial = self.now.initial; buckets = self.now.buckets + 1 } }
+        ensures extent { IsExtent result }
+    {
+        Root::of(self.initial, self.buckets + 1)
     }
 
     /// The level: how often all the buckets that the file began with have been split.
@@ -129,6 +149,20 @@ impl Root {
         }
     }
 
+    /// Where a caller that reads this root looks for a code: its address, at that bucket's level.
+    pub fn aim(&self, code: u64) -> Aim
+        ensures bucket { result.bucket ≡ address self.now.initial self.now.buckets code }
+        ensures level { result.level ≡ level_of self.now.initial self.now.buckets result.bucket }
+        ensures at_most_16 { result.level ≤ 16 }
+        ensures within { result.bucket < self.now.buckets }
+    {
+        let bucket = self.address(code);
+        Aim {
+            level: self.level_of(bucket),
+            bucket,
+        }
+    }
+
     /// The next split: the bucket that splits, the new bucket, and the level of both after it.
     #[tactic(auto, unfolding(crate::specs::Growth::pointer))]
     pub fn next_split(&self) -> (u32, u32, u8)
@@ -138,5 +172,20 @@ impl Root {
         ensures level { result.2 ≡ level self.now.initial self.now.buckets + 1 }
     {
         (self.pointer(), self.buckets, self.level + 1)
+    }
+}
+
+impl Config {
+    ghost use Rattle.lh_addr.specs.Extent.{IsExtent};
+    ghost use Rattle.lh_addr.specs.Limits.{IsSize};
+
+    /// The root of a file of this configuration that has `buckets` buckets, from the initial number
+    /// to 65,536.
+    pub fn root(&self, buckets: u32) -> Root
+        requires { IsSize self.now.initial buckets }
+        ensures value { result ≡ record { initial = self.now.initial; buckets = buckets } }
+        ensures extent { IsExtent result }
+    {
+        Root::of(self.initial(), buckets)
     }
 }

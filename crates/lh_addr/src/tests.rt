@@ -42,6 +42,40 @@ fn root_of_three_buckets(rt: HostRuntime) -> Result<(), Fail> {
 }
 
 #[test]
+fn an_aim_has_the_level_of_its_bucket(rt: HostRuntime) -> Result<(), Fail> {
+    let root = Root::new(1, 3).ok_or("root")?;
+    assert_eq!(rt;
+        root.aim(fnv1a(b"a")),
+        Aim {
+            level: 2,
+            bucket: 0
+        }
+    );
+    assert_eq!(rt;
+        root.aim(fnv1a(b"b")),
+        Aim {
+            level: 1,
+            bucket: 1
+        }
+    );
+    Ok(())
+}
+
+#[test]
+fn a_root_grows_by_one_bucket(rt: HostRuntime) -> Result<(), Fail> {
+    let root = Root::new(1, 3).ok_or("root")?.grown();
+    assert_eq!(rt; (root.buckets(), root.level(), root.pointer()), (4, 2, 0));
+    Ok(())
+}
+
+#[test]
+fn a_configuration_has_roots(rt: HostRuntime) -> Result<(), Fail> {
+    let config = Config::new(1, 2, 100, 4).ok().ok_or("config")?;
+    assert_eq!(rt; Some(config.root(3)), Root::new(1, 3));
+    Ok(())
+}
+
+#[test]
 fn roots_have_limits(rt: HostRuntime) -> Result<(), Fail> {
     assert_eq!(rt; Root::new(3, 2), None);
     assert_eq!(rt; Root::new(0, 1), None);

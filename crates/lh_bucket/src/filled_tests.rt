@@ -4,8 +4,8 @@ ghost use Rattle.lh_bucket.specs.Listing.{size};
 
 use super::*;
 use crate::tests::{keys_of, lists_of};
+use lh_addr::Config;
 use lh_addr::laws::address_is_only_bucket;
-use lh_addr::{Config, Root};
 use std::alloc::Global;
 use std::test::Fail;
 
@@ -15,16 +15,12 @@ fn bucket_of(alloc: Global, listing: &Listing, number: u32) -> Result<PagedBucke
 {
     address_is_only_bucket();
     let config = listing.config();
-    let root = match Root::new(config.initial(), listing.buckets()) {
-        Some(root) => root,
-        None => return Err(Fail::from("no root")),
-    };
     let bucket = PagedBucket::filled(
         alloc,
         config.initial(),
         config.capacity(),
         number,
-        root.level_of(number),
+        listing.root().level_of(number),
         listing.pairs_of(number),
     )?;
     Ok(bucket)

@@ -47,6 +47,7 @@ impl Model for Listing {
 }
 
 impl Listing {
+    ghost use Rattle.lh_addr.specs.Extent.{IsExtent};
     ghost use Rattle.lh_bucket.specs.Listing.{IsListing, IsShape, list_at, size, count_of};
     ghost use Rattle.lh_bucket.specs.ListingFault.{IsFaultOf};
 
@@ -77,10 +78,7 @@ impl Listing {
         if buckets < config.initial() || buckets > config.max() || lists.len() != buckets as usize {
             return Err(ListingFault::Shape);
         }
-        let root = match Root::new(config.initial(), buckets) {
-            Some(root) => root,
-            None => unreachable!(),
-        };
+        let root = config.root(buckets);
         match first_fault(alloc, &root, &lists) {
             Some(fault) => Err(fault),
             None => Ok(Listing { config, lists }),
@@ -101,6 +99,15 @@ impl Listing {
         ensures kept { IsListing self.now }
     {
         self.lists.len() as u32
+    }
+
+    /// The root of the file.
+    pub fn root(&self) -> Root
+        ensures value { result ≡ record { initial = self.now.config.initial; buckets = size self.now } }
+        ensures extent { IsExtent result }
+        ensures kept { IsListing self.now }
+    {
+        self.config.root(self.buckets())
     }
 
     /// The number of records in all buckets, where it is below 2^64; a memory that held more would

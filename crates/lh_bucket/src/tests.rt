@@ -4,7 +4,7 @@ ghost use Rattle.lh_bucket.specs.Bucket.{CanSplit, answer, content};
 ghost use Rattle.lh_bucket.specs.PlainMap.{after};
 
 use super::*;
-use lh_addr::{Config, fnv1a};
+use lh_addr::{Config, Root, fnv1a};
 use lh_page::{Key, Pair, Value};
 use std::alloc::Global;
 use std::process::Abort;
@@ -291,6 +291,7 @@ fn listings_give_their_lists(rt: HostRuntime) -> Result<(), Fail> {
     let listing = Listing::new(alloc, config, 2, lists_of(alloc, &[b"ca", b"b"])?)?;
     assert_eq!(rt; listing.config(), config);
     assert_eq!(rt; listing.buckets(), 2);
+    assert_eq!(rt; Some(listing.root()), Root::new(2, 2));
     assert_eq!(rt; listing.len(), 3);
     assert_eq!(rt; listing.len_of(0), 2);
     assert_eq!(rt; listing.pair_at(0, 1), pair(b"a", b"1")?);

@@ -1,4 +1,4 @@
-use Rattle.std.proofs.Common.{◌≡◌, ◌∙◌, ℕ, List, ap, length, map, subst, arith}
+use Rattle.std.proofs.Common.{◌≡◌, ℕ, List, ap, length, map, subst, arith}
 use Rattle.std.proofs.lemmas.List.{length-map}
 use Rattle.lh_addr.specs.Extent.{Extent}
 use Rattle.std.specs.List.{All}
@@ -16,24 +16,24 @@ invariant_of-result c =
     let many : length lists ≡ length c.args.lists.items = length-map c.args.lists.items (λ v. v.items) in
     let each : length lists ≡ c.args.buckets = omega (arith, many, c.len.ensures, c.if-len-buckets.false) in
     let shape : IsShape c.args.config c.args.buckets lists = record { from_initial = omega (arith, c.if-buckets-initial.false, c.initial.ensures.value); to_max = omega (arith, c.if-buckets-max.false, c.max.ensures.value); each = each } in
-    let root = c.in-Some.ensures.value ∙ ap (λ n. record { initial = n; buckets = c.args.buckets }) c.initial-2.ensures.value in
+    let root = c.root-root.ensures.value in
     let home : EachPlace (IsHome c.args.config.initial c.args.buckets) lists =
     subst (EachPlace (IsHome c.args.config.initial c.args.buckets)) same
-    (subst (λ (e : Extent). EachPlace (IsHome e.initial e.buckets) (map (λ v. v.items) c.deref.result.now)) root c.in-None-first_fault.ensures.home) in
-    let records : (bucket : ℕ) → All IsRecord (list_at lists bucket) = subst (λ (xs : List (List Pair)). (bucket : ℕ) → All IsRecord (list_at xs bucket)) same c.in-None-first_fault.ensures.records in
-    listing_made c.args.config c.args.buckets lists c.initial.ensures.in_range shape home records (subst (EachPlace IsNew) same c.in-None-first_fault.ensures.new)
+    (subst (λ (e : Extent). EachPlace (IsHome e.initial e.buckets) (map (λ v. v.items) c.deref.result.now)) root c.in-None.ensures.home) in
+    let records : (bucket : ℕ) → All IsRecord (list_at lists bucket) = subst (λ (xs : List (List Pair)). (bucket : ℕ) → All IsRecord (list_at xs bucket)) same c.in-None.ensures.records in
+    listing_made c.args.config c.args.buckets lists c.initial.ensures.in_range shape home records (subst (EachPlace IsNew) same c.in-None.ensures.new)
 
-pub returns-in-None-first_fault-clause-kept : goal.returns-in-None-first_fault-clause-kept
-returns-in-None-first_fault-clause-kept c = invariant_of-result c
+pub returns-in-None-clause-kept : goal.returns-in-None-clause-kept
+returns-in-None-clause-kept c = invariant_of-result c
 
-pub returns-in-Some-first_fault-clause-err : goal.returns-in-Some-first_fault-clause-err
-returns-in-Some-first_fault-clause-err c =
+pub returns-in-Some-clause-err : goal.returns-in-Some-clause-err
+returns-in-Some-clause-err c =
     let lists : List (List Pair) = map (λ v. v.items) c.args.lists.items in
     let same : map (λ v. v.items) c.deref.result.now ≡ lists = ap (map (λ v. v.items)) c.deref.ensures.value in
     let many : length lists ≡ length c.args.lists.items = length-map c.args.lists.items (λ v. v.items) in
     let each : length lists ≡ c.args.buckets = omega (arith, many, c.len.ensures, c.if-len-buckets.false) in
     let shape : IsShape c.args.config c.args.buckets lists = record { from_initial = omega (arith, c.if-buckets-initial.false, c.initial.ensures.value); to_max = omega (arith, c.if-buckets-max.false, c.max.ensures.value); each = each } in
-    let root = c.in-Some.ensures.value ∙ ap (λ n. record { initial = n; buckets = c.args.buckets }) c.initial-2.ensures.value in
-    fault_is_first c.args.config c.args.buckets lists shape c.in-Some-first_fault.fault
-    (subst (λ (xs : List (List Pair)). IsFaultAmong c.args.config.initial c.args.buckets xs c.in-Some-first_fault.fault) same
-    (subst (λ (e : Extent). IsFaultAmong e.initial e.buckets (map (λ v. v.items) c.deref.result.now) c.in-Some-first_fault.fault) root c.in-Some-first_fault.ensures.fault))
+    let root = c.root-root.ensures.value in
+    fault_is_first c.args.config c.args.buckets lists shape c.in-Some.fault
+    (subst (λ (xs : List (List Pair)). IsFaultAmong c.args.config.initial c.args.buckets xs c.in-Some.fault) same
+    (subst (λ (e : Extent). IsFaultAmong e.initial e.buckets (map (λ v. v.items) c.deref.result.now) c.in-Some.fault) root c.in-Some.ensures.fault))
