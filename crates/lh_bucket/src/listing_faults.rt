@@ -22,6 +22,7 @@ fn away_in(root: &Root, bucket: u32, pairs: &[Pair]) -> Option<usize>
     ensures before { IfSome result (λ place. (p : ℕ) → p < place → IsHome root.now.initial root.now.buckets bucket pairs.now p) }
 {
     for (place, pair) in pairs.iter().enumerate() {
+        // A listing has values of no other lengths than these.
         let _ = pair.value.bytes();
         if root.address(fnv1a(pair.key.bytes())) != bucket {
             return Some(place);
@@ -79,6 +80,7 @@ fn is_sound(root: &Root, bucket: u32, pairs: &[Pair]) -> bool
     }
     let mut tops = [false; 256];
     for (place, pair) in pairs.iter().enumerate() {
+        // A listing has values of no other lengths than these.
         let _ = pair.value.bytes();
         let code = fnv1a(pair.key.bytes());
         let top = top_of(code);

@@ -217,6 +217,7 @@ impl Bucket for PagedBucket {
         ensures err { OnErr result (self.new ≡ self.old) }
     {
         let reply = serve_at(&mut self.chain, call)?;
+        // In a chain no key stands twice.
         let _ = self.chain.len();
         Ok(Answer::new(*call, reply, self.number, k, self.initial))
     }
@@ -243,6 +244,7 @@ impl Bucket for PagedBucket {
             number: self.number,
         };
         let gone = self.chain.split_off(&leaving)?;
+        // No key stands twice in what stays, nor in what goes.
         let _ = self.chain.len();
         let _ = gone.len();
         self.level = Some(level);

@@ -70,6 +70,6 @@ pub first_world : LinearHashing → (c : Control) (row : List Seen) → IsInRang
 first_world g c row range root filled state h =
     let is : c.filled ≡ record { initial = c.config.initial; buckets = c.config.initial } = filled ∙ root in
     let sound = subst (IsSound c.config) (sym state) (first_sound c.config range.initial.0 range.max.0) in (
-      record { root = ap (λ (x : Extent). x.initial) root; filled = ap (λ (x : Extent). x.initial) is; sound = sound },
+      record { range = range; root = ap (λ (x : Extent). x.initial) root; filled = ap (λ (x : Extent). x.initial) is; sound = sound },
       record { range = range; sound = sound; row = subst (λ n. IsRow c.config n row) (sym (ap (λ (x : Extent). x.buckets) is)) (first_row_is g c.config row range.initial.0 h) },
     )

@@ -86,9 +86,10 @@ insert_is (Delete k) h = absurd h
 module _ (c d : Control) (row : List Seen) where
   pub after_step : LinearHashing → (rows : List Seen) (e : Event) (o : Option Effect) → IsControl c → IsWorld (world_of c row) → KeepsFile c d → allowed c.config (state_of c) e ≡ Ok (o, state_of d) → IsRow c.config d.filled.buckets rows → IsControl d × IsWorld (world_of d rows)
   after_step g rows e o h w r ok q =
-      let sound : IsSound d.config (state_of d) = subst (λ s. IsSound s (state_of d)) (sym r.config) (sound_ok g c.config (state_of c) h.sound o (state_of d) e ok) in (
-        record { root = r.root ∙ h.root ∙ ap (λ (s : Settings). s.initial) (sym r.config); filled = r.filled ∙ h.filled ∙ ap (λ (s : Settings). s.initial) (sym r.config); sound = sound },
-        record { range = subst (λ (s : Settings). IsInRange s) (sym r.config) w.range; sound = sound; row = subst (λ (s : Settings). IsRow s d.filled.buckets rows) (sym r.config) q },
+      let sound : IsSound d.config (state_of d) = subst (λ s. IsSound s (state_of d)) (sym r.config) (sound_ok g c.config (state_of c) h.sound o (state_of d) e ok) in
+      let range : IsInRange d.config = subst (λ (s : Settings). IsInRange s) (sym r.config) h.range in (
+        record { range = range; root = r.root ∙ h.root ∙ ap (λ (s : Settings). s.initial) (sym r.config); filled = r.filled ∙ h.filled ∙ ap (λ (s : Settings). s.initial) (sym r.config); sound = sound },
+        record { range = range; sound = sound; row = subst (λ (s : Settings). IsRow s d.filled.buckets rows) (sym r.config) q },
       )
 
   pub after_turn : LinearHashing → (e : Event) (x : Result Effect Refusal) → IsControl c → IsWorld (world_of c row) → KeepsFile c d → d.filled ≡ c.filled → step_to x d ≡ allowed c.config (state_of c) e → OnErr x (d ≡ c) → IsControl d × IsWorld (world_of d row)

@@ -2,6 +2,7 @@
 use Rattle.std.specs.Prelude.{◌≡◌, ℕ, ◌<◌, ◌≤◌, List, Some, Result, Ok, Err, slice_get}
 use Rattle.lh_addr.specs.Fnv.{code_of}
 use Rattle.lh_addr.specs.Growth.{IsAim, level_of}
+use Rattle.lh_addr.specs.Settings.{IsInRange}
 use Rattle.lh_bucket.specs.Bucket.{Seen}
 use Rattle.lh_bucket.specs.PlainMap.{key_of}
 use Rattle.lh_core.specs.declared.control.Act.{Act}
@@ -22,8 +23,9 @@ use Rattle.lh_core.specs.World.{WorldSeen}
 abbrev pub state_of : Control → State
 state_of c = record { buckets = c.root.buckets; filled = c.filled.buckets; places = c.places; splitter = c.splitter }
 
--- both roots are of the file's configuration, and the state is sound
+-- the file's configuration is in range, both roots are of it, and the state is sound
 pub record IsControl (c : Control) : Type 0 where
+  pub range : IsInRange c.config
   pub root : c.root.initial ≡ c.config.initial
   pub filled : c.filled.initial ≡ c.config.initial
   pub sound : IsSound c.config (state_of c)

@@ -56,6 +56,7 @@ impl<B: Bucket> World<B> {
             Ok(listing) => Ok(listing),
             Err(fault) => match fault {
                 ListingFault::Memory => Err(Memory),
+                // Each record of a world stands in its bucket, and no key twice.
                 _ => unreachable!(),
             },
         }

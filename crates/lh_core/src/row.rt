@@ -42,8 +42,6 @@ pub(crate) fn serve<B: Bucket>(
     ensures insert { OnErr result (IsInsert act.now.call.now) }
 {
     linear_hashing();
-    let _ = control;
-    let _ = place;
     let bucket = &mut buckets[act.bucket as usize];
     match bucket.serve(act.call, act.level) {
         Ok(answer) => Ok(answer.reply()),
@@ -72,6 +70,7 @@ fn split_one<B: Bucket>(
     buckets.reserve(1)?;
     let old = &mut buckets[i];
     old.split_into(&mut new)?;
+    // There is room for it: nothing may be wanting once the records are divided.
     if let Err(_) = buckets.push(new) {
         unreachable!();
     }

@@ -44,6 +44,7 @@ impl<B: Bucket> World<B> {
         match self.step(event) {
             Ok(effect) => Ok(effect),
             Err(Refusal::Memory) => Err(Memory),
+            // The rules have no refusal for it.
             Err(_) => unreachable!(),
         }
     }
@@ -54,14 +55,14 @@ impl<B: Bucket> World<B> {
         ensures { IfOk result (λ reply. IsServedAlone self.old call reply self.new) }
     {
         self.is_kept();
-        let called = self.take(Event::Call(0, call))?;
-        let read = self.take(Event::Read(0))?;
-        let locked = self.take(Event::Lock(0))?;
+        self.take(Event::Call(0, call))?;
+        self.take(Event::Read(0))?;
+        self.take(Event::Lock(0))?;
         let effect = self.take(Event::Act(0))?;
-        let released = self.take(Event::Release(0))?;
-        let _ = (called, read, locked, released);
+        self.take(Event::Release(0))?;
         match effect {
             Effect::Answered(reply) => Ok(reply),
+            // An act tells a reply.
             _ => unreachable!(),
         }
     }
@@ -73,12 +74,11 @@ impl<B: Bucket> World<B> {
         ensures { OnOk result (HasGrown self.old self.new) }
     {
         self.is_kept();
-        let begun = self.take(Event::SplitBegin)?;
-        let both = self.take(Event::SplitLock)?;
-        let moved = self.take(Event::SplitMove)?;
-        let freed = self.take(Event::SplitRelease)?;
-        let point = self.take(Event::SplitPoint)?;
-        let _ = (begun, both, moved, freed, point);
+        self.take(Event::SplitBegin)?;
+        self.take(Event::SplitLock)?;
+        self.take(Event::SplitMove)?;
+        self.take(Event::SplitRelease)?;
+        self.take(Event::SplitPoint)?;
         Ok(())
     }
 

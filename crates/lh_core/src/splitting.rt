@@ -10,7 +10,6 @@ use crate::control::Control;
 use crate::effect::{Effect, Refusal};
 use crate::event::Event;
 use crate::state::SplitState;
-use lh_addr::Root;
 
 impl Control {
     fn begin_split(&mut self) -> Result<Effect, Refusal>
@@ -77,20 +76,6 @@ impl Control {
         }
     }
 
-    /// The root of a file with one bucket more.
-    fn grown(&self) -> Root
-        requires control { IsControl self.now }
-        requires room { self.now.root.buckets < self.now.config.max }
-        ensures buckets { result.buckets ≡ self.now.root.buckets + 1 }
-        ensures initial { result.initial ≡ self.now.config.initial }
-    {
-        let _ = self.config.max();
-        match Root::new(self.config.initial(), self.root.buckets() + 1) {
-            Some(root) => root,
-            None => unreachable!(),
-        }
-    }
-
     /// Notes that the records of a split are divided.
     pub(crate) fn note_move(&mut self)
         requires control { IsControl self.old }
@@ -98,7 +83,7 @@ impl Control {
         ensures state { state_of self.new ≡ with_moved (state_of self.old) }
         ensures keeps { KeepsFile self.old self.new }
     {
-        self.filled = self.grown();
+        self.filled = self.root.grown();
         self.splitter = SplitState::LockedMoved;
     }
 
@@ -179,6 +164,7 @@ impl Control {
             Event::SplitRelease => self.free_both(),
             Event::SplitPoint => self.point(),
             Event::SplitDrop => self.drop_split(),
+            // These two change the records too, so the world takes them.
             Event::Act(_) => unreachable!(),
             Event::SplitMove => unreachable!(),
         }

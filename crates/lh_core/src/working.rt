@@ -10,7 +10,7 @@ ghost use Rattle.lh_core.specs.Control.{IsControl, IsTold, IsActOf, KeepsFile, s
 use crate::control::{Act, Control};
 use crate::effect::{Effect, Refusal};
 use crate::state::WorkerState;
-use lh_addr::{fnv1a, hash_at};
+use lh_addr::{Aim, fnv1a, hash_at};
 use lh_bucket::Call;
 
 impl Control {
@@ -52,8 +52,7 @@ impl Control {
     {
         match self.doing_at(place) {
             Some(WorkerState::Called(call)) => {
-                let bucket = self.root.address(fnv1a(call.key().bytes()));
-                let level = self.root.level_of(bucket);
+                let Aim { level, bucket } = self.root.aim(fnv1a(call.key().bytes()));
                 self.places[place as usize] = WorkerState::Aimed(*call, level, bucket);
                 Ok(Effect::Aim { level, bucket })
             }

@@ -1,7 +1,6 @@
 //! The world: a file of buckets, and who does what there.
 ghost use Rattle.std.specs.Prelude.{◌≡◌, ◌<◌, ◌≤◌, ◌∷◌, [], map, IfOk, OnErr, Some, slice_get};
 ghost use Rattle.std.specs.FinMap.{empty};
-ghost use Rattle.lh_addr.specs.Settings.{IsInRange};
 ghost use Rattle.lh_bucket.specs.PlainMap.{Records};
 ghost use Rattle.lh_core.specs.declared.event.Event.TheVariants as event;
 ghost use Rattle.lh_core.specs.State.{first};
@@ -44,17 +43,6 @@ impl<B: Bucket> Model for World<B> {
     ghost invariant = { λ w. IsControl w.control × IsWorld (world_of w.control (map B.seen w.buckets.items)) };
 }
 
-/// The root of a file as it begins.
-fn first_root(config: &Config) -> Root
-    ensures root { result ≡ record { initial = config.now.initial; buckets = config.now.initial } }
-    ensures range { IsInRange config.now }
-{
-    match Root::new(config.initial(), config.initial()) {
-        Some(root) => root,
-        None => unreachable!(),
-    }
-}
-
 impl<B: Bucket> World<B> {
     /// An empty file of this configuration, with its initial buckets. Nobody is at work.
     pub fn new(alloc: Global, config: Config) -> Result<World<B>, Memory>
@@ -64,7 +52,7 @@ impl<B: Bucket> World<B> {
         ensures led { IfOk result (HasLedTo []) }
     {
         linear_hashing();
-        let root = first_root(&config);
+        let root = config.root(config.initial());
         let buckets = first_row(alloc, &config)?;
         let control = Control {
             config,
@@ -136,6 +124,7 @@ impl<B: Bucket> World<B> {
     pub(crate) fn is_kept(&self)
         ensures { IsWorld self.now }
     {
+        // What is inside a world tells what holds of it.
         let _ = &self.control;
     }
 
