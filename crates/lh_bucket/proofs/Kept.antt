@@ -18,7 +18,8 @@ use Rattle.lh_bucket.specs.declared.call.Call.{Call}
 use Rattle.lh_bucket.specs.declared.call.Call.TheVariants.{Search, Insert, Delete}
 use Rattle.lh_bucket.specs.declared.verdict.Verdict.{Verdict}
 use Rattle.lh_bucket.specs.declared.verdict.Verdict.TheVariants.{Here, Next, Defect}
-use Rattle.lh_bucket.specs.PlainMap.{Records, after, key_of}
+use Rattle.lh_bucket.specs.Call.{key_of}
+use Rattle.lh_bucket.specs.PlainMap.{Records, after}
 use Rattle.lh_bucket.specs.Records.{map_of}
 use Rattle.lh_bucket.specs.Verdict.{verdict_of, by_level}
 use Rattle.lh_bucket.specs.Leaving.{leads_to}

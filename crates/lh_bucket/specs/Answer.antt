@@ -5,7 +5,7 @@ use Rattle.lh_addr.specs.Growth.{hash_at}
 use Rattle.lh_addr.specs.Limits.{IsInitial}
 use Rattle.lh_bucket.specs.declared.call.Call.{Call}
 use Rattle.lh_bucket.specs.declared.call.Reply.{Reply}
-use Rattle.lh_bucket.specs.PlainMap.{key_of}
+use Rattle.lh_bucket.specs.Call.{key_of}
 
 -- a call with its reply, and the number, the level and the initial count of the bucket that answered it
 pub record Answered : Type 0 where

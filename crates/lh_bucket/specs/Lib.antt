@@ -1,5 +1,6 @@
 pub mod Answer
 pub mod Bucket
+pub mod Call
 pub mod Laws
 pub mod Leaving
 pub mod Listing

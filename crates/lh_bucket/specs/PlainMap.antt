@@ -7,6 +7,7 @@ use Rattle.lh_bucket.specs.declared.call.Call.{Call}
 use Rattle.lh_bucket.specs.declared.call.Call.TheVariants.{Search, Insert, Delete}
 use Rattle.lh_bucket.specs.declared.call.Reply.{Reply}
 use Rattle.lh_bucket.specs.declared.call.Reply.TheVariants.{Found, Absent, Inserted, Exists, Deleted}
+pub use Rattle.lh_bucket.specs.Call.{key_of, IsSearch, IsInsert}
 
 -- a finite map from keys to values, both lists of bytes
 abbrev pub Records : Type 0
@@ -16,12 +17,6 @@ Records = FinMap (slice_cmp nat_cmp) (List ℕ)
 abbrev pub found : Option (List ℕ) → Reply
 found (Some value) = Found value
 found None = Absent
-
--- the key of a call
-abbrev pub key_of : Call → List ℕ
-key_of (Search key) = key
-key_of (Insert key value) = key
-key_of (Delete key) = key
 
 -- what a map answers to a call
 abbrev pub reply : Records → Call → Reply
@@ -44,15 +39,3 @@ replies m (call ∷ calls) = reply m call ∷ replies (after m call) calls
 abbrev pub outcome : Records → List Call → Records
 outcome m [] = m
 outcome m (call ∷ calls) = outcome (after m call) calls
-
--- the call is a search
-abbrev pub IsSearch : Call → Type 0
-IsSearch (Search key) = Unit {0}
-IsSearch (Insert key value) = ⊥
-IsSearch (Delete key) = ⊥
-
--- the call is an insert
-abbrev pub IsInsert : Call → Type 0
-IsInsert (Search key) = ⊥
-IsInsert (Insert key value) = Unit {0}
-IsInsert (Delete key) = ⊥

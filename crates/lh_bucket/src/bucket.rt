@@ -6,7 +6,8 @@ ghost use Rattle.lh_addr.specs.Fnv.{code_of};
 ghost use Rattle.lh_addr.specs.Limits.{IsInitial, IsCapacity};
 ghost use Rattle.lh_bucket.specs.declared.verdict.Verdict.TheVariants.{Here};
 ghost use Rattle.lh_bucket.specs.Bucket.{Seen, IsKept, CanSplit, content, verdict, answer, raised, stays};
-ghost use Rattle.lh_bucket.specs.PlainMap.{after, key_of, IsInsert, IsSearch};
+ghost use Rattle.lh_bucket.specs.Call.{key_of, IsInsert, IsSearch};
+ghost use Rattle.lh_bucket.specs.PlainMap.{after};
 
 use crate::answer::Answer;
 use crate::call::Call;

@@ -1,6 +1,6 @@
 //! What a caller asks of a file, and what it is told.
 ghost use Rattle.std.specs.Prelude.{◌≡◌};
-ghost use Rattle.lh_bucket.specs.PlainMap.{key_of};
+ghost use Rattle.lh_bucket.specs.Call.{key_of, is_search, is_insert};
 
 use lh_page::{Key, Value};
 
@@ -40,5 +40,19 @@ impl Call {
             Call::Insert(key, _) => key,
             Call::Delete(key) => key,
         }
+    }
+
+    /// Whether it is a search, which changes nothing. Every other call may change its bucket.
+    pub fn is_search(&self) -> bool
+        ensures { result ≡ is_search self.now }
+    {
+        matches!(self, Call::Search(_))
+    }
+
+    /// Whether it is an insert. No other call takes memory.
+    pub fn is_insert(&self) -> bool
+        ensures { result ≡ is_insert self.now }
+    {
+        matches!(self, Call::Insert(_, _))
     }
 }

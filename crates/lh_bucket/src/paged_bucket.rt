@@ -6,7 +6,8 @@ ghost use Rattle.lh_addr.specs.Fnv.{code_of};
 ghost use Rattle.lh_bucket.specs.declared.call.Call.TheVariants.{Insert, Delete};
 ghost use Rattle.lh_bucket.specs.declared.call.Reply.TheVariants.{Absent, Inserted, Exists, Deleted};
 ghost use Rattle.lh_bucket.specs.declared.verdict.Verdict.TheVariants.{Here};
-ghost use Rattle.lh_bucket.specs.PlainMap.{found, reply, after, key_of, IsInsert};
+ghost use Rattle.lh_bucket.specs.Call.{key_of, IsInsert};
+ghost use Rattle.lh_bucket.specs.PlainMap.{found, reply, after};
 ghost use Rattle.lh_bucket.specs.Records.{map_of};
 ghost use Rattle.lh_bucket.specs.PagedBucket.{served};
 

@@ -5,7 +5,8 @@ ghost use Rattle.std.specs.Cmp.Lexicographic.{slice_cmp};
 ghost use Rattle.std.specs.BTreeMap.{IsOrdered};
 ghost use Rattle.std.specs.FinMap.{get, insert, remove, retain_keys, contains_key};
 ghost use Rattle.lh_bucket.specs.Leaving.{leads_to};
-ghost use Rattle.lh_bucket.specs.PlainMap.{reply, after, IsInsert};
+ghost use Rattle.lh_bucket.specs.Call.{IsInsert};
+ghost use Rattle.lh_bucket.specs.PlainMap.{reply, after};
 ghost use Rattle.lh_bucket.specs.Records.{map_of};
 ghost use Rattle.lh_bucket.specs.PlainBucket.{pairs_of};
 

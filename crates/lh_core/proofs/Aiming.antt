@@ -10,7 +10,7 @@ use Rattle.lh_addr.specs.Fnv.{code_of}
 use Rattle.lh_addr.specs.Settings.{Settings}
 use Rattle.lh_addr.specs.Growth.{address, level_of, IsAim}
 use Rattle.lh_bucket.specs.declared.call.Call.{Call}
-use Rattle.lh_bucket.specs.PlainMap.{key_of}
+use Rattle.lh_bucket.specs.Call.{key_of}
 use Rattle.lh_core.specs.declared.effect.Effect.{Effect}
 use Rattle.lh_core.specs.declared.event.Event.{Event}
 use Rattle.lh_core.specs.declared.event.Event.TheVariants as event

@@ -1,14 +1,15 @@
 -- One worker alone, and one split alone, step by step
-use Rattle.std.proofs.Common.{◌≡◌, ℕ, ◌+◌, ◌<◌, false, cond, ◌∷◌, Option, Some, None, Ok, Err, nat_eq, nat_lt, refl, sym, ap, subst, ◌∙◌, arith, replicate}
+use Rattle.std.proofs.Common.{◌≡◌, ℕ, ◌+◌, ◌<◌, true, false, cond, ◌∷◌, Option, Some, None, Ok, Err, nat_eq, nat_lt, refl, sym, ap, subst, ◌∙◌, arith, replicate}
 use Rattle.std.specs.Result.{IsOk}
 use Rattle.std.proofs.lemmas.Bool.Decides.{nat_tests}
 use Rattle.lh_addr.specs.Fnv.{code_of}
 use Rattle.lh_addr.specs.Settings.{Settings}
 use Rattle.lh_addr.specs.Growth.{address, level_of}
 use Rattle.lh_bucket.specs.declared.call.Call.{Call}
-use Rattle.lh_bucket.specs.declared.call.Call.TheVariants.{Search, Insert, Delete}
+use Rattle.lh_bucket.specs.Call.{is_search}
 use Rattle.lh_bucket.specs.declared.call.Reply.{Reply}
-use Rattle.lh_bucket.specs.PlainMap.{Records, after, key_of}
+use Rattle.lh_bucket.specs.Call.{key_of}
+use Rattle.lh_bucket.specs.PlainMap.{Records, after}
 use Rattle.lh_core.specs.declared.effect.Effect.{Effect}
 use Rattle.lh_core.specs.declared.effect.Effect.TheVariants as effect
 use Rattle.lh_core.specs.declared.effect.Refusal.TheVariants.{Held, MustRehash, FileFull}
@@ -43,9 +44,7 @@ rest_alone s a p r = λ i. record { buckets = a.buckets; filled = idle_filled s 
 
 no_bar : (s : Settings) (n k l m : ℕ) (c : Call) → is_barred s (alone n (Aimed c k m)) c l ≡ false
 unfolding is_barred is_held is_held_alone
-no_bar s n k l m (Search q) = refl
-no_bar s n k l m (Insert q v) = refl
-no_bar s n k l m (Delete q) = refl
+no_bar s n k l m c = elim (is_search c) as (λ b. cond b (is_held_alone s (alone n (Aimed c k m)) l) (is_held s (alone n (Aimed c k m)) l) ≡ false) [ true ↦ refl | false ↦ refl ]
 
 not_less : (k : ℕ) → nat_lt k k ≡ false
 not_less k = grind (arith, nat_tests)

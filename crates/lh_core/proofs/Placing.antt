@@ -14,7 +14,8 @@ use Rattle.lh_addr.specs.Growth.{address, level_of, level, pointer, hash_at, IsA
 use Rattle.lh_bucket.specs.declared.call.Call.{Call}
 use Rattle.lh_bucket.specs.declared.verdict.Verdict.TheVariants.{Here, Next, Defect}
 use Rattle.lh_bucket.specs.Bucket.{Head, Seen, CanSplit, content, verdict, raised, stays}
-use Rattle.lh_bucket.specs.PlainMap.{Records, key_of, reply, after}
+use Rattle.lh_bucket.specs.Call.{key_of}
+use Rattle.lh_bucket.specs.PlainMap.{Records, reply, after}
 use Rattle.lh_bucket.specs.Verdict.{verdict_of}
 use Rattle.lh_core.specs.World.{IsPlaced, no_bucket}
 use Rattle.lh_core.specs.Kept.{IsRow, head_at}

@@ -7,7 +7,8 @@ use Rattle.std.proofs.lemmas.Slice.Eq.{bytes_eq-Decides}
 use Rattle.lh_bucket.specs.declared.call.Call.{Call}
 use Rattle.lh_bucket.specs.declared.call.Call.TheVariants.{Search, Insert, Delete}
 use Rattle.lh_bucket.specs.declared.call.Reply.TheVariants.{Exists, Inserted, Deleted, Absent}
-use Rattle.lh_bucket.specs.PlainMap.{Records, reply, after, key_of, found}
+use Rattle.lh_bucket.specs.Call.{key_of}
+use Rattle.lh_bucket.specs.PlainMap.{Records, reply, after, found}
 
 exact : IsAntisymmetric (slice_cmp nat_cmp)
 exact = slice_cmp-IsAntisymmetric nat_cmp-IsAntisymmetric

@@ -1,13 +1,12 @@
 -- One step of the world, put together
-use Rattle.std.proofs.Common.{◌≡◌, ℕ, ◌+◌, ◌<◌, true, List, Option, Some, None, Result, Ok, Err, refl, sym, ap, subst, ◌∙◌, inl, inr}
+use Rattle.std.proofs.Common.{◌≡◌, ℕ, ◌+◌, ◌<◌, List, Option, Some, None, Result, Ok, Err, refl, sym, ap, subst, ◌∙◌, inl, inr}
 use Rattle.std.specs.Result.{IsOk, OnErr}
 use Rattle.lh_addr.specs.Settings.{Settings, IsInRange}
 use Rattle.lh_addr.specs.Extent.{Extent}
-use Rattle.lh_bucket.specs.declared.call.Call.{Call}
-use Rattle.lh_bucket.specs.declared.call.Call.TheVariants.{Search, Insert, Delete}
 use Rattle.lh_bucket.specs.declared.call.Reply.{Reply}
 use Rattle.lh_bucket.specs.Bucket.{Seen}
-use Rattle.lh_bucket.specs.PlainMap.{Records, reply, after, IsInsert}
+use Rattle.lh_bucket.specs.Call.{IsInsert}
+use Rattle.lh_bucket.specs.PlainMap.{Records, reply, after}
 use Rattle.lh_core.specs.declared.control.Control.{Control}
 use Rattle.lh_core.specs.declared.control.Act.{Act}
 use Rattle.lh_core.specs.declared.state.SplitState.{SplitState}
@@ -21,7 +20,7 @@ use Rattle.lh_core.specs.declared.event.Event.TheVariants as event
 use Rattle.lh_core.specs.State.{State, with_moved}
 use Rattle.lh_core.specs.Rules.{allowed}
 use Rattle.lh_core.specs.Log.{reply_of}
-use Rattle.lh_core.specs.History.{outline, call_held, served_by, is_insert}
+use Rattle.lh_core.specs.History.{outline, call_held, served_by, has_insert}
 use Rattle.lh_core.specs.Sound.{IsSound, IsPhase}
 use Rattle.lh_core.specs.Kept.{IsRow, IsWorld}
 use Rattle.lh_core.specs.Control.{IsControl, KeepsFile, IsActOf, IsTold, IsQuiet, state_of, step_to, acted as acted_state, world_of}
@@ -78,11 +77,6 @@ refused v e r h = record { config = refl; ruled = (refl, inl h); follows = λ m 
 is_ok : {X E : Type 0} {r : Result X E} {x : X} → r ≡ Ok x → IsOk r
 is_ok e = subst IsOk (sym e) refl
 
-insert_is : (c : Call) → IsInsert c → is_insert (Some c) ≡ true
-insert_is (Search k) h = absurd h
-insert_is (Insert k v) h = refl
-insert_is (Delete k) h = absurd h
-
 module _ (c d : Control) (row : List Seen) where
   pub after_step : LinearHashing → (rows : List Seen) (e : Event) (o : Option Effect) → IsControl c → IsWorld (world_of c row) → KeepsFile c d → allowed c.config (state_of c) e ≡ Ok (o, state_of d) → IsRow c.config d.filled.buckets rows → IsControl d × IsWorld (world_of d rows)
   after_step g rows e o h w r ok q =
@@ -124,7 +118,7 @@ module _ (c d : Control) (row : List Seen) where
   pub act_wanted : (w : ℕ) (act : Act) → IsActOf c w act → allowed c.config (state_of c) (event.Act w) ≡ Ok (None, acted_state (state_of c) w act) → IsInsert act.call.now → IsStep (world_of c row) (event.Act w) (Err Memory) (world_of c row)
   act_wanted w act i ok insert =
       let calls : served_by (state_of c) (event.Act w) ≡ Some act.call.now = ap call_held i.held in
-      record { config = refl; ruled = (refl, inr (refl, ap is_insert calls ∙ insert_is act.call.now insert, is_ok ok)); follows = λ m p. p }
+      record { config = refl; ruled = (refl, inr (refl, ap has_insert calls ∙ insert, is_ok ok)); follows = λ m p. p }
 
   pub moved : (f : Effect) (rows : List Seen) → IsTold f → KeepsFile c d → state_of d ≡ with_moved (state_of c) → allowed c.config (state_of c) event.SplitMove ≡ Ok (Some f, with_moved (state_of c)) → ((m : Records) → StandsFor (world_of c row) m → IsPlaced c.config.initial (c.root.buckets + 1) m rows) → IsStep (world_of c row) event.SplitMove (Ok f) (world_of d rows)
   moved f rows t r state ok stands = record {

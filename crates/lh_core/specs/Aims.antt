@@ -3,7 +3,7 @@ use Rattle.std.specs.Prelude.{◌≡◌, ℕ, Some, slice_get}
 use Rattle.lh_addr.specs.Fnv.{code_of}
 use Rattle.lh_addr.specs.Growth.{IsAim}
 use Rattle.lh_addr.specs.Settings.{Settings}
-use Rattle.lh_bucket.specs.PlainMap.{key_of}
+use Rattle.lh_bucket.specs.Call.{key_of}
 use Rattle.lh_core.specs.declared.state.WorkerState.{WorkerState}
 use Rattle.lh_core.specs.declared.state.WorkerState.TheVariants.{Aimed, Holding}
 use Rattle.lh_core.specs.State.{State}

@@ -4,7 +4,7 @@ use Rattle.lh_addr.specs.Fnv.{code_of}
 use Rattle.lh_addr.specs.Growth.{IsAim, level_of}
 use Rattle.lh_addr.specs.Settings.{IsInRange}
 use Rattle.lh_bucket.specs.Bucket.{Seen}
-use Rattle.lh_bucket.specs.PlainMap.{key_of}
+use Rattle.lh_bucket.specs.Call.{key_of}
 use Rattle.lh_core.specs.declared.control.Act.{Act}
 use Rattle.lh_core.specs.declared.control.Control.{Control}
 use Rattle.lh_core.specs.declared.effect.Effect.{Effect}

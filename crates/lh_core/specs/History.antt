@@ -3,7 +3,7 @@ use Rattle.std.specs.Prelude.{◌≡◌, Bool, true, false, [], ◌∷◌, Optio
 use Rattle.std.specs.Result.{IsOk}
 use Rattle.lh_addr.specs.Settings.{Settings}
 use Rattle.lh_bucket.specs.declared.call.Call.{Call}
-use Rattle.lh_bucket.specs.declared.call.Call.TheVariants.{Insert}
+use Rattle.lh_bucket.specs.Call.{is_insert}
 use Rattle.lh_core.specs.declared.effect.Effect.{Effect}
 use Rattle.lh_core.specs.declared.effect.Effect.TheVariants as effect
 use Rattle.lh_core.specs.declared.effect.Refusal.TheVariants.{Memory}
@@ -31,14 +31,14 @@ served_by state (event.Act place) = call_held (slice_get state.places place)
 served_by state _ = None
 
 -- whether a call is there, and is an insert
-abbrev pub is_insert : Option Call → Bool
-is_insert (Some (Insert key value)) = true
-is_insert _ = false
+abbrev pub has_insert : Option Call → Bool
+has_insert (Some call) = is_insert call
+has_insert None = false
 
 -- whether a step may want memory: the moving of a split's records, and the act of an insert
 abbrev pub may_want_memory : State → Event → Bool
 may_want_memory state event.SplitMove = true
-may_want_memory state event = is_insert (served_by state event)
+may_want_memory state event = has_insert (served_by state event)
 
 -- An entry is the effect where the rules allow the event, and exactly the rules' refusal where they don't. Where they allow it, it may be refused for want of memory, if it may want any. A refusal leaves the state.
 abbrev pub IsEntry : Settings → State → Event → Entry → State → Type 0

@@ -3,18 +3,12 @@ use Rattle.std.specs.Prelude.{ℕ, Bool, true, false, not, ◌||◌, ◌&&◌, �
 use Rattle.std.specs.List.{list_any}
 use Rattle.lh_addr.specs.Settings.{Settings}
 use Rattle.lh_bucket.specs.declared.call.Call.{Call}
-use Rattle.lh_bucket.specs.declared.call.Call.TheVariants.{Search, Insert, Delete}
+use Rattle.lh_bucket.specs.Call.{is_search}
 use Rattle.lh_core.specs.declared.state.WorkerState.{WorkerState}
 use Rattle.lh_core.specs.declared.state.WorkerState.TheVariants.{Holding, Acted}
 use Rattle.lh_core.specs.declared.state.SplitState.{SplitState}
 use Rattle.lh_core.specs.declared.state.SplitState.TheVariants as split
 use Rattle.lh_core.specs.State.{State, splitting}
-
--- a search holds its bucket shared, and every other call exclusively
-abbrev pub is_search : Call → Bool
-is_search (Search key) = true
-is_search (Insert key value) = false
-is_search (Delete key) = false
 
 -- whether a place holds a bucket
 abbrev pub holds : ℕ → WorkerState → Bool
@@ -22,7 +16,7 @@ holds bucket (Holding call k m) = m == bucket
 holds bucket (Acted call m) = m == bucket
 holds bucket _ = false
 
--- whether a place holds a bucket exclusively
+-- whether a place holds a bucket exclusively, as it does for every call but a search
 abbrev pub holds_alone : ℕ → WorkerState → Bool
 holds_alone bucket (Holding call k m) = (m == bucket) && not (is_search call)
 holds_alone bucket (Acted call m) = (m == bucket) && not (is_search call)

@@ -4,7 +4,7 @@ use Rattle.lh_addr.specs.Fnv.{code_of}
 use Rattle.lh_addr.specs.Growth.{address, level_of, hash_at}
 use Rattle.lh_addr.specs.Settings.{Settings}
 use Rattle.lh_bucket.specs.declared.call.Call.{Call}
-use Rattle.lh_bucket.specs.PlainMap.{key_of}
+use Rattle.lh_bucket.specs.Call.{key_of}
 use Rattle.lh_core.specs.declared.effect.Effect.{Effect}
 use Rattle.lh_core.specs.declared.effect.Effect.TheVariants as effect
 use Rattle.lh_core.specs.declared.effect.Refusal.{Refusal}

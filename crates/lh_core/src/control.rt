@@ -2,7 +2,7 @@
 ghost use Rattle.std.specs.Prelude.{◌≡◌, ◌<◌, ◌≤◌, ◌||◌};
 ghost use Rattle.std.specs.List.{list_any};
 ghost use Rattle.lh_core.specs.State.{level};
-ghost use Rattle.lh_core.specs.Holds.{is_search, holds, holds_alone, split_holds, is_held, is_held_alone, is_barred};
+ghost use Rattle.lh_core.specs.Holds.{holds, holds_alone, split_holds, is_held, is_held_alone, is_barred};
 ghost use Rattle.lh_core.specs.Control.{IsControl, state_of};
 
 use crate::state::{SplitState, WorkerState};
@@ -28,16 +28,6 @@ pub(crate) struct Act<'a> {
     pub(crate) bucket: u32,
 }
 
-fn is_search(call: &Call) -> bool
-    ensures { result ≡ is_search call.now }
-{
-    match call {
-        Call::Search(_) => true,
-        Call::Insert(_, _) => false,
-        Call::Delete(_) => false,
-    }
-}
-
 impl WorkerState {
     /// Whether a place that does this holds a bucket.
     fn holds(&self, bucket: u32) -> bool
@@ -55,8 +45,8 @@ impl WorkerState {
         ensures { result ≡ holds_alone bucket self.now }
     {
         match self {
-            WorkerState::Holding(call, _, m) => *m == bucket && !is_search(call),
-            WorkerState::Acted(call, m) => *m == bucket && !is_search(call),
+            WorkerState::Holding(call, _, m) => *m == bucket && !call.is_search(),
+            WorkerState::Acted(call, m) => *m == bucket && !call.is_search(),
             _ => false,
         }
     }
@@ -111,7 +101,7 @@ impl Control {
         requires { IsControl self.now }
         ensures { result ≡ is_barred self.now.config (state_of self.now) call.now bucket }
     {
-        if is_search(call) {
+        if call.is_search() {
             self.is_held_alone(bucket)
         } else {
             self.is_held(bucket)

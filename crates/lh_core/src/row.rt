@@ -2,7 +2,8 @@
 ghost use Rattle.std.specs.Prelude.{◌≡◌, ◌+◌, ◌<◌, ◌≤◌, ◌^◌, map, IfOk, OnOk, IfErr, OnErr, vec_len};
 ghost use Rattle.lh_addr.specs.Limits.{IsInitial, IsCapacity};
 ghost use Rattle.lh_bucket.specs.Bucket.{CanSplit};
-ghost use Rattle.lh_bucket.specs.PlainMap.{Records, reply, after, IsInsert};
+ghost use Rattle.lh_bucket.specs.Call.{IsInsert};
+ghost use Rattle.lh_bucket.specs.PlainMap.{Records, reply, after};
 ghost use Rattle.lh_core.specs.Control.{IsControl, IsActOf, world_of};
 ghost use Rattle.lh_core.specs.Kept.{IsRow, IsWorld, IsEmptyRow};
 ghost use Rattle.lh_core.specs.Splits.{IsSplit, unfilled};

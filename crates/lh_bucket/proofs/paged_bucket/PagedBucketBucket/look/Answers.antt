@@ -1,7 +1,7 @@
 use Rattle.std.proofs.Common.{◌≡◌, sym, subst}
 use Rattle.lh_addr.specs.Fnv.{code_of}
 use Rattle.lh_bucket.specs.declared.verdict.Verdict.TheVariants.{Here}
-use Rattle.lh_bucket.specs.PlainMap.{key_of}
+use Rattle.lh_bucket.specs.Call.{key_of}
 use Rattle.lh_bucket.specs.Bucket.{Seen, verdict}
 use Rattle.lh_bucket.proofs.Kept.{is_answer}
 use Rattle.lh_bucket.proofs.paged_bucket.PagedBucketBucket.look.Goals as goal

@@ -2,7 +2,8 @@ use Rattle.std.proofs.Common.{◌≡◌, ◌∙◌, sym, ap, subst}
 use Rattle.lh_addr.specs.Fnv.{code_of}
 use Rattle.lh_page.specs.PackedList.{PackedList}
 use Rattle.lh_bucket.specs.declared.verdict.Verdict.TheVariants.{Here}
-use Rattle.lh_bucket.specs.PlainMap.{after, key_of}
+use Rattle.lh_bucket.specs.Call.{key_of}
+use Rattle.lh_bucket.specs.PlainMap.{after}
 use Rattle.lh_bucket.specs.Records.{map_of}
 use Rattle.lh_bucket.specs.Bucket.{Head, Seen, content, verdict}
 use Rattle.lh_bucket.proofs.Kept.{is_answer, home_served}
