@@ -1,11 +1,15 @@
 -- Fields of a row of bytes, also after a part was written.
-use Rattle.std.proofs.Common.{◌≡◌, ℕ, ◌+◌, ◌-◌, ◌*◌, ◌<◌, ◌≤◌, List, ◌++◌, length, take, drop, Some, sym, ap, ◌∙◌, inl, inr, arith}
+use Rattle.std.proofs.Common.{◌≡◌, ℕ, ◌+◌, ◌-◌, ◌<◌, ◌≤◌, List, ◌++◌, length, take, drop, Some, sym, ap, ◌∙◌, inl, inr, arith}
+use Rattle.std.proofs.Math.Nat.{mul-le-mul_right}
 use Rattle.std.proofs.lemmas.Bool.{cases_order}
 use Rattle.std.proofs.lemmas.List.{drop-take, take-take, take_at, drop_at, length-take-le, length-append, length-drop}
 use Rattle.std.proofs.lemmas.Slice.{take-put_mid_below, drop-put_mid}
 use borrow.Rule.Slice.PartMut.{put_mid, post_of}
+use Rattle.lh_page.specs.declared.format.Format.{Format}
 use Rattle.lh_page.specs.declared.pair.Pair.{Pair}
-use Rattle.lh_page.specs.PageTable.{field, slot_text, WritesSlot}
+use Rattle.lh_page.specs.Format.{slot_size, slot_start, page_size}
+use Rattle.lh_page.specs.PageTable.{slot_text, WritesSlot}
+use Rattle.lh_page.specs.Rows.{field}
 
 -- a field that lies within a front
 pub field-take : (offset size n : ℕ) (bytes : List ℕ) → offset + size ≤ n → field (take n bytes) offset size ≡ field bytes offset size
@@ -33,15 +37,24 @@ length-put : (a k : ℕ) (bytes part : List ℕ) → a + k ≤ length bytes → 
 length-put a k bytes part within whole =
     omega (arith, length-append (take a bytes) (part ++ post_of a k bytes), length-append part (post_of a k bytes), length-take-le a bytes (omega arith), length-drop k (drop a bytes), length-drop a bytes)
 
+-- each slot ends before a later one begins, and within its page
+pub slots_apart : (f : Format) (i j : ℕ) → i < j → slot_start f i + slot_size f ≤ slot_start f j
+slots_apart f i j less =
+    let next : i + 1 ≤ j = omega arith in
+    omega (arith, mul-le-mul_right (slot_size f) next)
+
 -- one slot that was written
-pub writes_slot : (old part : List ℕ) (place k : ℕ) (pair : Pair) → place < 14 → length old ≡ 1024 → k ≡ 72 → length part ≡ 72 → part ≡ slot_text (Some pair) → WritesSlot old (put_mid (16 + 72 * place) k old part) place pair
-writes_slot old part place k pair low whole size long is = record {
-  size = length-put (16 + 72 * place) k old part (omega arith) (omega arith);
-  written = field-put_same (16 + 72 * place) k 72 old part (omega arith) long ∙ is;
-  others = λ i within other. elim (cases_order i place) [
-    | inl same ↦ absurd (other same)
-    | inr (inl before) ↦ field-put_before (16 + 72 * place) k (16 + 72 * i) 72 old part (omega arith) (omega arith)
-    | inr (inr behind) ↦ field-put_behind (16 + 72 * place) k (16 + 72 * i) 72 old part (omega arith) (omega arith) (omega arith)
-  ];
-  head = field-put_before (16 + 72 * place) k 0 16 old part (omega arith) (omega arith);
-}
+pub writes_slot : (f : Format) (old part : List ℕ) (place k : ℕ) (pair : Pair) → place < f.slots → length old ≡ page_size f → k ≡ slot_size f → length part ≡ k → part ≡ slot_text f (Some pair) →
+    WritesSlot f old (put_mid (slot_start f place) k old part) place pair
+writes_slot f old part place k pair low whole size long is =
+    let within : slot_start f place + slot_size f ≤ page_size f = slots_apart f place f.slots low in
+    record {
+      size = length-put (slot_start f place) k old part (omega arith) (omega arith);
+      written = field-put_same (slot_start f place) k (slot_size f) old part (omega arith) (omega arith) ∙ is;
+      others = λ i low_i other. elim (cases_order i place) [
+        | inl same ↦ absurd (other same)
+        | inr (inl before) ↦ field-put_before (slot_start f place) k (slot_start f i) (slot_size f) old part (omega arith) (slots_apart f i place before)
+        | inr (inr behind) ↦ field-put_behind (slot_start f place) k (slot_start f i) (slot_size f) old part (omega arith) (omega arith) (omega (arith, slots_apart f place i behind))
+      ];
+      head = field-put_before (slot_start f place) k 0 16 old part (omega arith) (omega arith);
+    }

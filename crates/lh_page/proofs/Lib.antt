@@ -4,6 +4,7 @@ pub mod Marking
 pub mod Pieces
 pub mod Padding
 pub mod Fields
+pub mod WrittenSlot
 pub mod WrittenPages
 pub mod ReadPages
 pub mod SlotText

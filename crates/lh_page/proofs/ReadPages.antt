@@ -8,6 +8,7 @@ use Rattle.std.proofs.lemmas.List.FromFn.{get_or-range_with_len, length-range_wi
 use Rattle.std.proofs.lemmas.List.{length_push}
 use Rattle.std.proofs.lemmas.List.Sums.{position_or_len_is}
 use Rattle.std.proofs.lemmas.Option.{slice_get-get_or, slice_get_past}
+use Rattle.lh_page.specs.declared.format.Format.{Format}
 use Rattle.lh_page.specs.declared.pair.Pair.{Pair}
 use Rattle.lh_page.specs.PageFields.{all_zero, used_of, pair_of, pairs_of, is_bad_record, is_bad_slot, bad_slot, UnusedAreZero, FirstFilled}
 use Rattle.lh_page.specs.PageTable.{slot}
@@ -34,13 +35,13 @@ find-none p n none =
 
 -- ---- slots
 
-pub is_bad_slot-used : (bytes : List ℕ) (i : ℕ) → i < used_of bytes → is_bad_slot bytes i ≡ is_bad_record (slot bytes i)
+pub is_bad_slot-used : (f : Format) (bytes : List ℕ) (i : ℕ) → i < used_of bytes → is_bad_slot f bytes i ≡ is_bad_record f (slot f bytes i)
 unfolding is_bad_slot
-is_bad_slot-used bytes i used = rw (lt-ltb i (used_of bytes) used) refl
+is_bad_slot-used f bytes i used = rw (lt-ltb i (used_of bytes) used) refl
 
-pub is_bad_slot-unused : (bytes : List ℕ) (i : ℕ) → used_of bytes ≤ i → is_bad_slot bytes i ≡ not (all_zero (slot bytes i))
+pub is_bad_slot-unused : (f : Format) (bytes : List ℕ) (i : ℕ) → used_of bytes ≤ i → is_bad_slot f bytes i ≡ not (all_zero (slot f bytes i))
 unfolding is_bad_slot
-is_bad_slot-unused bytes i unused = rw (le-ltb i (used_of bytes) unused) refl
+is_bad_slot-unused f bytes i unused = rw (le-ltb i (used_of bytes) unused) refl
 
 chosen_some : (b : Bool) (x y : Pair) → Some y ≡ (if b then None else Some x) → (b ≡ false) × (y ≡ x)
 chosen_some true x y e = cc
@@ -51,44 +52,44 @@ chosen_none true x e = refl
 chosen_none false x e = cc
 
 -- the slots before place n have no fault, and these are their records
-pub record IsReadTo (bytes : List ℕ) (pairs : List Pair) (n : ℕ) : Type 0 where
-  pub good : (i : ℕ) → i < n → is_bad_slot bytes i ≡ false
+pub record IsReadTo (f : Format) (bytes : List ℕ) (pairs : List Pair) (n : ℕ) : Type 0 where
+  pub good : (i : ℕ) → i < n → is_bad_slot f bytes i ≡ false
   pub long : length pairs ≡ n
-  pub read : pairs ≡ map (λ i. pair_of (slot bytes i)) (range_with_len 0 n)
+  pub read : pairs ≡ map (λ i. pair_of f (slot f bytes i)) (range_with_len 0 n)
 
-pub read_more : (bytes s : List ℕ) (pairs : List Pair) (n : ℕ) (pair : Pair) → n < used_of bytes → s ≡ slot bytes n → Some pair ≡ (if is_bad_record s then None else Some (pair_of s)) → IsReadTo bytes pairs n → IsReadTo bytes (pairs ++ pair ∷ []) (n + 1)
-read_more bytes s pairs n pair used is read h =
-    let e = chosen_some (is_bad_record s) (pair_of s) pair read in
+pub read_more : (f : Format) (bytes s : List ℕ) (pairs : List Pair) (n : ℕ) (pair : Pair) → n < used_of bytes → s ≡ slot f bytes n → Some pair ≡ (if is_bad_record f s then None else Some (pair_of f s)) → IsReadTo f bytes pairs n → IsReadTo f bytes (pairs ++ pair ∷ []) (n + 1)
+read_more f bytes s pairs n pair used is read h =
+    let e = chosen_some (is_bad_record f s) (pair_of f s) pair read in
     record {
       good = λ i below. elim (cases_lt i n) [
         | inl before ↦ h.good i before
-        | inr there ↦ let same : i ≡ n = omega arith in rw same (is_bad_slot-used bytes n used ∙ ap is_bad_record (sym is) ∙ e.0)
+        | inr there ↦ let same : i ≡ n = omega arith in rw same (is_bad_slot-used f bytes n used ∙ ap (is_bad_record f) (sym is) ∙ e.0)
       ];
       long = omega (arith, h.long, length_push pairs pair);
-      read = ap (λ ps. ps ++ pair ∷ []) h.read ∙ ap (λ p. map (λ i. pair_of (slot bytes i)) (range_with_len 0 n) ++ p ∷ []) (e.1 ∙ ap pair_of is)
-          ∙ sym (map-range_with_len_more (λ i. pair_of (slot bytes i)) 0 n n (zero-add n));
+      read = ap (λ ps. ps ++ pair ∷ []) h.read ∙ ap (λ p. map (λ i. pair_of f (slot f bytes i)) (range_with_len 0 n) ++ p ∷ []) (e.1 ∙ ap (pair_of f) is)
+          ∙ sym (map-range_with_len_more (λ i. pair_of f (slot f bytes i)) 0 n n (zero-add n));
     }
 
-pub bad_slot-read : (bytes s : List ℕ) (pairs : List Pair) (n : ℕ) → n < 14 → n < used_of bytes → s ≡ slot bytes n → None ≡ (if is_bad_record s then None else Some (pair_of s)) → IsReadTo bytes pairs n → bad_slot bytes ≡ Some n
+pub bad_slot-read : (f : Format) (bytes s : List ℕ) (pairs : List Pair) (n : ℕ) → n < f.slots → n < used_of bytes → s ≡ slot f bytes n → None ≡ (if is_bad_record f s then None else Some (pair_of f s)) → IsReadTo f bytes pairs n → bad_slot f bytes ≡ Some n
 unfolding bad_slot
-bad_slot-read bytes s pairs n low used is read h =
-    find-first (is_bad_slot bytes) 14 n low h.good (is_bad_slot-used bytes n used ∙ ap is_bad_record (sym is) ∙ chosen_none (is_bad_record s) (pair_of s) read)
+bad_slot-read f bytes s pairs n low used is read h =
+    find-first (is_bad_slot f bytes) f.slots n low h.good (is_bad_slot-used f bytes n used ∙ ap (is_bad_record f) (sym is) ∙ chosen_none (is_bad_record f s) (pair_of f s) read)
 
-good_to : (bytes : List ℕ) (pairs : List Pair) (n to : ℕ) → n ≡ used_of bytes → UnusedAreZero bytes n to → IsReadTo bytes pairs n → (i : ℕ) → i < to → is_bad_slot bytes i ≡ false
-good_to bytes pairs n to same zero h i below = elim (cases_lt i n) [
+good_to : (f : Format) (bytes : List ℕ) (pairs : List Pair) (n to : ℕ) → n ≡ used_of bytes → UnusedAreZero f bytes n to → IsReadTo f bytes pairs n → (i : ℕ) → i < to → is_bad_slot f bytes i ≡ false
+good_to f bytes pairs n to same zero h i below = elim (cases_lt i n) [
   | inl before ↦ h.good i before
-  | inr behind ↦ is_bad_slot-unused bytes i (omega arith) ∙ not_from_true _ (zero i behind below)
+  | inr behind ↦ is_bad_slot-unused f bytes i (omega arith) ∙ not_from_true _ (zero i behind below)
 ]
 
-pub bad_slot-filled : (bytes : List ℕ) (pairs : List Pair) (n i : ℕ) → n ≡ used_of bytes → FirstFilled bytes n i → IsReadTo bytes pairs n → bad_slot bytes ≡ Some i
+pub bad_slot-filled : (f : Format) (bytes : List ℕ) (pairs : List Pair) (n i : ℕ) → n ≡ used_of bytes → FirstFilled f bytes n i → IsReadTo f bytes pairs n → bad_slot f bytes ≡ Some i
 unfolding bad_slot
-bad_slot-filled bytes pairs n i same f h =
-    find-first (is_bad_slot bytes) 14 i f.1 (good_to bytes pairs n i same f.2 h) (is_bad_slot-unused bytes i (omega (arith, f.0)) ∙ not_from_false _ f.3)
+bad_slot-filled f bytes pairs n i same first h =
+    find-first (is_bad_slot f bytes) f.slots i first.1 (good_to f bytes pairs n i same first.2 h) (is_bad_slot-unused f bytes i (omega (arith, first.0)) ∙ not_from_false _ first.3)
 
-pub bad_slot-none : (bytes : List ℕ) (pairs : List Pair) (n : ℕ) → n ≡ used_of bytes → UnusedAreZero bytes n 14 → IsReadTo bytes pairs n → bad_slot bytes ≡ None
+pub bad_slot-none : (f : Format) (bytes : List ℕ) (pairs : List Pair) (n : ℕ) → n ≡ used_of bytes → UnusedAreZero f bytes n f.slots → IsReadTo f bytes pairs n → bad_slot f bytes ≡ None
 unfolding bad_slot
-bad_slot-none bytes pairs n same zero h = find-none (is_bad_slot bytes) 14 (good_to bytes pairs n 14 same zero h)
+bad_slot-none f bytes pairs n same zero h = find-none (is_bad_slot f bytes) f.slots (good_to f bytes pairs n f.slots same zero h)
 
-pub pairs_of-read : (bytes : List ℕ) (pairs : List Pair) (n : ℕ) → n ≡ used_of bytes → IsReadTo bytes pairs n → pairs ≡ pairs_of bytes
+pub pairs_of-read : (f : Format) (bytes : List ℕ) (pairs : List Pair) (n : ℕ) → n ≡ used_of bytes → IsReadTo f bytes pairs n → pairs ≡ pairs_of f bytes
 unfolding pairs_of
-pairs_of-read bytes pairs n same h = h.read ∙ ap (λ m. map (λ i. pair_of (slot bytes i)) (range_with_len 0 m)) same
+pairs_of-read f bytes pairs n same h = h.read ∙ ap (λ m. map (λ i. pair_of f (slot f bytes i)) (range_with_len 0 m)) same

@@ -1,5 +1,5 @@
 -- Which bytes are a page.
-use Rattle.std.proofs.Common.{◌≡◌, ℕ, ◌+◌, ◌*◌, ◌^◌, ◌<◌, ◌≤◌, Bool, true, false, ◌||◌, ltb, List, [], ◌∷◌, length, take, drop, get_or, Option, Some, None, refl, sym, ap, ◌∙◌, inl, inr, arith, zero-add}
+use Rattle.std.proofs.Common.{◌≡◌, ℕ, ◌+◌, ◌^◌, ◌<◌, ◌≤◌, Bool, true, false, ◌||◌, ltb, List, [], ◌∷◌, length, take, drop, get_or, Option, Some, None, refl, sym, ap, ◌∙◌, inl, inr, arith, zero-add}
 use Rattle.std.specs.List.{slice_get, range_with_len, position_or_len, find}
 use Rattle.std.specs.Option.{option_map}
 use Rattle.std.specs.Prelude.{slice_index, if◌then◌else◌, ◌==◌}
@@ -14,16 +14,20 @@ use Rattle.std.proofs.lemmas.Option.{slice_get-get_or, slice_get_past}
 use Rattle.byteorder.specs.Endian.{little_number, little_bytes}
 use Rattle.byteorder.specs.Numbers.{little_number-reads_back, little_from-lt}
 use Rattle.lh_page.specs.declared.fault.PageFault.TheVariants.{Kind, Used, Slot}
+use Rattle.lh_page.specs.declared.format.Format.{Format}
 use Rattle.lh_page.specs.declared.page.Page.{Page}
 use Rattle.lh_page.specs.declared.page.PageKind.{PageKind}
 use Rattle.lh_page.specs.declared.page.PageKind.TheVariants.{Primary, Overflow}
 use Rattle.lh_page.specs.declared.pair.Pair.{Pair}
+use Rattle.lh_page.specs.Format.{slot_size, slot_start, page_size}
 use Rattle.lh_page.specs.PageFields.{kind_of, used_of, bucket_of, next_of, is_clear, all_zero, pair_of, pairs_of, page_of, has_bad_kind, is_bad_record, is_bad_slot, bad_slot, fault_of}
 use Rattle.lh_page.specs.PageLaws.{AreBytes, FaultlessLaw, ReadBackLaw}
-use Rattle.lh_page.specs.PageTable.{field, slot, slot_text, kind_byte, IsPage, IsWritable}
+use Rattle.lh_page.specs.PageTable.{slot, slot_text, kind_byte, IsPage, IsWritable}
 use Rattle.lh_page.specs.Records.{no_pair}
+use Rattle.lh_page.specs.Rows.{field}
+use Rattle.lh_page.proofs.Fields.{slots_apart}
 use Rattle.lh_page.proofs.ReadPages.{find-none, is_bad_slot-used, is_bad_slot-unused}
-use Rattle.lh_page.proofs.SlotText.{pair_of-text, good_text, text_from_good, record_from_good, zeros_of_length, all_zero-zeros}
+use Rattle.lh_page.proofs.SlotText.{pair_of-text, good_text, text_from_good, fits_from_good, zeros_of_length, all_zero-zeros}
 
 -- ---- one byte and four
 
@@ -48,8 +52,9 @@ bytes_from_number bytes k fit within =
     let f : little_number 4 (field bytes k 4) ≡ from_le_bytes w32 (field bytes k 4) = omega arith in
     sym (le_bytes_4 (field bytes k 4) (little_number 4 (field bytes k 4)) (omega (arith, length-take 4 (drop k bytes), length-drop k bytes)) (bytes_in bytes k 4 fit) f)
 
-length-slot : (bytes : List ℕ) (i : ℕ) → length bytes ≡ 1024 → i < 14 → length (slot bytes i) ≡ 72
-length-slot bytes i whole low = omega (arith, length-take 72 (drop (16 + 72 * i) bytes), length-drop (16 + 72 * i) bytes)
+length-slot : (f : Format) (bytes : List ℕ) (i : ℕ) → length bytes ≡ page_size f → i < f.slots → length (slot f bytes i) ≡ slot_size f
+length-slot f bytes i whole low =
+    omega (arith, length-take (slot_size f) (drop (slot_start f i) bytes), length-drop (slot_start f i) bytes, slots_apart f i f.slots low)
 
 -- ---- reading what is written
 
@@ -61,41 +66,41 @@ kind_known : (k : PageKind) (n : ℕ) → n ≡ kind_byte k → (n == 1 || n == 
 kind_known Primary n e = rw e refl
 kind_known Overflow n e = rw e refl
 
-module _ (bytes : List ℕ) (page : Page) (w : IsWritable page) (h : IsPage bytes page) where
+module _ (f : Format) (bytes : List ℕ) (page : Page) (w : IsWritable f page) (h : IsPage f bytes page) where
   used_back : used_of bytes ≡ length page.pairs
   used_back = byte_at bytes 1 (length page.pairs) (omega (arith, h.size)) h.used
 
   byte_kind : kind_of bytes ≡ kind_byte page.kind
   byte_kind = byte_at bytes 0 (kind_byte page.kind) (omega (arith, h.size)) h.kind
 
-  slot_back : (i : ℕ) (d : Pair) → i < length page.pairs → slot bytes i ≡ slot_text (Some (get_or page.pairs i d))
-  slot_back i d below = h.slots i (omega (arith, w.pairs.few)) ∙ ap slot_text (slice_get-get_or page.pairs i d below)
+  slot_back : (i : ℕ) (d : Pair) → i < length page.pairs → slot f bytes i ≡ slot_text f (Some (get_or page.pairs i d))
+  slot_back i d below = h.slots i (omega (arith, w.pairs.few)) ∙ ap (slot_text f) (slice_get-get_or page.pairs i d below)
 
-  pairs_back : pairs_of bytes ≡ page.pairs
+  pairs_back : pairs_of f bytes ≡ page.pairs
   unfolding pairs_of
   pairs_back =
-      let long : length (pairs_of bytes) ≡ used_of bytes = length-map-range_with_len (λ i. pair_of (slot bytes i)) 0 (used_of bytes) in
-      same_lists (pairs_of bytes) page.pairs (long ∙ used_back) (λ k d below.
+      let long : length (pairs_of f bytes) ≡ used_of bytes = length-map-range_with_len (λ i. pair_of f (slot f bytes i)) 0 (used_of bytes) in
+      same_lists (pairs_of f bytes) page.pairs (long ∙ used_back) (λ k d below.
       let within : k < length page.pairs = omega (arith, long, used_back) in
-      get_or-map-range_with_len (λ i. pair_of (slot bytes i)) 0 (used_of bytes) k k d (omega (arith, used_back)) (zero-add k)
-      ∙ ap pair_of (slot_back k d within) ∙ pair_of-text (get_or page.pairs k d) (w.pairs.records k d within))
+      get_or-map-range_with_len (λ i. pair_of f (slot f bytes i)) 0 (used_of bytes) k k d (omega (arith, used_back)) (zero-add k)
+      ∙ ap (pair_of f) (slot_back k d within) ∙ pair_of-text f (get_or page.pairs k d) (w.pairs.records k d within))
 
-  none_bad : (i : ℕ) → i < 14 → is_bad_slot bytes i ≡ false
+  none_bad : (i : ℕ) → i < f.slots → is_bad_slot f bytes i ≡ false
   none_bad i low = elim (cases_lt i (length page.pairs)) [
-    | inl used ↦ is_bad_slot-used bytes i (omega (arith, used_back)) ∙ ap is_bad_record (slot_back i no_pair used) ∙ good_text (get_or page.pairs i no_pair) (w.pairs.records i no_pair used)
-    | inr unused ↦ is_bad_slot-unused bytes i (omega (arith, used_back)) ∙ not_from_true _ (ap all_zero (h.slots i low ∙ ap slot_text (slice_get_past page.pairs i unused)) ∙ all_zero-zeros 72)
+    | inl used ↦ is_bad_slot-used f bytes i (omega (arith, used_back)) ∙ ap (is_bad_record f) (slot_back i no_pair used) ∙ good_text f (get_or page.pairs i no_pair) (w.pairs.records i no_pair used)
+    | inr unused ↦ is_bad_slot-unused f bytes i (omega (arith, used_back)) ∙ not_from_true _ (ap all_zero (h.slots i low ∙ ap (slot_text f) (slice_get_past page.pairs i unused)) ∙ all_zero-zeros (slot_size f))
   ]
 
   good_kind : has_bad_kind bytes ≡ false
   unfolding has_bad_kind is_clear
   good_kind = or_from _ _ (not_from_true _ (kind_known page.kind (kind_of bytes) byte_kind)) (not_from_true _ (and_from _ _ (ap all_zero h.reserved) (ap all_zero h.padding)))
 
-  no_fault : (b : ℕ) → length page.pairs ≤ b → fault_of bytes b ≡ None
+  no_fault : (b : ℕ) → length page.pairs ≤ b → fault_of f bytes b ≡ None
   unfolding fault_of bad_slot
   no_fault b room =
-      rw (good_kind, le-ltb b (used_of bytes) (omega (arith, used_back))) (ap (option_map Slot) (find-none (is_bad_slot bytes) 14 none_bad))
+      rw (good_kind, le-ltb b (used_of bytes) (omega (arith, used_back))) (ap (option_map Slot) (find-none (is_bad_slot f bytes) f.slots none_bad))
 
-  page_back : page_of bytes ≡ page
+  page_back : page_of f bytes ≡ page
   unfolding bucket_of next_of
   page_back i = record {
     kind = kind_back page.kind (kind_of bytes) byte_kind i;
@@ -106,7 +111,7 @@ module _ (bytes : List ℕ) (page : Page) (w : IsWritable page) (h : IsPage byte
   }
 
 pub read_back : ReadBackLaw
-read_back bytes page b writable h room = (page_back bytes page writable h, no_fault bytes page writable h b room)
+read_back f bytes page b writable h room = (page_back f bytes page writable h, no_fault f bytes page writable h b room)
 
 -- ---- bytes without a fault
 
@@ -133,20 +138,20 @@ kind_shown n e = elim (cases_Bool (n == 1)) [
   | inr other ↦ rw other (eqb-true n 2 (rw other at e))
 ]
 
-module _ (bytes : List ℕ) (fit : AreBytes bytes) (long : length bytes ≡ 1024) (none : fault_of bytes 14 ≡ None) where
-  parts : (has_bad_kind bytes ≡ false) × (ltb 14 (used_of bytes) ≡ false) × (bad_slot bytes ≡ None)
+module _ (f : Format) (bytes : List ℕ) (fit : AreBytes bytes) (long : length bytes ≡ page_size f) (none : fault_of f bytes f.slots ≡ None) where
+  parts : (has_bad_kind bytes ≡ false) × (ltb f.slots (used_of bytes) ≡ false) × (bad_slot f bytes ≡ None)
   unfolding fault_of
-  parts = first_none (has_bad_kind bytes) (ltb 14 (used_of bytes)) (bad_slot bytes) none
+  parts = first_none (has_bad_kind bytes) (ltb f.slots (used_of bytes)) (bad_slot f bytes) none
 
-  few : used_of bytes ≤ 14
-  few = ltb-false 14 (used_of bytes) parts.1
+  few : used_of bytes ≤ f.slots
+  few = ltb-false f.slots (used_of bytes) parts.1
 
-  good_slot : (i : ℕ) → i < 14 → is_bad_slot bytes i ≡ false
+  good_slot : (i : ℕ) → i < f.slots → is_bad_slot f bytes i ≡ false
   unfolding bad_slot
-  good_slot i low = fails_each (is_bad_slot bytes) 14 i parts.2 low
+  good_slot i low = fails_each (is_bad_slot f bytes) f.slots i parts.2 low
 
-  good_record : (i : ℕ) → i < used_of bytes → is_bad_record (slot bytes i) ≡ false
-  good_record i used = sym (is_bad_slot-used bytes i used) ∙ good_slot i (omega (arith, few))
+  good_record : (i : ℕ) → i < used_of bytes → is_bad_record f (slot f bytes i) ≡ false
+  good_record i used = sym (is_bad_slot-used f bytes i used) ∙ good_slot i (omega (arith, few))
 
   kind_good : (kind_of bytes == 1 || kind_of bytes == 2) ≡ true
   unfolding has_bad_kind
@@ -156,25 +161,25 @@ module _ (bytes : List ℕ) (fit : AreBytes bytes) (long : length bytes ≡ 1024
   unfolding has_bad_kind is_clear
   clear = and_parts _ _ (not-false _ ((or_parts _ _ parts.0).1))
 
-  length-pairs : length (pairs_of bytes) ≡ used_of bytes
+  length-pairs : length (pairs_of f bytes) ≡ used_of bytes
   unfolding pairs_of
-  length-pairs = length-map-range_with_len (λ i. pair_of (slot bytes i)) 0 (used_of bytes)
+  length-pairs = length-map-range_with_len (λ i. pair_of f (slot f bytes i)) 0 (used_of bytes)
 
-  pairs_at : (i : ℕ) (d : Pair) → i < used_of bytes → get_or (pairs_of bytes) i d ≡ pair_of (slot bytes i)
+  pairs_at : (i : ℕ) (d : Pair) → i < used_of bytes → get_or (pairs_of f bytes) i d ≡ pair_of f (slot f bytes i)
   unfolding pairs_of
-  pairs_at i d used = get_or-map-range_with_len (λ i. pair_of (slot bytes i)) 0 (used_of bytes) i i d used (zero-add i)
+  pairs_at i d used = get_or-map-range_with_len (λ i. pair_of f (slot f bytes i)) 0 (used_of bytes) i i d used (zero-add i)
 
-  slot_shown : (i : ℕ) → i < 14 → slot bytes i ≡ slot_text (slice_get (pairs_of bytes) i)
+  slot_shown : (i : ℕ) → i < f.slots → slot f bytes i ≡ slot_text f (slice_get (pairs_of f bytes) i)
   slot_shown i low = elim (cases_lt i (used_of bytes)) [
     | inl used ↦
-        text_from_good (slot bytes i) (length-slot bytes i long low) (good_record i used)
-        ∙ ap slot_text (sym (slice_get-get_or (pairs_of bytes) i no_pair (omega (arith, length-pairs)) ∙ ap Some (pairs_at i no_pair used)))
+        text_from_good f (slot f bytes i) (length-slot f bytes i long low) (good_record i used)
+        ∙ ap (slot_text f) (sym (slice_get-get_or (pairs_of f bytes) i no_pair (omega (arith, length-pairs)) ∙ ap Some (pairs_at i no_pair used)))
     | inr unused ↦
-        zeros_of_length (slot bytes i) 72 (length-slot bytes i long low) (not-false _ (sym (is_bad_slot-unused bytes i unused) ∙ good_slot i low))
-        ∙ ap slot_text (sym (slice_get_past (pairs_of bytes) i (omega (arith, length-pairs))))
+        zeros_of_length (slot f bytes i) (slot_size f) (length-slot f bytes i long low) (not-false _ (sym (is_bad_slot-unused f bytes i unused) ∙ good_slot i low))
+        ∙ ap (slot_text f) (sym (slice_get_past (pairs_of f bytes) i (omega (arith, length-pairs))))
   ]
 
-  shown : IsPage bytes (page_of bytes)
+  shown : IsPage f bytes (page_of f bytes)
   unfolding bucket_of next_of
   shown = record {
     size = long;
@@ -188,7 +193,7 @@ module _ (bytes : List ℕ) (fit : AreBytes bytes) (long : length bytes ≡ 1024
     slots = slot_shown;
   }
 
-  writable : IsWritable (page_of bytes)
+  writable : IsWritable f (page_of f bytes)
   unfolding bucket_of next_of
   writable = record {
     bucket = little_from-lt 0 4 (field bytes 4 4) (bytes_in bytes 4 4 fit);
@@ -197,12 +202,12 @@ module _ (bytes : List ℕ) (fit : AreBytes bytes) (long : length bytes ≡ 1024
       few = omega (arith, length-pairs, few);
       records = λ k d below.
           let used : k < used_of bytes = omega (arith, length-pairs) in
-          rw (pairs_at k d used) (record_from_good (slot bytes k) (length-slot bytes k long (omega (arith, few))) (good_record k used));
+          rw (pairs_at k d used) (fits_from_good f (slot f bytes k) (length-slot f bytes k long (omega (arith, few))) (good_record k used));
     };
   }
 
 pub faultless : FaultlessLaw
-faultless bytes fit long = (
-  λ none. (shown bytes fit long none, writable bytes fit long none),
-  λ h. no_fault bytes (page_of bytes) h.1 h.0 14 h.1.pairs.few,
+faultless f bytes fit long = (
+  λ none. (shown f bytes fit long none, writable f bytes fit long none),
+  λ h. no_fault f bytes (page_of f bytes) h.1 h.0 f.slots h.1.pairs.few,
 )

@@ -1,12 +1,13 @@
 -- The bytes of one slot, written and read.
 use Rattle.std.proofs.Common.{◌≡◌, ◌≢◌, ℕ, zero, suc, ◌+◌, ◌-◌, ◌≤◌, Bool, true, false, eqb, List, [], ◌∷◌, ◌++◌, length, take, drop, replicate, Some, refl, sym, ap, ◌∙◌, arith, rules, length-take-le}
 use Rattle.std.proofs.lemmas.Bool.{and_parts, eqb-true, eqb-false, ne_eqb, ltb-false, le-ltb, or_parts, or_from, not-false, not_from_true}
-use Rattle.std.proofs.lemmas.List.{append_assoc, same_lists, places, drop-drop, drop_at, take_at, take_all, length-drop, length-take, length-replicate, drop-take}
+use Rattle.std.proofs.lemmas.List.{append_assoc, same_lists, places, drop-drop, drop_at, take_at, take_all, length-drop, length-take, length-replicate, take-append-drop}
+use Rattle.lh_page.specs.declared.format.Format.{Format}
 use Rattle.lh_page.specs.declared.pair.Pair.{Pair}
-use Rattle.lh_page.specs.Mark.{padded}
+use Rattle.lh_page.specs.Format.{slot_size, FitsSlot}
 use Rattle.lh_page.specs.PageFields.{all_zero, key_length, value_length, pair_of, is_bad_record}
-use Rattle.lh_page.specs.PageTable.{zeros, field, slot_text}
-use Rattle.lh_page.specs.Records.{IsRecord}
+use Rattle.lh_page.specs.PageTable.{slot_text}
+use Rattle.lh_page.specs.Rows.{zeros, padded, field}
 use Rattle.lh_page.proofs.Padding.{length-padded}
 
 -- ---- rows of zeros
@@ -25,14 +26,6 @@ all_zero-zeros (suc n) = all_zero-zeros n
 
 pub zeros_of_length : (bytes : List ℕ) (n : ℕ) → length bytes ≡ n → all_zero bytes ≡ true → bytes ≡ zeros n
 zeros_of_length bytes n long e = zeros_from bytes e ∙ ap zeros long
-
--- a part of some bytes has zeros behind its first ones
-pub zeros_behind : (s : List ℕ) (p k n : ℕ) → k ≤ n → p + n ≤ length s → all_zero (take (n - k) (drop (p + k) s)) ≡ true → drop k (take n (drop p s)) ≡ replicate (n - k) 0
-zeros_behind s p k n le within clear =
-    let whole : k + (n - k) ≡ n = omega arith in
-    let long : length (take (n - k) (drop (p + k) s)) ≡ n - k = omega (arith, length-take (n - k) (drop (p + k) s), length-drop (p + k) s) in
-    ap (λ m. drop k (take m (drop p s))) (sym whole) ∙ drop-take k (n - k) (drop p s) ∙ ap (take (n - k)) (drop-drop k p s)
-    ∙ zeros_of_length (take (n - k) (drop (p + k) s)) (n - k) long clear
 
 -- what was found to be zeros behind the first bytes of a part, which ends at place q
 pub found_clear : (s : List ℕ) (p q k n : ℕ) (r : Bool) → q ≡ p + n → r ≡ all_zero (take (q - (p + k)) (drop (p + k) s)) → r ≡ true → all_zero (take (n - k) (drop (p + k) s)) ≡ true
@@ -56,16 +49,16 @@ padded-field k n bytes le within clear =
 
 -- ---- what a slot without a fault has
 
-pub record IsGood (s : List ℕ) : Type 0 where
+pub record IsGood (f : Format) (s : List ℕ) : Type 0 where
   pub some : 1 ≤ key_length s
-  pub key : key_length s ≤ 30
-  pub value : value_length s ≤ 40
-  pub behind_key : all_zero (field s (2 + key_length s) (30 - key_length s)) ≡ true
-  pub behind_value : all_zero (field s (32 + value_length s) (40 - value_length s)) ≡ true
+  pub key : key_length s ≤ f.key
+  pub value : value_length s ≤ f.value
+  pub behind_key : all_zero (field s (2 + key_length s) (f.key - key_length s)) ≡ true
+  pub behind_value : all_zero (field s (2 + f.key + value_length s) (f.value - value_length s)) ≡ true
 
-good_parts : (s : List ℕ) → is_bad_record s ≡ false → IsGood s
+good_parts : (f : Format) (s : List ℕ) → is_bad_record f s ≡ false → IsGood f s
 unfolding is_bad_record
-good_parts s good =
+good_parts f s good =
     let p = or_parts _ _ good in
     let q = or_parts _ _ p.0 in
     let r = or_parts _ _ q.0 in
@@ -79,69 +72,74 @@ good_parts s good =
       behind_value = not-false _ p.1;
     }
 
-pub good_from : (s : List ℕ) → IsGood s → is_bad_record s ≡ false
+pub good_from : (f : Format) (s : List ℕ) → IsGood f s → is_bad_record f s ≡ false
 unfolding is_bad_record
-good_from s h =
+good_from f s h =
     or_from _ _ (or_from _ _ (or_from _ _ (or_from _ _ (ne_eqb _ _ (λ e. omega (arith, h.some, e))) (le-ltb _ _ h.key)) (le-ltb _ _ h.value))
     (not_from_true _ h.behind_key)) (not_from_true _ h.behind_value)
 
-pub record_from_good : (s : List ℕ) → length s ≡ 72 → is_bad_record s ≡ false → IsRecord (pair_of s)
-record_from_good s long good =
-    let h = good_parts s good in
+pub fits_from_good : (f : Format) (s : List ℕ) → length s ≡ slot_size f → is_bad_record f s ≡ false → FitsSlot f (pair_of f s)
+fits_from_good f s long good =
+    let h = good_parts f s good in
     let key : length (field s 2 (key_length s)) ≡ key_length s = length-take-le (key_length s) (drop 2 s) (omega (arith, h.key, length-drop 2 s)) in
-    let value : length (field s 32 (value_length s)) ≡ value_length s = length-take-le (value_length s) (drop 32 s) (omega (arith, h.value, length-drop 32 s)) in
-    record { key = (omega (arith, h.some, key), omega (arith, h.key, key)); value = omega (arith, h.value, value) }
+    let value : length (field s (2 + f.key) (value_length s)) ≡ value_length s = length-take-le (value_length s) (drop (2 + f.key) s) (omega (arith, h.value, length-drop (2 + f.key) s)) in
+    record { some = omega (arith, h.some, key); key = omega (arith, h.key, key); value = omega (arith, h.value, value) }
 
 -- a slot without a fault is the text of its record
-pub text_from_good : (s : List ℕ) → length s ≡ 72 → is_bad_record s ≡ false → s ≡ slot_text (Some (pair_of s))
-text_from_good [] long good = absurd (omega (arith, long))
-text_from_good (k ∷ []) long good = absurd (omega (arith, long))
-text_from_good (k ∷ v ∷ rest) long good =
-    let h = good_parts (k ∷ v ∷ rest) good in
-    let left : length rest ≡ 70 = omega (arith, long) in
-    let key : padded 30 (take k rest) ≡ take 30 rest =
-    padded-field k 30 rest h.key (omega arith) (ap (λ xs. all_zero (take (30 - k) xs)) (drop-drop k 2 (k ∷ v ∷ rest)) ∙ h.behind_key) in
-    let value : padded 40 (take v (drop 30 rest)) ≡ take 40 (drop 30 rest) =
-    padded-field v 40 (drop 30 rest) h.value (omega (arith, length-drop 30 rest)) (ap (λ xs. all_zero (take (40 - v) xs)) (drop-drop v 32 (k ∷ v ∷ rest)) ∙ h.behind_value) in
-    let whole : rest ≡ padded 30 (take k rest) ++ padded 40 (take v (drop 30 rest)) =
-    sym (take_all 70 rest (omega arith)) ∙ take-add 30 40 rest ∙ ap (λ xs. xs ++ take 40 (drop 30 rest)) (sym key) ∙ ap (λ xs. padded 30 (take k rest) ++ xs) (sym value) in
-    let parts = padded 30 (take k rest) ++ padded 40 (take v (drop 30 rest)) in
+pub text_from_good : (f : Format) (s : List ℕ) → length s ≡ slot_size f → is_bad_record f s ≡ false → s ≡ slot_text f (Some (pair_of f s))
+text_from_good f [] long good = absurd (omega (arith, long))
+text_from_good f (k ∷ []) long good = absurd (omega (arith, long))
+text_from_good f (k ∷ v ∷ rest) long good =
+    let s = k ∷ v ∷ rest in
+    let h = good_parts f s good in
+    let behind = drop (2 + f.key) s in
+    let left : length rest ≡ f.key + f.value = omega (arith, long) in
+    let size : length behind ≡ f.value = omega (arith, length-drop (2 + f.key) s) in
+    let key : padded f.key (take k rest) ≡ take f.key rest =
+    padded-field k f.key rest h.key (omega arith) (ap (λ xs. all_zero (take (f.key - k) xs)) (drop-drop k 2 s) ∙ h.behind_key) in
+    let value : padded f.value (take v behind) ≡ behind =
+    padded-field v f.value behind h.value (omega arith) (ap (λ xs. all_zero (take (f.value - v) xs)) (drop-drop v (2 + f.key) s) ∙ h.behind_value)
+    ∙ take_all f.value behind (omega arith) in
+    let parts = padded f.key (take k rest) ++ padded f.value (take v behind) in
+    let whole : rest ≡ parts =
+    sym (take-append-drop f.key rest) ∙ ap (λ xs. take f.key rest ++ xs) (drop-drop f.key 2 s ∙ sym value)
+    ∙ ap (λ xs. xs ++ padded f.value (take v behind)) (sym key) in
     ap (λ xs. k ∷ v ∷ xs) whole ∙ ap (λ m. m ∷ v ∷ parts) (sym (length-take-le k rest (omega (arith, h.key))))
-    ∙ ap (λ m. length (take k rest) ∷ m ∷ parts) (sym (length-take-le v (drop 30 rest) (omega (arith, h.value, length-drop 30 rest))))
+    ∙ ap (λ m. length (take k rest) ∷ m ∷ parts) (sym (length-take-le v behind (omega (arith, h.value))))
 
 -- ---- what is read is what was written
 
-key-text : (pair : Pair) → IsRecord pair → field (slot_text (Some pair)) 2 (length pair.key) ≡ pair.key
-key-text pair h = ap (take (length pair.key)) (append_assoc pair.key (zeros (30 - length pair.key)) (padded 40 pair.value)) ∙ take_at pair.key (zeros (30 - length pair.key) ++ padded 40 pair.value) (length pair.key) refl
+module _ (f : Format) (pair : Pair) (h : FitsSlot f pair) where
+  values-text : drop (2 + f.key) (slot_text f (Some pair)) ≡ padded f.value pair.value
+  values-text =
+      sym (drop-drop f.key 2 (slot_text f (Some pair))) ∙ drop_at (padded f.key pair.key) (padded f.value pair.value) f.key (length-padded f.key pair.key h.key)
 
-values-text : (pair : Pair) → IsRecord pair → drop 32 (slot_text (Some pair)) ≡ padded 40 pair.value
-values-text pair h = drop_at (padded 30 pair.key) (padded 40 pair.value) 30 (length-padded 30 pair.key h.key.1)
+  pub pair_of-text : pair_of f (slot_text f (Some pair)) ≡ pair
+  pair_of-text i = record {
+    key = (ap (take (length pair.key)) (append_assoc pair.key (zeros (f.key - length pair.key)) (padded f.value pair.value))
+        ∙ take_at pair.key (zeros (f.key - length pair.key) ++ padded f.value pair.value) (length pair.key) refl) i;
+    value = (ap (take (length pair.value)) values-text ∙ take_at pair.value (zeros (f.value - length pair.value)) (length pair.value) refl) i;
+  }
 
-value-text : (pair : Pair) → IsRecord pair → field (slot_text (Some pair)) 32 (length pair.value) ≡ pair.value
-value-text pair h = ap (take (length pair.value)) (values-text pair h) ∙ take_at pair.value (zeros (40 - length pair.value)) (length pair.value) refl
+  behind-key : field (slot_text f (Some pair)) (2 + length pair.key) (f.key - length pair.key) ≡ zeros (f.key - length pair.key)
+  behind-key =
+      let m = length pair.key in
+      let z = zeros (f.key - m) in
+      ap (take (f.key - m)) (sym (drop-drop m 2 (slot_text f (Some pair))) ∙ ap (drop m) (append_assoc pair.key z (padded f.value pair.value)) ∙ drop_at pair.key (z ++ padded f.value pair.value) m refl)
+      ∙ take_at z (padded f.value pair.value) (f.key - m) (length-replicate {A = ℕ} (f.key - m) 0)
 
-pub pair_of-text : (pair : Pair) → IsRecord pair → pair_of (slot_text (Some pair)) ≡ pair
-pair_of-text pair h i = record { key = key-text pair h i; value = value-text pair h i }
+  behind-value : field (slot_text f (Some pair)) (2 + f.key + length pair.value) (f.value - length pair.value) ≡ zeros (f.value - length pair.value)
+  behind-value =
+      let m = length pair.value in
+      let z = zeros (f.value - m) in
+      ap (take (f.value - m)) (sym (drop-drop m (2 + f.key) (slot_text f (Some pair))) ∙ ap (drop m) values-text ∙ drop_at pair.value z m refl)
+      ∙ take_all (f.value - m) z (omega (arith, length-replicate {A = ℕ} (f.value - m) 0))
 
-behind-key : (pair : Pair) → IsRecord pair → field (slot_text (Some pair)) (2 + length pair.key) (30 - length pair.key) ≡ zeros (30 - length pair.key)
-behind-key pair h =
-    let m = length pair.key in
-    let z = zeros (30 - m) in
-    ap (take (30 - m)) (sym (drop-drop m 2 (slot_text (Some pair))) ∙ ap (drop m) (append_assoc pair.key z (padded 40 pair.value)) ∙ drop_at pair.key (z ++ padded 40 pair.value) m refl)
-    ∙ take_at z (padded 40 pair.value) (30 - m) (length-replicate {A = ℕ} (30 - m) 0)
-
-behind-value : (pair : Pair) → IsRecord pair → field (slot_text (Some pair)) (32 + length pair.value) (40 - length pair.value) ≡ zeros (40 - length pair.value)
-behind-value pair h =
-    let m = length pair.value in
-    let z = zeros (40 - m) in
-    ap (take (40 - m)) (sym (drop-drop m 32 (slot_text (Some pair))) ∙ ap (drop m) (values-text pair h) ∙ drop_at pair.value z m refl)
-    ∙ take_all (40 - m) z (omega (arith, length-replicate {A = ℕ} (40 - m) 0))
-
-pub good_text : (pair : Pair) → IsRecord pair → is_bad_record (slot_text (Some pair)) ≡ false
-good_text pair h = good_from (slot_text (Some pair)) (record {
-  some = h.key.0;
-  key = h.key.1;
-  value = h.value;
-  behind_key = ap all_zero (behind-key pair h) ∙ all_zero-zeros (30 - length pair.key);
-  behind_value = ap all_zero (behind-value pair h) ∙ all_zero-zeros (40 - length pair.value);
-})
+  pub good_text : is_bad_record f (slot_text f (Some pair)) ≡ false
+  good_text = good_from f (slot_text f (Some pair)) (record {
+    some = h.some;
+    key = h.key;
+    value = h.value;
+    behind_key = ap all_zero behind-key ∙ all_zero-zeros (f.key - length pair.key);
+    behind_value = ap all_zero behind-value ∙ all_zero-zeros (f.value - length pair.value);
+  })

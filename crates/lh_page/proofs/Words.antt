@@ -1,4 +1,4 @@
--- Rows of 30 bytes that agree in four words are the same.
+-- Rows of keys that agree in four words are the same.
 use Rattle.std.proofs.Common.{◌≡◌, ◌≢◌, ℕ, zero, suc, ◌+◌, ◌*◌, ◌<◌, ◌≤◌, Bool, true, false, eqb, List, length, take, sym, ap, ◌∙◌, inl, inr, arith}
 use Rattle.std.specs.Prelude.{slice_index}
 use Rattle.std.proofs.lemmas.Bool.{and_parts, and_from, cases_lt, eqb-true, eq-eqb}
@@ -6,7 +6,8 @@ use Rattle.std.proofs.lemmas.List.{ext_get_or}
 use Rattle.std.specs.Bool.{OnTrue, OnFalse}
 use Rattle.std.specs.Str.{bytes_eq}
 use Rattle.byteorder.specs.Endian.{little_from}
-use Rattle.lh_page.specs.Mark.{padded, word_at, same_words}
+use Rattle.lh_page.specs.Mark.{word_at, same_words}
+use Rattle.lh_page.specs.Rows.{padded, key_room}
 use Rattle.lh_page.proofs.Places.{bytes_eq-same, bytes_eq-other}
 
 first_digit : (x y m n : ℕ) → x < 256 → y < 256 → x + 256 * m ≡ y + 256 * n → x ≡ y
@@ -24,7 +25,7 @@ bytes_from_number (suc n) k xs ys fit small e i low high = elim (cases_lt k i) [
   | inr here ↦ let same : i ≡ k = omega arith in rw same (first_digit (slice_index xs k) (slice_index ys k) (little_from (suc k) n xs) (little_from (suc k) n ys) (fit k) (small k) e)
 ]
 
-pub same_from_words : (a b : List ℕ) → length a ≡ 30 → length b ≡ 30 → ((i : ℕ) → slice_index a i < 256) → ((i : ℕ) → slice_index b i < 256) → same_words a b ≡ true → a ≡ b
+pub same_from_words : (a b : List ℕ) → length a ≡ key_room → length b ≡ key_room → ((i : ℕ) → slice_index a i < 256) → ((i : ℕ) → slice_index b i < 256) → same_words a b ≡ true → a ≡ b
 unfolding word_at
 same_from_words a b long whole fit small e =
     let p = and_parts _ _ e in
@@ -47,6 +48,6 @@ words_from_same a b e = and_from _ _ (and_from _ _ (and_from _ _ (at 0) (at 8)) 
   at place = eq-eqb (word_at a place) (word_at b place) (ap (λ bytes. word_at bytes place) e)
 
 -- rows with zeros behind their first bytes are the same where these are
-pub eq_told : (r : Bool) (n : ℕ) (a b v w : List ℕ) → OnTrue r (a ≡ b) → OnFalse r (a ≢ b) → take n a ≡ v → take n b ≡ w → padded 30 v ≡ a → padded 30 w ≡ b → r ≡ bytes_eq v w
+pub eq_told : (r : Bool) (n : ℕ) (a b v w : List ℕ) → OnTrue r (a ≡ b) → OnFalse r (a ≢ b) → take n a ≡ v → take n b ≡ w → padded key_room v ≡ a → padded key_room w ≡ b → r ≡ bytes_eq v w
 eq_told true n a b v w same other front behind whole all = sym (bytes_eq-same v w (sym front ∙ ap (take n) same ∙ behind))
-eq_told false n a b v w same other front behind whole all = sym (bytes_eq-other v w (λ e. other (sym whole ∙ ap (padded 30) e ∙ all)))
+eq_told false n a b v w same other front behind whole all = sym (bytes_eq-other v w (λ e. other (sym whole ∙ ap (padded key_room) e ∙ all)))

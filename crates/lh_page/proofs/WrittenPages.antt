@@ -4,44 +4,53 @@ use Rattle.std.specs.List.{slice_get}
 use Rattle.std.proofs.lemmas.Bool.{cases_lt}
 use Rattle.std.proofs.lemmas.List.{take-replicate, drop-replicate, drop-drop, drop_at, length-append, length-replicate}
 use Rattle.std.proofs.lemmas.Option.{slice_get_past}
+use Rattle.lh_page.specs.declared.format.Format.{Format}
 use Rattle.lh_page.specs.declared.page.Page.{Page}
 use Rattle.lh_page.specs.declared.pair.Pair.{Pair}
-use Rattle.lh_page.specs.PageTable.{zeros, field, slot, slot_text, head_text, IsPage, WritesSlot}
-use Rattle.lh_page.proofs.Fields.{field-take}
+use Rattle.lh_page.specs.Format.{slot_size, page_size}
+use Rattle.lh_page.specs.PageTable.{slot, slot_text, head_text, IsPage, WritesSlot}
+use Rattle.lh_page.specs.Rows.{zeros, field}
+use Rattle.lh_page.proofs.Fields.{field-take, slots_apart}
 
 -- the head and the first n records are written, and the other slots are zero
-pub record IsPartlyWritten (bytes : List ℕ) (page : Page) (n : ℕ) : Type 0 where
-  pub size : length bytes ≡ 1024
+pub record IsPartlyWritten (f : Format) (bytes : List ℕ) (page : Page) (n : ℕ) : Type 0 where
+  pub size : length bytes ≡ page_size f
   pub head : field bytes 0 16 ≡ head_text page
-  pub written : (i : ℕ) → i < 14 → i < n → slot bytes i ≡ slot_text (slice_get page.pairs i)
-  pub left : (i : ℕ) → i < 14 → n ≤ i → slot bytes i ≡ zeros 72
+  pub written : (i : ℕ) → i < f.slots → i < n → slot f bytes i ≡ slot_text f (slice_get page.pairs i)
+  pub left : (i : ℕ) → i < f.slots → n ≤ i → slot f bytes i ≡ zeros (slot_size f)
 
-slot_behind : (head : List ℕ) (i : ℕ) → length head ≡ 16 → i < 14 → slot (head ++ zeros 1008) i ≡ zeros 72
-slot_behind head i whole low =
-    ap (take 72) (sym (drop-drop (72 * i) 16 (head ++ zeros 1008)) ∙ ap (drop (72 * i)) (drop_at head (zeros 1008) 16 whole) ∙ drop-replicate (72 * i) 1008 0)
-    ∙ take-replicate 72 (1008 - 72 * i) 0 (omega arith)
+slot_behind : (f : Format) (head : List ℕ) (i : ℕ) → length head ≡ 16 → i < f.slots → slot f (head ++ zeros (f.slots * slot_size f)) i ≡ zeros (slot_size f)
+slot_behind f head i whole low =
+    let all = f.slots * slot_size f in
+    let before = i * slot_size f in
+    ap (take (slot_size f)) (sym (drop-drop before 16 (head ++ zeros all)) ∙ ap (drop before) (drop_at head (zeros all) 16 whole) ∙ drop-replicate before all 0)
+    ∙ take-replicate (slot_size f) (all - before) 0 (omega (arith, slots_apart f i f.slots low))
 
-pub written_none : (empty part : List ℕ) (page : Page) → empty ≡ zeros 1024 → part ≡ head_text page → IsPartlyWritten (part ++ drop 16 empty) page 0
-written_none empty part page none is = rw (none, is, drop-replicate {X = ℕ} 16 1024 0) (record {
-  size = omega (arith, length-append (head_text page) (zeros 1008), length-replicate {A = ℕ} 1008 0);
-  head = refl;
-  written = λ i low below. absurd (omega arith);
-  left = λ i low past. slot_behind (head_text page) i refl low;
-})
+pub written_none : (f : Format) (empty part : List ℕ) (page : Page) → empty ≡ zeros (page_size f) → part ≡ head_text page → IsPartlyWritten f (part ++ drop 16 empty) page 0
+written_none f empty part page none is =
+    let all = f.slots * slot_size f in
+    let left : page_size f - 16 ≡ all = omega arith in
+    let rest : drop 16 empty ≡ zeros all = ap (drop 16) none ∙ drop-replicate {X = ℕ} 16 (page_size f) 0 ∙ ap zeros left in
+    rw (is, rest) (record {
+      size = omega (arith, length-append (head_text page) (zeros all), length-replicate {A = ℕ} all 0);
+      head = refl;
+      written = λ i low below. absurd (omega arith);
+      left = λ i low past. slot_behind f (head_text page) i refl low;
+    })
 
-pub written_more : (old new : List ℕ) (page : Page) (pair : Pair) (n : ℕ) → n < 14 → slice_get page.pairs n ≡ Some pair → IsPartlyWritten old page n → WritesSlot old new n pair → IsPartlyWritten new page (n + 1)
-written_more old new page pair n low is h w = record {
+pub written_more : (f : Format) (old new : List ℕ) (page : Page) (pair : Pair) (n : ℕ) → n < f.slots → slice_get page.pairs n ≡ Some pair → IsPartlyWritten f old page n → WritesSlot f old new n pair → IsPartlyWritten f new page (n + 1)
+written_more f old new page pair n low is h w = record {
   size = w.size ∙ h.size;
   head = w.head ∙ h.head;
   written = λ i within below. elim (cases_lt i n) [
     | inl before ↦ w.others i within (λ same. omega (arith, same)) ∙ h.written i within before
-    | inr there ↦ let same : i ≡ n = omega arith in rw same (w.written ∙ ap slot_text (sym is))
+    | inr there ↦ let same : i ≡ n = omega arith in rw same (w.written ∙ ap (slot_text f) (sym is))
   ];
   left = λ i within past. w.others i within (λ same. omega (arith, same)) ∙ h.left i within (omega arith);
 }
 
-pub written_all : (bytes : List ℕ) (page : Page) → IsPartlyWritten bytes page (length page.pairs) → IsPage bytes page
-written_all bytes page h = record {
+pub written_all : (f : Format) (bytes : List ℕ) (page : Page) → IsPartlyWritten f bytes page (length page.pairs) → IsPage f bytes page
+written_all f bytes page h = record {
   size = h.size;
   kind = field_of_head 0 1 (omega arith);
   used = field_of_head 1 1 (omega arith);
@@ -52,7 +61,7 @@ written_all bytes page h = record {
   padding = field_of_head 12 4 (omega arith);
   slots = λ i low. elim (cases_lt i (length page.pairs)) [
     | inl used ↦ h.written i low used
-    | inr past ↦ h.left i low past ∙ ap slot_text (sym (slice_get_past page.pairs i past))
+    | inr past ↦ h.left i low past ∙ ap (slot_text f) (sym (slice_get_past page.pairs i past))
   ];
 } where
   field_of_head : (offset size : ℕ) → offset + size ≤ 16 → field bytes offset size ≡ field (head_text page) offset size

@@ -1,8 +1,10 @@
 pub mod Limits
+pub mod Rows
 pub mod Mark
 pub mod Records
 pub mod PackedList
 pub mod Marks
+pub mod Format
 pub mod PageTable
 pub mod PageFields
 pub mod PageLaws

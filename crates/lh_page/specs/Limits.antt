@@ -1,14 +1,26 @@
--- The limits on keys, values and pages.
+-- What a key, a value and the records of a page may be.
 use Rattle.std.specs.Prelude.{ℕ, ◌≤◌, List, length}
 
--- a key has 1 to 30 bytes
+-- the most bytes of a key
+abbrev pub longest_key : ℕ
+longest_key = 30
+
+-- the most bytes of a value
+abbrev pub longest_value : ℕ
+longest_value = 40
+
+-- the most records of a page
+abbrev pub largest_page : ℕ
+largest_page = 14
+
+-- a key has at least one byte, and at most as many as the longest
 abbrev pub IsKey : List ℕ → Type 0
-IsKey key = (1 ≤ length key) × (length key ≤ 30)
+IsKey key = (1 ≤ length key) × (length key ≤ longest_key)
 
--- a value has at most 40 bytes
+-- a value has at most as many bytes as the longest
 abbrev pub IsValue : List ℕ → Type 0
-IsValue value = length value ≤ 40
+IsValue value = length value ≤ longest_value
 
--- a page has room for 1 to 14 records
+-- a page has room for at least one record, and for at most as many as the largest
 abbrev pub IsCapacity : ℕ → Type 0
-IsCapacity b = (1 ≤ b) × (b ≤ 14)
+IsCapacity b = (1 ≤ b) × (b ≤ largest_page)

@@ -1,20 +1,17 @@
 -- Keys by words of eight bytes: whether two are the same, and the one-byte mark that tells most of them apart.
-use Rattle.std.specs.Prelude.{ℕ, Bool, ◌&&◌, ◌==◌, ◌+◌, ◌-◌, ◌*◌, ◌/◌, ◌%◌, ◌^◌, List, ◌++◌, length, replicate}
+use Rattle.std.specs.Prelude.{ℕ, Bool, ◌&&◌, ◌==◌, ◌+◌, ◌*◌, ◌/◌, ◌%◌, ◌^◌, List}
 use Rattle.byteorder.specs.Endian.{little_from}
-
--- a list of bytes, with zeros behind it up to length n
-abbrev pub padded : ℕ → List ℕ → List ℕ
-padded n bytes = bytes ++ replicate (n - length bytes) 0
+use Rattle.lh_page.specs.Rows.{padded, key_room}
 
 -- the number in the 8 bytes from a place
 unfoldable pub word_at : List ℕ → ℕ → ℕ
 word_at bytes place = little_from place 8 bytes
 
--- whether two rows of 30 bytes agree in their four words, the last of which overlaps the third
+-- whether two rows of keys agree in their four words, the last of which overlaps the third
 abbrev pub same_words : List ℕ → List ℕ → Bool
 same_words a b = word_at a 0 == word_at b 0 && word_at a 8 == word_at b 8 && word_at a 16 == word_at b 16 && word_at a 22 == word_at b 22
 
--- the high byte of a sum of odd multiples of those words of 30 bytes
+-- the high byte of a sum of odd multiples of those words of a key's row
 unfoldable pub mixed : List ℕ → ℕ
 mixed bytes =
     (word_at bytes 0 * 11400714819323198485 + word_at bytes 8 * 14029467366897019727
@@ -22,4 +19,4 @@ mixed bytes =
 
 -- the mark of a key
 abbrev pub mark_of : List ℕ → ℕ
-mark_of key = mixed (padded 30 key)
+mark_of key = mixed (padded key_room key)

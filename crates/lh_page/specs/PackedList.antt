@@ -31,6 +31,10 @@ pieces (suc n) b pairs = if nat_le (length pairs) b then pairs ∷ [] else take 
 abbrev pub pages_of : ℕ → List Pair → List (List Pair)
 pages_of b pairs = pieces (length pairs) b pairs
 
+-- how many pages a list of n records has, at b records a page
+abbrev pub pages_needed : ℕ → ℕ → ℕ
+pages_needed b n = (n - 1) / b + 1
+
 -- the records of some pages, page after page
 abbrev pub joined : List (List Pair) → List Pair
 joined pages = flat_map (λ page. page) pages
@@ -42,5 +46,5 @@ PackingLaw = (b : ℕ) (pairs : List Pair) (pages : List (List Pair)) → 1 ≤ 
 -- Page k of a list holds the records from place k * b on, and there are as many pages as that takes, but at least one.
 abbrev pub PiecesLaw : Type 0
 PiecesLaw = (b : ℕ) (pairs : List Pair) → 1 ≤ b →
-    (length (pages_of b pairs) ≡ (length pairs - 1) / b + 1)
+    (length (pages_of b pairs) ≡ pages_needed b (length pairs))
     × ((k : ℕ) → k < length (pages_of b pairs) → (k * b ≤ length pairs) × (slice_index_or (pages_of b pairs) k [] ≡ take b (drop (k * b) pairs)))

@@ -3,7 +3,7 @@ use Rattle.std.specs.Prelude.{◌≡◌, ◌≢◌, ℕ, ◌<◌, ◌≤◌, Lis
 use Rattle.std.specs.List.{All, position}
 use Rattle.std.specs.Str.{bytes_eq}
 use Rattle.lh_page.specs.declared.pair.Pair.{Pair}
-use Rattle.lh_page.specs.Limits.{IsKey, IsValue}
+use Rattle.lh_page.specs.Limits.{IsKey, IsValue, largest_page}
 
 -- the keys of some records, in their order
 abbrev pub keys_of : List Pair → List (List ℕ)
@@ -42,7 +42,7 @@ pub record IsRecord (pair : Pair) : Type 0 where
   pub key : IsKey pair.key
   pub value : IsValue pair.value
 
--- a row of records that a page has slots for
+-- a row of records that a page may have
 pub record FitsPage (pairs : List Pair) : Type 0 where
-  pub few : length pairs ≤ 14
+  pub few : length pairs ≤ largest_page
   pub records : All IsRecord pairs

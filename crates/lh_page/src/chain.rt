@@ -11,6 +11,7 @@ use crate::key::Key;
 use crate::key_set::KeySet;
 use crate::marks::{MARKED, find_marked, mark_at, marks_of, put_mark};
 use crate::memory::Memory;
+use crate::packing::pages_needed;
 use crate::pair::Pair;
 use crate::value::Value;
 use std::alloc::Global;
@@ -86,8 +87,7 @@ impl Chain {
     pub fn pages(&self) -> usize
         ensures { result ≡ length (pages_of self.now.capacity self.now.pairs) }
     {
-        let last = self.pairs.len().saturating_sub(1);
-        last / self.capacity as usize + 1
+        pages_needed(self.pairs.len(), self.capacity)
     }
 
     /// The place of the record with a key.

@@ -1,7 +1,8 @@
 //! The head of a page: what stands before its slots.
-ghost use Rattle.std.specs.Prelude.{◌≡◌};
-ghost use Rattle.lh_page.specs.PageFields.{kind_of, used_of, level_of, bucket_of, next_of, is_clear, all_zero};
+ghost use Rattle.std.specs.Prelude.{◌≡◌, ◌≤◌, length};
+ghost use Rattle.lh_page.specs.PageFields.{kind_of, used_of, level_of, bucket_of, next_of, is_clear, all_zero, head_of};
 
+use crate::format::HEAD;
 use byteorder::{ByteOrder, LittleEndian};
 
 /// The fields before a page's slots, as they stand there.
@@ -22,7 +23,6 @@ pub struct PageHead {
 }
 
 /// The head of a page, whatever its bytes are.
-#[tactic(auto, unfolding(crate::specs::PageFields::bucket_of, crate::specs::PageFields::next_of, crate::specs::PageFields::is_clear))]
 pub fn page_head(bytes: &[u8; 1024]) -> PageHead
     ensures kind { result.kind ≡ kind_of bytes.now }
     ensures used { result.used ≡ used_of bytes.now }
@@ -30,6 +30,15 @@ pub fn page_head(bytes: &[u8; 1024]) -> PageHead
     ensures clear { result.clear ≡ is_clear bytes.now }
     ensures bucket { result.bucket ≡ bucket_of bytes.now }
     ensures next { result.next ≡ next_of bytes.now }
+{
+    head_in(bytes)
+}
+
+/// The head of a page of any format.
+#[tactic(auto, unfolding(crate::specs::PageFields::bucket_of, crate::specs::PageFields::next_of, crate::specs::PageFields::is_clear))]
+pub(crate) fn head_in(bytes: &[u8]) -> PageHead
+    requires { HEAD ≤ length bytes.now }
+    ensures { result ≡ head_of bytes.now }
 {
     PageHead {
         kind: bytes[0],

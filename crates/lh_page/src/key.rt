@@ -1,13 +1,14 @@
 //! Keys: short byte strings that are kept in place and copied freely.
-ghost use Rattle.std.specs.Prelude.{◌≡◌, ◌≢◌, ℕ, ◌≤◌, ◌-◌, ◌↔◌, List, [], ◌∷◌, length, take, drop, replicate, Some, IsOk, IfOk, IfErr, nat_eq, refl};
+ghost use Rattle.std.specs.Prelude.{◌≡◌, ◌≢◌, ℕ, ◌≤◌, ◌+◌, ◌↔◌, List, [], ◌∷◌, length, Some, IsOk, IfOk, IfErr, nat_eq, refl};
 ghost use Rattle.std.specs.Ordering.{nat_cmp};
 ghost use Rattle.std.specs.Bool.{OnTrue, OnFalse};
 ghost use Rattle.std.specs.Cmp.{partial_equiv_from_equiv};
 ghost use Rattle.std.specs.Cmp.Lexicographic.{pointwise, slice_cmp, nat_list_eq_equiv, nat_list_cmp_total, texts_po, texts_ties};
 ghost use Rattle.lh_page.specs.Limits.{IsKey};
-ghost use Rattle.lh_page.specs.Mark.{mark_of, mixed, padded, same_words, word_at};
+ghost use Rattle.lh_page.specs.Mark.{mark_of, mixed, same_words, word_at};
 
 use crate::limits::LONGEST_KEY;
+use crate::rows::{KEY_ROOM, row};
 use byteorder::{ByteOrder, LittleEndian};
 use std::cmp::Ordering;
 use std::marker::Model;
@@ -17,24 +18,27 @@ use thiserror::Error;
 #[derive(Clone, Copy, Debug)]
 pub struct Key {
     // Zeros stand behind the key's bytes.
-    bytes: [u8; LONGEST_KEY],
+    bytes: [u8; KEY_ROOM],
     len: u8,
 }
 
 impl Model for Key {
-    ghost use Rattle.std.specs.Prelude.{◌≡◌, ◌≢◌, ℕ, ◌≤◌, ◌-◌, ◌++◌, List, length, take, drop, replicate};
+    ghost use Rattle.std.specs.Prelude.{◌≡◌, ℕ, ◌≤◌, ◌-◌, ◌++◌, List, length, take, drop};
+    ghost use Rattle.lh_page.specs.Limits.{longest_key};
+    ghost use Rattle.lh_page.specs.Rows.{key_room, padded, zeros};
     ghost use Rattle.std.proofs.Common.{ap, ◌∙◌, sym, arith, take-append-drop, length-take-le};
 
     ghost Value = { List ℕ };
 
     ghost view = { λ k. take k.len k.bytes };
 
-    ghost invariant = { λ k. (1 ≤ k.len) × (k.len ≤ 30) × (length k.bytes ≡ 30) × (drop k.len k.bytes ≡ replicate (30 - k.len) 0) };
+    ghost invariant = { λ k. (1 ≤ k.len) × (k.len ≤ longest_key) × (length k.bytes ≡ key_room) × (drop k.len k.bytes ≡ zeros (key_room - k.len)) };
 
-    ghost inverse = { λ b. record { bytes = b ++ replicate (30 - length b) 0; len = length b } };
+    ghost inverse = { λ b. record { bytes = padded key_room b; len = length b } };
 
     ghost inverse_ok = { λ k h i. record {
-      bytes = (ap (λ n. take k.len k.bytes ++ replicate (30 - n) 0) (length-take-le k.len k.bytes (omega (arith, h.1, h.2))) ∙ (ap (λ r. take k.len k.bytes ++ r) (sym h.3) ∙ take-append-drop k.len k.bytes)) i;
+      bytes = (ap (λ n. take k.len k.bytes ++ zeros (key_room - n)) (length-take-le k.len k.bytes (omega (arith, h.1, h.2)))
+          ∙ (ap (λ r. take k.len k.bytes ++ r) (sym h.3) ∙ take-append-drop k.len k.bytes)) i;
       len = length-take-le k.len k.bytes (omega (arith, h.1, h.2)) i;
     } };
 }
@@ -57,24 +61,10 @@ impl Key {
         if length < 1 || length > LONGEST_KEY {
             return Err(KeyLength { length });
         }
-        let mut padded = [0; LONGEST_KEY];
-        for (i, byte) in bytes.iter().enumerate() {
-            padded[i] = *byte;
-        }
         Ok(Key {
-            bytes: padded,
+            bytes: row(bytes),
             len: length as u8,
         })
-    }
-
-    /// The key in the first bytes of a row with zeros behind them.
-    pub(crate) fn from_row(bytes: [u8; LONGEST_KEY], len: u8) -> Self
-        requires some { 1 ≤ len }
-        requires within { len ≤ LONGEST_KEY }
-        requires padded { drop len bytes ≡ replicate (30 - len) 0 }
-        ensures { result ≡ take len bytes }
-    {
-        Key { bytes, len }
     }
 
     pub fn bytes(&self) -> &[u8]
@@ -84,19 +74,12 @@ impl Key {
         &self.bytes[..self.len as usize]
     }
 
-    /// The key's bytes, with zeros behind them.
-    pub(crate) fn padded(&self) -> &[u8; LONGEST_KEY]
-        ensures { result.now ≡ padded 30 self.now }
-    {
-        &self.bytes
-    }
-
     /// A key for places that hold none.
     pub(crate) fn placeholder() -> Self
         ensures { result ≡ 0 ∷ [] }
     {
         Key {
-            bytes: [0; LONGEST_KEY],
+            bytes: [0; KEY_ROOM],
             len: 1,
         }
     }
@@ -111,7 +94,7 @@ impl Key {
 
 /// The high byte of a sum of odd multiples of the four words.
 #[inline]
-fn mix(bytes: &[u8; LONGEST_KEY]) -> u8
+fn mix(bytes: &[u8; KEY_ROOM]) -> u8
     ensures { result ≡ mixed bytes.now }
 {
     let first = word(bytes, 0).wrapping_mul(0x9e37_79b9_7f4a_7c15);
@@ -128,8 +111,8 @@ fn mix(bytes: &[u8; LONGEST_KEY]) -> u8
 /// The number in the 8 bytes from a place.
 #[inline]
 #[tactic(auto, unfolding(crate::specs::Mark::word_at))]
-fn word(bytes: &[u8; LONGEST_KEY], place: usize) -> u64
-    requires { place ≤ 22 }
+fn word(bytes: &[u8; KEY_ROOM], place: usize) -> u64
+    requires { place + 8 ≤ KEY_ROOM }
     ensures { result ≡ word_at bytes.now place }
 {
     LittleEndian::read_u64(&bytes[place..place + 8])
@@ -147,7 +130,7 @@ impl PartialEq for Key {
 
 /// Whether two rows of bytes are the same.
 #[inline]
-fn is_same(a: &[u8; LONGEST_KEY], b: &[u8; LONGEST_KEY]) -> bool
+fn is_same(a: &[u8; KEY_ROOM], b: &[u8; KEY_ROOM]) -> bool
     ensures same { OnTrue result (a.now ≡ b.now) }
     ensures other { OnFalse result (a.now ≢ b.now) }
 {
@@ -156,7 +139,7 @@ fn is_same(a: &[u8; LONGEST_KEY], b: &[u8; LONGEST_KEY]) -> bool
 
 /// Whether two rows of bytes have the same words: eight bytes at a time.
 #[inline]
-fn agree(a: &[u8; LONGEST_KEY], b: &[u8; LONGEST_KEY]) -> bool
+fn agree(a: &[u8; KEY_ROOM], b: &[u8; KEY_ROOM]) -> bool
     ensures { result ≡ same_words a.now b.now }
 {
     word(a, 0) == word(b, 0)

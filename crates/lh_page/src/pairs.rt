@@ -22,13 +22,14 @@ pub struct Pairs {
 impl Model for Pairs {
     ghost use Rattle.std.specs.Prelude.{◌≡◌, ◌≤◌, List, length, take};
     ghost use Rattle.lh_page.specs.declared.pair.Pair.{Pair};
+    ghost use Rattle.lh_page.specs.Limits.{largest_page};
     ghost use Rattle.lh_page.specs.Records.{FitsPage};
 
     ghost Value = { List Pair };
 
     ghost view = { λ p. take p.len p.places };
 
-    ghost invariant = { λ p. (length p.places ≡ 14) × FitsPage (take p.len p.places) × (p.len ≤ 14) };
+    ghost invariant = { λ p. (length p.places ≡ largest_page) × FitsPage (take p.len p.places) × (p.len ≤ largest_page) };
 }
 
 impl Pairs {
@@ -67,6 +68,7 @@ impl Pairs {
         requires { length self.old < LARGEST_PAGE }
         ensures { self.new ≡ self.old ++ pair ∷ [] }
     {
+        // Their contracts say that a key and a value are within their limits, which a page's records have to be.
         let _ = pair.key.bytes();
         let _ = pair.value.bytes();
         self.places[self.len] = pair;

@@ -1,13 +1,14 @@
 //! Reading a page from bytes.
 ghost use Rattle.std.specs.Prelude.{◌≡◌, ◌<◌, ◌≤◌, [], IfOk, OnOk, IfSome, IfNone, option_map, length};
 ghost use Rattle.std.specs.Result.{result_err};
+ghost use Rattle.lh_page.specs.Format.{version_1, slot_size, page_size, IsWithinLimits};
 ghost use Rattle.lh_page.specs.Limits.{IsCapacity};
 ghost use Rattle.lh_page.specs.PageFields.{page_of, pairs_of, used_of, bad_slot, fault_of, FirstFilled, UnusedAreZero};
 ghost use Rattle.lh_page.specs.PageTable.{slot};
 
 use crate::fault::PageFault;
-use crate::head::{is_zero, page_head};
-use crate::limits::LARGEST_PAGE;
+use crate::format::{Format, VERSION_1};
+use crate::head::{head_in, is_zero};
 use crate::page::{Page, PageKind};
 use crate::pairs::Pairs;
 use crate::slot::read_slot;
@@ -15,13 +16,24 @@ use crate::slot::read_slot;
 /// The page that 1,024 bytes show, with room for `capacity` records (1 to 14), or the first fault of the bytes.
 ///
 /// All 14 slots are looked at, whatever the capacity is.
-#[tactic(auto, unfolding(crate::specs::PageFields::fault_of, crate::specs::PageFields::has_bad_kind))]
 pub fn page_from_bytes(bytes: &[u8; 1024], capacity: u32) -> Result<Page, PageFault>
     requires { IsCapacity capacity }
-    ensures page { IfOk result (λ page. page ≡ page_of bytes.now) }
-    ensures fault { result_err result ≡ fault_of bytes.now capacity }
+    ensures page { IfOk result (λ page. page ≡ page_of version_1 bytes.now) }
+    ensures fault { result_err result ≡ fault_of version_1 bytes.now capacity }
 {
-    let head = page_head(bytes);
+    read_page(bytes, VERSION_1, capacity)
+}
+
+/// The page that bytes of a format show, or their first fault.
+#[tactic(auto, unfolding(crate::specs::PageFields::fault_of, crate::specs::PageFields::has_bad_kind))]
+fn read_page(bytes: &[u8], format: Format, capacity: u32) -> Result<Page, PageFault>
+    requires size { length bytes.now ≡ page_size format }
+    requires limits { IsWithinLimits format }
+    requires capacity { capacity ≤ format.slots }
+    ensures page { IfOk result (λ page. page ≡ page_of format bytes.now) }
+    ensures fault { result_err result ≡ fault_of format bytes.now capacity }
+{
+    let head = head_in(bytes);
     let kind = match head.kind {
         1 => PageKind::Primary,
         2 => PageKind::Overflow,
@@ -40,43 +52,47 @@ pub fn page_from_bytes(bytes: &[u8; 1024], capacity: u32) -> Result<Page, PageFa
         next: head.next,
         pairs: Pairs::new(),
     };
-    read_pairs(bytes, head.used as usize, &mut page.pairs)?;
+    read_pairs(bytes, format, head.used as usize, &mut page.pairs)?;
     Ok(page)
 }
 
 /// Appends the records in the used slots to none, or tells the first faulty slot of all. They are put where
 /// they stay, since a page is long to move.
-fn read_pairs(bytes: &[u8; 1024], used: usize, pairs: &mut Pairs) -> Result<(), PageFault>
-    requires few { used ≤ LARGEST_PAGE }
+fn read_pairs(bytes: &[u8], format: Format, used: usize, pairs: &mut Pairs) -> Result<(), PageFault>
+    requires size { length bytes.now ≡ page_size format }
+    requires limits { IsWithinLimits format }
+    requires few { used ≤ format.slots }
     requires used { used ≡ used_of bytes.now }
     requires empty { pairs.old ≡ [] }
-    ensures pairs { OnOk result (pairs.new ≡ pairs_of bytes.now) }
-    ensures fault { result_err result ≡ option_map PageFault.Slot (bad_slot bytes.now) }
+    ensures pairs { OnOk result (pairs.new ≡ pairs_of format bytes.now) }
+    ensures fault { result_err result ≡ option_map PageFault.Slot (bad_slot format bytes.now) }
 {
     for place in 0..used {
-        match read_slot(slot_at(bytes, place)) {
+        match read_slot(slot_at(bytes, format, place), format) {
             Some(pair) => pairs.push(pair),
             None => return Err(PageFault::Slot(place)),
         }
     }
-    match first_filled(bytes, used) {
+    match first_filled(bytes, format, used) {
         Some(place) => Err(PageFault::Slot(place)),
         None => Ok(()),
     }
 }
 
 /// The first slot from a place on that isn't all zeros.
-fn first_filled(bytes: &[u8; 1024], used: usize) -> Option<usize>
-    requires { used ≤ LARGEST_PAGE }
-    ensures found { IfSome result (λ place. FirstFilled bytes.now used place) }
-    ensures absent { IfNone result (UnusedAreZero bytes.now used LARGEST_PAGE) }
+fn first_filled(bytes: &[u8], format: Format, used: usize) -> Option<usize>
+    requires size { length bytes.now ≡ page_size format }
+    requires limits { IsWithinLimits format }
+    requires few { used ≤ format.slots }
+    ensures found { IfSome result (λ place. FirstFilled format bytes.now used place) }
+    ensures absent { IfNone result (UnusedAreZero format bytes.now used format.slots) }
 {
     // Of a sound page nothing is filled, which one look at all of its unused slots shows.
-    if is_zero(&bytes[16 + 72 * used..]) {
+    if is_zero(&bytes[format.slot_start(used)..]) {
         return None;
     }
-    for place in used..LARGEST_PAGE {
-        if !is_zero(slot_at(bytes, place)) {
+    for place in used..format.slots {
+        if !is_zero(slot_at(bytes, format, place)) {
             return Some(place);
         }
     }
@@ -84,11 +100,12 @@ fn first_filled(bytes: &[u8; 1024], used: usize) -> Option<usize>
 }
 
 /// One of the slots.
-fn slot_at(bytes: &[u8; 1024], place: usize) -> &[u8]
-    requires { place < LARGEST_PAGE }
-    ensures slot { result.now ≡ slot bytes.now place }
-    ensures size { length result.now ≡ 72 }
+fn slot_at(bytes: &[u8], format: Format, place: usize) -> &[u8]
+    requires size { length bytes.now ≡ page_size format }
+    requires limits { IsWithinLimits format }
+    requires within { place < format.slots }
+    ensures slot { result.now ≡ slot format bytes.now place }
+    ensures size { length result.now ≡ slot_size format }
 {
-    let start = 16 + 72 * place;
-    &bytes[start..start + 72]
+    &bytes[format.slot_start(place)..format.slot_start(place + 1)]
 }

@@ -1,12 +1,12 @@
 //! Values: short byte strings that are kept in place and copied freely.
-ghost use Rattle.std.specs.Prelude.{◌≡◌, ℕ, ◌≤◌, ◌↔◌, List, [], length, Some, IsOk, IfOk, IfErr, nat_eq, refl, ◌-◌, take, drop, replicate};
+ghost use Rattle.std.specs.Prelude.{◌≡◌, ℕ, ◌↔◌, List, [], length, Some, IsOk, IfOk, IfErr, nat_eq, refl};
 ghost use Rattle.std.specs.Ordering.{nat_cmp};
 ghost use Rattle.std.specs.Cmp.{partial_equiv_from_equiv};
 ghost use Rattle.std.specs.Cmp.Lexicographic.{pointwise, slice_cmp, nat_list_eq_equiv, nat_list_cmp_total, texts_po, texts_ties};
 ghost use Rattle.lh_page.specs.Limits.{IsValue};
-ghost use Rattle.lh_page.specs.Mark.{padded};
 
 use crate::limits::LONGEST_VALUE;
+use crate::rows::{VALUE_ROOM, row};
 use std::cmp::Ordering;
 use std::marker::Model;
 use thiserror::Error;
@@ -15,24 +15,27 @@ use thiserror::Error;
 #[derive(Clone, Copy, Debug)]
 pub struct Value {
     // Zeros stand behind the value's bytes.
-    bytes: [u8; LONGEST_VALUE],
+    bytes: [u8; VALUE_ROOM],
     len: u8,
 }
 
 impl Model for Value {
-    ghost use Rattle.std.specs.Prelude.{◌≡◌, ℕ, ◌≤◌, ◌-◌, ◌++◌, List, length, take, drop, replicate};
+    ghost use Rattle.std.specs.Prelude.{◌≡◌, ℕ, ◌≤◌, ◌-◌, ◌++◌, List, length, take, drop};
+    ghost use Rattle.lh_page.specs.Limits.{longest_value};
+    ghost use Rattle.lh_page.specs.Rows.{value_room, padded, zeros};
     ghost use Rattle.std.proofs.Common.{ap, ◌∙◌, sym, arith, take-append-drop, length-take-le};
 
     ghost Value = { List ℕ };
 
     ghost view = { λ v. take v.len v.bytes };
 
-    ghost invariant = { λ v. (v.len ≤ 40) × (length v.bytes ≡ 40) × (drop v.len v.bytes ≡ replicate (40 - v.len) 0) };
+    ghost invariant = { λ v. (v.len ≤ longest_value) × (length v.bytes ≡ value_room) × (drop v.len v.bytes ≡ zeros (value_room - v.len)) };
 
-    ghost inverse = { λ b. record { bytes = b ++ replicate (40 - length b) 0; len = length b } };
+    ghost inverse = { λ b. record { bytes = padded value_room b; len = length b } };
 
     ghost inverse_ok = { λ v h i. record {
-      bytes = (ap (λ n. take v.len v.bytes ++ replicate (40 - n) 0) (length-take-le v.len v.bytes (omega (arith, h.0, h.1))) ∙ (ap (λ r. take v.len v.bytes ++ r) (sym h.2) ∙ take-append-drop v.len v.bytes)) i;
+      bytes = (ap (λ n. take v.len v.bytes ++ zeros (value_room - n)) (length-take-le v.len v.bytes (omega (arith, h.0, h.1)))
+          ∙ (ap (λ r. take v.len v.bytes ++ r) (sym h.2) ∙ take-append-drop v.len v.bytes)) i;
       len = length-take-le v.len v.bytes (omega (arith, h.0, h.1)) i;
     } };
 }
@@ -55,21 +58,10 @@ impl Value {
         if length > LONGEST_VALUE {
             return Err(ValueLength { length });
         }
-        let mut padded = [0; LONGEST_VALUE];
-        for (i, byte) in bytes.iter().enumerate() {
-            padded[i] = *byte;
-        }
         Ok(Value {
-            bytes: padded,
+            bytes: row(bytes),
             len: length as u8,
         })
-    }
-
-    /// The value's bytes, with zeros behind them.
-    pub(crate) fn padded(&self) -> &[u8; LONGEST_VALUE]
-        ensures { result.now ≡ padded 40 self.now }
-    {
-        &self.bytes
     }
 
     /// The value without bytes.
@@ -77,18 +69,9 @@ impl Value {
         ensures { result ≡ [] }
     {
         Value {
-            bytes: [0; LONGEST_VALUE],
+            bytes: [0; VALUE_ROOM],
             len: 0,
         }
-    }
-
-    /// The value in the first bytes of a row with zeros behind them.
-    pub(crate) fn from_row(bytes: [u8; LONGEST_VALUE], len: u8) -> Self
-        requires within { len ≤ LONGEST_VALUE }
-        requires padded { drop len bytes ≡ replicate (40 - len) 0 }
-        ensures { result ≡ take len bytes }
-    {
-        Value { bytes, len }
     }
 
     pub fn bytes(&self) -> &[u8]

@@ -1,8 +1,11 @@
 //! Writing a page as bytes.
-ghost use Rattle.std.specs.Prelude.{◌≡◌, ◌<◌};
-ghost use Rattle.lh_page.specs.PageTable.{IsPage, WritesSlot, head_text};
+ghost use Rattle.std.specs.Prelude.{◌≡◌, ◌<◌, length};
+ghost use Rattle.lh_page.specs.Format.{version_1, slot_size, page_size, FitsFormat, FitsSlot, IsWithinLimits};
+ghost use Rattle.lh_page.specs.PageTable.{IsPage, WritesSlot, head_text, slot};
+ghost use Rattle.lh_page.specs.Records.{FitsPage};
+ghost use Rattle.lh_page.specs.Rows.{zeros};
 
-use crate::limits::LARGEST_PAGE;
+use crate::format::{Format, HEAD, PAGE_1, VERSION_1};
 use crate::page::{Page, PageKind};
 use crate::pair::Pair;
 use crate::slot::write_slot;
@@ -11,21 +14,34 @@ use byteorder::{ByteOrder, LittleEndian};
 /// The 1,024 bytes of a page in an image: 16 bytes of fields, then 14 slots of 72 bytes. Numbers are
 /// little-endian. What isn't used is zero.
 pub fn page_to_bytes(page: &Page) -> [u8; 1024]
-    ensures { IsPage result page.now }
+    ensures { IsPage version_1 result page.now }
 {
-    let mut bytes = [0; 1024];
-    bytes[..16].copy_from_slice(&head_bytes(page));
-    for place in 0..page.pairs.len() {
-        write_at(&mut bytes, place, &page.pairs.at(place));
-    }
+    let mut bytes = [0; PAGE_1];
+    let head = head_bytes(page);
+    write_page(&mut bytes, VERSION_1, &head, page);
     bytes
 }
 
-/// The first 16 bytes of a page.
-fn head_bytes(page: &Page) -> [u8; 16]
-    ensures { result ≡ head_text page.now }
+/// Writes a page of a format, of which the head is known, over zeros.
+fn write_page(bytes: &mut [u8], format: Format, head: &[u8; HEAD], page: &Page)
+    requires blank { bytes.old ≡ zeros (page_size format) }
+    requires limits { IsWithinLimits format }
+    requires head { head.now ≡ head_text page.now }
+    requires fits { FitsFormat format page.now.pairs }
+    ensures { IsPage format bytes.new page.now }
 {
-    let mut bytes = [0; 16];
+    bytes[..HEAD].copy_from_slice(head);
+    for place in 0..page.pairs.len() {
+        write_at(bytes, format, place, &page.pairs.at(place));
+    }
+}
+
+/// The head of a page.
+fn head_bytes(page: &Page) -> [u8; HEAD]
+    ensures text { result ≡ head_text page.now }
+    ensures kept { FitsPage page.now.pairs }
+{
+    let mut bytes = [0; HEAD];
     bytes[0] = match page.kind {
         PageKind::Primary => 1,
         PageKind::Overflow => 2,
@@ -37,11 +53,15 @@ fn head_bytes(page: &Page) -> [u8; 16]
     bytes
 }
 
-/// Writes a record into a slot.
-fn write_at(bytes: &mut [u8; 1024], place: usize, pair: &Pair)
-    requires { place < LARGEST_PAGE }
-    ensures { WritesSlot bytes.old bytes.new place pair.now }
+/// Writes a record into a slot of zeros.
+fn write_at(bytes: &mut [u8], format: Format, place: usize, pair: &Pair)
+    requires size { length bytes.old ≡ page_size format }
+    requires limits { IsWithinLimits format }
+    requires within { place < format.slots }
+    requires blank { slot format bytes.old place ≡ zeros (slot_size format) }
+    requires fits { FitsSlot format pair.now }
+    ensures { WritesSlot format bytes.old bytes.new place pair.now }
 {
-    let start = 16 + 72 * place;
-    write_slot(&mut bytes[start..start + 72], pair);
+    let slot = &mut bytes[format.slot_start(place)..format.slot_start(place + 1)];
+    write_slot(slot, format, pair);
 }

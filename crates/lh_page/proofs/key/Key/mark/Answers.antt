@@ -1,5 +1,6 @@
 use Rattle.std.proofs.Common.{sym, ap, ◌∙◌, arith}
-use Rattle.lh_page.specs.Mark.{mixed, padded}
+use Rattle.lh_page.specs.Mark.{mixed}
+use Rattle.lh_page.specs.Rows.{padded, key_room}
 use Rattle.lh_page.proofs.Padding.{padded-take}
 use Rattle.lh_page.proofs.key.Key.mark.Goals as goal
 
@@ -8,5 +9,5 @@ returns c =
     let k = c.self.inside in
     let h = c.self.invariant in
     c.mix.ensures
-    ∙ ap mixed (sym (padded-take 30 k.len k.bytes (omega (arith, h.1, h.2)) h.3))
-    ∙ ap (λ bytes. mixed (padded 30 bytes)) c.self.view_is
+    ∙ ap mixed (sym (padded-take key_room k.len k.bytes (omega (arith, h.1, h.2)) h.3))
+    ∙ ap (λ bytes. mixed (padded key_room bytes)) c.self.view_is

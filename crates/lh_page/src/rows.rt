@@ -1,0 +1,21 @@
+//! Rows of bytes in which a chain keeps keys and values.
+ghost use Rattle.std.specs.Prelude.{◌≡◌, ◌≤◌, ◌-◌, length, take, drop};
+ghost use Rattle.lh_page.specs.Rows.{zeros};
+
+/// The bytes of memory that each record of a chain has for its key.
+pub const KEY_ROOM: usize = 30;
+
+/// The bytes of memory that each record of a chain has for its value.
+pub const VALUE_ROOM: usize = 40;
+
+/// A row that begins with these bytes and has zeros behind them.
+pub fn row<const N: usize>(bytes: &[u8]) -> [u8; N]
+    requires { length bytes.now ≤ N }
+    ensures size { length result ≡ N }
+    ensures front { take (length bytes.now) result ≡ bytes.now }
+    ensures rest { drop (length bytes.now) result ≡ zeros (N - length bytes.now) }
+{
+    let mut row = [0; N];
+    row[..bytes.len()].copy_from_slice(bytes);
+    row
+}
