@@ -8,18 +8,19 @@ use Rattle.std.proofs.lemmas.List.Elements.{All-take, All-drop}
 use Rattle.std.proofs.lemmas.List.Folds.{flat_map-map}
 use Rattle.std.proofs.lemmas.List.FromFn.{fill_by_all}
 use Rattle.lh_addr.specs.Growth.{level_of}
+use Rattle.lh_page.specs.Format.{version_1, FitsSlot, FitsFormat}
 use Rattle.lh_page.specs.declared.page.PageKind.TheVariants.{Primary, Overflow}
 use Rattle.lh_page.specs.PackedList.{PackingLaw, PiecesLaw, IsPacked}
 use Rattle.lh_page.specs.PageFields.{page_of}
 use Rattle.lh_page.specs.PageLaws.{PageTextLaw, ReadBackLaw}
 use Rattle.lh_page.specs.PageTable.{IsPage, IsWritable, page_text, kind_byte}
-use Rattle.lh_page.specs.Records.{IsRecord, FitsPage}
 use Rattle.lh_bucket.specs.Listing.{Lists, IsListing, size, list_at}
 use Rattle.lh_image.specs.Canonical.{canonical, header_in, page_count_in, pages_in, page_in, page_total, number_of, text_in, overflow_text, overflow_before, CanonicalLaw}
 use Rattle.lh_image.specs.Chains.{IsPath, IsCovered, stands_in}
 use Rattle.lh_image.specs.Image.{IsImageBy}
 use Rattle.lh_image.specs.Layout.{header_of, header_text, page, page_at, kind, level, bucket, next, records}
 use Rattle.lh_image.proofs.Counting.{overflow_found, overflow_within, page_count_is, page_starts, records_few}
+use Rattle.lh_image.proofs.Fitting.{fits_slot}
 use Rattle.lh_image.proofs.HeaderText.{header_of_text, length-header_text}
 use Rattle.lh_image.proofs.Joining.{texts_more}
 use Rattle.lh_image.proofs.Placing.{StandsAt, part_at, at_front, behind, ahead, inside, text_at, length-texts, any_found, any_there}
@@ -44,24 +45,25 @@ module _ (packing : PackingLaw) (pieces : PiecesLaw) (texts : PageTextLaw) (back
     | inr more ↦ rw (ne_eqb (k + 1) (page_count_in l i) more) (omega (arith, few, number_low i (suc k) low (omega arith)))
   ]
 
-  fits : (i k : ℕ) → i < size l → k < page_count_in l i → FitsPage (get_or (pages_in l i) k [])
+  fits : (i k : ℕ) → i < size l → k < page_count_in l i → FitsFormat version_1 (get_or (pages_in l i) k [])
   fits i k low under =
       let at = (page_starts l i k pieces listing.config.capacity.0 under).1 in
       rw at (record {
         few = omega (arith, length-take l.config.capacity (drop (k * l.config.capacity) (list_at l.lists i)), listing.config.capacity.1);
-        records = All-take IsRecord l.config.capacity (drop (k * l.config.capacity) (list_at l.lists i)) (All-drop IsRecord (k * l.config.capacity) (list_at l.lists i) (listing.records i));
+        records = All-take (FitsSlot version_1) l.config.capacity (drop (k * l.config.capacity) (list_at l.lists i))
+            (All-drop (FitsSlot version_1) (k * l.config.capacity) (list_at l.lists i) (λ j d below. fits_slot (get_or (list_at l.lists i) j d) (listing.records i j d below)));
       })
 
-  writable : (i k : ℕ) → i < size l → k < page_count_in l i → IsWritable (page_in l i k)
+  writable : (i k : ℕ) → i < size l → k < page_count_in l i → IsWritable version_1 (page_in l i k)
   writable i k low under = record {
     bucket = omega (arith, listing.shape.to_max, listing.config.max.1);
     next = next_low i k low under;
     pairs = fits i k low under;
   }
 
-  is_page : (i k : ℕ) → i < size l → k < page_count_in l i → IsPage (text_in l i k) (page_in l i k)
+  is_page : (i k : ℕ) → i < size l → k < page_count_in l i → IsPage version_1 (text_in l i k) (page_in l i k)
   unfolding text_in
-  is_page i k low under = (texts (page_text (page_in l i k)) (page_in l i k) (writable i k low under)).1 refl
+  is_page i k low under = (texts version_1 (page_text version_1 (page_in l i k)) (page_in l i k) (writable i k low under)).1 refl
 
   -- ---- where each page stands
 
@@ -112,7 +114,7 @@ module _ (packing : PackingLaw) (pieces : PiecesLaw) (texts : PageTextLaw) (back
 
   shown : (i k : ℕ) → i < size l → k < page_count_in l i → page_at (canonical l) (number_of l i k) ≡ page_in l i k
   shown i k low under =
-      ap page_of (page_is i k low under) ∙ (back (text_in l i k) (page_in l i k) 14 (writable i k low under) (is_page i k low under) (fits i k low under).few).0
+      ap (page_of version_1) (page_is i k low under) ∙ (back version_1 (text_in l i k) (page_in l i k) 14 (writable i k low under) (is_page i k low under) (fits i k low under).few).0
 
   level_at : (i k : ℕ) → i < size l → k < page_count_in l i → level (canonical l) (number_of l i k) ≡ level_of l.config.initial (size l) i
   unfolding level
@@ -231,9 +233,9 @@ module _ (packing : PackingLaw) (pieces : PiecesLaw) (texts : PageTextLaw) (back
     fields = header_shown;
     pages = λ p low high.
         let r = found p low high in
-        subst (λ n. IsPage (page (canonical l) n) (page_at (canonical l) n) × IsWritable (page_at (canonical l) n)) r.4
-        (subst (λ xs. IsPage xs (page_at (canonical l) (number_of l r.0 r.1)) × IsWritable (page_at (canonical l) (number_of l r.0 r.1))) (sym (page_is r.0 r.1 r.2 r.3))
-        (subst (λ g. IsPage (text_in l r.0 r.1) g × IsWritable g) (sym (shown r.0 r.1 r.2 r.3)) (is_page r.0 r.1 r.2 r.3, writable r.0 r.1 r.2 r.3)));
+        subst (λ n. IsPage version_1 (page (canonical l) n) (page_at (canonical l) n) × IsWritable version_1 (page_at (canonical l) n)) r.4
+        (subst (λ xs. IsPage version_1 xs (page_at (canonical l) (number_of l r.0 r.1)) × IsWritable version_1 (page_at (canonical l) (number_of l r.0 r.1))) (sym (page_is r.0 r.1 r.2 r.3))
+        (subst (λ g. IsPage version_1 (text_in l r.0 r.1) g × IsWritable version_1 g) (sym (shown r.0 r.1 r.2 r.3)) (is_page r.0 r.1 r.2 r.3, writable r.0 r.1 r.2 r.3)));
     kinds = λ p low high. let r = found p low high in subst (λ n. kind (canonical l) n ≡ cond (leb n (size l)) 1 2) r.4 (kind_at r.0 r.1 r.2 r.3);
     levels = λ p low high.
         let r = found p low high in

@@ -10,6 +10,7 @@ use Rattle.std.proofs.lemmas.List.{append-nil, map-append}
 use Rattle.std.proofs.lemmas.Slice.Eq.{bytes_eq-Decides}
 use Rattle.lh_addr.specs.Fnv.{code_of}
 use Rattle.lh_addr.specs.Growth.{address}
+use Rattle.lh_page.specs.Format.{version_1}
 use Rattle.lh_page.specs.declared.pair.Pair.{Pair}
 use Rattle.lh_page.specs.PageFields.{all_zero, bad_slot, is_bad_record, is_bad_slot, used_of}
 use Rattle.lh_page.specs.PageTable.{slot}
@@ -28,15 +29,15 @@ found_some : (f : ℕ → Bool) (n : ℕ) (o : Option ℕ) → find f (range_wit
 found_some f n None e = (λ t. absurd (false≢true t), λ h. absurd (false≢true (sym (find_none f 0 n e h.0 (omega arith) (omega (arith, h.1))) ∙ h.2)))
 found_some f n (Some i) e = (λ t. let r = (found_least f 0 n i).0 e in (i, omega (arith, r.1), r.2), λ h. refl)
 
-slot_decides : (g : List ℕ) (i : ℕ) → Decides (is_bad_slot g i) (((i < used_of g) × (is_bad_record (slot g i) ≡ true)) ⊎ ((used_of g ≤ i) × (all_zero (slot g i) ≡ false)))
+slot_decides : (g : List ℕ) (i : ℕ) → Decides (is_bad_slot version_1 g i) (((i < used_of g) × (is_bad_record version_1 (slot version_1 g i) ≡ true)) ⊎ ((used_of g ≤ i) × (all_zero (slot version_1 g i) ≡ false)))
 unfolding is_bad_slot
-slot_decides g i = at_below i (used_of g) (is_bad_record (slot g i)) (not (all_zero (slot g i))) (λ e. e, λ e. e) (Decides-fails (all_zero (slot g i)))
+slot_decides g i = at_below i (used_of g) (is_bad_record version_1 (slot version_1 g i)) (not (all_zero (slot version_1 g i))) (λ e. e, λ e. e) (Decides-fails (all_zero (slot version_1 g i)))
 
 pub Decides-has_bad_slot : (bytes : List ℕ) (p : ℕ) → Decides (has_bad_slot bytes p) (HasBadSlot bytes p)
 unfolding has_bad_slot bad_slot used
 Decides-has_bad_slot bytes p =
     let g : List ℕ = page bytes p in
-    let d = found_some (is_bad_slot g) 14 (find (is_bad_slot g) (range_with_len 0 14)) refl in
+    let d = found_some (is_bad_slot version_1 g) 14 (find (is_bad_slot version_1 g) (range_with_len 0 14)) refl in
     (λ e. let h = d.0 e in (h.0, h.1, (slot_decides g h.0).0 h.2), λ h. d.1 (h.0, h.1, (slot_decides g h.0).1 h.2))
 
 -- ---- records

@@ -4,6 +4,7 @@ use Rattle.std.proofs.lemmas.Bool.{not-false, eqb-true, leb-true, ne_eqb}
 use Rattle.std.proofs.lemmas.Bool.Decides.{nat_tests}
 use Rattle.lh_addr.specs.Fnv.{code_of}
 use Rattle.lh_addr.specs.Growth.{address}
+use Rattle.lh_page.specs.Format.{version_1}
 use Rattle.lh_page.specs.PageFields.{is_clear}
 use Rattle.lh_page.specs.PageLaws.{AreBytes, FaultlessLaw}
 use Rattle.lh_page.specs.PageTable.{IsPage, IsWritable}
@@ -19,6 +20,7 @@ use Rattle.lh_image.proofs.Packing.{used_rule, packed}
 use Rattle.lh_image.proofs.Misfits.{chain_misfits}
 use Rattle.lh_image.proofs.Keys.{no_misfit, at_home_from}
 use Rattle.lh_image.proofs.Header.{header_spelled}
+use Rattle.lh_image.proofs.Fitting.{record_from_fits}
 use Rattle.lh_image.proofs.PageTests.{kind_rule, kind_above, page_from_tests, page_bytes, length-page}
 use Rattle.lh_image.proofs.Listings.{chain_records, size-listing_of, list_at-listing_of, length-records, count-listing_of, home_by, records_by, records_along, distinct_by}
 
@@ -54,7 +56,7 @@ module _ (faultless : FaultlessLaw) (bytes : List ℕ) (fit : AreBytes bytes) (s
       λ p low high. (used_rule (capacity bytes) (used bytes p) (next bytes p) (kind bytes p)).0 (rw (ne_eqb p 0 (λ e. omega arith)) at (sound.used p low high)) in
       let kinds : (p : ℕ) → 1 ≤ p → p < P → (kind bytes p ≡ cond (leb p S) 1 2) × (is_clear (page bytes p) ≡ true) =
       λ p low high. (kind_rule (kind bytes p) p S (is_clear (page bytes p))).0 (sound.kinds p low high) in
-      let shown : (p : ℕ) → 1 ≤ p → p < P → IsPage (page bytes p) (page_at bytes p) × IsWritable (page_at bytes p) =
+      let shown : (p : ℕ) → 1 ≤ p → p < P → IsPage version_1 (page bytes p) (page_at bytes p) × IsWritable version_1 (page_at bytes p) =
       λ p low high.
       let k = kinds p low high in
       page_from_tests faultless (page bytes p) (page_bytes bytes p fit) (length-page bytes p P whole high) (leb p S) k.0 k.1 (omega (arith, (fills p low high).0, r.capacity_high)) (sound.slots p low high) in
@@ -74,7 +76,7 @@ module _ (faultless : FaultlessLaw) (bytes : List ℕ) (fit : AreBytes bytes) (s
           records = records_by (listing_of bytes) (λ i l.
               let m : i < S = rw (size-listing_of bytes) at l in
               rw (list_at-listing_of bytes i m)
-              (records_along (records bytes) (chain (next bytes) P i) (λ p here. let o = covered.own i p m here in (shown p o.0 o.1).1.pairs.records)));
+              (records_along (records bytes) (chain (next bytes) P i) (λ p here. let o = covered.own i p m here in λ k d below. record_from_fits _ ((shown p o.0 o.1).1.pairs.records k d below))));
           home = rw (size-listing_of bytes) (home_by (listing_of bytes) (initial bytes) S (λ i l.
               let m : i < S = rw (size-listing_of bytes) at l in
               rw (list_at-listing_of bytes i m) (at_home_from (λ k. address (initial bytes) (buckets bytes) (code_of k)) i (chain_records bytes i) (fitting i m).0)));

@@ -1,6 +1,7 @@
 pub mod Sends
 pub mod Joining
 pub mod Counting
+pub mod Fitting
 pub mod HeaderText
 pub mod Placing
 pub mod CanonicalPages

@@ -5,6 +5,7 @@ use Rattle.std.specs.List.{range_with_len, find}
 use Rattle.std.specs.Option.{is_some}
 use Rattle.std.proofs.lemmas.Bool.{ne_eqb, or_parts}
 use Rattle.std.proofs.lemmas.Bool.Decides.{nat_tests}
+use Rattle.lh_page.specs.Format.{version_1}
 use Rattle.lh_page.specs.declared.fault.PageFault.TheVariants.{Slot as BadSlot}
 use Rattle.lh_page.specs.declared.pair.Pair.{Pair}
 use Rattle.lh_page.specs.PageFields.{fault_of, has_bad_kind, bad_slot, kind_of, used_of, is_clear}
@@ -34,7 +35,7 @@ no_slot : (o : Option ℕ) → is_some o ≡ false → option_map BadSlot o ≡ 
 no_slot None none = refl
 no_slot (Some i) none = cc
 
-fault_is : (bytes : List ℕ) (p : ℕ) → 1 ≤ p → bad_kind bytes p ≡ false → bad_used bytes p ≡ false → fault_of (page bytes p) (capacity bytes) ≡ option_map BadSlot (bad_slot (page bytes p))
+fault_is : (bytes : List ℕ) (p : ℕ) → 1 ≤ p → bad_kind bytes p ≡ false → bad_used bytes p ≡ false → fault_of version_1 (page bytes p) (capacity bytes) ≡ option_map BadSlot (bad_slot version_1 (page bytes p))
 unfolding bad_kind bad_used kind used fault_of has_bad_kind
 fault_is bytes p low fine few =
     let some : p ≢ 0 = omega arith in
@@ -47,11 +48,11 @@ fault_is bytes p low fine few =
 
 slot_same : (bytes : List ℕ) (p : ℕ) → 1 ≤ p → bad_kind bytes p ≡ false → bad_used bytes p ≡ false → slot_faulty bytes p ≡ has_bad_slot bytes p
 unfolding slot_faulty has_bad_slot
-slot_same bytes p low fine few = ap is_of_slot (fault_is bytes p low fine few) ∙ slot_option (bad_slot (page bytes p))
+slot_same bytes p low fine few = ap is_of_slot (fault_is bytes p low fine few) ∙ slot_option (bad_slot version_1 (page bytes p))
 
-pub sound_page : (bytes : List ℕ) (p : ℕ) → 1 ≤ p → bad_kind bytes p ≡ false → bad_used bytes p ≡ false → has_bad_slot bytes p ≡ false → fault_of (page bytes p) (capacity bytes) ≡ None
+pub sound_page : (bytes : List ℕ) (p : ℕ) → 1 ≤ p → bad_kind bytes p ≡ false → bad_used bytes p ≡ false → has_bad_slot bytes p ≡ false → fault_of version_1 (page bytes p) (capacity bytes) ≡ None
 unfolding has_bad_slot
-sound_page bytes p low fine few none = fault_is bytes p low fine few ∙ no_slot (bad_slot (page bytes p)) none
+sound_page bytes p low fine few none = fault_is bytes p low fine few ∙ no_slot (bad_slot version_1 (page bytes p)) none
 
 -- no fault of heads
 pub heads_none : (k b l : Option ℕ) (t : Bool) (u : Option ℕ) → None ≡ or_at k Kind (or_at b BucketNumber (or_at l Level (or_else t (Used 0) (or_at u Used None)))) → (k ≡ None) × (b ≡ None) × (u ≡ None)

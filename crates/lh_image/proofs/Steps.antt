@@ -5,6 +5,7 @@ use Rattle.std.proofs.lemmas.Bool.{cases_lt, cases_order, ne_eqb}
 use Rattle.std.proofs.lemmas.List.{get_or_append_left, get_or_at, get_or_past, take_all, drop_at, get_or-take, get_or-drop, length-drop, take-append-le, drop-append-le}
 use Rattle.std.proofs.lemmas.List.Sums.{sum_by-cons}
 use Rattle.lh_addr.specs.Extent.{Extent}
+use Rattle.lh_page.specs.Format.{version_1}
 use Rattle.lh_page.specs.declared.head.PageHead.{PageHead}
 use Rattle.lh_page.specs.declared.pair.Pair.{Pair}
 use Rattle.lh_page.specs.PageFields.{fault_of}
@@ -59,7 +60,7 @@ unfolding used_test bad_used used next kind
 same_used bytes header p head low room shows = let some : p ≢ 0 = omega arith in rw (ne_eqb p 0 some, room, shows.used, shows.next, shows.kind) refl
 
 noted_more : (bytes : List ℕ) (header : Header) (root : Extent) (n : ℕ) (head : PageHead) (faults : PageFaults) (bad : Bool) → 1 ≤ n → IsHeader header bytes →
-    root ≡ record { initial = header.config.initial; buckets = header.buckets } → IsHead head (page bytes n) → bad ≡ is_of_slot (fault_of (page bytes n) header.config.capacity) →
+    root ≡ record { initial = header.config.initial; buckets = header.buckets } → IsHead head (page bytes n) → bad ≡ is_of_slot (fault_of version_1 (page bytes n) header.config.capacity) →
     AreNoted bytes (n - 1) faults → AreNoted bytes ((n + 1) - 1) (seen faults header root n head bad)
 unfolding slot_faulty used
 noted_more bytes header root n head faults bad low is extent shows slot so_far =
@@ -76,7 +77,7 @@ noted_more bytes header root n head faults bad low is extent shows slot so_far =
       bucket = more (bad_bucket bytes) faults.bucket (bucket_test header.buckets n head) so_far.bucket (same_bucket bytes header n head is shows);
       level = more (known_bad_level bytes) faults.level (level_test root.initial root.buckets head) so_far.level (same_level bytes root n head first whole shows);
       used = more (bad_used bytes) faults.used (used_test header.config.capacity head) so_far.used (same_used bytes header n head low room shows);
-      slot = more (slot_faulty bytes) faults.slot bad so_far.slot (slot ∙ ap (λ b. is_of_slot (fault_of (page bytes n) b)) room);
+      slot = more (slot_faulty bytes) faults.slot bad so_far.slot (slot ∙ ap (λ b. is_of_slot (fault_of version_1 (page bytes n) b)) room);
     })
 
 -- ---- the table
@@ -132,7 +133,7 @@ table_more bytes n entries new_entries pairs new_pairs head room low same_room w
             ∙ kept_slice (entry_at entries p).start (entry_at entries p).used pairs added (within p) ∙ table.records p from old sound
         | inr new ↦
             let at : p ≡ n = omega arith in
-            let here_sound : fault_of (page bytes n) room ≡ None = rw (same_room, ← at) sound in
+            let here_sound : fault_of version_1 (page bytes n) room ≡ None = rw (same_room, ← at) sound in
             rw at (ap (λ e. take e.used (drop e.start new_pairs)) here ∙ ap (λ (xs : List Pair). take (length added) (drop (length pairs) xs)) pushed.appended ∙ added_slice pairs added ∙ pushed.records here_sound)
       ];
     }
@@ -140,7 +141,7 @@ table_more bytes n entries new_entries pairs new_pairs head room low same_room w
 -- ---- all of it
 
 pub come_more : (bytes : List ℕ) (header : Header) (root : Extent) (n : ℕ) (entries new_entries : List Entry) (pairs new_pairs : List Pair) (faults : PageFaults) (head : PageHead) (bad : Bool) (buffer : List ℕ) →
-    1 ≤ n → root ≡ record { initial = header.config.initial; buckets = header.buckets } → buffer ≡ page bytes n → IsHead head buffer → bad ≡ is_of_slot (fault_of buffer header.config.capacity) →
+    1 ≤ n → root ≡ record { initial = header.config.initial; buckets = header.buckets } → buffer ≡ page bytes n → IsHead head buffer → bad ≡ is_of_slot (fault_of version_1 buffer header.config.capacity) →
     AreWithin entries pairs → IsPushed entries pairs new_entries new_pairs head.bucket head.next buffer header.config.capacity → 1024 * (n + 1) ≤ length bytes → ((i : ℕ) → get_or buffer i 0 < 256) →
     HaveCome bytes header n entries pairs faults → HaveCome bytes header (n + 1) new_entries new_pairs (seen faults header root n head bad)
 unfolding page

@@ -2,6 +2,7 @@
 use Rattle.std.specs.Prelude.{ℕ, zero, suc, ◌+◌, ◌-◌, ◌≤◌, List, [], ◌++◌, length, slice_index_or, ◌==◌, if◌then◌else◌}
 use Rattle.std.specs.List.{range_with_len, flat_map}
 use Rattle.lh_addr.specs.Growth.{level_of}
+use Rattle.lh_page.specs.Format.{version_1}
 use Rattle.lh_page.specs.declared.page.Page.{Page}
 use Rattle.lh_page.specs.declared.page.PageKind.TheVariants.{Primary, Overflow}
 use Rattle.lh_page.specs.declared.pair.Pair.{Pair}
@@ -45,7 +46,7 @@ page_in l i k = record {
 
 -- the bytes of page k of bucket i
 unfoldable pub text_in : Lists → ℕ → ℕ → List ℕ
-text_in l i k = page_text (page_in l i k)
+text_in l i k = page_text version_1 (page_in l i k)
 
 -- the bytes of the overflow pages of bucket i
 unfoldable pub overflow_text : Lists → ℕ → List ℕ

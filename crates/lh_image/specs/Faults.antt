@@ -5,6 +5,7 @@ use Rattle.std.specs.Option.{is_some}
 use Rattle.std.specs.Str.{bytes_eq}
 use Rattle.lh_addr.specs.Fnv.{code_of}
 use Rattle.lh_addr.specs.Growth.{address, level_of}
+use Rattle.lh_page.specs.Format.{version_1}
 use Rattle.lh_page.specs.declared.pair.Pair.{Pair}
 use Rattle.lh_page.specs.PageFields.{all_zero, is_clear, bad_slot}
 use Rattle.lh_page.specs.Records.{keys_of}
@@ -96,7 +97,7 @@ on_no_chain bytes p = not (list_any (λ i. stands_in (chain (next bytes) (page_c
 
 -- a used slot without a record, or an unused one that isn't all zeros (I13)
 unfoldable pub has_bad_slot : List ℕ → ℕ → Bool
-has_bad_slot bytes p = is_some (bad_slot (page bytes p))
+has_bad_slot bytes p = is_some (bad_slot version_1 (page bytes p))
 
 -- one of some records, which stand behind some keys, isn't at home or has a key that stands before it
 unfoldable pub misfits : (List ℕ → Bool) → List (List ℕ) → List Pair → Bool

@@ -3,6 +3,7 @@ use Rattle.std.specs.Prelude.{◌≡◌, ◌≢◌, ◌⊎◌, ◌↔◌, ℕ, �
 use Rattle.std.specs.List.{before_first, flat_map, sum_by}
 use Rattle.lh_addr.specs.Fnv.{code_of}
 use Rattle.lh_addr.specs.Growth.{address, level_of}
+use Rattle.lh_page.specs.Format.{version_1}
 use Rattle.lh_page.specs.declared.pair.Pair.{Pair}
 use Rattle.lh_page.specs.PageFields.{all_zero, is_clear, is_bad_record}
 use Rattle.lh_page.specs.PageTable.{slot}
@@ -83,7 +84,7 @@ IsOnNoChain bytes p = (i : ℕ) → i < buckets bytes → stands_in (chain (next
 abbrev pub HasBadSlot : List ℕ → ℕ → Type 0
 HasBadSlot bytes p =
     (i : ℕ) × (i < 14)
-    × (((i < used bytes p) × (is_bad_record (slot (page bytes p) i) ≡ true)) ⊎ ((used bytes p ≤ i) × (all_zero (slot (page bytes p) i) ≡ false)))
+    × (((i < used bytes p) × (is_bad_record version_1 (slot version_1 (page bytes p) i) ≡ true)) ⊎ ((used bytes p ≤ i) × (all_zero (slot version_1 (page bytes p) i) ≡ false)))
 
 -- the records that stand before place k of page p in the chain of the page's bucket
 abbrev pub earlier : List ℕ → ℕ → ℕ → List Pair

@@ -2,6 +2,7 @@
 use Rattle.std.specs.Prelude.{◌≡◌, ℕ, ◌*◌, ◌<◌, ◌≤◌, ◌↔◌, List, length, map, None, nat_le, if◌then◌else◌}
 use Rattle.std.specs.List.{range_with_len, flat_map}
 use Rattle.lh_addr.specs.Growth.{level_of}
+use Rattle.lh_page.specs.Format.{version_1}
 use Rattle.lh_page.specs.PackedList.{IsPacked}
 use Rattle.lh_page.specs.PageLaws.{AreBytes}
 use Rattle.lh_page.specs.PageTable.{IsPage, IsWritable}
@@ -21,7 +22,7 @@ pub record IsImageBy (bytes : List ℕ) (l : Lists) (P : ℕ) (path : ℕ → Li
   pub header : page bytes 0 ≡ header_text (header_of bytes)
   pub fields : header_of bytes ≡ record { config = l.config; buckets = size l; pages = P; records = count_of l.lists }
   -- the other pages are pages, primary ones first, with their buckets' local levels
-  pub pages : (p : ℕ) → 1 ≤ p → p < P → IsPage (page bytes p) (page_at bytes p) × IsWritable (page_at bytes p)
+  pub pages : (p : ℕ) → 1 ≤ p → p < P → IsPage version_1 (page bytes p) (page_at bytes p) × IsWritable version_1 (page_at bytes p)
   pub kinds : (p : ℕ) → 1 ≤ p → p < P → kind bytes p ≡ (if nat_le p (size l) then 1 else 2)
   pub levels : (p : ℕ) → 1 ≤ p → p < P → level bytes p ≡ level_of l.config.initial (size l) (bucket bytes p)
   -- each page stands on the path of its bucket, whose pages hold the bucket's records, packed

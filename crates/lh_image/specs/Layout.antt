@@ -2,6 +2,7 @@
 use Rattle.std.specs.Prelude.{ℕ, ◌*◌, List, [], ◌∷◌, ◌++◌, take, drop, replicate, ◌==◌, if◌then◌else◌}
 use Rattle.byteorder.specs.Endian.{little_from, little_bytes}
 use Rattle.lh_addr.specs.Settings.{Settings}
+use Rattle.lh_page.specs.Format.{version_1}
 use Rattle.lh_page.specs.declared.page.Page.{Page}
 use Rattle.lh_page.specs.declared.pair.Pair.{Pair}
 use Rattle.lh_page.specs.PageFields.{kind_of, used_of, level_of, bucket_of, next_of, pairs_of, page_of}
@@ -64,7 +65,7 @@ page bytes p = take 1024 (drop (1024 * p) bytes)
 
 -- what page p shows
 abbrev pub page_at : List ℕ → ℕ → Page
-page_at bytes p = page_of (page bytes p)
+page_at bytes p = page_of version_1 (page bytes p)
 
 unfoldable pub kind : List ℕ → ℕ → ℕ
 kind bytes p = kind_of (page bytes p)
@@ -83,4 +84,4 @@ unfoldable pub next : List ℕ → ℕ → ℕ
 next bytes p = if p == 0 then 0 else next_of (page bytes p)
 
 unfoldable pub records : List ℕ → ℕ → List Pair
-records bytes p = pairs_of (page bytes p)
+records bytes p = pairs_of version_1 (page bytes p)

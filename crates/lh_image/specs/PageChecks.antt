@@ -3,6 +3,7 @@ use Rattle.std.specs.Prelude.{◌≡◌, ℕ, ◌+◌, ◌-◌, Bool, not, ◌&&
 use Rattle.std.specs.List.{range_with_len, sum_by, find}
 use Rattle.lh_addr.specs.Growth.{level_of}
 use Rattle.lh_addr.specs.Extent.{Extent}
+use Rattle.lh_page.specs.Format.{version_1}
 use Rattle.lh_page.specs.declared.head.PageHead.{PageHead}
 use Rattle.lh_page.specs.PageFields.{kind_of, used_of, level_of as level_in, bucket_of, next_of, is_clear, fault_of}
 use Rattle.lh_image.specs.declared.fault.ImageFault.{ImageFault}
@@ -48,7 +49,7 @@ unfoldable pub known_bad_level : List ℕ → ℕ → Bool
 known_bad_level bytes p = nat_lt (bucket bytes p) (buckets bytes) && bad_level bytes p
 
 unfoldable pub slot_faulty : List ℕ → ℕ → Bool
-slot_faulty bytes p = is_of_slot (fault_of (page bytes p) (capacity bytes))
+slot_faulty bytes p = is_of_slot (fault_of version_1 (page bytes p) (capacity bytes))
 
 -- what was noted of the first m pages behind the header
 pub record AreNoted (bytes : List ℕ) (m : ℕ) (faults : PageFaults) : Type 0 where

@@ -1,6 +1,7 @@
 -- What a reader keeps of the pages that came: an entry for each page, and the records of all
 use Rattle.std.specs.Prelude.{◌≡◌, ℕ, ◌+◌, ◌<◌, ◌≤◌, Bool, true, false, not, ◌&&◌, ◌||◌, List, [], ◌∷◌, ◌++◌, length, take, drop, slice_index_or, Option, Some, None, nat_le, ◌==◌}
 use Rattle.std.specs.List.{range_with_len, count_by}
+use Rattle.lh_page.specs.Format.{version_1}
 use Rattle.lh_page.specs.declared.pair.Pair.{Pair}
 use Rattle.lh_page.specs.declared.fault.PageFault.{PageFault}
 use Rattle.lh_page.specs.declared.fault.PageFault.TheVariants.{Kind, Used, Slot}
@@ -58,11 +59,11 @@ pub record IsPushed (entries : List Entry) (pairs : List Pair) (new_entries : Li
   pub added : List Pair
   pub appended : new_pairs ≡ pairs ++ added
   pub entered : new_entries ≡ entries ++ record { bucket = own_bucket; next = following; start = length pairs; used = length added } ∷ []
-  pub records : fault_of bytes room ≡ None → added ≡ pairs_of bytes
+  pub records : fault_of version_1 bytes room ≡ None → added ≡ pairs_of version_1 bytes
 
 -- the first n pages of these bytes came, the header's page among them
 pub record IsTable (bytes : List ℕ) (n : ℕ) (entries : List Entry) (pairs : List Pair) : Type 0 where
   pub size : length entries ≡ n
   pub next : (p : ℕ) → p < n → next_in entries p ≡ next bytes p
   pub bucket : (p : ℕ) → 1 ≤ p → p < n → bucket_in entries p ≡ bucket bytes p
-  pub records : (p : ℕ) → 1 ≤ p → p < n → fault_of (page bytes p) (capacity bytes) ≡ None → records_in entries pairs p ≡ records bytes p
+  pub records : (p : ℕ) → 1 ≤ p → p < n → fault_of version_1 (page bytes p) (capacity bytes) ≡ None → records_in entries pairs p ≡ records bytes p

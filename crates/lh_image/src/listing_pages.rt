@@ -2,6 +2,7 @@
 ghost use Rattle.std.specs.Prelude.{◌≡◌, ◌==◌, if◌then◌else◌, ◌+◌, ◌-◌, ◌*◌, ◌^◌, ◌<◌, ◌≤◌, ◌++◌, length, min, replicate, take, drop};
 ghost use Rattle.lh_bucket.specs.Listing.{IsListing, size, list_at, count_of};
 ghost use Rattle.lh_image.specs.Canonical.{page_count_in, overflow_before, page_in, page_total, header_in, text_in};
+ghost use Rattle.lh_page.specs.Format.{version_1};
 ghost use Rattle.lh_page.specs.Records.{FitsPage};
 ghost use Rattle.lh_page.specs.PageTable.{IsWritable};
 ghost use Rattle.lh_page.specs.declared.page.PageKind.TheVariants.{Primary, Overflow};
@@ -151,7 +152,7 @@ fn page_in(listing: &Listing, root: &Root, bucket: u32, k: u32, following: u32) 
     requires few { page_total listing.now ≤ 1048576 }
     requires following { following ≡ 1 + size listing.now + overflow_before listing.now bucket }
     ensures value { result ≡ page_in listing.now bucket k }
-    ensures writable { IsWritable result }
+    ensures writable { IsWritable version_1 result }
 {
     pages_are_pieces();
     let kind = kind_of(k);

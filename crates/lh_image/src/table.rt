@@ -1,5 +1,6 @@
 //! What is kept of the pages that came: where each leads, and its records.
 ghost use Rattle.std.specs.Prelude.{◌≡◌, ◌++◌, ◌∷◌, [], IfOk, IfErr, OnOk};
+ghost use Rattle.lh_page.specs.Format.{version_1};
 ghost use Rattle.lh_page.specs.Limits.{IsCapacity};
 ghost use Rattle.lh_page.specs.PageFields.{fault_of};
 ghost use Rattle.lh_image.specs.Table.{AreWithin, IsPushed, is_of_slot, no_entry, records_in};
@@ -65,7 +66,7 @@ impl Table {
     ) -> Result<bool, ImageFault>
         requires { IsCapacity capacity }
         ensures pushed { OnOk result (IsPushed self.old.entries.items self.old.pairs.items self.new.entries.items self.new.pairs.items head.now.bucket head.now.next bytes.now capacity) }
-        ensures slot { IfOk result (λ bad. bad ≡ is_of_slot (fault_of bytes.now capacity)) }
+        ensures slot { IfOk result (λ bad. bad ≡ is_of_slot (fault_of version_1 bytes.now capacity)) }
         ensures fault { IfErr result (λ f. f ≡ ImageFault.Memory) }
     {
         let start = self.pairs.len();
