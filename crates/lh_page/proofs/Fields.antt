@@ -1,15 +1,21 @@
--- Fields of a row of bytes, also after a part was written.
-use Rattle.std.proofs.Common.{◌≡◌, ℕ, ◌+◌, ◌-◌, ◌<◌, ◌≤◌, List, ◌++◌, length, take, drop, Some, sym, ap, ◌∙◌, inl, inr, arith}
+-- Fields of a row of bytes, side by side and after a part was written, and where the slots lie.
+use Rattle.std.proofs.Common.{◌≡◌, ℕ, ◌+◌, ◌-◌, ◌<◌, ◌≤◌, List, ◌++◌, rules, length, take, drop, sym, ap, ◌∙◌, arith}
 use Rattle.std.proofs.Math.Nat.{mul-le-mul_right}
-use Rattle.std.proofs.lemmas.Bool.{cases_order}
-use Rattle.std.proofs.lemmas.List.{drop-take, take-take, take_at, drop_at, length-take-le, length-append, length-drop}
+use Rattle.std.proofs.lemmas.List.{same_lists, places, drop-drop, drop-take, take-take, take_at, drop_at, length-take-le, length-append, length-drop}
 use Rattle.std.proofs.lemmas.Slice.{take-put_mid_below, drop-put_mid}
 use borrow.Rule.Slice.PartMut.{put_mid, post_of}
 use Rattle.lh_page.specs.declared.format.Format.{Format}
-use Rattle.lh_page.specs.declared.pair.Pair.{Pair}
-use Rattle.lh_page.specs.Format.{slot_size, slot_start, page_size}
-use Rattle.lh_page.specs.PageTable.{slot_text, WritesSlot}
+use Rattle.lh_page.specs.Format.{slot_size, slot_start}
 use Rattle.lh_page.specs.Rows.{field}
+
+pub take-add : (m n : ℕ) (bytes : List ℕ) → take (m + n) bytes ≡ take m bytes ++ take n (drop m bytes)
+take-add m n bytes = same_lists _ _ (search (rules, places)) (λ k d h. grind (arith, places))
+
+pub field-add : (bytes : List ℕ) (offset m n : ℕ) → field bytes offset (m + n) ≡ field bytes offset m ++ field bytes (offset + m) n
+field-add bytes offset m n = take-add m n (drop offset bytes) ∙ ap (λ rest. field bytes offset m ++ take n rest) (drop-drop m offset bytes)
+
+pub join : (bytes : List ℕ) (offset m n : ℕ) (a b : List ℕ) → field bytes offset m ≡ a → field bytes (offset + m) n ≡ b → field bytes offset (m + n) ≡ a ++ b
+join bytes offset m n a b e f = field-add bytes offset m n ∙ ap (λ part. part ++ field bytes (offset + m) n) e ∙ ap (λ part. a ++ part) f
 
 -- a field that lies within a front
 pub field-take : (offset size n : ℕ) (bytes : List ℕ) → offset + size ≤ n → field (take n bytes) offset size ≡ field bytes offset size
@@ -33,7 +39,7 @@ field-put_before a k offset size bytes part within before =
 pub field-put_behind : (a k offset size : ℕ) (bytes part : List ℕ) → a ≤ length bytes → length part ≡ k → a + k ≤ offset → field (put_mid a k bytes part) offset size ≡ field bytes offset size
 field-put_behind a k offset size bytes part within whole behind = ap (take size) (drop-put_mid a k bytes part offset behind within whole)
 
-length-put : (a k : ℕ) (bytes part : List ℕ) → a + k ≤ length bytes → length part ≡ k → length (put_mid a k bytes part) ≡ length bytes
+pub length-put : (a k : ℕ) (bytes part : List ℕ) → a + k ≤ length bytes → length part ≡ k → length (put_mid a k bytes part) ≡ length bytes
 length-put a k bytes part within whole =
     omega (arith, length-append (take a bytes) (part ++ post_of a k bytes), length-append part (post_of a k bytes), length-take-le a bytes (omega arith), length-drop k (drop a bytes), length-drop a bytes)
 
@@ -42,19 +48,3 @@ pub slots_apart : (f : Format) (i j : ℕ) → i < j → slot_start f i + slot_s
 slots_apart f i j less =
     let next : i + 1 ≤ j = omega arith in
     omega (arith, mul-le-mul_right (slot_size f) next)
-
--- one slot that was written
-pub writes_slot : (f : Format) (old part : List ℕ) (place k : ℕ) (pair : Pair) → place < f.slots → length old ≡ page_size f → k ≡ slot_size f → length part ≡ k → part ≡ slot_text f (Some pair) →
-    WritesSlot f old (put_mid (slot_start f place) k old part) place pair
-writes_slot f old part place k pair low whole size long is =
-    let within : slot_start f place + slot_size f ≤ page_size f = slots_apart f place f.slots low in
-    record {
-      size = length-put (slot_start f place) k old part (omega arith) (omega arith);
-      written = field-put_same (slot_start f place) k (slot_size f) old part (omega arith) (omega arith) ∙ is;
-      others = λ i low_i other. elim (cases_order i place) [
-        | inl same ↦ absurd (other same)
-        | inr (inl before) ↦ field-put_before (slot_start f place) k (slot_start f i) (slot_size f) old part (omega arith) (slots_apart f i place before)
-        | inr (inr behind) ↦ field-put_behind (slot_start f place) k (slot_start f i) (slot_size f) old part (omega arith) (omega arith) (omega (arith, slots_apart f place i behind))
-      ];
-      head = field-put_before (slot_start f place) k 0 16 old part (omega arith) (omega arith);
-    }

@@ -12,17 +12,8 @@ use Rattle.lh_page.specs.PageLaws.{PageTextLaw}
 use Rattle.lh_page.specs.PageTable.{slot, slot_text, head_text, page_text, IsPage, IsWritable}
 use Rattle.lh_page.specs.Records.{no_pair}
 use Rattle.lh_page.specs.Rows.{padded, field}
-use Rattle.lh_page.proofs.Fields.{field-take}
-use Rattle.lh_page.proofs.Padding.{length-padded}
-use Rattle.lh_page.proofs.SlotText.{take-add}
-
--- ---- fields side by side
-
-field-add : (bytes : List ℕ) (offset m n : ℕ) → field bytes offset (m + n) ≡ field bytes offset m ++ field bytes (offset + m) n
-field-add bytes offset m n = take-add m n (drop offset bytes) ∙ ap (λ rest. field bytes offset m ++ take n rest) (drop-drop m offset bytes)
-
-join : (bytes : List ℕ) (offset m n : ℕ) (a b : List ℕ) → field bytes offset m ≡ a → field bytes (offset + m) n ≡ b → field bytes offset (m + n) ≡ a ++ b
-join bytes offset m n a b e f = field-add bytes offset m n ∙ ap (λ part. part ++ field bytes (offset + m) n) e ∙ ap (λ part. a ++ part) f
+use Rattle.lh_page.proofs.Fields.{field-take, join}
+use Rattle.lh_page.proofs.Zeros.{length-padded}
 
 -- the slots from the a-th on are what is left
 slots_left : (f : Format) (bytes : List ℕ) (n a : ℕ) → slot_start f (a + n) ≡ length bytes → drop (slot_start f a) bytes ≡ flat_map (slot f bytes) (range_with_len a n)

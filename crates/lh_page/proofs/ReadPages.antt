@@ -1,17 +1,19 @@
 -- Reading a page slot by slot.
-use Rattle.std.proofs.Common.{◌≡◌, ℕ, ◌+◌, ◌<◌, ◌≤◌, Bool, true, false, not, List, [], ◌∷◌, ◌++◌, length, get_or, map, Some, None, refl, sym, ap, ◌∙◌, inl, inr, arith, zero-add}
+use Rattle.std.proofs.Common.{◌≡◌, ℕ, ◌+◌, ◌-◌, ◌*◌, ◌<◌, ◌≤◌, Bool, true, false, not, List, [], ◌∷◌, ◌++◌, length, take, drop, get_or, map, Some, None, refl, sym, ap, ◌∙◌, inl, inr, arith, zero-add}
 use Rattle.std.specs.List.{find, range_with_len, position_or_len, slice_get}
 use Rattle.std.specs.Prelude.{if◌then◌else◌}
 use Rattle.std.proofs.lemmas.Bool.{cases_lt, lt-ltb, le-ltb, not_from_true, not_from_false}
 use Rattle.std.proofs.lemmas.List.Folds.{find_at}
 use Rattle.std.proofs.lemmas.List.FromFn.{get_or-range_with_len, length-range_with_len, map-range_with_len_more}
-use Rattle.std.proofs.lemmas.List.{length_push}
+use Rattle.std.proofs.lemmas.List.{length_push, length-drop, take_all, drop-drop}
 use Rattle.std.proofs.lemmas.List.Sums.{position_or_len_is}
 use Rattle.std.proofs.lemmas.Option.{slice_get-get_or, slice_get_past}
 use Rattle.lh_page.specs.declared.format.Format.{Format}
 use Rattle.lh_page.specs.declared.pair.Pair.{Pair}
+use Rattle.lh_page.specs.Format.{slot_size, slot_start}
 use Rattle.lh_page.specs.PageFields.{all_zero, used_of, pair_of, pairs_of, is_bad_record, is_bad_slot, bad_slot, UnusedAreZero, FirstFilled}
 use Rattle.lh_page.specs.PageTable.{slot}
+use Rattle.lh_page.proofs.Zeros.{all_zero-parts}
 
 -- ---- the first of some numbers
 
@@ -93,3 +95,15 @@ bad_slot-none f bytes pairs n same zero h = find-none (is_bad_slot f bytes) f.sl
 pub pairs_of-read : (f : Format) (bytes : List ℕ) (pairs : List Pair) (n : ℕ) → n ≡ used_of bytes → IsReadTo f bytes pairs n → pairs ≡ pairs_of f bytes
 unfolding pairs_of
 pairs_of-read f bytes pairs n same h = h.read ∙ ap (λ m. map (λ i. pair_of f (slot f bytes i)) (range_with_len 0 m)) same
+
+-- behind a place from which all bytes are zero, each slot is all zeros
+pub unused_are_zero : (f : Format) (bytes : List ℕ) (used to k : ℕ) → length bytes ≤ slot_start f used + k → all_zero (take k (drop (slot_start f used) bytes)) ≡ true → UnusedAreZero f bytes used to
+unused_are_zero f bytes used to k rest h i from below =
+    let start = slot_start f used in
+    let more = (i - used) * slot_size f in
+    let whole : take k (drop start bytes) ≡ drop start bytes = take_all k (drop start bytes) (omega (arith, length-drop start bytes)) in
+    let behind : i ≡ used + (i - used) = omega arith in
+    let gap : slot_start f (used + (i - used)) ≡ start + more = omega arith in
+    let far : all_zero (drop more (drop start bytes)) ≡ true = (all_zero-parts more (drop start bytes) (rw whole at h)).1 in
+    let here : all_zero (drop (slot_start f i) bytes) ≡ true = ap (λ k. all_zero (drop k bytes)) (ap (slot_start f) behind ∙ gap) ∙ ap all_zero (sym (drop-drop more start bytes)) ∙ far in
+    (all_zero-parts (slot_size f) (drop (slot_start f i) bytes) here).0

@@ -27,7 +27,8 @@ use Rattle.lh_page.specs.Records.{no_pair}
 use Rattle.lh_page.specs.Rows.{field}
 use Rattle.lh_page.proofs.Fields.{slots_apart}
 use Rattle.lh_page.proofs.ReadPages.{find-none, is_bad_slot-used, is_bad_slot-unused}
-use Rattle.lh_page.proofs.SlotText.{pair_of-text, good_text, text_from_good, fits_from_good, zeros_of_length, all_zero-zeros}
+use Rattle.lh_page.proofs.SlotText.{pair_of-text, good_text, text_from_good, fits_from_good}
+use Rattle.lh_page.proofs.Zeros.{all_zero-zeros, zeros_of_length}
 
 -- ---- one byte and four
 

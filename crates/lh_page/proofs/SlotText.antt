@@ -1,49 +1,23 @@
 -- The bytes of one slot, written and read.
-use Rattle.std.proofs.Common.{◌≡◌, ◌≢◌, ℕ, zero, suc, ◌+◌, ◌-◌, ◌≤◌, Bool, true, false, eqb, List, [], ◌∷◌, ◌++◌, length, take, drop, replicate, Some, refl, sym, ap, ◌∙◌, arith, rules, length-take-le}
-use Rattle.std.proofs.lemmas.Bool.{and_parts, eqb-true, eqb-false, ne_eqb, ltb-false, le-ltb, or_parts, or_from, not-false, not_from_true}
-use Rattle.std.proofs.lemmas.List.{append_assoc, same_lists, places, drop-drop, drop_at, take_at, take_all, length-drop, length-take, length-replicate, take-append-drop}
+use Rattle.std.proofs.Common.{◌≡◌, ◌≢◌, ℕ, ◌+◌, ◌-◌, ◌≤◌, true, false, List, [], ◌∷◌, ◌++◌, length, take, drop, set, Some, refl, sym, ap, ◌∙◌, arith, length-take-le}
+use Rattle.std.proofs.lemmas.Bool.{eqb-false, ne_eqb, ltb-false, le-ltb, or_parts, or_from, not-false, not_from_true}
+use Rattle.std.proofs.lemmas.List.{append_assoc, drop-drop, drop_at, take_at, take_all, length-drop, length-take, length-replicate, take-append-drop, replicate-append-replicate}
+use borrow.Rule.Slice.PartMut.{put_mid}
 use Rattle.lh_page.specs.declared.format.Format.{Format}
 use Rattle.lh_page.specs.declared.pair.Pair.{Pair}
 use Rattle.lh_page.specs.Format.{slot_size, FitsSlot}
 use Rattle.lh_page.specs.PageFields.{all_zero, key_length, value_length, pair_of, is_bad_record}
 use Rattle.lh_page.specs.PageTable.{slot_text}
 use Rattle.lh_page.specs.Rows.{zeros, padded, field}
-use Rattle.lh_page.proofs.Padding.{length-padded}
-
--- ---- rows of zeros
-
-pub zeros_from : (bytes : List ℕ) → all_zero bytes ≡ true → bytes ≡ zeros (length bytes)
-zeros_from [] e = refl
-zeros_from (x ∷ xs) e =
-    let p = and_parts (eqb x 0) (all_zero xs) e in
-    let a : x ≡ 0 = eqb-true x 0 p.0 in
-    let r = zeros_from xs p.1 in
-    cc
-
-pub all_zero-zeros : (n : ℕ) → all_zero (zeros n) ≡ true
-all_zero-zeros zero = refl
-all_zero-zeros (suc n) = all_zero-zeros n
-
-pub zeros_of_length : (bytes : List ℕ) (n : ℕ) → length bytes ≡ n → all_zero bytes ≡ true → bytes ≡ zeros n
-zeros_of_length bytes n long e = zeros_from bytes e ∙ ap zeros long
-
--- what was found to be zeros behind the first bytes of a part, which ends at place q
-pub found_clear : (s : List ℕ) (p q k n : ℕ) (r : Bool) → q ≡ p + n → r ≡ all_zero (take (q - (p + k)) (drop (p + k) s)) → r ≡ true → all_zero (take (n - k) (drop (p + k) s)) ≡ true
-found_clear s p q k n r end is clear =
-    let less : n - k ≡ q - (p + k) = omega arith in
-    ap (λ m. all_zero (take m (drop (p + k) s))) less ∙ sym is ∙ clear
-
--- ---- fields side by side
-
-pub take-add : (m n : ℕ) (bytes : List ℕ) → take (m + n) bytes ≡ take m bytes ++ take n (drop m bytes)
-take-add m n bytes = same_lists _ _ (search (rules, places)) (λ k d h. grind (arith, places))
+use Rattle.lh_page.proofs.Fields.{take-add}
+use Rattle.lh_page.proofs.Zeros.{all_zero-zeros, zeros_of_length, length-padded, padded-add, put_front}
 
 -- a part and zeros behind it are a padded part
 padded-field : (k n : ℕ) (bytes : List ℕ) → k ≤ n → n ≤ length bytes → all_zero (take (n - k) (drop k bytes)) ≡ true → padded n (take k bytes) ≡ take n bytes
 padded-field k n bytes le within clear =
     let behind : length (take (n - k) (drop k bytes)) ≡ n - k = omega (arith, length-take (n - k) (drop k bytes), length-drop k bytes) in
     let whole : k + (n - k) ≡ n = omega arith in
-    ap (λ m. take k bytes ++ replicate (n - m) 0) (length-take-le k bytes (omega arith))
+    ap (λ m. take k bytes ++ zeros (n - m)) (length-take-le k bytes (omega arith))
     ∙ ap (λ rest. take k bytes ++ rest) (sym (zeros_of_length (take (n - k) (drop k bytes)) (n - k) behind clear))
     ∙ sym (take-add k (n - k) bytes) ∙ ap (λ m. take m bytes) whole
 
@@ -143,3 +117,17 @@ module _ (f : Format) (pair : Pair) (h : FitsSlot f pair) where
     behind_key = ap all_zero behind-key ∙ all_zero-zeros (f.key - length pair.key);
     behind_value = ap all_zero behind-value ∙ all_zero-zeros (f.value - length pair.value);
   })
+
+-- ---- writing over zeros
+
+-- two bytes and two parts in a slot of zeros
+pub put_parts : (xs ks vs : List ℕ) (m n i j : ℕ) → xs ≡ zeros (2 + m + n) → length ks ≤ m → length vs ≤ n → i ≡ length ks → j ≡ length vs →
+    put_mid (2 + m) j (put_mid 2 i (set (set xs 0 (length ks)) 1 (length vs)) ks) vs ≡ length ks ∷ length vs ∷ padded m ks ++ padded n vs
+put_parts xs ks vs m n i j blank key value same is =
+    let lengths = length ks ∷ length vs ∷ [] in
+    let more : 2 + m + n ≡ 2 + (m + n) = omega arith in
+    let all : xs ≡ 0 ∷ 0 ∷ zeros (m + n) = blank ∙ ap zeros more ∙ sym (replicate-append-replicate 2 (m + n) 0) in
+    let first : put_mid 2 i (set (set xs 0 (length ks)) 1 (length vs)) ks ≡ (length ks ∷ length vs ∷ padded m ks) ++ zeros n =
+    ap (λ ys. put_mid 2 i (set (set ys 0 (length ks)) 1 (length vs)) ks) all
+    ∙ put_front lengths ks 2 (m + n) i (omega arith) same ∙ ap (λ ys. lengths ++ ys) (padded-add m n ks key) in
+    ap (λ ys. put_mid (2 + m) j ys vs) first ∙ put_front (length ks ∷ length vs ∷ padded m ks) vs (2 + m) n j (omega (arith, length-padded m ks key)) is

@@ -1,16 +1,33 @@
 -- Writing a page slot by slot.
 use Rattle.std.proofs.Common.{◌≡◌, ℕ, ◌+◌, ◌-◌, ◌*◌, ◌<◌, ◌≤◌, List, ◌++◌, length, take, drop, Some, refl, sym, ap, ◌∙◌, inl, inr, arith}
 use Rattle.std.specs.List.{slice_get}
-use Rattle.std.proofs.lemmas.Bool.{cases_lt}
+use Rattle.std.proofs.lemmas.Bool.{cases_lt, cases_order}
 use Rattle.std.proofs.lemmas.List.{take-replicate, drop-replicate, drop-drop, drop_at, length-append, length-replicate}
 use Rattle.std.proofs.lemmas.Option.{slice_get_past}
+use borrow.Rule.Slice.PartMut.{put_mid}
 use Rattle.lh_page.specs.declared.format.Format.{Format}
 use Rattle.lh_page.specs.declared.page.Page.{Page}
 use Rattle.lh_page.specs.declared.pair.Pair.{Pair}
-use Rattle.lh_page.specs.Format.{slot_size, page_size}
+use Rattle.lh_page.specs.Format.{slot_size, slot_start, page_size}
 use Rattle.lh_page.specs.PageTable.{slot, slot_text, head_text, IsPage, WritesSlot}
 use Rattle.lh_page.specs.Rows.{zeros, field}
-use Rattle.lh_page.proofs.Fields.{field-take, slots_apart}
+use Rattle.lh_page.proofs.Fields.{field-take, field-put_same, field-put_before, field-put_behind, length-put, slots_apart}
+
+-- one slot that was written
+pub writes_slot : (f : Format) (old part : List ℕ) (place k : ℕ) (pair : Pair) → place < f.slots → length old ≡ page_size f → k ≡ slot_size f → length part ≡ k → part ≡ slot_text f (Some pair) →
+    WritesSlot f old (put_mid (slot_start f place) k old part) place pair
+writes_slot f old part place k pair low whole size long is =
+    let within : slot_start f place + slot_size f ≤ page_size f = slots_apart f place f.slots low in
+    record {
+      size = length-put (slot_start f place) k old part (omega arith) (omega arith);
+      written = field-put_same (slot_start f place) k (slot_size f) old part (omega arith) (omega arith) ∙ is;
+      others = λ i low_i other. elim (cases_order i place) [
+        | inl same ↦ absurd (other same)
+        | inr (inl before) ↦ field-put_before (slot_start f place) k (slot_start f i) (slot_size f) old part (omega arith) (slots_apart f i place before)
+        | inr (inr behind) ↦ field-put_behind (slot_start f place) k (slot_start f i) (slot_size f) old part (omega arith) (omega arith) (omega (arith, slots_apart f place i behind))
+      ];
+      head = field-put_before (slot_start f place) k 0 16 old part (omega arith) (omega arith);
+    }
 
 -- the head and the first n records are written, and the other slots are zero
 pub record IsPartlyWritten (f : Format) (bytes : List ℕ) (page : Page) (n : ℕ) : Type 0 where

@@ -1,28 +1,59 @@
--- Rows of zeros
-use Rattle.std.proofs.Common.{◌≡◌, ℕ, ◌+◌, ◌*◌, ◌-◌, ◌≤◌, Bool, true, false, List, length, take, drop, ap, sym, ◌∙◌, arith, length-drop}
-use Rattle.std.specs.Prelude.{◌&&◌, ◌==◌}
-use Rattle.std.proofs.lemmas.List.{take-append-drop, take_all, drop-drop}
+-- Zeros, and zeros behind other bytes.
+use Rattle.std.proofs.Common.{◌≡◌, ℕ, zero, suc, ◌+◌, ◌-◌, ◌≤◌, Bool, true, eqb, List, [], ◌∷◌, ◌++◌, length, take, drop, refl, sym, ap, ◌∙◌, arith, take-append-drop, length-take-le}
+use Rattle.std.specs.Prelude.{◌==◌}
+use Rattle.std.proofs.lemmas.Bool.{and_parts, eqb-true}
+use Rattle.std.proofs.lemmas.List.{append_assoc, drop_at, drop-replicate, length-append, length-replicate, replicate-append-replicate, take_at}
 use Rattle.std.proofs.lemmas.List.Folds.{list_all-append}
-use Rattle.lh_page.specs.declared.format.Format.{Format}
-use Rattle.lh_page.specs.Format.{slot_size, slot_start}
-use Rattle.lh_page.specs.PageFields.{all_zero, UnusedAreZero}
+use borrow.Rule.Slice.PartMut.{put_mid, post_of}
+use Rattle.lh_page.specs.PageFields.{all_zero}
+use Rattle.lh_page.specs.Rows.{zeros, padded}
 
-both_parts : (a b : Bool) → (a && b) ≡ true → (a ≡ true) × (b ≡ true)
-both_parts true true e = (e, e)
-both_parts true false e = cc
-both_parts false b e = cc
+-- ---- rows of zeros
 
-all_zero-parts : (n : ℕ) (xs : List ℕ) → all_zero xs ≡ true → (all_zero (take n xs) ≡ true) × (all_zero (drop n xs) ≡ true)
-all_zero-parts n xs h = both_parts (all_zero (take n xs)) (all_zero (drop n xs)) (sym (list_all-append (λ b. b == 0) (take n xs) (drop n xs)) ∙ (ap all_zero (take-append-drop n xs) ∙ h))
+pub zeros_from : (bytes : List ℕ) → all_zero bytes ≡ true → bytes ≡ zeros (length bytes)
+zeros_from [] e = refl
+zeros_from (x ∷ xs) e =
+    let p = and_parts (eqb x 0) (all_zero xs) e in
+    let a : x ≡ 0 = eqb-true x 0 p.0 in
+    let r = zeros_from xs p.1 in
+    cc
 
--- behind a place from which all bytes are zero, each slot is all zeros
-pub unused_are_zero : (f : Format) (bytes : List ℕ) (used to k : ℕ) → length bytes ≤ slot_start f used + k → all_zero (take k (drop (slot_start f used) bytes)) ≡ true → UnusedAreZero f bytes used to
-unused_are_zero f bytes used to k rest h i from below =
-    let start = slot_start f used in
-    let more = (i - used) * slot_size f in
-    let whole : take k (drop start bytes) ≡ drop start bytes = take_all k (drop start bytes) (omega (arith, length-drop start bytes)) in
-    let behind : i ≡ used + (i - used) = omega arith in
-    let gap : slot_start f (used + (i - used)) ≡ start + more = omega arith in
-    let far : all_zero (drop more (drop start bytes)) ≡ true = (all_zero-parts more (drop start bytes) (rw whole at h)).1 in
-    let here : all_zero (drop (slot_start f i) bytes) ≡ true = ap (λ k. all_zero (drop k bytes)) (ap (slot_start f) behind ∙ gap) ∙ ap all_zero (sym (drop-drop more start bytes)) ∙ far in
-    (all_zero-parts (slot_size f) (drop (slot_start f i) bytes) here).0
+pub all_zero-zeros : (n : ℕ) → all_zero (zeros n) ≡ true
+all_zero-zeros zero = refl
+all_zero-zeros (suc n) = all_zero-zeros n
+
+pub zeros_of_length : (bytes : List ℕ) (n : ℕ) → length bytes ≡ n → all_zero bytes ≡ true → bytes ≡ zeros n
+zeros_of_length bytes n long e = zeros_from bytes e ∙ ap zeros long
+
+-- what was found to be zeros behind the first bytes of a part, which ends at place q
+pub found_clear : (s : List ℕ) (p q k n : ℕ) (r : Bool) → q ≡ p + n → r ≡ all_zero (take (q - (p + k)) (drop (p + k) s)) → r ≡ true → all_zero (take (n - k) (drop (p + k) s)) ≡ true
+found_clear s p q k n r end is clear =
+    let less : n - k ≡ q - (p + k) = omega arith in
+    ap (λ m. all_zero (take m (drop (p + k) s))) less ∙ sym is ∙ clear
+
+pub all_zero-parts : (n : ℕ) (xs : List ℕ) → all_zero xs ≡ true → (all_zero (take n xs) ≡ true) × (all_zero (drop n xs) ≡ true)
+all_zero-parts n xs h = and_parts (all_zero (take n xs)) (all_zero (drop n xs)) (sym (list_all-append (λ b. b == 0) (take n xs) (drop n xs)) ∙ (ap all_zero (take-append-drop n xs) ∙ h))
+
+-- ---- zeros behind other bytes
+
+-- a row is its first bytes with zeros behind them, where zeros stand there
+pub padded-take : (m n : ℕ) (bytes : List ℕ) → n ≤ length bytes → drop n bytes ≡ zeros (m - n) → padded m (take n bytes) ≡ bytes
+padded-take m n bytes le behind =
+    ap (λ k. take n bytes ++ zeros (m - k)) (length-take-le n bytes le)
+    ∙ ap (λ rest. take n bytes ++ rest) (sym behind) ∙ take-append-drop n bytes
+
+pub length-padded : (n : ℕ) (bytes : List ℕ) → length bytes ≤ n → length (padded n bytes) ≡ n
+length-padded n bytes le = omega (arith, length-append bytes (zeros (n - length bytes)), length-replicate {A = ℕ} (n - length bytes) 0)
+
+-- bytes that are put where the zeros begin have fewer zeros behind them
+pub put_front : (front bytes : List ℕ) (p n k : ℕ) → length front ≡ p → k ≡ length bytes → put_mid p k (front ++ zeros n) bytes ≡ front ++ padded n bytes
+put_front front bytes p n k long size =
+    let rest : post_of p k (front ++ zeros n) ≡ zeros (n - length bytes) =
+    ap (drop k) (drop_at front (zeros n) p long) ∙ drop-replicate {X = ℕ} k n 0 ∙ ap (λ m. zeros (n - m)) size in
+    ap (λ xs. xs ++ (bytes ++ post_of p k (front ++ zeros n))) (take_at front (zeros n) p long) ∙ ap (λ xs. front ++ (bytes ++ xs)) rest
+
+-- zeros behind a padded row
+pub padded-add : (m n : ℕ) (bytes : List ℕ) → length bytes ≤ m → padded (m + n) bytes ≡ padded m bytes ++ zeros n
+padded-add m n bytes fits =
+    let more : m + n - length bytes ≡ (m - length bytes) + n = omega arith in
+    ap (λ xs. bytes ++ xs) (ap zeros more ∙ sym (replicate-append-replicate (m - length bytes) n 0)) ∙ sym (append_assoc bytes (zeros (m - length bytes)) (zeros n))

@@ -9,7 +9,9 @@ word_at bytes place = little_from place 8 bytes
 
 -- whether two rows of keys agree in their four words, the last of which overlaps the third
 abbrev pub same_words : List ℕ → List ℕ → Bool
-same_words a b = word_at a 0 == word_at b 0 && word_at a 8 == word_at b 8 && word_at a 16 == word_at b 16 && word_at a 22 == word_at b 22
+same_words a b =
+    word_at a 0 == word_at b 0 && word_at a 8 == word_at b 8
+    && word_at a 16 == word_at b 16 && word_at a 22 == word_at b 22
 
 -- the high byte of a sum of odd multiples of those words of a key's row
 unfoldable pub mixed : List ℕ → ℕ

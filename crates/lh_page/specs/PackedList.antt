@@ -41,10 +41,12 @@ joined pages = flat_map (λ page. page) pages
 
 -- The pages of a list are the one row of packed pages that hold its records in their order.
 abbrev pub PackingLaw : Type 0
-PackingLaw = (b : ℕ) (pairs : List Pair) (pages : List (List Pair)) → 1 ≤ b → (IsPacked b pages × (joined pages ≡ pairs)) ↔ (pages ≡ pages_of b pairs)
+PackingLaw = (b : ℕ) (pairs : List Pair) (pages : List (List Pair)) → 1 ≤ b →
+    (IsPacked b pages × (joined pages ≡ pairs)) ↔ (pages ≡ pages_of b pairs)
 
 -- Page k of a list holds the records from place k * b on, and there are as many pages as that takes, but at least one.
 abbrev pub PiecesLaw : Type 0
 PiecesLaw = (b : ℕ) (pairs : List Pair) → 1 ≤ b →
     (length (pages_of b pairs) ≡ pages_needed b (length pairs))
-    × ((k : ℕ) → k < length (pages_of b pairs) → (k * b ≤ length pairs) × (slice_index_or (pages_of b pairs) k [] ≡ take b (drop (k * b) pairs)))
+    × ((k : ℕ) → k < length (pages_of b pairs) →
+    (k * b ≤ length pairs) × (slice_index_or (pages_of b pairs) k [] ≡ take b (drop (k * b) pairs)))

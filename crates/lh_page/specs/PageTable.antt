@@ -46,7 +46,8 @@ pub record IsWritable (f : Format) (page : Page) : Type 0 where
 -- the first 16 bytes of a page
 abbrev pub head_text : Page → List ℕ
 head_text page =
-    kind_byte page.kind ∷ length page.pairs ∷ page.level ∷ 0 ∷ little_bytes 4 page.bucket ++ little_bytes 4 page.next ++ zeros 4
+    kind_byte page.kind ∷ length page.pairs ∷ page.level ∷ 0
+    ∷ little_bytes 4 page.bucket ++ little_bytes 4 page.next ++ zeros 4
 
 -- a page as one row of bytes: its head, then its slots
 unfoldable pub page_text : Format → Page → List ℕ

@@ -1,5 +1,5 @@
 -- Rows of bytes: zeros, zeros behind other bytes, fields, and the rows in which a chain keeps keys and values.
-use Rattle.std.specs.Prelude.{ℕ, ◌-◌, List, ◌++◌, length, take, drop, replicate}
+use Rattle.std.specs.Prelude.{◌≡◌, ℕ, ◌-◌, List, ◌++◌, length, take, drop, replicate}
 
 -- n zeros
 abbrev pub zeros : ℕ → List ℕ
@@ -8,6 +8,10 @@ zeros n = replicate n 0
 -- a list of bytes, with zeros behind it up to length n
 abbrev pub padded : ℕ → List ℕ → List ℕ
 padded n bytes = bytes ++ zeros (n - length bytes)
+
+-- a row of n bytes has zeros behind the first k
+abbrev pub IsRow : ℕ → ℕ → List ℕ → Type 0
+IsRow n k row = (length row ≡ n) × (drop k row ≡ zeros (n - k))
 
 -- the bytes of a size from an offset on
 abbrev pub field : List ℕ → ℕ → ℕ → List ℕ

@@ -138,8 +138,10 @@ impl Chain {
     /// Takes the records whose keys are in a set out, into a chain of their own. Both parts keep their order.
     /// All growth comes first: after an error the chain is as it was.
     pub fn split_off<S: KeySet>(&mut self, keys: &S) -> Result<Self, Memory>
-        ensures gone { IfOk result (λ gone. gone ≡ record self.old { pairs = filter (λ p. S.member keys.now p.key) self.old.pairs }) }
-        ensures kept { OnOk result (self.new ≡ record self.old { pairs = filter (λ p. not (S.member keys.now p.key)) self.old.pairs }) }
+        ensures gone { IfOk result (λ gone.
+            gone ≡ record self.old { pairs = filter (λ p. S.member keys.now p.key) self.old.pairs }) }
+        ensures kept { OnOk result
+            (self.new ≡ record self.old { pairs = filter (λ p. not (S.member keys.now p.key)) self.old.pairs }) }
         ensures err { OnErr result (self.new ≡ self.old) }
     {
         let parts = divided(*self.pairs.allocator(), &self.pairs, keys, self.capacity)?;

@@ -25,25 +25,25 @@ pub struct Key {
 impl Model for Key {
     ghost use Rattle.std.specs.Prelude.{◌≡◌, ℕ, ◌≤◌, ◌-◌, ◌++◌, List, length, take, drop};
     ghost use Rattle.lh_page.specs.Limits.{longest_key};
-    ghost use Rattle.lh_page.specs.Rows.{key_room, padded, zeros};
+    ghost use Rattle.lh_page.specs.Rows.{key_room, padded, zeros, IsRow};
     ghost use Rattle.std.proofs.Common.{ap, ◌∙◌, sym, arith, take-append-drop, length-take-le};
 
     ghost Value = { List ℕ };
 
     ghost view = { λ k. take k.len k.bytes };
 
-    ghost invariant = { λ k. (1 ≤ k.len) × (k.len ≤ longest_key) × (length k.bytes ≡ key_room) × (drop k.len k.bytes ≡ zeros (key_room - k.len)) };
+    ghost invariant = { λ k. (1 ≤ k.len) × (k.len ≤ longest_key) × IsRow key_room k.len k.bytes };
 
     ghost inverse = { λ b. record { bytes = padded key_room b; len = length b } };
 
     ghost inverse_ok = { λ k h i. record {
-      bytes = (ap (λ n. take k.len k.bytes ++ zeros (key_room - n)) (length-take-le k.len k.bytes (omega (arith, h.1, h.2)))
-          ∙ (ap (λ r. take k.len k.bytes ++ r) (sym h.3) ∙ take-append-drop k.len k.bytes)) i;
-      len = length-take-le k.len k.bytes (omega (arith, h.1, h.2)) i;
+      bytes = (ap (λ n. take k.len k.bytes ++ zeros (key_room - n)) (length-take-le k.len k.bytes (omega (arith, h.1, h.2.0)))
+          ∙ (ap (λ r. take k.len k.bytes ++ r) (sym h.2.1) ∙ take-append-drop k.len k.bytes)) i;
+      len = length-take-le k.len k.bytes (omega (arith, h.1, h.2.0)) i;
     } };
 }
 
-/// A length that no key has: 0, or more than 30 bytes (P1).
+/// A length that no key has: 0, or more than 30 bytes.
 #[derive(Clone, Copy, Debug, PartialEq, Eq, Error)]
 #[error("key length {length}")]
 pub struct KeyLength {

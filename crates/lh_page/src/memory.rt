@@ -1,10 +1,10 @@
-//! Want of memory.
+//! Out of memory.
 
 use std::alloc::{AllocError, AllocFailed};
 use thiserror::Error;
 
-/// A growth that was refused (P3, and B1 and C7 in the crates above, which share this type). What was to
-/// grow is as it was, and the same call may be made again.
+/// A growth that was refused, here or in the crates above, which share this type. What was to grow is as it
+/// was, and the same call may be made again.
 #[derive(Clone, Copy, Debug, PartialEq, Eq, Error)]
 #[error("no memory")]
 pub struct Memory;

@@ -22,25 +22,25 @@ pub struct Value {
 impl Model for Value {
     ghost use Rattle.std.specs.Prelude.{◌≡◌, ℕ, ◌≤◌, ◌-◌, ◌++◌, List, length, take, drop};
     ghost use Rattle.lh_page.specs.Limits.{longest_value};
-    ghost use Rattle.lh_page.specs.Rows.{value_room, padded, zeros};
+    ghost use Rattle.lh_page.specs.Rows.{value_room, padded, zeros, IsRow};
     ghost use Rattle.std.proofs.Common.{ap, ◌∙◌, sym, arith, take-append-drop, length-take-le};
 
     ghost Value = { List ℕ };
 
     ghost view = { λ v. take v.len v.bytes };
 
-    ghost invariant = { λ v. (v.len ≤ longest_value) × (length v.bytes ≡ value_room) × (drop v.len v.bytes ≡ zeros (value_room - v.len)) };
+    ghost invariant = { λ v. (v.len ≤ longest_value) × IsRow value_room v.len v.bytes };
 
     ghost inverse = { λ b. record { bytes = padded value_room b; len = length b } };
 
     ghost inverse_ok = { λ v h i. record {
-      bytes = (ap (λ n. take v.len v.bytes ++ zeros (value_room - n)) (length-take-le v.len v.bytes (omega (arith, h.0, h.1)))
-          ∙ (ap (λ r. take v.len v.bytes ++ r) (sym h.2) ∙ take-append-drop v.len v.bytes)) i;
-      len = length-take-le v.len v.bytes (omega (arith, h.0, h.1)) i;
+      bytes = (ap (λ n. take v.len v.bytes ++ zeros (value_room - n)) (length-take-le v.len v.bytes (omega (arith, h.0, h.1.0)))
+          ∙ (ap (λ r. take v.len v.bytes ++ r) (sym h.1.1) ∙ take-append-drop v.len v.bytes)) i;
+      len = length-take-le v.len v.bytes (omega (arith, h.0, h.1.0)) i;
     } };
 }
 
-/// A length that no value has: more than 40 bytes (P2).
+/// A length that no value has: more than 40 bytes.
 #[derive(Clone, Copy, Debug, PartialEq, Eq, Error)]
 #[error("value length {length}")]
 pub struct ValueLength {

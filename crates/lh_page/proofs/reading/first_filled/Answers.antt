@@ -1,6 +1,6 @@
 use Rattle.std.proofs.Common.{◌-◌, length, sym, ◌∙◌, arith}
 use Rattle.lh_page.specs.Format.{slot_start}
-use Rattle.lh_page.proofs.Zeros.{unused_are_zero}
+use Rattle.lh_page.proofs.ReadPages.{unused_are_zero}
 use Rattle.lh_page.proofs.reading.first_filled.Goals as goal
 
 pub returns-then-is_zero-clause-absent : goal.returns-then-is_zero-clause-absent

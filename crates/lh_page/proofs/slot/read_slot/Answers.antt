@@ -1,7 +1,8 @@
 use Rattle.std.proofs.Common.{◌≡◌, ◌+◌, ◌-◌, false, length, drop, refl, arith}
 use Rattle.std.proofs.lemmas.List.{length-take}
 use Rattle.lh_page.specs.PageFields.{key_length, value_length, is_bad_record}
-use Rattle.lh_page.proofs.SlotText.{found_clear, good_from}
+use Rattle.lh_page.proofs.SlotText.{good_from}
+use Rattle.lh_page.proofs.Zeros.{found_clear}
 use Rattle.lh_page.proofs.slot.read_slot.Goals as goal
 
 sound : (c : goal.In-Ok-new) → is_bad_record c.args.format c.args.bytes.now ≡ false

@@ -1,5 +1,5 @@
 use Rattle.std.proofs.Common.{arith}
-use Rattle.lh_page.proofs.WrittenSlot.{put_parts}
+use Rattle.lh_page.proofs.SlotText.{put_parts}
 use Rattle.lh_page.proofs.slot.write_slot.Goals as goal
 
 pub returns-clause-text : goal.returns-clause-text

@@ -1,5 +1,5 @@
 use Rattle.std.proofs.Common.{arith}
-use Rattle.lh_page.proofs.Fields.{writes_slot}
+use Rattle.lh_page.proofs.WrittenPages.{writes_slot}
 use Rattle.lh_page.proofs.writing.write_at.Goals as goal
 
 pub returns : goal.returns
