@@ -1,23 +1,19 @@
 -- The words of a closed file, and the hand that closed it
-use Rattle.std.specs.Prelude.{◌≡◌, ℕ, ◌+◌, ◌^◌, true, List, map, length}
+use Rattle.std.specs.Prelude.{◌≡◌, ℕ, ◌+◌, ◌^◌, true, List, length}
 use mathlib.Core.Option.{some}
 use lib.ListN.{get_elem?}
 use Rattle.lh_addr.specs.Settings.{Settings}
-use Rattle.lh_file.specs.HandState.{HandState}
-use Rattle.lh_file.specs.Rule.{IsRule}
-use Rattle.lh_file.specs.Sums.{times, once_below}
-use Rattle.lh_file.specs.declared.act.ActLine.{ActLine}
-use Rattle.lh_file.specs.declared.file_words.FileWords.{FileWords}
-use Rattle.lh_file.specs.declared.view.View.{View}
+use Rattle.lh_file.specs.Acts.{stamps_of}
+use Rattle.lh_file.specs.Words.HandState.{HandState}
+use Rattle.lh_file.specs.Words.Rule.{IsRule}
+use Rattle.lh_file.specs.Words.Sums.{times, once_below}
+use Rattle.lh_file.specs.declared.words.numbers.FileWords.{FileWords}
+use Rattle.lh_file.specs.declared.words.view.View.{View}
 
 -- the rule holds of these words and of some views, of which this is one
 abbrev pub RuleHolds : Settings → FileWords → View → Type 0
 RuleHolds config words view =
     (views : List View) × (id : ℕ) × IsRule config.initial config.max words views × (get_elem? views id ≡ some view)
-
--- the stamps of a list of acts
-abbrev pub stamps_of : List ActLine → List ℕ
-stamps_of acts = map (λ act. act.stamp) acts
 
 -- where the file records, and no call is left with another hand, each stamp below the stamp word is among the hand's acts, once, and no other is
 abbrev pub NoneIsLost : HandState → ℕ → Type 0

@@ -3,8 +3,8 @@ use Rattle.std.specs.Prelude.{◌≡◌, ℕ, ◌+◌, ◌%◌, ◌≤◌, Bool,
 use Rattle.atomic_table.specs.Seated.{TableId}
 use Rattle.lh_addr.specs.RootWord.{buckets_of}
 use Rattle.lh_addr.specs.Settings.{Settings}
-use Rattle.lh_file.specs.HandState.{HandState}
-use Rattle.lh_file.specs.Views.{first_view}
+use Rattle.lh_file.specs.Words.HandState.{HandState}
+use Rattle.lh_file.specs.Words.Views.{first_view}
 
 -- the table of its words, its configuration, whether acts are recorded, and how many records it was opened with
 pub record FileState : Type 0 where

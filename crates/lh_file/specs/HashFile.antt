@@ -2,11 +2,11 @@
 use Rattle.std.specs.Prelude.{◌≡◌, ℕ, List, map}
 use Rattle.once_cell.specs.Once.{cell_name}
 use Rattle.lh_addr.specs.Settings.{IsInRange}
-use Rattle.lh_file.specs.Closed.{ClosedFile}
+use Rattle.lh_file.specs.Settling.ClosedFile.{ClosedFile}
 use Rattle.lh_file.specs.Closing.{RuleHolds}
 use Rattle.lh_file.specs.FileState.{FileState}
-use Rattle.lh_file.specs.HandState.{HandState}
-use Rattle.lh_file.specs.declared.file_words.FileWords.{FileWords}
+use Rattle.lh_file.specs.Words.HandState.{HandState}
+use Rattle.lh_file.specs.declared.words.numbers.FileWords.{FileWords}
 use Rattle.lh_file.specs.declared.file.HashFile.TheInside.{Inside}
 
 -- its words, and the names of the cells in which its segments are made

@@ -1,22 +1,12 @@
--- What the fields of a file's words are
-use Rattle.std.specs.Prelude.{◌≡◌}
-use Rattle.lh_addr.specs.Settings.{IsInRange}
-use Rattle.lh_file.specs.FileState.{FileState}
-use Rattle.lh_file.specs.declared.words.Words.TheInside.{Inside}
-
--- what contracts see of the fields
-abbrev pub state_of : Inside → FileState
-state_of file = record {
-  table = file.table.shared.table_id;
-  config = file.config;
-  recording = file.recording;
-  opening = file.opening;
-}
-
--- the table has 32 words and no slot, and its rule goes by the limits of the configuration
-pub record IsFile (file : Inside) : Type 0 where
-  pub in_range : IsInRange file.config
-  pub initial : file.table.shared.key.initial ≡ file.config.initial
-  pub max : file.table.shared.key.max ≡ file.config.max
-  pub words : file.table.shared.table_id.words ≡ 32
-  pub slots : file.table.shared.table_id.slots ≡ 0
+-- What stands in the words of a running file and in its hands, and the rule of both
+pub mod Calls
+pub mod Fields
+pub mod Hand
+pub mod HandState
+pub mod Plays
+pub mod Recording
+pub mod Rights
+pub mod Rule
+pub mod RuleLaws
+pub mod Sums
+pub mod Views

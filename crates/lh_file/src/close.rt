@@ -5,11 +5,11 @@ ghost use Rattle.lh_file.specs.FileState.{IsOf};
 ghost use Rattle.lh_file.specs.HashFile.{IsClosing};
 
 use crate::act::Acts;
-use crate::closed::Closed;
+use crate::buckets::segments::Segments;
 use crate::file::HashFile;
 use crate::gate::Gate;
-use crate::hand::Hand;
-use crate::segments::Segments;
+use crate::settling::closed_file::Closed;
+use crate::words::hand::Hand;
 use lh_addr::RootWord;
 use lh_bucket::{Bucket, Memory, PagedBucket};
 use lh_page::Pair;

@@ -1,7 +1,7 @@
 //! The faults of a running file's calls.
 ghost use Rattle.std.specs.Prelude.{◌≡◌};
 
-use crate::hand::Hand;
+use crate::words::hand::Hand;
 use lh_bucket::Memory;
 use thiserror::Error;
 

@@ -1,14 +1,13 @@
 //! The file.
-ghost use Rattle.std.specs.Prelude.{◌≡◌, ◌<◌, ◌≤◌, true, false, IfOk, IfErr, OnErr};
-ghost use Rattle.lh_file.specs.declared.fault.FileFault.TheVariants.{Spent};
+ghost use Rattle.std.specs.Prelude.{◌≡◌, true, false};
 
+use crate::buckets::segments::Segments;
 use crate::fault::{FileFault, JoinFault};
 use crate::gate::{Gate, Point};
-use crate::hand::Hand;
-use crate::load::Load;
-use crate::right::Right;
-use crate::segments::Segments;
 use crate::words::Words;
+use crate::words::hand::Hand;
+use crate::words::load::Load;
+use crate::words::right::Right;
 use std::marker::Model;
 
 /// A linear hash file that threads share. Each takes part with a [`Hand`] of its own.
@@ -33,19 +32,16 @@ impl<G: Gate> Model for HashFile<G> {
 }
 
 impl<G: Gate> HashFile<G> {
-    ghost use Rattle.lh_file.specs.FileState.{IsOf, IsSize};
-    ghost use Rattle.lh_file.specs.HandState.{knowing, seeing, with_right, IsSame, IsBranch, IsJoined};
-    ghost use Rattle.lh_file.specs.Rights.{IsAnswer};
-    ghost use Rattle.lh_file.specs.Views.{lessened};
+    ghost use Rattle.lh_file.specs.FileState.{IsOf};
+    ghost use Rattle.lh_file.specs.Words.Calls.{IsBuckets, IsLoad, IsDivided, IsUnited};
+    ghost use Rattle.lh_file.specs.Words.HandState.{with_right};
+    ghost use Rattle.lh_file.specs.Words.Rights.{IsAnswer};
 
     /// The number of buckets. It is never less than the hand has seen before, and the hand has seen it
     /// now.
     pub fn buckets(&self, hand: &mut Hand) -> u32
         requires { IsOf self.now.state hand.old }
-        ensures knows { hand.new ≡ knowing hand.old result }
-        ensures rises { hand.old.view.known ≤ result }
-        ensures range { IsSize self.now.state result }
-        ensures exact { hand.old.view.has_right ≡ true → result ≡ hand.old.view.known }
+        ensures { IsBuckets self.now.state hand.old result hand.new }
     {
         self.words.buckets(hand)
     }
@@ -53,10 +49,7 @@ impl<G: Gate> HashFile<G> {
     /// How many records the file was opened with, and how many were inserted and deleted since.
     pub fn load(&self, hand: &mut Hand) -> Load
         requires { IsOf self.now.state hand.old }
-        ensures same { hand.new ≡ hand.old }
-        ensures opening { result.opening ≡ self.now.state.opening }
-        ensures inserted { hand.old.view.inserted ≤ result.inserted }
-        ensures deleted { hand.old.view.deleted ≤ result.deleted }
+        ensures { IsLoad self.now.state hand.old result hand.new }
     {
         self.words.load(hand)
     }
@@ -86,9 +79,7 @@ impl<G: Gate> HashFile<G> {
     /// of the root, and has neither the right to split nor acts.
     pub fn split_hand(&self, hand: &mut Hand, calls: u64) -> Result<Hand, FileFault>
         requires { IsOf self.now.state hand.old }
-        ensures ok { IfOk result (λ new. (calls ≤ hand.old.view.left) × IsBranch calls hand.old new × (hand.new ≡ seeing hand.old (lessened calls hand.old.view))) }
-        ensures spent { IfErr result (λ fault. (hand.old.view.left < calls) × (fault ≡ Spent hand.old.view.left)) }
-        ensures err { OnErr result (hand.new ≡ hand.old) }
+        ensures { IsDivided calls hand.old result hand.new }
     {
         self.words.split_hand(hand, calls)
     }
@@ -100,8 +91,7 @@ impl<G: Gate> HashFile<G> {
         requires first { IsOf self.now.state first }
         requires second { IsOf self.now.state second }
         requires right { second.view.has_right ≡ false }
-        ensures ok { IfOk result (IsJoined first second) }
-        ensures err { IfErr result (λ fault. IsSame first fault.first × IsSame second fault.second) }
+        ensures { IsUnited first second result }
     {
         self.words.join_hands(first, second)
     }

@@ -1,6 +1,6 @@
 //! Laws of the rule, over the definitions of `specs/Rule.antt`: what its sums say of single hands. Each
 //! is the contract of a function that does nothing.
-ghost use Rattle.lh_file.specs.RuleLaws.{OneRight, NoRight, DrawnOnce, NotDrawn};
+ghost use Rattle.lh_file.specs.Words.RuleLaws.{OneRight, NoRight, DrawnOnce, NotDrawn};
 
 /// At most one hand has the right to split: exactly one where the root word is odd, else none.
 pub fn right_is_one_hands()

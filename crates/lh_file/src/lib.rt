@@ -22,63 +22,34 @@
 #![tactic(auto)]
 
 mod act;
-mod aim;
+mod buckets;
+mod calls;
 mod close;
-mod closed;
-mod contents;
-mod counting;
 mod fault;
 mod file;
-mod file_words;
 mod gate;
-mod hand;
-mod history;
 pub mod laws;
-mod load;
 mod open;
-mod order;
-pub mod parts;
-mod plain_map;
-mod replay;
-mod right;
-mod rule;
-mod segment;
-mod segments;
-mod serve;
-mod settle_fault;
-pub mod settle_laws;
 mod settling;
-mod sharing;
-mod sizes;
-mod split;
-mod splitting;
-mod steps;
-mod view;
-mod walk;
 mod words;
 
 pub use act::{ActLine, Acts};
-pub use closed::Closed;
+pub use buckets::segment::Segment;
+pub use calls::parts;
 pub use fault::{FileFault, JoinFault};
 pub use file::HashFile;
-pub use file_words::FileWords;
 pub use gate::{Gate, NoGate, Point};
-pub use hand::Hand;
-pub use history::History;
 pub use lh_bucket::Memory;
-pub use load::Load;
-pub use right::Right;
-pub use segment::Segment;
-pub use settle_fault::SettleFault;
-pub use settling::settle;
-pub use view::View;
+pub use settling::closed_file::Closed;
+pub use settling::history::History;
+pub use settling::settle_fault::SettleFault;
+pub use settling::{settle, settle_laws};
 pub use words::Words;
+pub use words::hand::Hand;
+pub use words::load::Load;
+pub use words::numbers::FileWords;
+pub use words::right::Right;
+pub use words::view::View;
 
-#[cfg(test)]
-mod closed_tests;
-#[cfg(test)]
-mod settle_fault_tests;
-#[cfg(test)]
-mod settle_tests;
 #[cfg(test)]
 mod tests;

@@ -3,14 +3,14 @@ ghost use Rattle.std.specs.Prelude.{◌≡◌, ◌-◌, ◌<◌, ◌≤◌, ◌^
 ghost use Rattle.lh_addr.specs.Settings.{Settings};
 ghost use Rattle.lh_bucket.specs.Listing.{size, list_at, count_of};
 ghost use Rattle.lh_file.specs.FileState.{IsOpened};
-ghost use Rattle.lh_file.specs.Segments.{head_of};
+ghost use Rattle.lh_file.specs.Buckets.Segments.{head_of};
 
+use crate::buckets::segment::{Segment, end_of, first_of, segment_of, unfilled};
+use crate::buckets::segments::Segments;
 use crate::file::HashFile;
 use crate::gate::Gate;
-use crate::hand::Hand;
-use crate::segment::{Segment, end_of, first_of, segment_of, unfilled};
-use crate::segments::Segments;
 use crate::words::Words;
+use crate::words::hand::Hand;
 use lh_addr::laws::address_is_only_bucket;
 use lh_addr::{Config, Root};
 use lh_bucket::{Listing, Memory, PagedBucket};

@@ -1,19 +1,28 @@
 //! Settling: whether what the hands of a closed file have done is one legal history.
 ghost use Rattle.std.specs.Prelude.{◌≡◌, ◌≢◌, ◌↔◌, Err, IsOk, IfOk, IfErr};
-ghost use Rattle.lh_file.specs.declared.settle_fault.SettleFault.{SettleFault};
-ghost use Rattle.lh_file.specs.declared.settle_fault.SettleFault.TheVariants.{Memory};
-ghost use Rattle.lh_file.specs.Closed.{IsClosed};
-ghost use Rattle.lh_file.specs.Settled.{IsSettled, Settled};
-ghost use Rattle.lh_file.specs.SettleFault.{IsDue};
+ghost use Rattle.lh_file.specs.declared.settling.settle_fault.SettleFault.{SettleFault};
+ghost use Rattle.lh_file.specs.declared.settling.settle_fault.SettleFault.TheVariants.{Memory};
+ghost use Rattle.lh_file.specs.Settling.ClosedFile.{IsClosed};
+ghost use Rattle.lh_file.specs.Settling.Settled.{IsSettled, Settled};
+ghost use Rattle.lh_file.specs.Settling.SettleFault.{IsDue};
+
+pub(crate) mod closed_file;
+mod contents;
+pub(crate) mod history;
+mod order;
+mod plain_map;
+mod replay;
+pub(crate) mod settle_fault;
+pub mod settle_laws;
 
 use crate::act::Acts;
-use crate::closed::Closed;
-use crate::contents::{first_away, first_stray};
-use crate::history::History;
-use crate::order::{in_order, missing_stamp};
-use crate::replay::replay;
-use crate::settle_fault::SettleFault;
-use crate::settle_laws::settling_has_one_answer;
+use crate::settling::closed_file::Closed;
+use crate::settling::contents::{first_away, first_stray};
+use crate::settling::history::History;
+use crate::settling::order::{in_order, missing_stamp};
+use crate::settling::replay::replay;
+use crate::settling::settle_fault::SettleFault;
+use crate::settling::settle_laws::settling_has_one_answer;
 use lh_addr::Root;
 use lh_addr::laws::address_is_only_bucket;
 use lh_bucket::Listing;

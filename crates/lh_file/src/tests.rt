@@ -1,5 +1,6 @@
 //! What no contract says: worked examples, hands on threads, calls that are held at a point, and
 //! growth that is refused.
+mod closed_files;
 mod crowd;
 mod ended;
 mod gates;
@@ -8,6 +9,8 @@ mod memory;
 mod opened;
 mod outer;
 mod play;
+mod settle_faults;
+mod settling;
 mod stage;
 mod tasks;
 mod texts;

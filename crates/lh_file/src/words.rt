@@ -1,12 +1,24 @@
 //! The words of a running file, and what it was opened with.
 ghost use Rattle.std.specs.Prelude.{◌≡◌, ◌≤◌, IfOk};
 
+mod counts;
+pub(crate) mod hand;
+pub(crate) mod load;
+pub(crate) mod numbers;
+mod plays;
+pub(crate) mod right;
+mod root;
+mod rule;
+mod shares;
+mod sizes;
+pub(crate) mod view;
+
 use crate::act::ActLine;
-use crate::file_words::FileWords;
-use crate::hand::Hand;
-use crate::rule::RunningRule;
-use crate::sizes::Sizes;
-use crate::view::View;
+use crate::words::hand::Hand;
+use crate::words::numbers::FileWords;
+use crate::words::rule::RunningRule;
+use crate::words::sizes::Sizes;
+use crate::words::view::View;
 use atomic_table::Table;
 use lh_addr::{Config, RootWord};
 use lh_bucket::Memory;
@@ -41,7 +53,7 @@ impl Model for Words {
 
     ghost Value = { FileState };
 
-    ghost use Rattle.lh_file.specs.Words.{state_of, IsFile};
+    ghost use Rattle.lh_file.specs.Words.Fields.{state_of, IsFile};
 
     ghost view = { state_of };
 

@@ -1,6 +1,6 @@
 use Rattle.std.proofs.Common.{◌<◌, ◌∷◌, [], ◌++◌, length, sym, ap, ◌∙◌, arith}
 use Rattle.std.proofs.lemmas.Option.{get_or_from_slice_get}
-use Rattle.lh_file.proofs.Copies.{taken}
+use Rattle.lh_file.proofs.OfSettling.Copies.{taken}
 use Rattle.lh_file.proofs.close.pairs_of.Goals as goal
 
 pub loop-place-preserved : goal.loop-place-preserved

@@ -9,10 +9,10 @@ use Rattle.lh_bucket.specs.Listing.{EachPlace, IsHome}
 use Rattle.lh_bucket.specs.PlainMap.{Records}
 use Rattle.lh_file.specs.declared.act.ActLine.{ActLine}
 use Rattle.lh_file.specs.Acts.{stamps_of, IsInOrder}
-use Rattle.lh_file.specs.Closed.{size_of}
-use Rattle.lh_file.specs.Contents.{StandsAs}
-use Rattle.lh_file.specs.Settled.{left_by, IsHistory, IsLegal, IsSettled, Holds}
-use Rattle.lh_file.proofs.Placed.{placed}
+use Rattle.lh_file.specs.Settling.ClosedFile.{size_of}
+use Rattle.lh_file.specs.Settling.Contents.{StandsAs}
+use Rattle.lh_file.specs.Settling.Settled.{left_by, IsHistory, IsLegal, IsSettled, Holds}
+use Rattle.lh_file.proofs.OfSettling.Placed.{placed}
 use Rattle.lh_file.proofs.settling.judge.Goals as goal
 
 stamped : (c : goal.After-new-in-None-first_away) → IsHistory c.args.closed.now c.args.acts.now c.in_ok-history.history.items

@@ -2,7 +2,7 @@ use Rattle.std.proofs.Common.{◌≡◌, Bool, true, false, List, [], ◌∷◌,
 use Rattle.std.specs.Prelude.{if◌then◌else◌}
 use Rattle.std.specs.declared.thread.PromisedHandle.{PromisedHandle}
 use Rattle.std.proofs.lemmas.List.Elements.{All-push}
-use Rattle.lh_file.specs.declared.hand.Hand.{Hand}
+use Rattle.lh_file.specs.declared.words.hand.Hand.{Hand}
 use Rattle.lh_file.specs.declared.tests.threads.OfFile.{OfFile}
 use Rattle.lh_file.proofs.tests.threads.keep.Goals as goal
 

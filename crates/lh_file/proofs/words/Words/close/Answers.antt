@@ -3,10 +3,10 @@ use Rattle.std.proofs.lemmas.List.{length-map}
 use Rattle.std.specs.Slots.{slots_items}
 use Rattle.lh_file.specs.Closing.{NoneIsLost}
 use Rattle.lh_file.specs.FileState.{FileState}
-use Rattle.lh_file.specs.HandState.{HandState}
-use Rattle.lh_file.specs.Sums.{times}
+use Rattle.lh_file.specs.Words.HandState.{HandState}
+use Rattle.lh_file.specs.Words.Sums.{times}
 use Rattle.lh_file.specs.declared.act.ActLine.{ActLine}
-use Rattle.lh_file.proofs.LastWords.{Closes, closes, closes-for, none-lost}
+use Rattle.lh_file.proofs.OfWords.LastWords.{Closes, closes, closes-for, none-lost}
 use Rattle.lh_file.proofs.words.Words.close.Goals as goal
 
 ended : (c : goal.After-free) → Closes c.self.inside.table.shared.key (record { root = c.word.result; stamps = c.word-2.result; inserts = c.word-3.result; deletes = c.word-4.result }) c.hand.inside.seat.me.0

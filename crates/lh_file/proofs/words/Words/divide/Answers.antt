@@ -1,7 +1,7 @@
 use Rattle.std.proofs.Common.{arith, sym, ap, ◌∙◌}
 use Rattle.lh_file.specs.FileState.{FileState}
-use Rattle.lh_file.proofs.Dividing.{splits}
-use Rattle.lh_file.proofs.Fields.{has_word}
+use Rattle.lh_file.proofs.OfWords.Dividing.{splits}
+use Rattle.lh_file.proofs.OfWords.Fields.{has_word}
 use Rattle.lh_file.proofs.words.Words.divide.Goals as goal
 
 pub split_seat-requires : goal.split_seat-requires

@@ -1,6 +1,6 @@
 use Rattle.std.proofs.Common.{arith}
-use Rattle.lh_file.proofs.RootSteps.{drops_right}
-use Rattle.lh_file.proofs.Fields.{is_of, has_word, small, righted}
+use Rattle.lh_file.proofs.OfWords.RootSteps.{drops_right}
+use Rattle.lh_file.proofs.OfWords.Fields.{is_of, has_word, small, righted}
 use Rattle.lh_file.proofs.words.Words.drop_right.Goals as goal
 
 pub fetch_sub-requires : goal.fetch_sub-requires

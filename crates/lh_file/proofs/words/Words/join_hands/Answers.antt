@@ -1,8 +1,8 @@
 use Rattle.std.proofs.Common.{arith, ap, ◌∙◌}
-use Rattle.lh_file.specs.Steps.{Seated}
-use Rattle.lh_file.proofs.CountSteps.{loads_inserts}
-use Rattle.lh_file.proofs.Dividing.{joins}
-use Rattle.lh_file.proofs.Fields.{is_of, has_word, unrighted, still_live}
+use Rattle.lh_file.specs.Words.Plays.{Seated}
+use Rattle.lh_file.proofs.OfWords.CountSteps.{loads_inserts}
+use Rattle.lh_file.proofs.OfWords.Dividing.{joins}
+use Rattle.lh_file.proofs.OfWords.Fields.{is_of, has_word, unrighted, still_live}
 use Rattle.lh_file.proofs.words.Words.join_hands.Goals as goal
 
 pub join_seat-requires : goal.join_seat-requires

@@ -1,7 +1,7 @@
 use Rattle.std.proofs.Common.{arith, ap, ◌∙◌}
-use Rattle.lh_file.specs.Steps.{Seated}
-use Rattle.lh_file.proofs.CountSteps.{loads_inserts, loads_deletes}
-use Rattle.lh_file.proofs.Fields.{is_of, has_word, still_live}
+use Rattle.lh_file.specs.Words.Plays.{Seated}
+use Rattle.lh_file.proofs.OfWords.CountSteps.{loads_inserts, loads_deletes}
+use Rattle.lh_file.proofs.OfWords.Fields.{is_of, has_word, still_live}
 use Rattle.lh_file.proofs.words.Words.load.Goals as goal
 
 pub load-requires : goal.load-requires

@@ -1,6 +1,6 @@
 use Rattle.std.proofs.Common.{arith}
-use Rattle.lh_file.proofs.RootSteps.{moves_pointer}
-use Rattle.lh_file.proofs.Fields.{is_of, has_word, small, righted}
+use Rattle.lh_file.proofs.OfWords.RootSteps.{moves_pointer}
+use Rattle.lh_file.proofs.OfWords.Fields.{is_of, has_word, small, righted}
 use Rattle.lh_file.proofs.words.Words.point.Goals as goal
 
 pub fetch_add-requires : goal.fetch_add-requires

@@ -1,9 +1,9 @@
 use Rattle.std.proofs.Common.{arith, ap, ◌∙◌}
 use mathlib.Core.Option.{none}
 use Rattle.atomic_table.specs.Table.{step}
-use Rattle.lh_file.specs.Steps.{Seated}
-use Rattle.lh_file.proofs.CountSteps.{draws_stamp, counts_insert, counts_delete}
-use Rattle.lh_file.proofs.Fields.{is_of, has_word, some_left, room_after, still_live}
+use Rattle.lh_file.specs.Words.Plays.{Seated}
+use Rattle.lh_file.proofs.OfWords.CountSteps.{draws_stamp, counts_insert, counts_delete}
+use Rattle.lh_file.proofs.OfWords.Fields.{is_of, has_word, some_left, room_after, still_live}
 use Rattle.lh_file.proofs.words.Words.record_act.Goals as goal
 
 pub fetch_add-stamp-requires : goal.fetch_add-stamp-requires

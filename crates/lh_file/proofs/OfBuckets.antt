@@ -1,0 +1,3 @@
+-- Levels and segments
+pub mod Levels
+pub mod Logarithms

@@ -1,0 +1,99 @@
+-- What the parts of a call do to its hand, one after another
+use Rattle.std.proofs.Common.{◌≡◌, ℕ, ◌+◌, ◌-◌, ◌<◌, ◌≤◌, true, false, [], ◌∷◌, ◌++◌, All, refl, sym, ap, ◌∙◌, subst, arith}
+use Rattle.lh_bucket.specs.declared.call.Call.{Call}
+use Rattle.lh_bucket.specs.declared.call.Reply.{Reply}
+use Rattle.lh_file.specs.FileState.{FileState, IsOf}
+use Rattle.lh_file.specs.Words.HandState.{HandState, IsSame, knowing, with_right}
+use Rattle.lh_file.specs.Words.Recording.{Acted, inserts_of, deletes_of, kept_of}
+use Rattle.lh_file.specs.Calls.Served.{HasLooked, HasServed}
+use Rattle.lh_file.specs.Words.Views.{rooted}
+use Rattle.lh_file.specs.declared.words.view.View.{View}
+
+-- a hand that nothing happened to
+pub looked_same : (h : HandState) → HasLooked h h
+looked_same h = record { known = h.view.known; rises = omega arith; view = refl; acts = refl; table = refl; recording = refl }
+
+pub looked_equal : (a b : HandState) → b ≡ a → HasLooked a b
+looked_equal a b e = subst (HasLooked a) (sym e) (looked_same a)
+
+pub looked_room : (a b : HandState) → IsSame a b → HasLooked a b
+looked_room a b same = record { known = a.view.known; rises = omega arith; view = same.view; acts = same.acts; table = same.table; recording = same.recording }
+
+pub looked_knowing : (h : HandState) (n : ℕ) → h.view.known ≤ n → HasLooked h (knowing h n)
+looked_knowing h n rises = record { known = n; rises = rises; view = refl; acts = refl; table = refl; recording = refl }
+
+-- two looks are one
+pub looked_twice : (a b c : HandState) → HasLooked a b → HasLooked b c → HasLooked a c
+looked_twice a b c first second = record {
+  known = second.known;
+  rises = let k = ap (λ (v : View). v.known) first.view in omega (arith, first.rises, second.rises, k);
+  view = second.view ∙ ap (λ (v : View). rooted v second.known v.has_right) first.view;
+  acts = second.acts ∙ first.acts;
+  table = second.table ∙ first.table;
+  recording = second.recording ∙ first.recording;
+}
+
+-- the right was got and given up again
+pub looked_right : (a b : HandState) (n m : ℕ) → a.view.has_right ≡ false → a.view.known ≤ n → n ≤ m → b ≡ with_right (knowing (with_right (knowing a n) true) m) false → HasLooked a b
+looked_right a b n m none rises more is = record {
+  known = m;
+  rises = omega (arith, rises, more);
+  view = ap (λ (h : HandState). h.view) is ∙ ap (λ r. rooted a.view m r) (sym none);
+  acts = ap (λ (h : HandState). h.acts) is;
+  table = ap (λ (h : HandState). h.table) is;
+  recording = ap (λ (h : HandState). h.recording) is;
+}
+
+-- a look and then an act serve a call
+pub looked_then_acted : (a b c : HandState) (call : Call) (reply : Reply) → 1 ≤ a.view.left → HasLooked a b → Acted b call reply c → HasServed a call reply c
+looked_then_acted a b c call reply enough looked (stamp, act) = record {
+  stamp = stamp;
+  known = looked.known;
+  newest = subst (All (λ x. x < stamp)) (ap (λ (v : View). v.stamps) looked.view) act.newest;
+  enough = enough;
+  rises = looked.rises;
+  view = act.view ∙ ap (λ (v : View). record v { stamps = v.stamps ++ stamp ∷ []; left = v.left - 1; inserted = v.inserted + inserts_of reply; deleted = v.deleted + deletes_of reply }) looked.view;
+  acts = act.acts ∙ ap (λ xs. xs ++ kept_of b.recording (record { stamp = stamp; call = call; reply = reply })) looked.acts ∙ ap (λ r. a.acts ++ kept_of r (record { stamp = stamp; call = call; reply = reply })) looked.recording;
+  table = act.table ∙ looked.table;
+  recording = act.recording ∙ looked.recording;
+}
+
+pub acted_served : (a c : HandState) (call : Call) (reply : Reply) → 1 ≤ a.view.left → Acted a call reply c → HasServed a call reply c
+acted_served a c call reply enough acted = looked_then_acted a a c call reply enough (looked_same a) acted
+
+-- a hand that made an act is one of the same file
+pub acted_of : (file : FileState) (a c : HandState) (call : Call) (reply : Reply) → IsOf file a → Acted a call reply c → IsOf file c
+acted_of file a c call reply of (stamp, act) = record {
+  table = act.table ∙ of.table;
+  initial = ap (λ (v : View). v.initial) act.view ∙ of.initial;
+  max = ap (λ (v : View). v.max) act.view ∙ of.max;
+  recording = act.recording ∙ of.recording;
+}
+
+-- a call that was served, and then a look
+pub served_then_looked : (a b c : HandState) (call : Call) (reply : Reply) → HasServed a call reply b → HasLooked b c → HasServed a call reply c
+served_then_looked a b c call reply served looked = record {
+  stamp = served.stamp;
+  known = looked.known;
+  newest = served.newest;
+  enough = served.enough;
+  rises = let k = ap (λ (v : View). v.known) served.view in omega (arith, served.rises, looked.rises, k);
+  view = looked.view ∙ ap (λ (v : View). rooted v looked.known v.has_right) served.view;
+  acts = looked.acts ∙ served.acts;
+  table = looked.table ∙ served.table;
+  recording = looked.recording ∙ served.recording;
+}
+
+-- a look before a call that was served
+pub looked_then_served : (a b c : HandState) (call : Call) (reply : Reply) → HasLooked a b → HasServed b call reply c → HasServed a call reply c
+looked_then_served a b c call reply looked served = record {
+  stamp = served.stamp;
+  known = served.known;
+  newest = subst (All (λ x. x < served.stamp)) (ap (λ (v : View). v.stamps) looked.view) served.newest;
+  enough = let l = ap (λ (v : View). v.left) looked.view in omega (arith, served.enough, l);
+  rises = let k = ap (λ (v : View). v.known) looked.view in omega (arith, looked.rises, served.rises, k);
+  view = served.view ∙ ap (λ (v : View). record v { known = served.known; stamps = v.stamps ++ served.stamp ∷ []; left = v.left - 1; inserted = v.inserted + inserts_of reply; deleted = v.deleted + deletes_of reply }) looked.view;
+  acts = served.acts ∙ ap (λ xs. xs ++ kept_of b.recording (record { stamp = served.stamp; call = call; reply = reply })) looked.acts ∙ ap (λ r. a.acts ++ kept_of r (record { stamp = served.stamp; call = call; reply = reply })) looked.recording;
+  table = served.table ∙ looked.table;
+  recording = served.recording ∙ looked.recording;
+}

@@ -1,0 +1,134 @@
+-- What a step may change of the words and of one hand, and that the rule outlives it
+use Rattle.std.proofs.Common.{◌≡◌, ℕ, ◌+◌, ◌%◌, ◌<◌, ◌≤◌, ◌≢◌, ◌⊎◌, Bool, true, false, List, [], ◌∷◌, ◌++◌, length, set, sym, refl, ap, ◌∙◌, subst, inr, ⊎_elim, arith, cond, length-set, get_or-set_other, get_or-set_same}
+use mathlib.Core.Option.{some}
+use lib.ListN.{get_elem?}
+use Rattle.atomic_table.specs.Table.{State, stepped}
+use Rattle.atomic_table.proofs.Lists.{at_set, at_snoc}
+use Rattle.lh_addr.specs.RootWord.{buckets_of}
+use Rattle.lh_file.specs.Words.Sums.{times, once_below}
+use Rattle.lh_file.specs.Words.Rule.{Each, rights_of, HasLimits, IsRule, words_of, Holds}
+use Rattle.lh_file.specs.Words.Plays.{Seated}
+use Rattle.lh_file.specs.Words.Views.{spent}
+use Rattle.lh_file.specs.declared.words.numbers.FileWords.{FileWords}
+use Rattle.lh_file.specs.declared.words.sizes.Sizes.{Sizes}
+use Rattle.lh_file.specs.declared.words.view.View.{View}
+use Rattle.lh_file.proofs.OfWords.Lists.{total-set, terms_le}
+
+abbrev pub Words : Type 0
+Words = State (Unit {0}) View
+
+-- the words go from `old` to `new`, and one hand's view from v to w
+pub record Change (initial max : ℕ) (old new : FileWords) (v w : View) : Type 0 where
+  pub least : initial ≤ buckets_of new.root
+  pub greatest : buckets_of new.root + new.root % 2 ≤ max
+  pub rises : buckets_of old.root ≤ buckets_of new.root
+  pub known : w.known ≤ buckets_of new.root
+  pub right : rights_of w + old.root % 2 ≡ new.root % 2 + rights_of v
+  pub exact : w.has_right ≡ true → w.known ≡ buckets_of new.root
+  -- another hand's size stays, unless this one has the right
+  pub alone : (buckets_of new.root ≡ buckets_of old.root) ⊎ (v.has_right ≡ true)
+  pub live : 0 < v.initial
+  pub limits : (w.initial ≡ v.initial) × (w.max ≡ v.max)
+  pub once : (x : ℕ) → times x w.stamps + once_below x old.stamps ≡ once_below x new.stamps + times x v.stamps
+  pub drawn : length w.stamps + old.stamps ≡ new.stamps + length v.stamps
+  pub budget : new.stamps + w.left ≡ old.stamps + v.left
+  pub inserts : w.inserted + old.inserts ≡ new.inserts + v.inserted
+  pub deletes : w.deleted + old.deletes ≡ new.deletes + v.deleted
+  pub few : w.inserted + w.deleted ≤ length w.stamps
+
+-- a fact of every view holds after one changed, and after one came
+pub each_set : (P : View → Type 0) (l : List View) (id : ℕ) (w : View) → Each l P → P w → Each (set l id w) P
+each_set P l id w all here j u e = ⊎_elim
+    (λ (t : (j ≡ id) × (w ≡ u)). subst P t.1 here)
+    (λ (t : (j ≢ id) × (get_elem? l j ≡ some u)). all j u t.1)
+    (at_set l id j w u e)
+
+pub each_snoc : (P : View → Type 0) (l : List View) (w : View) → Each l P → P w → Each (l ++ w ∷ []) P
+each_snoc P l w all here j u e = ⊎_elim (λ (t : get_elem? l j ≡ some u). all j u t) (λ (t : w ≡ u). subst P t here) (at_snoc l w u j e)
+
+pub rights-one : (v : View) → v.has_right ≡ true → rights_of v ≡ 1
+rights-one v e = ap (λ b. cond b 1 0) e
+
+pub rights-none : (v : View) → v.has_right ≡ false → rights_of v ≡ 0
+rights-none v e = ap (λ b. cond b 1 0) e
+
+none_left : (b : Bool) (n : ℕ) → n ≡ cond b 1 0 → n ≡ 0 → b ≡ false
+none_left true n e z = absurd (omega arith)
+none_left false n e z = refl
+
+pub no_right : (v : View) → rights_of v ≡ 0 → v.has_right ≡ false
+no_right v z = none_left v.has_right (rights_of v) refl z
+
+module _ (initial max : ℕ) where
+  pub limits_of : (words : FileWords) (views : List View) → IsRule initial max words views → (id : ℕ) (v : View) → get_elem? views id ≡ some v → 0 < v.initial → HasLimits initial max v
+  limits_of words views rule id v me live = ⊎_elim
+      (λ (e : v ≡ spent). let z = ap (λ (u : View). u.initial) e in absurd (omega arith))
+      (λ (h : HasLimits initial max v). h)
+      (rule.limits id v me)
+
+  pub changed : (old new : FileWords) (views : List View) (id : ℕ) (v w : View) → IsRule initial max old views → get_elem? views id ≡ some v
+      → Change initial max old new v w → IsRule initial max new (set views id w)
+  changed old new views id v w rule me c = record {
+    least = c.least;
+    greatest = c.greatest;
+    known = λ j u e. ⊎_elim (λ (t : (j ≡ id) × (w ≡ u)). subst (λ (z : View). z.known ≤ buckets_of new.root) t.1 c.known)
+        (λ (t : (j ≢ id) × (get_elem? views j ≡ some u)). let low = rule.known j u t.1 in let up = c.rises in omega arith)
+        (at_set views id j w u e);
+    right = let a = total-set rights_of views id v w me in let b = rule.right in let r = c.right in omega arith;
+    exact = λ j u e has. ⊎_elim (λ (t : (j ≡ id) × (w ≡ u)). subst (λ (z : View). z.has_right ≡ true → z.known ≡ buckets_of new.root) t.1 c.exact has)
+        (λ (t : (j ≢ id) × (get_elem? views j ≡ some u)). ⊎_elim (λ (same : buckets_of new.root ≡ buckets_of old.root). rule.exact j u t.1 has ∙ sym same)
+        (λ (mine : v.has_right ≡ true). let two = terms_le rights_of views id j v u t.0 me t.1 in let p = rights-one v mine in let q = rights-one u has in let r = rule.right in absurd (omega arith))
+        c.alone)
+        (at_set views id j w u e);
+    limits = each_set (λ u. (u ≡ spent) ⊎ HasLimits initial max u) views id w rule.limits
+        (let had = limits_of old views rule id v me c.live in inr (c.limits.0 ∙ had.0, c.limits.1 ∙ had.1));
+    once = λ x. let a = total-set (λ (u : View). times x u.stamps) views id v w me in let b = rule.once x in let d = c.once x in omega arith;
+    drawn = let a = total-set (λ (u : View). length u.stamps) views id v w me in let b = rule.drawn in let d = c.drawn in omega arith;
+    budget = let a = total-set (λ (u : View). u.left) views id v w me in let b = rule.budget in let d = c.budget in omega arith;
+    inserts = let a = total-set (λ (u : View). u.inserted) views id v w me in let b = rule.inserts in let d = c.inserts in omega arith;
+    deletes = let a = total-set (λ (u : View). u.deleted) views id v w me in let b = rule.deletes in let d = c.deletes in omega arith;
+    few = each_set (λ u. u.inserted + u.deleted ≤ length u.stamps) views id w rule.few c.few;
+  }
+
+-- one word of the table is stored, and the others stay
+pub root_stored : (ws : List ℕ) (n m : ℕ) → length ws ≡ 32 → n ≡ m → words_of (set ws 0 n) ≡ record (words_of ws) { root = m }
+root_stored ws n m wide e i = record {
+  root = (get_or-set_same ws 0 n 0 (omega arith) ∙ e) i;
+  stamps = get_or-set_other ws 0 8 n 0 (λ e. omega arith) i;
+  inserts = get_or-set_other ws 0 16 n 0 (λ e. omega arith) i;
+  deletes = get_or-set_other ws 0 24 n 0 (λ e. omega arith) i;
+}
+
+pub stamps_stored : (ws : List ℕ) (n m : ℕ) → length ws ≡ 32 → n ≡ m → words_of (set ws 8 n) ≡ record (words_of ws) { stamps = m }
+stamps_stored ws n m wide e i = record {
+  root = get_or-set_other ws 8 0 n 0 (λ e. omega arith) i;
+  stamps = (get_or-set_same ws 8 n 0 (omega arith) ∙ e) i;
+  inserts = get_or-set_other ws 8 16 n 0 (λ e. omega arith) i;
+  deletes = get_or-set_other ws 8 24 n 0 (λ e. omega arith) i;
+}
+
+pub inserts_stored : (ws : List ℕ) (n m : ℕ) → length ws ≡ 32 → n ≡ m → words_of (set ws 16 n) ≡ record (words_of ws) { inserts = m }
+inserts_stored ws n m wide e i = record {
+  root = get_or-set_other ws 16 0 n 0 (λ e. omega arith) i;
+  stamps = get_or-set_other ws 16 8 n 0 (λ e. omega arith) i;
+  inserts = (get_or-set_same ws 16 n 0 (omega arith) ∙ e) i;
+  deletes = get_or-set_other ws 16 24 n 0 (λ e. omega arith) i;
+}
+
+pub deletes_stored : (ws : List ℕ) (n m : ℕ) → length ws ≡ 32 → n ≡ m → words_of (set ws 24 n) ≡ record (words_of ws) { deletes = m }
+deletes_stored ws n m wide e i = record {
+  root = get_or-set_other ws 24 0 n 0 (λ e. omega arith) i;
+  stamps = get_or-set_other ws 24 8 n 0 (λ e. omega arith) i;
+  inserts = get_or-set_other ws 24 16 n 0 (λ e. omega arith) i;
+  deletes = (get_or-set_same ws 24 n 0 (omega arith) ∙ e) i;
+}
+
+-- the rule holds of a table after a step on the word i that stores n
+pub after_step : (k : Sizes) (s : Words) (o : Holds k s) (i id n : ℕ) (m : Seated) (w : View) (new : FileWords)
+    → get_elem? s.views id ≡ some m.0 → words_of (set s.words i n) ≡ new → Change k.initial k.max (words_of s.words) new m.0 w
+    → Holds k (stepped s i n id m.1 w Rattle.atomic_table.specs.Table.keeps)
+after_step k s o i id n m w new me is c = record {
+  wide = length-set s.words i n ∙ o.wide;
+  rule = subst (λ (z : FileWords). IsRule k.initial k.max z (set s.views id w)) (sym is)
+      (changed k.initial k.max (words_of s.words) new s.views id m.0 w o.rule me c);
+}

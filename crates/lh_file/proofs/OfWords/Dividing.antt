@@ -1,0 +1,98 @@
+-- A division of a hand, a union of two, and the opening keep the rule
+use Rattle.std.proofs.Common.{◌≡◌, ◌≢◌, ℕ, ◌+◌, ◌*◌, ◌<◌, ◌≤◌, ◌⊎◌, true, false, List, [], ◌∷◌, ◌++◌, length, set, sym, refl, subst, inl, inr, ⊎_elim, arith, length-append, replicate}
+use mathlib.Core.Option.{some, some-ne-none}
+use lib.ListN.{get_elem?}
+use Rattle.atomic_table.specs.Table.{Splits, Joins, opening}
+use Rattle.atomic_table.proofs.Lists.{at_set}
+use Rattle.lh_addr.specs.RootWord.{buckets_of}
+use Rattle.lh_file.specs.Words.Sums.{total, times}
+use Rattle.lh_file.specs.Words.Rule.{Each, rights_of, HasLimits, IsRule, words_of, Holds}
+use Rattle.lh_file.specs.Words.Views.{first_view, spent, lessened, branch, joined}
+use Rattle.lh_file.specs.declared.words.numbers.FileWords.{FileWords}
+use Rattle.lh_file.specs.declared.words.sizes.Sizes.{Sizes}
+use Rattle.lh_file.specs.declared.words.view.View.{View}
+use Rattle.lh_file.proofs.OfWords.Lists.{total-append, total-set, times-append, once-no}
+use Rattle.lh_file.proofs.OfWords.Changes.{limits_of, rights-none, each_set, each_snoc}
+
+-- a sum over the views, after one was divided
+divided : (g : View → ℕ) (l : List View) (id : ℕ) (v a b : View) → get_elem? l id ≡ some v → total g (set l id a ++ b ∷ []) + g v ≡ total g l + g a + g b
+divided g l id v a b me = omega (arith, total-append g (set l id a) (b ∷ []), total-set g l id v a me)
+
+-- a sum over the views, after two became one
+united : (g : View → ℕ) (l : List View) (id other : ℕ) (v w a b : View) → get_elem? l id ≡ some v → get_elem? (set l id a) other ≡ some w → total g (set (set l id a) other b) + g v + g w ≡ total g l + g a + g b
+united g l id other v w a b me it = omega (arith, total-set g l id v a me, total-set g (set l id a) other w b it)
+
+module _ (initial max : ℕ) where
+  divides : (words : FileWords) (views : List View) (id calls : ℕ) (v : View) → IsRule initial max words views → get_elem? views id ≡ some v → 0 < v.initial → calls ≤ v.left
+      → IsRule initial max words (set views id (lessened calls v) ++ branch calls v ∷ [])
+  divides words vs id calls v o me live enough = let has : HasLimits initial max v = limits_of initial max words vs o id v me live in let a : View = lessened calls v in let b : View = branch calls v in let size : ℕ = buckets_of words.root in
+      let every = λ (P : View → Type 0) (all : Each vs P) (l : P a) (r : P b). each_snoc P (set vs id a) b (each_set P vs id a all l) r in record {
+        least = o.least;
+        greatest = o.greatest;
+        known = every (λ u. u.known ≤ size) o.known (o.known id v me) (o.known id v me);
+        right = omega (arith, divided rights_of vs id v a b me, o.right);
+        exact = every (λ u. u.has_right ≡ true → u.known ≡ size) o.exact (o.exact id v me) (λ (no : false ≡ true). absurd (cc));
+        limits = every (λ u. (u ≡ spent) ⊎ HasLimits initial max u) o.limits (inr has) (inr has);
+        once = λ x. omega (arith, divided (λ (u : View). times x u.stamps) vs id v a b me, o.once x);
+        drawn = omega (arith, divided (λ (u : View). length u.stamps) vs id v a b me, o.drawn);
+        budget = omega (arith, divided (λ (u : View). u.left) vs id v a b me, o.budget);
+        inserts = omega (arith, divided (λ (u : View). u.inserted) vs id v a b me, o.inserts);
+        deletes = omega (arith, divided (λ (u : View). u.deleted) vs id v a b me, o.deletes);
+        few = every (λ u. u.inserted + u.deleted ≤ length u.stamps) o.few (o.few id v me) (omega arith);
+      }
+
+  unites : (words : FileWords) (views : List View) (id other : ℕ) (v w : View) → IsRule initial max words views → get_elem? views id ≡ some v → other ≢ id
+      → get_elem? (set views id (joined v w)) other ≡ some w → 0 < v.initial → w.has_right ≡ false → IsRule initial max words (set (set views id (joined v w)) other spent)
+  unites words vs id other v w o me apart it live none_there = let a : View = joined v w in let size : ℕ = buckets_of words.root in
+      let itself : get_elem? vs other ≡ some w = ⊎_elim (λ (t : (other ≡ id) × (a ≡ w)). absurd (apart t.0)) (λ (t : (other ≢ id) × (get_elem? vs other ≡ some w)). t.1) (at_set vs id other a w it) in
+      let every = λ (P : View → Type 0) (all : Each vs P) (l : P a) (r : P spent). each_set P (set vs id a) other spent (each_set P vs id a all l) r in
+      let no_right = rights-none w none_there in let kv = o.known id v me in let kw = o.known other w itself in let fv = o.few id v me in let fw = o.few other w itself in
+      let len = length-append v.stamps w.stamps in record {
+        least = o.least;
+        greatest = o.greatest;
+        known = every (λ u. u.known ≤ size) o.known (omega arith) (omega arith);
+        right = omega (arith, united rights_of vs id other v w a spent me it, o.right);
+        exact = every (λ u. u.has_right ≡ true → u.known ≡ size) o.exact (λ has. let e = o.exact id v me has in omega arith) (λ (no : false ≡ true). absurd (cc));
+        limits = every (λ u. (u ≡ spent) ⊎ HasLimits initial max u) o.limits (inr (limits_of initial max words vs o id v me live)) (inl refl);
+        once = λ x. omega (arith, united (λ (u : View). times x u.stamps) vs id other v w a spent me it, times-append x v.stamps w.stamps, o.once x);
+        drawn = omega (arith, united (λ (u : View). length u.stamps) vs id other v w a spent me it, o.drawn);
+        budget = omega (arith, united (λ (u : View). u.left) vs id other v w a spent me it, o.budget);
+        inserts = omega (arith, united (λ (u : View). u.inserted) vs id other v w a spent me it, o.inserts);
+        deletes = omega (arith, united (λ (u : View). u.deleted) vs id other v w a spent me it, o.deletes);
+        few = every (λ u. u.inserted + u.deleted ≤ length u.stamps) o.few (omega arith) (omega arith);
+      }
+
+pub splits : (k : Sizes) (calls id : ℕ) (v : View) → 0 < v.initial → calls ≤ v.left → Splits (Holds k) id v (lessened calls v) (branch calls v)
+splits k calls id v live enough s o me = record { wide = o.wide; rule = divides k.initial k.max (words_of s.words) s.views id calls v o.rule me live enough }
+
+pub joins : (k : Sizes) (id other : ℕ) (v w : View) → 0 < v.initial → w.has_right ≡ false → Joins (Holds k) id v other w (joined v w) spent
+joins k id other v w live none_there s o me apart it = record { wide = o.wide; rule = unites k.initial k.max (words_of s.words) s.views id other v w o.rule me apart it live none_there }
+
+-- a file's words when it is opened
+opened : (k : Sizes) → k.initial ≤ k.opened → k.opened ≤ k.max → IsRule k.initial k.max (record { root = 2 * k.opened; stamps = 0; inserts = 0; deletes = 0 }) (first_view k ∷ [])
+opened k low high = record {
+  least = omega arith;
+  greatest = omega arith;
+  known = only (λ u. u.known ≤ buckets_of (2 * k.opened)) (omega arith);
+  right = omega arith;
+  exact = only (λ u. u.has_right ≡ true → u.known ≡ buckets_of (2 * k.opened)) (λ (no : false ≡ true). absurd (cc));
+  limits = only (λ u. (u ≡ spent) ⊎ HasLimits k.initial k.max u) (inr (refl, refl));
+  once = λ x. sym (once-no x 0 (omega arith));
+  drawn = refl;
+  budget = refl;
+  inserts = refl;
+  deletes = refl;
+  few = only (λ u. u.inserted + u.deleted ≤ length u.stamps) (omega arith);
+}
+  where
+    nothing : (P : View → Type 0) → Each [] P
+    nothing P j u e = absurd (some-ne-none u (sym e))
+
+    only : (P : View → Type 0) → P (first_view k) → Each (first_view k ∷ []) P
+    only P here = each_snoc P [] (first_view k) (nothing P) here
+
+pub opens : (k : Sizes) (word : ℕ) → word ≡ 2 * k.opened → k.initial ≤ k.opened → k.opened ≤ k.max → Holds k (opening (set (replicate 32 0) 0 word) [] (first_view k))
+opens k word is low high = record {
+  wide = refl;
+  rule = subst (λ (n : ℕ). IsRule k.initial k.max (record { root = n; stamps = 0; inserts = 0; deletes = 0 }) (first_view k ∷ [])) (sym is) (opened k low high);
+}

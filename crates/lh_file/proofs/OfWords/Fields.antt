@@ -1,0 +1,49 @@
+-- What the fields of a file and of a hand of it say together
+use Rattle.std.proofs.Common.{◌≡◌, ℕ, ◌+◌, ◌<◌, ◌≤◌, ◌^◌, ◌%◌, true, false, [], ◌∷◌, length, sym, ap, subst, arith, length-append, eq-eqb}
+use mathlib.Core.Logic.{dite}
+use native.Mathlib.Decide.{ℕ_discrete}
+use Rattle.atomic_table.specs.Table.{Step}
+use Rattle.lh_addr.specs.RootWord.{split_of}
+use Rattle.lh_file.specs.FileState.{FileState, IsOf}
+use Rattle.lh_file.specs.Words.Hand.{state_of as hand_state}
+use Rattle.lh_file.specs.Words.HandState.{HandState, knowing}
+use Rattle.lh_file.specs.Words.Plays.{Seated, stamped}
+use Rattle.lh_file.specs.Words.Fields.{state_of as file_state, IsFile}
+use Rattle.lh_file.specs.declared.words.hand.Hand.TheInside as hand
+use Rattle.lh_file.specs.declared.words.Words.TheInside as words
+
+-- the hand's fields are of the file's
+pub is_of : (f : words.Inside) (h : hand.Inside) (F : FileState) (H : HandState) → file_state f ≡ F → hand_state h ≡ H → IsOf F H → IsOf (file_state f) (hand_state h)
+is_of f h F H e d is = subst (λ (x : FileState). IsOf x (hand_state h)) (sym e) (subst (IsOf F) (sym d) is)
+
+pub has_word : (f : words.Inside) → IsFile f → (i : ℕ) → i < 32 → i < f.table.shared.table_id.words
+has_word f is i h = let w = is.words in omega arith
+
+pub small : (f : words.Inside) → IsFile f → f.table.shared.key.max < 2 ^ 32
+small f is = let range = is.in_range.max.1 in let same = is.max in omega arith
+
+pub righted : (h : hand.Inside) (H : HandState) → hand_state h ≡ H → H.view.has_right ≡ true → h.seat.me.0.has_right ≡ true
+righted h H e has = subst (λ (x : HandState). x.view.has_right ≡ true) (sym e) has
+
+pub unrighted : (h : hand.Inside) (H : HandState) → hand_state h ≡ H → H.view.has_right ≡ false → h.seat.me.0.has_right ≡ false
+unrighted h H e has = subst (λ (x : HandState). x.view.has_right ≡ false) (sym e) has
+
+-- a hand of a file is one still when it knows more
+pub known_more : (F : FileState) (old new : HandState) (size : ℕ) → IsOf F old → new ≡ knowing old size → IsOf F new
+known_more F old new size is same = subst (IsOf F) (sym same) (record { table = is.table; initial = is.initial; max = is.max; recording = is.recording })
+
+pub some_left : (h : hand.Inside) (H : HandState) → hand_state h ≡ H → 1 ≤ H.view.left → 0 < h.seat.me.0.left
+some_left h H e more = let is = ap (λ (x : HandState). x.view.left) e in omega arith
+
+-- after a stamp a hand may count one more
+pub room_after : (st : Step (Unit {0})) (m n : Seated) (stamp : ℕ) → stamped st m stamp n → n.0.inserted + n.0.deleted < length n.0.stamps
+room_after st m n stamp told = let few = told.1 in subst (λ (z : Seated). z.0.inserted + z.0.deleted < length z.0.stamps) (sym told.2) (omega (arith, length-append m.0.stamps (stamp ∷ [])))
+
+pub still_live : (new old : ℕ) → new ≡ old → 0 < old → 0 < new
+still_live new old e live = omega arith
+
+-- the root word is even where nobody has the right to split
+pub even : (word : ℕ) → split_of word ≡ false → word % 2 ≡ 0
+even word e = dite (ℕ_discrete (word % 2) 1)
+    (λ odd. let is = eq-eqb (word % 2) 1 odd in absurd (cc))
+    (λ not_odd. omega arith)

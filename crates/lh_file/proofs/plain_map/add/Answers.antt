@@ -1,5 +1,0 @@
-use Rattle.lh_file.proofs.Tables.{inserted}
-use Rattle.lh_file.proofs.plain_map.add.Goals as goal
-
-pub returns : goal.returns
-returns c = inserted c.args.records.now.entries c.insert.new.self.entries c.args.key c.args.value c.in_ok-insert.ensures.updates.0

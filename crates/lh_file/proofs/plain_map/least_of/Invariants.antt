@@ -1,7 +1,0 @@
-use Rattle.std.proofs.Common.{map}
-use Rattle.std.specs.Map.Iter.{deref}
-use Rattle.lh_file.proofs.Tables.{IsLeast}
-use Rattle.lh_file.proofs.plain_map.least_of.Given as goal
-
-abbrev pub invariant-loop-name : goal.invariant-loop-name
-invariant-loop-name l = IsLeast (map deref l.yielded) l.least

@@ -1,8 +1,0 @@
-use Rattle.std.proofs.Common.{◌≡◌, take}
-use Rattle.lh_bucket.specs.Listing.{list_at}
-use Rattle.lh_bucket.specs.PlainMap.{outcome}
-use Rattle.lh_file.specs.Replay.{inserts_of}
-use Rattle.lh_file.proofs.replay.load_bucket.Given as goal
-
-abbrev pub invariant-loop-place : goal.invariant-loop-place
-invariant-loop-place l = l.records ≡ outcome l.initial.records (inserts_of (take l.place (list_at l.listing.lists l.bucket)))

@@ -1,0 +1,2 @@
+-- How the buckets of a running file stand in segments
+pub mod Segments

@@ -1,0 +1,47 @@
+-- What contracts see of a hand
+use Rattle.std.specs.Prelude.{◌≡◌, ℕ, Bool, List, [], ◌++◌}
+use Rattle.atomic_table.specs.Seated.{TableId}
+use Rattle.lh_file.specs.Words.Views.{rooted, branch, joined}
+use Rattle.lh_file.specs.declared.act.ActLine.{ActLine}
+use Rattle.lh_file.specs.declared.words.view.View.{View}
+
+-- the table that a hand belongs to, what the rule knows of it, whether its file records, the acts that it keeps, and for how many more it has room
+pub record HandState : Type 0 where
+  pub table : TableId
+  pub view : View
+  pub recording : Bool
+  pub acts : List ActLine
+  pub room : ℕ
+
+-- the same hand, of which the rule knows this
+abbrev pub seeing : HandState → View → HandState
+seeing hand view = record hand { view = view }
+
+-- the same hand, which has seen so many buckets
+abbrev pub knowing : HandState → ℕ → HandState
+knowing hand buckets = seeing hand (rooted hand.view buckets hand.view.has_right)
+
+-- the same hand, with the right to split or without it
+abbrev pub with_right : HandState → Bool → HandState
+with_right hand has_right = seeing hand (rooted hand.view hand.view.known has_right)
+
+-- the same hand, with whatever room for acts
+pub record IsSame (old new : HandState) : Type 0 where
+  pub table : new.table ≡ old.table
+  pub recording : new.recording ≡ old.recording
+  pub view : new.view ≡ old.view
+  pub acts : new.acts ≡ old.acts
+
+-- a hand that got so many calls of another: it knows the root that the other knows, has no right and no stamps, and has done nothing
+pub record IsBranch (calls : ℕ) (old new : HandState) : Type 0 where
+  pub table : new.table ≡ old.table
+  pub recording : new.recording ≡ old.recording
+  pub view : new.view ≡ branch calls old.view
+  pub acts : new.acts ≡ []
+
+-- two hands in one
+pub record IsJoined (first second new : HandState) : Type 0 where
+  pub table : new.table ≡ first.table
+  pub recording : new.recording ≡ first.recording
+  pub view : new.view ≡ joined first.view second.view
+  pub acts : new.acts ≡ first.acts ++ second.acts

@@ -1,0 +1,136 @@
+//! Searches, inserts and deletes.
+ghost use Rattle.std.specs.Prelude.{◌≡◌, ◌≤◌};
+ghost use Rattle.std.specs.Sync.RwLock.{read_guard_value};
+ghost use Rattle.lh_bucket.specs.declared.call.Call.TheVariants as call;
+ghost use Rattle.lh_bucket.specs.declared.verdict.Verdict.TheVariants.{Here};
+ghost use Rattle.lh_bucket.specs.Bucket.{verdict};
+ghost use Rattle.lh_bucket.specs.PlainMap.{IsSearch};
+ghost use Rattle.lh_file.specs.Calls.Aiming.{IsAimOf, IsReady};
+ghost use Rattle.lh_file.specs.FileState.{IsOf};
+ghost use Rattle.lh_file.specs.Calls.Served.{HasLooked, HasServed, Serves};
+
+use crate::calls::aim::Aim;
+use crate::calls::parts;
+use crate::fault::FileFault;
+use crate::file::HashFile;
+use crate::gate::{Gate, Point};
+use crate::words::hand::Hand;
+use crate::words::right::Right;
+use lh_bucket::{Answer, Call, PagedBucket, Reply};
+use lh_page::{Key, Value};
+use std::sync::{RwLockReadGuard, RwLockWriteGuard, Wait};
+
+impl<G: Gate> HashFile<G> {
+    /// Searches for a key: the answer's reply is the value, or that the key is absent.
+    pub fn search<R: Wait>(&self, rt: &R, hand: &mut Hand, key: Key) -> Result<Answer, FileFault>
+        requires { IsOf self.now.state hand.old }
+        ensures { Serves self.now.state hand.old (call.Search key) result hand.new }
+    {
+        let call = Call::Search(key);
+        let aim = self.begin(hand, &call)?;
+        let (guard, aim) = self.walk::<RwLockReadGuard<PagedBucket>, R>(rt, aim)?;
+        Ok(self.look(guard, hand, &call, aim))
+    }
+
+    /// Inserts a record, unless the key is there. Where the load of the file asks for it afterwards, the
+    /// call also asks for the right to split, and splits a bucket if it gets it; whether that succeeds
+    /// makes no difference to the answer.
+    pub fn insert<R: Wait>(
+        &self,
+        rt: &R,
+        hand: &mut Hand,
+        key: Key,
+        value: Value,
+    ) -> Result<Answer, FileFault>
+        requires { IsOf self.now.state hand.old }
+        ensures { Serves self.now.state hand.old (call.Insert key value) result hand.new }
+    {
+        let answer = self.change(rt, hand, &Call::Insert(key, value))?;
+        if answer.reply() == Reply::Inserted {
+            self.grow(rt, hand);
+        }
+        Ok(answer)
+    }
+
+    /// Deletes a record: the answer's reply is whether the key was there.
+    pub fn delete<R: Wait>(&self, rt: &R, hand: &mut Hand, key: Key) -> Result<Answer, FileFault>
+        requires { IsOf self.now.state hand.old }
+        ensures { Serves self.now.state hand.old (call.Delete key) result hand.new }
+    {
+        self.change(rt, hand, &Call::Delete(key))
+    }
+
+    /// Serves a call that may change its bucket.
+    // Inlined in an insert and in a delete, each of which knows its call.
+    #[inline(always)]
+    fn change<R: Wait>(&self, rt: &R, hand: &mut Hand, call: &Call) -> Result<Answer, FileFault>
+        requires { IsOf self.now.state hand.old }
+        ensures { Serves self.now.state hand.old call.now result hand.new }
+    {
+        let aim = self.begin(hand, call)?;
+        let (mut guard, aim) = self.walk::<RwLockWriteGuard<PagedBucket>, R>(rt, aim)?;
+        match parts::act_on(self, &mut guard, hand, call, aim.level) {
+            Ok(answer) => {
+                self.gate.at(Point::Acted { bucket: aim.bucket });
+                self.release(guard, aim);
+                Ok(answer)
+            }
+            Err(fault) => {
+                self.release(guard, aim);
+                Err(FileFault::from(fault))
+            }
+        }
+    }
+
+    /// Answers a search at its bucket, and drops the bucket's lock.
+    fn look(
+        &self,
+        guard: RwLockReadGuard<'_, PagedBucket>,
+        hand: &mut Hand,
+        call: &Call,
+        aim: Aim,
+    ) -> Answer
+        requires ready { IsReady self.now.state hand.old }
+        requires aim { IsAimOf call.now aim }
+        requires search { IsSearch call.now }
+        requires here { verdict (read_guard_value guard).head aim.code aim.level ≡ Here }
+        ensures call { result.call ≡ call.now }
+        ensures served { HasServed hand.old result.call result.reply hand.new }
+        ensures of { IsOf self.now.state hand.new }
+    {
+        let answer = parts::look_on(self, &guard, hand, call, aim.level);
+        self.gate.at(Point::Acted { bucket: aim.bucket });
+        self.release(guard, aim);
+        answer
+    }
+
+    /// Drops the lock of the bucket that an aim led to.
+    fn release<L: Drop>(&self, guard: L, aim: Aim) {
+        // Release
+        drop(guard);
+        self.gate.at(Point::Released { bucket: aim.bucket });
+    }
+
+    /// One split, where the load of the file asks for it and the right to split is free.
+    fn grow<R: Wait>(&self, rt: &R, hand: &mut Hand)
+        requires { IsOf self.now.state hand.old }
+        ensures looked { HasLooked hand.old hand.new }
+        ensures of { IsOf self.now.state hand.new }
+    {
+        if hand.has_right() {
+            return;
+        }
+        let load = self.words.load(hand);
+        let records = load
+            .opening
+            .saturating_add(load.inserted)
+            .saturating_sub(load.deleted);
+        if !self.words.config.wants_split(records, hand.known()) {
+            return;
+        }
+        if let Right::Got { .. } = self.try_split_right(hand) {
+            // A split that fails leaves the file as it was, and without the right.
+            let _ = self.split(rt, hand);
+        }
+    }
+}

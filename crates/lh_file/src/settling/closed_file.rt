@@ -1,0 +1,143 @@
+//! Files that are closed.
+ghost use Rattle.std.specs.Prelude.{◌≡◌, ℕ, ◌+◌, ◌-◌, ◌*◌, ◌/◌, ◌%◌, ◌^◌, ◌<◌, ◌≤◌, ◌↔◌, length, map, min, take, IsTrue, IfOk, IfErr};
+
+use lh_addr::Config;
+use lh_bucket::{Listing, ListingFault, Memory};
+use lh_page::Pair;
+use std::alloc::Global;
+use std::marker::Model;
+
+/// A file that is closed: how far it had grown, how many stamps its acts drew, and the records of
+/// its buckets.
+#[derive(Debug, Drop)]
+pub struct Closed {
+    config: Config,
+    // Twice the number of buckets, and one more while a hand had the right to split.
+    root: u64,
+    stamps: u64,
+    // Buckets that were made and never filled stand behind the others, with empty lists.
+    lists: Vec<Vec<Pair>>,
+}
+
+impl Model for Closed {
+    ghost use Rattle.std.specs.Prelude.{map};
+    ghost use Rattle.lh_file.specs.Settling.ClosedFile.{ClosedFile, IsClosed};
+
+    ghost Value = { ClosedFile };
+
+    ghost view = { λ c. record { config = c.config; root = c.root; stamps = c.stamps; lists = map (λ v. v.items) c.lists.items } };
+
+    ghost invariant = { λ c. IsClosed (record { config = c.config; root = c.root; stamps = c.stamps; lists = map (λ v. v.items) c.lists.items }) };
+}
+
+/// Copies lists of records.
+fn copied(alloc: Global, lists: &[Vec<Pair>]) -> Result<Vec<Vec<Pair>>, Memory>
+    ensures { IfOk result (λ copies. map (λ v. v.items) copies.items ≡ map (λ v. v.items) lists.now) }
+{
+    let mut copies = Vec::with_capacity(alloc, lists.len())?;
+    for list in lists {
+        let copy = Vec::from_slice(alloc, list)?;
+        copies.push(copy)?;
+    }
+    Ok(copies)
+}
+
+impl Closed {
+    ghost use Rattle.lh_bucket.specs.Listing.{count_of};
+    ghost use Rattle.lh_bucket.specs.ListingFault.{IsFaultOf};
+    ghost use Rattle.lh_file.specs.Settling.ClosedFile.{IsClosed, size_of};
+
+    pub(crate) fn new(config: Config, root: u64, stamps: u64, lists: Vec<Vec<Pair>>) -> Closed
+        requires from_initial { config.initial ≤ size_of root }
+        requires to_max { size_of root ≤ config.max }
+        requires few { length lists.items ≤ config.max }
+        ensures { result ≡ record { config = config; root = root; stamps = stamps; lists = map (λ v. v.items) lists.items } }
+    {
+        let _initial = config.initial();
+        Closed {
+            config,
+            root,
+            stamps,
+            lists,
+        }
+    }
+
+    pub(crate) fn config(&self) -> Config
+        ensures value { result ≡ self.now.config }
+        ensures kept { IsClosed self.now }
+    {
+        self.config
+    }
+
+    /// The number of buckets, those of a split under way not counted twice.
+    pub fn buckets(&self) -> u32
+        ensures value { result ≡ size_of self.now.root }
+        ensures kept { IsClosed self.now }
+    {
+        (self.root / 2) as u32
+    }
+
+    /// Whether a hand had the right to split when the file was closed.
+    pub fn split_open(&self) -> bool
+        ensures value { IsTrue result ↔ (self.now.root % 2 ≡ 1) }
+        ensures kept { IsClosed self.now }
+    {
+        self.root % 2 == 1
+    }
+
+    /// The number of stamps that were drawn: how many acts there were.
+    pub fn stamps(&self) -> u64
+        ensures { result ≡ self.now.stamps }
+    {
+        self.stamps
+    }
+
+    /// The number of records in its buckets, where it is below 2^64; a memory that held more would
+    /// answer 2^64 - 1.
+    pub fn records(&self) -> u64
+        ensures { result ≡ min (count_of self.now.lists) (2 ^ 64 - 1) }
+    {
+        let mut count = 0_u64;
+        for list in &self.lists {
+            count = count.saturating_add(list.len() as u64);
+        }
+        count
+    }
+
+    /// The file as a listing of its buckets, or the first fault that its lists have as such.
+    pub fn listing(&self, alloc: Global) -> Result<Listing, ListingFault>
+        ensures ok { IfOk result (λ listing. listing ≡ record { config = self.now.config; lists = take (size_of self.now.root) self.now.lists }) }
+        ensures err { IfErr result (IsFaultOf self.now.config (size_of self.now.root) (take (size_of self.now.root) self.now.lists)) }
+    {
+        let buckets = self.buckets();
+        let end = self.lists.len().min(buckets as usize);
+        match copied(alloc, &self.lists[..end]) {
+            Ok(lists) => Listing::new(alloc, self.config, buckets, lists),
+            Err(Memory) => Err(ListingFault::Memory),
+        }
+    }
+
+    /// The file as a listing of its buckets, or the first fault that its lists have as such, like `listing`.
+    /// The records are moved, so that none is copied; with a fault they are gone.
+    pub fn into_listing(self, alloc: Global) -> Result<Listing, ListingFault>
+        ensures ok { IfOk result (λ listing. listing ≡ record { config = self.config; lists = take (size_of self.root) self.lists }) }
+        ensures err { IfErr result (IsFaultOf self.config (size_of self.root) (take (size_of self.root) self.lists)) }
+    {
+        let buckets = self.buckets();
+        let Closed {
+            config,
+            root: _,
+            stamps: _,
+            mut lists,
+        } = self;
+        lists.truncate(buckets as usize);
+        Listing::new(alloc, config, buckets, lists)
+    }
+
+    pub(crate) fn lists(&self) -> &[Vec<Pair>]
+        ensures value { map (λ v. v.items) result.now ≡ self.now.lists }
+        ensures few { length result.now ≤ 65536 }
+    {
+        &self.lists
+    }
+}

@@ -1,0 +1,76 @@
+//! The stamp word and the counts: what an act leaves in them, and how many records there are.
+ghost use Rattle.std.specs.Prelude.{◌≡◌, ◌≤◌, true, false, IsOk, OnOk, OnErr};
+
+use crate::act::ActLine;
+use crate::words::hand::Hand;
+use crate::words::load::Load;
+use crate::words::plays::{CountDelete, CountInsert, DrawStamp, LoadDeletes, LoadInserts};
+use crate::words::{DELETES, INSERTS, STAMPS, Words};
+use lh_bucket::{Call, Memory, Reply};
+
+impl Words {
+    ghost use Rattle.lh_file.specs.Words.HandState.{IsSame};
+    ghost use Rattle.lh_file.specs.FileState.{IsOf};
+    ghost use Rattle.lh_file.specs.Words.Calls.{IsLoad};
+    ghost use Rattle.lh_file.specs.Words.Recording.{IsAct};
+
+    /// Makes room for one act in the hand, where the file records.
+    pub fn make_room(&self, hand: &mut Hand) -> Result<(), Memory>
+        requires { IsOf self.now hand.old }
+        ensures same { IsSame hand.old hand.new }
+        ensures ok { OnOk result (self.now.recording ≡ true → 1 ≤ hand.new.room) }
+        ensures err { OnErr result (hand.new ≡ hand.old) }
+
+        // It is refused only where room is wanted and isn't there.
+        ensures silent { self.now.recording ≡ false → IsOk result × (hand.new ≡ hand.old) }
+        ensures roomy { 1 ≤ hand.old.room → IsOk result }
+    {
+        if self.recording {
+            hand.acts.try_reserve(1)?;
+        }
+        Ok(())
+    }
+
+    /// Notes an act that was just served: draws its stamp, counts its reply, and keeps it where the
+    /// file records.
+    pub fn record_act(&self, hand: &mut Hand, call: &Call, reply: Reply) -> u64
+        requires of { IsOf self.now hand.old }
+        requires left { 1 ≤ hand.old.view.left }
+        requires room { self.now.recording ≡ true → 1 ≤ hand.old.room }
+        ensures { IsAct hand.old result call.now reply hand.new }
+    {
+        let shared = &self.table.shared;
+        let stamp = shared.fetch_add::<DrawStamp>(&mut hand.seat, STAMPS, 1);
+        match reply {
+            Reply::Inserted => {
+                shared.fetch_add::<CountInsert>(&mut hand.seat, INSERTS, 1);
+            }
+            Reply::Deleted => {
+                shared.fetch_add::<CountDelete>(&mut hand.seat, DELETES, 1);
+            }
+            _ => {}
+        }
+        hand.left -= 1;
+        if self.recording {
+            hand.acts.push_reserved(ActLine {
+                stamp,
+                call: *call,
+                reply,
+            });
+        }
+        stamp
+    }
+
+    /// What [`HashFile::load`](crate::HashFile::load) does.
+    pub fn load(&self, hand: &mut Hand) -> Load
+        requires { IsOf self.now hand.old }
+        ensures { IsLoad self.now hand.old result hand.new }
+    {
+        let shared = &self.table.shared;
+        Load {
+            opening: self.opening,
+            inserted: shared.load::<LoadInserts>(&mut hand.seat, INSERTS),
+            deleted: shared.load::<LoadDeletes>(&mut hand.seat, DELETES),
+        }
+    }
+}

@@ -1,0 +1,66 @@
+//! Hands.
+ghost use Rattle.std.specs.Prelude.{◌≡◌, ◌+◌, ◌≤◌};
+
+use crate::act::ActLine;
+use crate::words::view::View;
+use atomic_table::Seat;
+use std::fmt;
+use std::marker::Model;
+
+/// A caller's own token of a running file. Each thread works with a hand of its own: it may make so
+/// many calls, it may have the right to split, and where the file records it keeps its acts.
+#[derive(Drop)]
+pub struct Hand {
+    pub(crate) seat: Seat<(), View>,
+    pub(crate) known: u32,
+    pub(crate) has_right: bool,
+    pub(crate) left: u64,
+    pub(crate) recording: bool,
+    pub(crate) acts: Vec<ActLine>,
+}
+
+impl Model for Hand {
+    ghost use Rattle.lh_file.specs.Words.HandState.{HandState};
+
+    ghost Value = { HandState };
+
+    ghost use Rattle.lh_file.specs.Words.Hand.{state_of, IsHand};
+
+    ghost view = { state_of };
+
+    ghost invariant = { IsHand };
+}
+
+impl Hand {
+    ghost use Rattle.lh_file.specs.Words.Rule.{rights_of};
+
+    /// How many calls the hand may still make.
+    pub fn left(&self) -> u64
+        ensures { result ≡ self.now.view.left }
+    {
+        self.left
+    }
+
+    /// Whether the hand has the right to split.
+    pub fn has_right(&self) -> bool
+        ensures { result ≡ self.now.view.has_right }
+    {
+        self.has_right
+    }
+
+    /// The greatest number of buckets that the hand has seen. It may split only below the greatest
+    /// number that the file may have.
+    pub(crate) fn known(&self) -> u32
+        ensures value { result ≡ self.now.view.known }
+        ensures least { self.now.view.initial ≤ result }
+        ensures greatest { result + rights_of self.now.view ≤ self.now.view.max }
+    {
+        self.known
+    }
+}
+
+impl fmt::Debug for Hand {
+    fn fmt<W: fmt::Write>(&self, f: &mut fmt::Formatter<W>) -> fmt::Result {
+        write!(f, "Hand({} left)", self.left)
+    }
+}

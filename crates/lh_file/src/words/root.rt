@@ -1,0 +1,103 @@
+//! The root word: the number of buckets, and the right to split.
+ghost use Rattle.std.specs.Prelude.{◌≡◌, ◌*◌, ◌+◌, ◌^◌, ◌<◌, ◌≤◌, true, false};
+
+use crate::words::hand::Hand;
+use crate::words::plays::{ClaimRight, DropRight, LoadRoot, MovePointer};
+use crate::words::right::Right;
+use crate::words::{ROOT, Words};
+use lh_addr::{Root, RootWord};
+
+impl Words {
+    ghost use Rattle.lh_addr.specs.RootWord.{buckets_of};
+    ghost use Rattle.lh_file.specs.Words.HandState.{knowing, with_right};
+    ghost use Rattle.lh_file.specs.FileState.{IsOf, IsSize, IsRootWord};
+    ghost use Rattle.lh_file.specs.Words.Calls.{IsBuckets};
+    ghost use Rattle.lh_file.specs.Words.Rights.{IsAnswer};
+
+    /// The root word as it is now.
+    fn root_word(&self, hand: &mut Hand) -> u64
+        requires { IsOf self.now hand.old }
+        ensures knows { hand.new ≡ knowing hand.old (buckets_of result) }
+        ensures rises { hand.old.view.known ≤ buckets_of result }
+        ensures range { IsRootWord self.now result }
+        ensures below { result < 2 ^ 33 }
+        ensures exact { hand.old.view.has_right ≡ true → result ≡ 2 * hand.old.view.known + 1 }
+    {
+        let word = self.table.shared.load::<LoadRoot>(&mut hand.seat, ROOT);
+        hand.known = RootWord::buckets_of(word);
+        word
+    }
+
+    /// What [`HashFile::buckets`](crate::HashFile::buckets) does.
+    pub fn buckets(&self, hand: &mut Hand) -> u32
+        requires { IsOf self.now hand.old }
+        ensures { IsBuckets self.now hand.old result hand.new }
+    {
+        let word = self.root_word(hand);
+        RootWord::buckets_of(word)
+    }
+
+    /// What [`HashFile::try_split_right`](crate::HashFile::try_split_right) does.
+    pub fn try_split_right(&self, hand: &mut Hand) -> Right
+        requires { IsOf self.now hand.old }
+        ensures { IsAnswer self.now result hand.old hand.new }
+    {
+        let word = self.root_word(hand);
+        if RootWord::split_of(word) {
+            return Right::Busy { seen: word };
+        }
+        let size = RootWord::buckets_of(word);
+        if size == self.config.max() {
+            return Right::Full;
+        }
+        // SplitBegin
+        let found = self
+            .table
+            .shared
+            .compare_exchange::<ClaimRight>(&mut hand.seat, ROOT, word, RootWord::new(size, true));
+        hand.known = RootWord::buckets_of(found);
+        if found != word {
+            return Right::Busy { seen: found };
+        }
+        hand.has_right = true;
+        let (old, new, _) = self.root_of(size).next_split();
+        Right::Got { old, new }
+    }
+
+    /// The root of the file at a size.
+    pub(crate) fn root_of(&self, size: u32) -> Root
+        requires { IsSize self.now size }
+        ensures { result ≡ record { initial = self.now.config.initial; buckets = size } }
+    {
+        match Root::new(self.config.initial(), size) {
+            Some(root) => root,
+            None => unreachable!(),
+        }
+    }
+
+    /// What [`HashFile::drop_right`](crate::HashFile::drop_right) does.
+    pub fn drop_right(&self, hand: &mut Hand)
+        requires of { IsOf self.now hand.old }
+        requires right { hand.old.view.has_right ≡ true }
+        ensures { hand.new ≡ with_right hand.old false }
+    {
+        self.table
+            .shared
+            .fetch_sub::<DropRight>(&mut hand.seat, ROOT, 1);
+        hand.has_right = false;
+    }
+
+    /// Moves the split pointer past the bucket that was divided, so that the file has one bucket more,
+    /// and gives the right to split up.
+    pub fn point(&self, hand: &mut Hand)
+        requires of { IsOf self.now hand.old }
+        requires right { hand.old.view.has_right ≡ true }
+        ensures { hand.new ≡ with_right (knowing hand.old (hand.old.view.known + 1)) false }
+    {
+        self.table
+            .shared
+            .fetch_add::<MovePointer>(&mut hand.seat, ROOT, 1);
+        hand.known += 1;
+        hand.has_right = false;
+    }
+}
