@@ -5,7 +5,7 @@ use Rattle.std.specs.Io.KnownBytes.{Appends}
 use Rattle.std.proofs.KnownBytes.{Keeps-refl}
 use Rattle.lh_addr.specs.Settings.{Settings}
 use Rattle.lh_bucket.specs.declared.call.Call.{Call as CallOf}
-use Rattle.lh_file.specs.declared.settle_fault.SettleFault.TheVariants as settle
+use Rattle.lh_file.specs.declared.settling.settle_fault.SettleFault.TheVariants as settle
 use Rattle.lh_script.specs.Commands.{command}
 use Rattle.lhash.specs.Devices.{TakesBeginning}
 use Rattle.lhash.specs.Driven.{driven_text}
