@@ -33,7 +33,7 @@ impl<G: Gate> Model for HashFile<G> {
 
 impl<G: Gate> HashFile<G> {
     ghost use Rattle.lh_file.specs.FileState.{IsOf};
-    ghost use Rattle.lh_file.specs.Words.Calls.{IsBuckets, IsLoad, IsDivided, IsUnited};
+    ghost use Rattle.lh_file.specs.Words.Calls.{IsBuckets, IsLoadOf, IsDivided, IsUnited};
     ghost use Rattle.lh_file.specs.Words.HandState.{with_right};
     ghost use Rattle.lh_file.specs.Words.Rights.{IsAnswer};
 
@@ -49,7 +49,7 @@ impl<G: Gate> HashFile<G> {
     /// How many records the file was opened with, and how many were inserted and deleted since.
     pub fn load(&self, hand: &mut Hand) -> Load
         requires { IsOf self.now.state hand.old }
-        ensures { IsLoad self.now.state hand.old result hand.new }
+        ensures { IsLoadOf self.now.state hand.old result hand.new }
     {
         self.words.load(hand)
     }

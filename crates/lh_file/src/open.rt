@@ -24,6 +24,7 @@ fn filled(alloc: Global, listing: &Listing, root: &Root, number: u32) -> Result<
     ensures head { IfOk result (λ bucket. bucket.head ≡ head_of listing.now number) }
     ensures pairs { IfOk result (λ bucket. bucket.pairs ≡ list_at listing.now.lists number) }
 {
+    // Its law: what is at home in a list of the listing is at home in the bucket, by its level.
     address_is_only_bucket();
     let config = listing.config();
     PagedBucket::filled(
@@ -66,10 +67,7 @@ impl Segments {
         ensures { IfOk result (λ segments. segments.config ≡ listing.now.config) }
     {
         let config = listing.config();
-        let root = match Root::new(config.initial(), listing.buckets()) {
-            Some(root) => root,
-            None => unreachable!(),
-        };
+        let root = listing.root();
         let segments = Segments::new(alloc, config);
         let last = segment_of(config.initial(), listing.buckets() - 1);
         for j in 0..last + 1 {

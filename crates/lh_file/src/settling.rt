@@ -23,7 +23,6 @@ use crate::settling::order::{in_order, missing_stamp};
 use crate::settling::replay::replay;
 use crate::settling::settle_fault::SettleFault;
 use crate::settling::settle_laws::settling_has_one_answer;
-use lh_addr::Root;
 use lh_addr::laws::address_is_only_bucket;
 use lh_bucket::Listing;
 use std::alloc::Global;
@@ -50,11 +49,9 @@ fn judge(
     if let Some(key) = first_stray(records, closed.lists()) {
         return Err(SettleFault::Content(key));
     }
+    // Its law: a key is at home in the bucket of its address, and in no other.
     address_is_only_bucket();
-    let root = match Root::new(closed.config().initial(), closed.buckets()) {
-        Some(root) => root,
-        None => unreachable!(),
-    };
+    let root = closed.config().root(closed.buckets());
     match first_away(&root, closed.lists()) {
         Some((bucket, key)) => Err(SettleFault::Placed { bucket, key }),
         None => Ok(History::new(history)),
@@ -84,6 +81,7 @@ pub fn settle(
     ensures settled { result ≢ Err Memory → IsOk result ↔ Settled opening.now closed.now acts.now }
     ensures fault { (fault : SettleFault) → fault ≢ Memory → result ≢ Err Memory → (result ≡ Err fault) ↔ IsDue opening.now closed.now acts.now fault }
 {
+    // Its laws make both answers exact: one history at most, and one fault.
     settling_has_one_answer();
     judge(alloc, opening, closed, acts)
 }

@@ -20,7 +20,7 @@ pub record IsBuckets (file : FileState) (old : HandState) (buckets : ℕ) (new :
   pub exact : old.view.has_right ≡ true → buckets ≡ old.view.known
 
 -- The number of records: how many the file was opened with, and how many were inserted and deleted since
-pub record IsLoad (file : FileState) (old : HandState) (load : Load) (new : HandState) : Type 0 where
+pub record IsLoadOf (file : FileState) (old : HandState) (load : Load) (new : HandState) : Type 0 where
   -- The hand is as it was.
   pub same : new ≡ old
   pub opening : load.opening ≡ file.opening

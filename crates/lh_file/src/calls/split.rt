@@ -44,6 +44,7 @@ fn divide(
     ensures old_unchanged { OnErr result (old.new ≡ old.old) }
     ensures new_unchanged { OnErr result (new.new ≡ new.old) }
 {
+    // Its law bounds the level, and makes the new number the old one and that level's size together.
     root_is_only_pair();
     let (number, added, raised) = root.next_split();
     let level = root.level();
@@ -91,7 +92,7 @@ impl<G: Gate> HashFile<G> {
         requires below { buckets < self.now.state.config.max }
         ensures fault { IfErr result IsNotSpent }
     {
-        let root = self.words.root_of(buckets);
+        let root = self.words.config.root(buckets);
         let (old, new, raised) = root.next_split();
         let old_lock = self.segments.lock_of(old, raised - 1)?;
         let new_lock = self.segments.lock_of(new, raised)?;

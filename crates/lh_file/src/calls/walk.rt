@@ -53,7 +53,7 @@ impl<G: Gate> HashFile<G> {
         // Read
         let buckets = self.words.buckets(hand);
         self.gate.at(Point::Read);
-        Aim::at(&self.words.root_of(buckets), code)
+        Aim::at(&self.words.config.root(buckets), code)
     }
 
     /// Takes the lock of the bucket that an aim leads to: goes from one bucket to the next, a level up,

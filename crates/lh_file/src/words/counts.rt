@@ -11,7 +11,7 @@ use lh_bucket::{Call, Memory, Reply};
 impl Words {
     ghost use Rattle.lh_file.specs.Words.HandState.{IsSame};
     ghost use Rattle.lh_file.specs.FileState.{IsOf};
-    ghost use Rattle.lh_file.specs.Words.Calls.{IsLoad};
+    ghost use Rattle.lh_file.specs.Words.Calls.{IsLoadOf};
     ghost use Rattle.lh_file.specs.Words.Recording.{IsAct};
 
     /// Makes room for one act in the hand, where the file records.
@@ -64,7 +64,7 @@ impl Words {
     /// What [`HashFile::load`](crate::HashFile::load) does.
     pub fn load(&self, hand: &mut Hand) -> Load
         requires { IsOf self.now hand.old }
-        ensures { IsLoad self.now hand.old result hand.new }
+        ensures { IsLoadOf self.now hand.old result hand.new }
     {
         let shared = &self.table.shared;
         Load {

@@ -5,12 +5,12 @@ use crate::words::hand::Hand;
 use crate::words::plays::{ClaimRight, DropRight, LoadRoot, MovePointer};
 use crate::words::right::Right;
 use crate::words::{ROOT, Words};
-use lh_addr::{Root, RootWord};
+use lh_addr::RootWord;
 
 impl Words {
     ghost use Rattle.lh_addr.specs.RootWord.{buckets_of};
     ghost use Rattle.lh_file.specs.Words.HandState.{knowing, with_right};
-    ghost use Rattle.lh_file.specs.FileState.{IsOf, IsSize, IsRootWord};
+    ghost use Rattle.lh_file.specs.FileState.{IsOf, IsRootWord};
     ghost use Rattle.lh_file.specs.Words.Calls.{IsBuckets};
     ghost use Rattle.lh_file.specs.Words.Rights.{IsAnswer};
 
@@ -60,19 +60,8 @@ impl Words {
             return Right::Busy { seen: found };
         }
         hand.has_right = true;
-        let (old, new, _) = self.root_of(size).next_split();
+        let (old, new, _) = self.config.root(size).next_split();
         Right::Got { old, new }
-    }
-
-    /// The root of the file at a size.
-    pub(crate) fn root_of(&self, size: u32) -> Root
-        requires { IsSize self.now size }
-        ensures { result ≡ record { initial = self.now.config.initial; buckets = size } }
-    {
-        match Root::new(self.config.initial(), size) {
-            Some(root) => root,
-            None => unreachable!(),
-        }
     }
 
     /// What [`HashFile::drop_right`](crate::HashFile::drop_right) does.

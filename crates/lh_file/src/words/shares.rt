@@ -14,8 +14,9 @@ impl Words {
     ghost use Rattle.lh_file.specs.FileState.{IsOf};
     ghost use Rattle.lh_file.specs.Words.Calls.{IsDivided, IsUnited};
 
-    /// Divides a seat: `calls` of what it may draw go to a new one.
-    fn divide<A: Amount>(&self, seat: &mut Seat<(), View>, calls: u64) -> Seat<(), View>
+    /// Divides a seat: `A.calls` of what it may draw go to a new one. A call picks that number by the last
+    /// argument.
+    fn divide<A: Amount>(&self, seat: &mut Seat<(), View>, _calls: u64) -> Seat<(), View>
         requires at { seat.old.table_id ≡ self.now.table }
         requires live { 0 < seat.old.me.0.initial }
         requires enough { A.calls ≤ seat.old.me.0.left }
@@ -24,8 +25,6 @@ impl Words {
         ensures second_table { result.table_id ≡ seat.old.table_id }
         ensures second { result.me ≡ (branch A.calls seat.old.me.0, []) }
     {
-        // Each call picks the amount by it.
-        let _ = calls;
         self.table.shared.split_seat::<Divide<A>>(seat)
     }
 
