@@ -3,7 +3,7 @@ use Rattle.std.proofs.Common.{◌≡◌, ℕ, ◌+◌, ◌-◌, ◌*◌, ◌/◌
 use Rattle.std.proofs.Math.Nat.{div-mul-le_self, mul-div-le, mul-le-mul_left}
 use Rattle.std.proofs.lemmas.Nat.{le-div}
 use Rattle.lh_addr.specs.Growth.{pointer}
-use Rattle.lh_bucket.specs.Listing.{Lists, size}
+use Rattle.lh_bucket.specs.Listing.{IsListing, Lists, size}
 use Rattle.lh_draw.specs.Columns.{column_count, first_bucket, group_size, label_step}
 use Rattle.lh_draw.specs.Drawing.{label_count}
 
@@ -58,6 +58,13 @@ label_within columns step place some h =
     let all : (columns - 1) / step * step ≤ columns - 1 = div-mul-le_self (columns - 1) step in
     let here : step * place ≤ step * ((columns - 1) / step) = mul-le-mul_left step (omega (arith, h)) in
     omega (arith, all, here, some)
+
+-- a file has a bucket at least, and 65,536 at most
+pub has_some : (l : Lists) → IsListing l → 1 ≤ size l
+has_some l h = omega (arith, h.config.initial.0, h.shape.from_initial)
+
+pub has_most : (l : Lists) → IsListing l → size l ≤ 65536
+has_most l h = omega (arith, h.config.max.1, h.shape.to_max)
 
 pub label_column : (l : Lists) (place : ℕ) → 1 ≤ size l → place < label_count l → place * label_step (size l) < column_count (size l)
 unfolding label_count

@@ -1,6 +1,7 @@
 -- The columns of a drawing: how they lie, and what is counted of their buckets
 use Rattle.std.specs.Prelude.{ℕ, ◌+◌, ◌-◌, ◌*◌, ◌/◌, min, max, Bool, nat_lt, nat_le, if◌then◌else◌, List, [], ◌∷◌, length, take, drop, sum_by}
 use Rattle.lh_addr.specs.Growth.{level, level_of}
+use Rattle.lh_page.specs.PackedList.{pages_needed}
 use Rattle.lh_page.specs.declared.pair.Pair.{Pair}
 use Rattle.lh_bucket.specs.Listing.{Lists, size, count_of}
 use Rattle.lh_draw.specs.declared.tally.Tally.{Tally}
@@ -47,9 +48,9 @@ label_step buckets = if nat_le (column_count buckets) 32 then 1 else if nat_le (
 
 -- ---- what is counted
 
--- the number of pages of a chain with some records: full ones before the last, and one page where there are no records
+-- the number of pages of a chain with some records
 abbrev pub chain_length : ℕ → List Pair → ℕ
-chain_length capacity pairs = (length pairs - 1) / capacity + 1
+chain_length capacity pairs = pages_needed capacity (length pairs)
 
 -- the greatest number of pages in one of some chains
 unfoldable pub longest_of : ℕ → List (List Pair) → ℕ

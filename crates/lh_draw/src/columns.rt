@@ -10,27 +10,14 @@ use crate::measures::{
     bar_width, centre, column_count, end_bucket, first_bucket, group_size, label_step, left,
 };
 use crate::tally::{Tally, chain_length, counted_between};
-use lh_addr::Root;
 use lh_bucket::Listing;
-
-/// The root of the file that a listing is of.
-fn root_of(listing: &Listing) -> Root
-    ensures value { result ≡ record { initial = listing.now.config.initial; buckets = size listing.now } }
-    ensures some { 1 ≤ size listing.now }
-    ensures most { size listing.now ≤ 65536 }
-{
-    match Root::new(listing.config().initial(), listing.buckets()) {
-        Some(root) => root,
-        None => unreachable!(),
-    }
-}
 
 /// Whether a bucket was split at the file's level, or came of such a split.
 fn is_next_level(listing: &Listing, bucket: u32) -> bool
     requires { bucket < size listing.now }
     ensures { result ≡ is_next_level listing.now bucket }
 {
-    let root = root_of(listing);
+    let root = listing.root();
     root.level() < root.level_of(bucket)
 }
 
@@ -75,7 +62,6 @@ pub fn canvas_of(listing: &Listing, longest: usize) -> Canvas
     requires { longest ≡ (whole_tally listing.now).longest }
     ensures { result ≡ canvas_of listing.now }
 {
-    let _ = root_of(listing);
     let buckets = listing.buckets();
     Canvas {
         width: 48 + left(buckets, column_count(buckets)).max(600),
@@ -89,7 +75,7 @@ pub fn title_of(listing: &Listing, tally: &Tally) -> Title
     requires pages { tally.now.pages < 2 ^ 96 }
     ensures { result ≡ title_of listing.now }
 {
-    let root = root_of(listing);
+    let root = listing.root();
     Title {
         buckets: listing.buckets(),
         level: root.level(),
@@ -104,7 +90,7 @@ pub fn title_of(listing: &Listing, tally: &Tally) -> Title
 pub fn legend_of(listing: &Listing) -> Legend
     ensures { result ≡ legend_of listing.now }
 {
-    let level = root_of(listing).level();
+    let level = listing.root().level();
     Legend {
         level,
         next: level + 1,
@@ -151,7 +137,6 @@ pub fn group_bar(listing: &Listing, column: u32) -> Bar
     requires { column < column_count (size listing.now) }
     ensures { result ≡ group_bar listing.now column }
 {
-    let _ = root_of(listing);
     let buckets = listing.buckets();
     let first = first_bucket(buckets, column);
     let end = end_bucket(buckets, column);
@@ -173,7 +158,6 @@ pub fn cuts_of(listing: &Listing, longest: usize) -> Cuts
     requires { longest ≡ (whole_tally listing.now).longest }
     ensures { result ≡ cuts_of listing.now }
 {
-    let _ = root_of(listing);
     let buckets = listing.buckets();
     let width = left(buckets, column_count(buckets));
     Cuts {
@@ -187,7 +171,6 @@ pub fn cuts_of(listing: &Listing, longest: usize) -> Cuts
 pub fn label_count(listing: &Listing) -> u32
     ensures { result ≡ label_count listing.now }
 {
-    let _ = root_of(listing);
     let buckets = listing.buckets();
     (column_count(buckets) - 1) / label_step(buckets) + 1
 }
@@ -197,7 +180,6 @@ pub fn label_of(listing: &Listing, place: u32) -> Label
     requires { place < label_count listing.now }
     ensures { result ≡ label_of listing.now place }
 {
-    let _ = root_of(listing);
     let buckets = listing.buckets();
     let column = place * label_step(buckets);
     Label {
@@ -210,7 +192,7 @@ pub fn label_of(listing: &Listing, place: u32) -> Label
 pub fn mark_of(listing: &Listing) -> Mark
     ensures { result ≡ mark_of listing.now }
 {
-    let pointer = root_of(listing).pointer();
+    let pointer = listing.root().pointer();
     let buckets = listing.buckets();
     Mark {
         centre: centre(buckets, pointer / group_size(buckets)),

@@ -4,6 +4,7 @@ ghost use Rattle.lh_bucket.specs.Listing.{IsListing, list_at, size};
 ghost use Rattle.lh_draw.specs.Columns.{chain_length, lists_between, tally_of};
 
 use lh_bucket::Listing;
+use lh_page::pages_needed;
 
 /// How many records and pages some buckets have, and how many pages the longest of their chains has.
 #[derive(Clone, Copy, Debug, PartialEq, Eq)]
@@ -20,8 +21,7 @@ pub fn chain_length(listing: &Listing, bucket: u32) -> usize
     ensures some { 1 ≤ result }
     ensures kept { IsListing listing.now }
 {
-    let last = listing.len_of(bucket).saturating_sub(1);
-    last / listing.config().capacity() as usize + 1
+    pages_needed(listing.len_of(bucket), listing.config().capacity())
 }
 
 /// What is counted of the buckets from one up to another.

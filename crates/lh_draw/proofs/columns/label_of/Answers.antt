@@ -2,7 +2,7 @@ use Rattle.std.proofs.Common.{◌≡◌, ◌∙◌, ℕ, ◌*◌, ◌<◌, ◌�
 use Rattle.lh_bucket.specs.Listing.{size}
 use Rattle.lh_draw.specs.Columns.{centre, column_count, first_bucket, label_step}
 use Rattle.lh_draw.specs.Drawing.{label_of}
-use Rattle.lh_draw.proofs.ColumnPlaces.{columns_few, label_column}
+use Rattle.lh_draw.proofs.ColumnPlaces.{columns_few, has_most, has_some, label_column}
 use Rattle.lh_draw.proofs.columns.label_of.Goals as goal
 
 pub overflow_mul-column : goal.overflow_mul-column
@@ -10,15 +10,15 @@ overflow_mul-column c =
     let l = c.args.listing.now in
     let step_is : c.label_step.result ≡ label_step (size l) = c.label_step.ensures.value ∙ ap label_step c.buckets-buckets.ensures.value in
     let here : c.args.place * c.label_step.result < column_count (size l) =
-    subst (λ (n : ℕ). c.args.place * n < column_count (size l)) (sym step_is) (label_column l c.args.place c.root_of.ensures.some c.requires) in
-    omega (arith, columns_few (size l) (c.args.place * c.label_step.result) c.root_of.ensures.some here, c.root_of.ensures.most)
+    subst (λ (n : ℕ). c.args.place * n < column_count (size l)) (sym step_is) (label_column l c.args.place (has_some l c.buckets-buckets.ensures.kept) c.requires) in
+    omega (arith, columns_few (size l) (c.args.place * c.label_step.result) (has_some l c.buckets-buckets.ensures.kept) here, has_most l c.buckets-buckets.ensures.kept)
 
 pub first_bucket-requires-clause-column : goal.first_bucket-requires-clause-column
 first_bucket-requires-clause-column c =
     let l = c.args.listing.now in
     let step_is : c.label_step.result ≡ label_step (size l) = c.label_step.ensures.value ∙ ap label_step c.buckets-buckets.ensures.value in
     let here : c.args.place * c.label_step.result < column_count (size l) =
-    subst (λ (n : ℕ). c.args.place * n < column_count (size l)) (sym step_is) (label_column l c.args.place c.root_of.ensures.some c.requires) in
+    subst (λ (n : ℕ). c.args.place * n < column_count (size l)) (sym step_is) (label_column l c.args.place (has_some l c.buckets-buckets.ensures.kept) c.requires) in
     subst (λ (n : ℕ). c.args.place * c.label_step.result < column_count n) (sym c.buckets-buckets.ensures.value) here
 
 pub centre-requires-clause-column : goal.centre-requires-clause-column
@@ -26,7 +26,7 @@ centre-requires-clause-column c =
     let l = c.args.listing.now in
     let step_is : c.label_step.result ≡ label_step (size l) = c.label_step.ensures.value ∙ ap label_step c.buckets-buckets.ensures.value in
     let here : c.args.place * c.label_step.result < column_count (size l) =
-    subst (λ (n : ℕ). c.args.place * n < column_count (size l)) (sym step_is) (label_column l c.args.place c.root_of.ensures.some c.requires) in
+    subst (λ (n : ℕ). c.args.place * n < column_count (size l)) (sym step_is) (label_column l c.args.place (has_some l c.buckets-buckets.ensures.kept) c.requires) in
     subst (λ (n : ℕ). c.args.place * c.label_step.result ≤ column_count n) (sym c.buckets-buckets.ensures.value) (omega (arith, here))
 
 pub returns : goal.returns
