@@ -1,0 +1,33 @@
+//! The texts of errors.
+use crate::{KeyLength, Memory, PageFault, ValueLength};
+use std::alloc::AllocError;
+use std::fmt::Display;
+use std::test::Fail;
+
+/// A text, asked for once more where memory was refused.
+fn printed<D: Display>(rt: &HostRuntime, value: &D) -> Result<String, AllocError> {
+    match format!(in rt.alloc(); "{value}") {
+        Ok(text) => Ok(text),
+        Err(AllocError) => format!(in rt.alloc(); "{value}"),
+    }
+}
+
+#[test]
+fn prints_errors(rt: HostRuntime) -> Result<(), Fail> {
+    assert_eq!(rt;
+        printed(&rt, &KeyLength { length: 31 })?.as_str(),
+        "key length 31"
+    );
+    assert_eq!(rt;
+        printed(&rt, &ValueLength { length: 41 })?.as_str(),
+        "value length 41"
+    );
+    assert_eq!(rt; printed(&rt, &Memory)?.as_str(), "no memory");
+    assert_eq!(rt; printed(&rt, &PageFault::Kind)?.as_str(), "page kind");
+    assert_eq!(rt; printed(&rt, &PageFault::Used)?.as_str(), "page used");
+    assert_eq!(rt;
+        printed(&rt, &PageFault::Slot(13))?.as_str(),
+        "page slot 13"
+    );
+    Ok(())
+}

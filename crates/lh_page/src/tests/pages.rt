@@ -1,0 +1,105 @@
+//! Pages and their bytes.
+use crate::tests::records::pair_of;
+use crate::{
+    Page, PageFault, PageHead, PageKind, Pairs, page_from_bytes, page_head, page_to_bytes,
+};
+use std::test::Fail;
+
+/// The primary page of bucket 0 at level 2, with a and e.
+fn worked_page() -> Result<Page, Fail> {
+    let mut pairs = Pairs::new();
+    pairs.push(pair_of(b"a", b"1")?);
+    pairs.push(pair_of(b"e", b"5")?);
+    Ok(Page {
+        kind: PageKind::Primary,
+        level: 2,
+        bucket: 0,
+        next: 0,
+        pairs,
+    })
+}
+
+/// Its bytes, from the format's worked example.
+fn worked_bytes() -> [u8; 1024] {
+    let mut bytes = [0; 1024];
+    bytes[..3].copy_from_slice(&[0x01, 0x02, 0x02]);
+    bytes[16..19].copy_from_slice(&[0x01, 0x01, 0x61]);
+    bytes[48] = 0x31;
+    bytes[88..91].copy_from_slice(&[0x01, 0x01, 0x65]);
+    bytes[120] = 0x35;
+    bytes
+}
+
+#[test]
+fn writes_and_reads_the_worked_bytes(rt: HostRuntime) -> Result<(), Fail> {
+    let page = worked_page()?;
+    assert_eq!(rt; page_to_bytes(&page), worked_bytes());
+    assert_eq!(rt; page_from_bytes(&worked_bytes(), 2), Ok(page));
+    let overflow = Page {
+        kind: PageKind::Overflow,
+        level: 16,
+        bucket: 65535,
+        next: 65536,
+        pairs: Pairs::new(),
+    };
+    let bytes = page_to_bytes(&overflow);
+    assert_eq!(rt;
+        &bytes[..12],
+        [2, 0, 16, 0, 0xff, 0xff, 0, 0, 0, 0, 1, 0].as_slice()
+    );
+    let head = PageHead {
+        kind: 2,
+        used: 0,
+        level: 16,
+        clear: true,
+        bucket: 65535,
+        next: 65536,
+    };
+    assert_eq!(rt; page_head(&bytes), head);
+    assert_eq!(rt; page_from_bytes(&bytes, 1), Ok(overflow));
+    Ok(())
+}
+
+#[test]
+fn names_the_first_fault(rt: HostRuntime) {
+    // Where a byte is changed, to what, and the fault that is due with room for two records.
+    let rows = [
+        (0, 3, PageFault::Kind),
+        (0, 0, PageFault::Kind),
+        (3, 1, PageFault::Kind),
+        (15, 1, PageFault::Kind),
+        (1, 3, PageFault::Used),
+        (1, 1, PageFault::Slot(1)),
+        (16, 31, PageFault::Slot(0)),
+        (16, 0, PageFault::Slot(0)),
+        (17, 41, PageFault::Slot(0)),
+        (47, 1, PageFault::Slot(0)),
+        (87, 1, PageFault::Slot(0)),
+        (160, 1, PageFault::Slot(2)),
+        (1023, 1, PageFault::Slot(13)),
+    ];
+    for (place, byte, fault) in rows {
+        let mut bytes = worked_bytes();
+        assert!(rt; place < 1024);
+        bytes[place] = byte;
+        assert_eq!(rt;
+            page_from_bytes(&bytes, 2),
+            Err(fault),
+            "byte {place} is {byte}"
+        );
+    }
+    let mut bytes = worked_bytes();
+    bytes[13] = 1;
+    assert!(rt; !page_head(&bytes).clear);
+}
+
+#[test]
+fn keeps_records_in_place(rt: HostRuntime) -> Result<(), Fail> {
+    let mut pairs = Pairs::new();
+    assert_eq!(rt; pairs.len(), 0);
+    pairs.push(pair_of(b"a", b"1")?);
+    assert_eq!(rt; pairs.len(), 1);
+    assert_eq!(rt; pairs.at(0), pair_of(b"a", b"1")?);
+    assert_ne!(rt; pairs, Pairs::new());
+    Ok(())
+}

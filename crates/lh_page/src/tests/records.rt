@@ -1,0 +1,11 @@
+//! Records that the tests make.
+use crate::{Key, Pair, Value};
+use std::test::Fail;
+
+/// The record with these bytes as its key and value.
+pub fn pair_of(key: &[u8], value: &[u8]) -> Result<Pair, Fail> {
+    Ok(Pair {
+        key: Key::new(key)?,
+        value: Value::new(value)?,
+    })
+}
