@@ -18,9 +18,9 @@ use Rattle.lh_core.specs.declared.state.WorkerState.{WorkerState}
 use Rattle.lh_core.specs.declared.state.WorkerState.TheVariants.{Idle, Called, Aimed, Holding, Acted}
 use Rattle.lh_core.specs.declared.state.SplitState.{SplitState}
 use Rattle.lh_core.specs.declared.state.SplitState.TheVariants as split
-use Rattle.lh_core.specs.State.{State, first, all_idle, level, with_place, with_splitter}
+use Rattle.lh_core.specs.State.{State, first, all_idle, level, with_worker, with_splitter}
 use Rattle.lh_core.specs.Aims.{Leads}
-use Rattle.lh_core.specs.Rules.{Moved, allowed, called, read, lock, rehash, act, release, at_place, begin_split, lock_both, move_records, free_both, point, drop_split}
+use Rattle.lh_core.specs.Rules.{WorkerStep, allowed, called, read, lock, rehash, act, release, at_worker, begin_split, lock_both, move_records, free_both, point, drop_split}
 use Rattle.lh_core.specs.Sound.{IsPhase, IsSound}
 use Rattle.lh_core.specs.Laws.{LinearHashing}
 use Rattle.lh_core.proofs.Steps.{err_ok, became, passed, step_at, all_at, written, unwritten}
@@ -43,7 +43,7 @@ phased s n f split.Locked h = inl h.0
 phased s n f split.LockedMoved h = inr h.0
 phased s n f split.Moved h = inr h.0
 
--- the aims that places take
+-- the aims that workers take
 module _ (g : LinearHashing) (s : Settings) (a : State) (h : IsSound s a) where
   pub some_filled : s.initial ≤ a.filled
   some_filled = ⊎_elim (λ (e : a.filled ≡ a.buckets). omega (arith, h.from_initial)) (λ (e : a.filled ≡ a.buckets + 1). omega (arith, h.from_initial)) (phased s a.buckets a.filled a.splitter h.phase)
@@ -103,24 +103,24 @@ module _ (g : LinearHashing) (s : Settings) (a : State) (h : IsSound s a) where
   aimed_release o (Holding c k m) y i e = subst (Leads s.initial a.filled) (became e) tt
   aimed_release o (Acted c m) y i e = subst (Leads s.initial a.filled) (became e) tt
 
-  -- a step of a place
-  pub sound_with_place : (w : ℕ) (x y : WorkerState) → slice_get a.places w ≡ Some x → Leads s.initial a.filled y → IsSound s (with_place a w y)
-  sound_with_place w x y at i = record {
+  -- a step of a worker
+  pub sound_with_worker : (w : ℕ) (x y : WorkerState) → slice_get a.workers w ≡ Some x → Leads s.initial a.filled y → IsSound s (with_worker a w y)
+  sound_with_worker w x y at i = record {
     some = h.some;
     from_initial = h.from_initial;
     to_max = h.to_max;
-    sixteen = length-set a.places w y ∙ h.sixteen;
+    sixteen = length-set a.workers w y ∙ h.sixteen;
     phase = h.phase;
     aims = λ v z e.
         ⊎_elim
-        (λ (q : v ≡ w). subst (Leads s.initial a.filled) (written a.places w y z (slice_get_within a.places w x at) (subst (λ n. slice_get (set a.places w y) n ≡ Some z) q e)) i)
-        (λ (d : v ≡ w → ⊥). h.aims v z (unwritten a.places w v y z d e))
+        (λ (q : v ≡ w). subst (Leads s.initial a.filled) (written a.workers w y z (slice_get_within a.workers w x at) (subst (λ n. slice_get (set a.workers w y) n ≡ Some z) q e)) i)
+        (λ (d : v ≡ w → ⊥). h.aims v z (unwritten a.workers w v y z d e))
         (cases_eq v w);
   }
 
   -- a step of the splitter
   abbrev SplitTo : State → Type 0
-  SplitTo b = IsSound s b × (b.places ≡ a.places)
+  SplitTo b = IsSound s b × (b.workers ≡ a.workers)
 
   sound_with_splitter : (x : SplitState) → IsPhase s a.buckets a.filled x → SplitTo (with_splitter a x)
   sound_with_splitter x p = (record { some = h.some; from_initial = h.from_initial; to_max = h.to_max; sixteen = h.sixteen; phase = p; aims = h.aims }, refl)
@@ -206,19 +206,19 @@ module _ (g : LinearHashing) (s : Settings) (a : State) (h : IsSound s a) where
     sound_drop split.Moved q e = err_ok e
 
 module _ (g : LinearHashing) (s : Settings) (a : State) (h : IsSound s a) (o : Option Effect) (b : State) where
-  sound_place : (w : ℕ) (step : WorkerState → Moved) → ((x y : WorkerState) → Leads s.initial a.filled x → step x ≡ Ok (o, y) → Leads s.initial a.filled y) → at_place a w step ≡ Ok (o, b) → IsSound s b
-  sound_place w step aims ok =
-      let (x, y, at, steps, is) = step_at a w step (slice_get a.places w) o b ok in
-      subst (IsSound s) (sym is) (sound_with_place g s a h w x y at (aims x y (h.aims w x at) steps))
+  sound_worker : (w : ℕ) (step : WorkerState → WorkerStep) → ((x y : WorkerState) → Leads s.initial a.filled x → step x ≡ Ok (o, y) → Leads s.initial a.filled y) → at_worker a w step ≡ Ok (o, b) → IsSound s b
+  sound_worker w step aims ok =
+      let (x, y, at, steps, is) = step_at a w step (slice_get a.workers w) o b ok in
+      subst (IsSound s) (sym is) (sound_with_worker g s a h w x y at (aims x y (h.aims w x at) steps))
 
   -- a sound state stays one
   pub sound_ok : (e : Event) → allowed s a e ≡ Ok (o, b) → IsSound s b
-  sound_ok (event.Call w c) ok = sound_place w (called c) (aimed_called g s a h c o) ok
-  sound_ok (event.Read w) ok = sound_place w (read s a) (aimed_read g s a h o) ok
-  sound_ok (event.Lock w) ok = sound_place w (lock s a) (aimed_lock g s a h o) ok
-  sound_ok (event.Rehash w) ok = sound_place w (rehash s a) (aimed_rehash g s a h o) ok
-  sound_ok (event.Act w) ok = sound_place w (act s a) (aimed_act g s a h o) ok
-  sound_ok (event.Release w) ok = sound_place w release (aimed_release g s a h o) ok
+  sound_ok (event.Call w c) ok = sound_worker w (called c) (aimed_called g s a h c o) ok
+  sound_ok (event.Read w) ok = sound_worker w (read s a) (aimed_read g s a h o) ok
+  sound_ok (event.Lock w) ok = sound_worker w (lock s a) (aimed_lock g s a h o) ok
+  sound_ok (event.Rehash w) ok = sound_worker w (rehash s a) (aimed_rehash g s a h o) ok
+  sound_ok (event.Act w) ok = sound_worker w (act s a) (aimed_act g s a h o) ok
+  sound_ok (event.Release w) ok = sound_worker w release (aimed_release g s a h o) ok
   sound_ok event.SplitBegin ok = (sound_begin g s a h o b a.splitter refl ok).0
   sound_ok event.SplitLock ok = (sound_lock_both g s a h o b a.splitter refl ok).0
   sound_ok event.SplitMove ok = (sound_move g s a h o b a.splitter refl ok).0

@@ -31,16 +31,16 @@ use Rattle.lh_core.specs.World.{WorldSeen, IsStep, StandsFor, reply_to, map_afte
 use Rattle.lh_core.proofs.Steps.{became, told, some_same, none_some}
 use Rattle.lh_core.proofs.Leading.{idle_filled}
 
--- place 0 does x, and nobody else does anything
+-- worker 0 does x, and nobody else does anything
 abbrev pub alone : ℕ → WorkerState → State
-alone n x = record { buckets = n; filled = n; places = x ∷ replicate 15 Idle; splitter = split.Idle }
+alone n x = record { buckets = n; filled = n; workers = x ∷ replicate 15 Idle; splitter = split.Idle }
 
 -- the splitter is in state x, and nobody else does anything
 abbrev pub waiting : ℕ → ℕ → SplitState → State
-waiting n f x = record { buckets = n; filled = f; places = replicate 16 Idle; splitter = x }
+waiting n f x = record { buckets = n; filled = f; workers = replicate 16 Idle; splitter = x }
 
 pub rest_alone : (s : Settings) (a : State) → IsPhase s a.buckets a.filled a.splitter → IsAtRest a → a ≡ alone a.buckets Idle
-rest_alone s a p r = λ i. record { buckets = a.buckets; filled = idle_filled s a p r.splitter i; places = r.places i; splitter = r.splitter i }
+rest_alone s a p r = λ i. record { buckets = a.buckets; filled = idle_filled s a p r.splitter i; workers = r.workers i; splitter = r.splitter i }
 
 no_bar : (s : Settings) (n k l m : ℕ) (c : Call) → is_barred s (alone n (Aimed c k m)) c l ≡ false
 unfolding is_barred is_held is_held_alone
@@ -176,6 +176,6 @@ module _ (v0 v1 : WorldSeen) (f0 : Effect) (h : IsWorld v0) (r : IsAtRest v0.sta
       record {
         same = at5.same;
         size = ap (λ (a : State). a.buckets) at5.state;
-        rest = record { places = ap (λ (a : State). a.places) at5.state; splitter = ap (λ (a : State). a.splitter) at5.state };
+        rest = record { workers = ap (λ (a : State). a.workers) at5.state; splitter = ap (λ (a : State). a.splitter) at5.state };
         stands = λ m p. (t4.follows m (t3.follows m (t2.follows m (t1.follows m (t0.follows m p).1).1).1).1).1;
       }

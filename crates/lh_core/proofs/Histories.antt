@@ -19,7 +19,7 @@ use Rattle.lh_core.specs.declared.state.WorkerState.{WorkerState}
 use Rattle.lh_core.specs.declared.state.WorkerState.TheVariants.{Idle, Called, Aimed, Holding, Acted}
 use Rattle.lh_core.specs.State.{State, first, level}
 use Rattle.lh_core.specs.Aims.{Leads}
-use Rattle.lh_core.specs.Rules.{Moved, allowed, called, read, lock, rehash, act, release, put, put_at, at_place}
+use Rattle.lh_core.specs.Rules.{WorkerStep, allowed, called, read, lock, rehash, act, release, put, put_at, at_worker}
 use Rattle.lh_core.specs.Log.{Entry, Log, open_call, acts, and_call}
 use Rattle.lh_core.specs.History.{outline, call_held, served_by, IsHistory}
 use Rattle.lh_core.specs.Spans.{ActLiesInSpan, ActsLieInSpans, HasRisenToAct}
@@ -29,37 +29,37 @@ use Rattle.lh_core.specs.Laws.{LinearHashing, AimsLaw, SpansLaw, RisesLaw}
 use Rattle.lh_core.proofs.Steps.{IsOther, err_ok, step_at, all_at, written, unwritten}
 use Rattle.lh_core.proofs.Tied.{IsTied, tied_other, tied_refused, tied_called, tied_read, tied_lock, tied_rehash, tied_act, tied_release}
 use Rattle.lh_core.proofs.Spans.{open_call_law}
-use Rattle.lh_core.proofs.Aiming.{first_sound, aimed_called, aimed_read, aimed_lock, aimed_rehash, aimed_act, aimed_release, sound_with_place, sound_begin, sound_lock_both, sound_move, sound_free, sound_point, sound_drop}
+use Rattle.lh_core.proofs.Aiming.{first_sound, aimed_called, aimed_read, aimed_lock, aimed_rehash, aimed_act, aimed_release, sound_with_worker, sound_begin, sound_lock_both, sound_move, sound_free, sound_point, sound_drop}
 
--- a sound state, and what the log tells of its places
+-- a sound state, and what the log tells of its workers
 pub record Told (s : Settings) (log : Log) (a : State) : Type 0 where
   pub sound : IsSound s a
-  pub tied : (w : ℕ) (x : WorkerState) → slice_get a.places w ≡ Some x → IsTied log w x
+  pub tied : (w : ℕ) (x : WorkerState) → slice_get a.workers w ≡ Some x → IsTied log w x
 
 module _ (g : LinearHashing) (s : Settings) (log : Log) (a : State) (t : Told s log a) where
-  told_place : (e : Event) (f : Effect) (v : ℕ) (step : WorkerState → Moved) (b : State) → at_place a v step ≡ Ok (outline f, b) → ((x y : WorkerState) → Leads s.initial a.filled x → step x ≡ Ok (outline f, y) → Leads s.initial a.filled y) → ((x y : WorkerState) → IsTied log v x → step x ≡ Ok (outline f, y) → IsTied ((e, Ok f) ∷ log) v y) → ((w : ℕ) → v ≢ w → IsOther w e) → Told s ((e, Ok f) ∷ log) b
-  told_place e f v step b ok aims ties others =
-      let (x, y, at, steps, is) = step_at a v step (slice_get a.places v) (outline f) b ok in
+  told_worker : (e : Event) (f : Effect) (v : ℕ) (step : WorkerState → WorkerStep) (b : State) → at_worker a v step ≡ Ok (outline f, b) → ((x y : WorkerState) → Leads s.initial a.filled x → step x ≡ Ok (outline f, y) → Leads s.initial a.filled y) → ((x y : WorkerState) → IsTied log v x → step x ≡ Ok (outline f, y) → IsTied ((e, Ok f) ∷ log) v y) → ((w : ℕ) → v ≢ w → IsOther w e) → Told s ((e, Ok f) ∷ log) b
+  told_worker e f v step b ok aims ties others =
+      let (x, y, at, steps, is) = step_at a v step (slice_get a.workers v) (outline f) b ok in
       subst (Told s ((e, Ok f) ∷ log)) (sym is)
       (record {
-        sound = sound_with_place g s a t.sound v x y at (aims x y (t.sound.aims v x at) steps);
+        sound = sound_with_worker g s a t.sound v x y at (aims x y (t.sound.aims v x at) steps);
         tied = λ w z is.
             ⊎_elim
-            (λ (q : w ≡ v). subst (λ n. IsTied ((e, Ok f) ∷ log) n z) (sym q) (subst (IsTied ((e, Ok f) ∷ log) v) (written a.places v y z (slice_get_within a.places v x at) (subst (λ n. slice_get (set a.places v y) n ≡ Some z) q is)) (ties x y (t.tied v x at) steps)))
-            (λ (d : w ≡ v → ⊥). tied_other log e f w z (others w (λ r. d (sym r))) (t.tied w z (unwritten a.places v w y z d is)))
+            (λ (q : w ≡ v). subst (λ n. IsTied ((e, Ok f) ∷ log) n z) (sym q) (subst (IsTied ((e, Ok f) ∷ log) v) (written a.workers v y z (slice_get_within a.workers v x at) (subst (λ n. slice_get (set a.workers v y) n ≡ Some z) q is)) (ties x y (t.tied v x at) steps)))
+            (λ (d : w ≡ v → ⊥). tied_other log e f w z (others w (λ r. d (sym r))) (t.tied w z (unwritten a.workers v w y z d is)))
             (cases_eq w v);
       })
 
-  told_split : (e : Event) (f : Effect) (b : State) → IsSound s b × (b.places ≡ a.places) → ((w : ℕ) → IsOther w e) → Told s ((e, Ok f) ∷ log) b
+  told_split : (e : Event) (f : Effect) (b : State) → IsSound s b × (b.workers ≡ a.workers) → ((w : ℕ) → IsOther w e) → Told s ((e, Ok f) ∷ log) b
   told_split e f b h others = record { sound = h.0; tied = λ w x is. tied_other log e f w x (others w) (t.tied w x (subst (λ ps. slice_get ps w ≡ Some x) h.1 is)) }
 
   pub told_ok : (e : Event) (f : Effect) (b : State) → allowed s a e ≡ Ok (outline f, b) → Told s ((e, Ok f) ∷ log) b
-  told_ok (event.Call w c) f b ok = told_place (event.Call w c) f w (called c) b ok (aimed_called g s a t.sound c (outline f)) (tied_called log w f c) (λ v d. d)
-  told_ok (event.Read w) f b ok = told_place (event.Read w) f w (read s a) b ok (aimed_read g s a t.sound (outline f)) (tied_read log w f s a) (λ v d. d)
-  told_ok (event.Lock w) f b ok = told_place (event.Lock w) f w (lock s a) b ok (aimed_lock g s a t.sound (outline f)) (tied_lock log w f s a) (λ v d. d)
-  told_ok (event.Rehash w) f b ok = told_place (event.Rehash w) f w (rehash s a) b ok (aimed_rehash g s a t.sound (outline f)) (tied_rehash log w f s a) (λ v d. d)
-  told_ok (event.Act w) f b ok = told_place (event.Act w) f w (act s a) b ok (aimed_act g s a t.sound (outline f)) (tied_act log w f s a) (λ v d. d)
-  told_ok (event.Release w) f b ok = told_place (event.Release w) f w release b ok (aimed_release g s a t.sound (outline f)) (tied_release log w f) (λ v d. d)
+  told_ok (event.Call w c) f b ok = told_worker (event.Call w c) f w (called c) b ok (aimed_called g s a t.sound c (outline f)) (tied_called log w f c) (λ v d. d)
+  told_ok (event.Read w) f b ok = told_worker (event.Read w) f w (read s a) b ok (aimed_read g s a t.sound (outline f)) (tied_read log w f s a) (λ v d. d)
+  told_ok (event.Lock w) f b ok = told_worker (event.Lock w) f w (lock s a) b ok (aimed_lock g s a t.sound (outline f)) (tied_lock log w f s a) (λ v d. d)
+  told_ok (event.Rehash w) f b ok = told_worker (event.Rehash w) f w (rehash s a) b ok (aimed_rehash g s a t.sound (outline f)) (tied_rehash log w f s a) (λ v d. d)
+  told_ok (event.Act w) f b ok = told_worker (event.Act w) f w (act s a) b ok (aimed_act g s a t.sound (outline f)) (tied_act log w f s a) (λ v d. d)
+  told_ok (event.Release w) f b ok = told_worker (event.Release w) f w release b ok (aimed_release g s a t.sound (outline f)) (tied_release log w f) (λ v d. d)
   told_ok event.SplitBegin f b ok = told_split event.SplitBegin f b (sound_begin g s a t.sound (outline f) b a.splitter refl ok) (λ w. tt)
   told_ok event.SplitLock f b ok = told_split event.SplitLock f b (sound_lock_both g s a t.sound (outline f) b a.splitter refl ok) (λ w. tt)
   told_ok event.SplitMove f b ok = told_split event.SplitMove f b (sound_move g s a t.sound (outline f) b a.splitter refl ok) (λ w. tt)
@@ -80,7 +80,7 @@ module _ (g : LinearHashing) (s : Settings) (log : Log) (a : State) (t : Told s 
 
   act_open : (w : ℕ) (f : Effect) (b : State) → allowed s a (event.Act w) ≡ Ok (outline f, b) → (c : Call) × (open_call w log ≡ Some c) × (served_by a (event.Act w) ≡ Some c)
   act_open w f b ok =
-      let (x, y, at, steps, is) = step_at a w (act s a) (slice_get a.places w) (outline f) b ok in
+      let (x, y, at, steps, is) = step_at a w (act s a) (slice_get a.workers w) (outline f) b ok in
       let (c, opened, held) = held_open w (outline f) x y (t.tied w x at) steps in
       (c, opened, ap call_held at ∙ held)
 
@@ -119,8 +119,8 @@ module _ (g : LinearHashing) (s : Settings) (log : Log) (a : State) (t : Told s 
   put_passed w true p o b e = err_ok e
   put_passed w false p o b e = refl
 
-  -- a place that acts holds a bucket of the level that it has come to
-  held_risen : (w : ℕ) (f : Effect) (b : State) (x : WorkerState) → slice_get a.places w ≡ Some x → allowed s a (event.Act w) ≡ Ok (outline f, b) → put_at a w (act s a) (Some x) ≡ Ok (outline f, b) → HasRisenToAct s a w log
+  -- a worker that acts holds a bucket of the level that it has come to
+  held_risen : (w : ℕ) (f : Effect) (b : State) (x : WorkerState) → slice_get a.workers w ≡ Some x → allowed s a (event.Act w) ≡ Ok (outline f, b) → put_at a w (act s a) (Some x) ≡ Ok (outline f, b) → HasRisenToAct s a w log
   held_risen w f b Idle at ok steps = err_ok steps
   held_risen w f b (Called c) at ok steps = err_ok steps
   held_risen w f b (Aimed c k m) at ok steps = err_ok steps
@@ -132,12 +132,12 @@ module _ (g : LinearHashing) (s : Settings) (log : Log) (a : State) (t : Told s 
 
   act_risen : (w : ℕ) (f : Effect) (b : State) → allowed s a (event.Act w) ≡ Ok (outline f, b) → HasRisenToAct s a w log
   act_risen w f b ok =
-      let (x, y, at, steps, is) = step_at a w (act s a) (slice_get a.places w) (outline f) b ok in
+      let (x, y, at, steps, is) = step_at a w (act s a) (slice_get a.workers w) (outline f) b ok in
       held_risen w f b x at ok (sym (ap (put_at a w (act s a)) at) ∙ ok)
 
 module _ (g : LinearHashing) (s : Settings) (one : 1 ≤ s.initial) (most : s.initial ≤ s.max) where
   pub told : (log : Log) (a : State) → IsHistory s log a → Told s log a
-  told [] a h = subst (Told s []) (sym h) (record { sound = first_sound s one most; tied = λ w x e. all_at (IsTied [] w) (first s).places w x (All-replicate (IsTied [] w) 16 Idle tt) e })
+  told [] a h = subst (Told s []) (sym h) (record { sound = first_sound s one most; tied = λ w x e. all_at (IsTied [] w) (first s).workers w x (All-replicate (IsTied [] w) 16 Idle tt) e })
   told ((e, Ok f) ∷ log) b h = told_ok g s log h.0 (told log h.0 h.1) e f b h.2
   told ((e, Err r) ∷ log) b h = told_err g s log h.0 (told log h.0 h.1) e r b h.2.0
 

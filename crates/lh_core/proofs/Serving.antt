@@ -81,7 +81,7 @@ served_none w h p = record {
   same = refl;
   replied = refl;
   size = ap (λ (a : State). a.buckets) h;
-  rest = record { places = ap (λ (a : State). a.places) h; splitter = ap (λ (a : State). a.splitter) h };
+  rest = record { workers = ap (λ (a : State). a.workers) h; splitter = ap (λ (a : State). a.splitter) h };
   stands = p;
   count = sym (len-empty (slice_cmp nat_cmp) (List ℕ));
   few = omega arith;

@@ -1,4 +1,4 @@
--- The open call of a place is the call whose span reaches to the end of the log
+-- The open call of a worker is the call whose span reaches to the end of the log
 use Rattle.std.proofs.Common.{◌≡◌, ℕ, ◌||◌, Bool, true, false, cond, [], ◌∷◌, Some, None, Ok, Err, nat_eq, refl, ap, ◌∙◌}
 use Rattle.std.specs.List.{list_any}
 use Rattle.lh_bucket.specs.declared.call.Call.{Call}

@@ -1,4 +1,4 @@
--- Steps that were accepted, and the places that they leave alone
+-- Steps that were accepted, and the workers that they leave alone
 use Rattle.std.proofs.Common.{◌≡◌, ℕ, ◌<◌, ◌≢◌, Bool, true, false, cond, List, Option, Some, None, Result, Ok, Err, length, set, nat_eq, sym, ap, subst, ◌∙◌, arith, eq-eqb, refl}
 use Rattle.std.specs.Prelude.{slice_get}
 use Rattle.std.specs.List.{All}
@@ -10,8 +10,8 @@ use Rattle.lh_core.specs.declared.effect.Effect.TheVariants as effect
 use Rattle.lh_core.specs.declared.event.Event.{Event}
 use Rattle.lh_core.specs.declared.event.Event.TheVariants as event
 use Rattle.lh_core.specs.declared.state.WorkerState.{WorkerState}
-use Rattle.lh_core.specs.State.{State, with_place}
-use Rattle.lh_core.specs.Rules.{Moved, put, put_at}
+use Rattle.lh_core.specs.State.{State, with_worker}
+use Rattle.lh_core.specs.Rules.{WorkerStep, put, put_at}
 use Rattle.lh_core.specs.History.{outline}
 
 pub err_ok : {X E G : Type 0} {r : E} {x : X} → ◌≡◌ {A = Result X E} (Err r) (Ok x) → G
@@ -38,12 +38,12 @@ pub passed : {X E : Type 0} (b : Bool) (r : E) (x y : X) → ◌≡◌ {A = Resu
 passed true r x y e = err_ok e
 passed false r x y e = (refl, e)
 
-step_put : (a : State) (w : ℕ) (p : Moved) (o : Option Effect) (b : State) → put a w p ≡ Ok (o, b) → (y : WorkerState) × (p ≡ Ok (o, y)) × (b ≡ with_place a w y)
+step_put : (a : State) (w : ℕ) (p : WorkerStep) (o : Option Effect) (b : State) → put a w p ≡ Ok (o, b) → (y : WorkerState) × (p ≡ Ok (o, y)) × (b ≡ with_worker a w y)
 step_put a w (Ok p) o b e = (p.1, ap (λ z. Ok (z, p.1)) (told e), sym (became e))
 step_put a w (Err r) o b e = err_ok e
 
--- an accepted step of a place
-pub step_at : (a : State) (w : ℕ) (step : WorkerState → Moved) (z : Option WorkerState) (o : Option Effect) (b : State) → put_at a w step z ≡ Ok (o, b) → (x : WorkerState) × (y : WorkerState) × (z ≡ Some x) × (step x ≡ Ok (o, y)) × (b ≡ with_place a w y)
+-- an accepted step of a worker
+pub step_at : (a : State) (w : ℕ) (step : WorkerState → WorkerStep) (z : Option WorkerState) (o : Option Effect) (b : State) → put_at a w step z ≡ Ok (o, b) → (x : WorkerState) × (y : WorkerState) × (z ≡ Some x) × (step x ≡ Ok (o, y)) × (b ≡ with_worker a w y)
 step_at a w step None o b e = err_ok e
 step_at a w step (Some x) o b e = let h = step_put a w (step x) o b e in (x, h.0, refl, h.1, h.2)
 
@@ -62,7 +62,7 @@ outlined effect.Freed g e = cc
 outlined (effect.Point k) g e = cc
 outlined effect.Dropped g e = cc
 
--- an event that isn't of a place
+-- an event that isn't of a worker
 abbrev pub IsOther : ℕ → Event → Type 0
 IsOther w (event.Call v c) = v ≢ w
 IsOther w (event.Read v) = v ≢ w
@@ -87,7 +87,7 @@ same_cond v x y = ap (λ b. cond b x y) (eq-eqb v v refl)
 pub all_at : {X : Type 0} (P : X → Type 0) (xs : List X) (i : ℕ) (x : X) → All P xs → slice_get xs i ≡ Some x → P x
 all_at P xs i x h e = subst P (get_or_from_slice_get xs i x x e) (h i x (slice_get_within xs i x e))
 
--- a place that was written, and the others
+-- a worker that was written, and the others
 pub written : {X : Type 0} (xs : List X) (w : ℕ) (y x : X) → w < length xs → slice_get (set xs w y) w ≡ Some x → y ≡ x
 written xs w y x lt e = some_same (sym (slice_get-get_or (set xs w y) w y (subst (λ n. w < n) (sym (length-set xs w y)) lt) ∙ ap Some (get_or-set_same xs w y y lt)) ∙ e)
 

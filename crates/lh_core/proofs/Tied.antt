@@ -1,4 +1,4 @@
--- What a log tells of the places of the state that it leads to
+-- What a log tells of the workers of the state that it leads to
 use Rattle.std.proofs.Common.{◌≡◌, ℕ, ◌+◌, ◌||◌, Bool, false, cond, [], ◌∷◌, Option, Some, None, Ok, Err, nat_eq, refl, sym, ap, subst, ◌∙◌, arith}
 use Rattle.std.specs.Prelude.{count_by}
 use Rattle.std.specs.List.{list_any}
@@ -20,7 +20,7 @@ use Rattle.lh_core.specs.Spans.{is_turn, is_turn_by, is_rehash, is_rehash_by, Ha
 use Rattle.lh_core.specs.History.{outline}
 use Rattle.lh_core.proofs.Steps.{IsOther, other_eq, other_cond, same_cond, err_ok, became, told, passed, outlined}
 
--- what the log tells of a place
+-- what the log tells of a worker
 abbrev pub IsTied : Log → ℕ → WorkerState → Type 0
 IsTied log w (Called c) = open_call w log ≡ Some c
 IsTied log w (Aimed c k m) = (open_call w log ≡ Some c) × HasRisen w log k
@@ -104,7 +104,7 @@ tied_refused log e r w (Aimed c k m) h = (h.0, risen_refused w e r log k h.1)
 tied_refused log e r w (Holding c k m) h = (h.0, risen_refused w e r log k h.1)
 tied_refused log e r w (Acted c m) h = tt
 
--- what each step of a place leaves to be told
+-- what each step of a worker leaves to be told
 module _ (log : Log) (w : ℕ) (f : Effect) where
   pub tied_called : (c : Call) (x y : WorkerState) → IsTied log w x → called c x ≡ Ok (outline f, y) → IsTied ((event.Call w c, Ok f) ∷ log) w y
   tied_called c Idle y h e = subst (IsTied ((event.Call w c, Ok f) ∷ log) w) (became e) (same_cond w (Some c) (open_call w log))

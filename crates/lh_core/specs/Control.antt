@@ -12,16 +12,15 @@ use Rattle.lh_core.specs.declared.effect.Effect.TheVariants as effect
 use Rattle.lh_core.specs.declared.effect.Refusal.{Refusal}
 use Rattle.lh_core.specs.declared.event.Event.{Event}
 use Rattle.lh_core.specs.declared.event.Event.TheVariants as event
-use Rattle.lh_core.specs.declared.state.WorkerState.{WorkerState}
 use Rattle.lh_core.specs.declared.state.WorkerState.TheVariants.{Holding, Acted}
-use Rattle.lh_core.specs.State.{State, with_place}
-use Rattle.lh_core.specs.Rules.{Moved, Allowed}
+use Rattle.lh_core.specs.State.{State, with_worker}
+use Rattle.lh_core.specs.Rules.{Allowed}
 use Rattle.lh_core.specs.Sound.{IsSound}
 use Rattle.lh_core.specs.World.{WorldSeen}
 
 -- the state of the rules
 abbrev pub state_of : Control → State
-state_of c = record { buckets = c.root.buckets; filled = c.filled.buckets; places = c.places; splitter = c.splitter }
+state_of c = record { buckets = c.root.buckets; filled = c.filled.buckets; workers = c.workers; splitter = c.splitter }
 
 -- the file's configuration is in range, both roots are of it, and the state is sound
 pub record IsControl (c : Control) : Type 0 where
@@ -36,11 +35,6 @@ pub record KeepsFile (c d : Control) : Type 0 where
   pub root : d.root.initial ≡ c.root.initial
   pub filled : d.filled.initial ≡ c.filled.initial
 
--- what a step of a place gave, as the rules see it
-abbrev pub place_step : Result (Effect × WorkerState) Refusal → Moved
-place_step (Ok moved) = Ok (Some moved.0, moved.1)
-place_step (Err refusal) = Err refusal
-
 -- what a step gave and left, as the rules see it
 abbrev pub step_to : Result Effect Refusal → Control → Allowed
 step_to (Ok effect) c = Ok (Some effect, state_of c)
@@ -53,21 +47,21 @@ IsTold _ = Unit {0}
 
 -- an event that leaves the records where they are
 abbrev pub IsQuiet : Event → Type 0
-IsQuiet (event.Act place) = ⊥
+IsQuiet (event.Act worker) = ⊥
 IsQuiet event.SplitMove = ⊥
 IsQuiet _ = Unit {0}
 
--- the act of a place: its call, at the level that it came with, which is the bucket's
-pub record IsActOf (c : Control) (place : ℕ) (act : Act) : Type 0 where
-  pub there : place < 16
+-- the act of a worker: its call, at the level that it came with, which is the bucket's
+pub record IsActOf (c : Control) (worker : ℕ) (act : Act) : Type 0 where
+  pub there : worker < 16
   pub low : act.level ≤ 16
-  pub held : slice_get c.places place ≡ Some (Holding act.call.now act.level act.bucket)
+  pub held : slice_get c.workers worker ≡ Some (Holding act.call.now act.level act.bucket)
   pub aim : IsAim c.config.initial c.filled.buckets (code_of (key_of act.call.now)) act.level act.bucket
   pub level : act.level ≡ level_of c.config.initial c.filled.buckets act.bucket
 
 -- the state after an act
 abbrev pub acted : State → ℕ → Act → State
-acted state place act = with_place state place (Acted act.call.now act.bucket)
+acted state worker act = with_worker state worker (Acted act.call.now act.bucket)
 
 -- a world with these buckets
 abbrev pub world_of : Control → List Seen → WorldSeen

@@ -20,14 +20,14 @@ abbrev pub outline : Effect → Option Effect
 outline (effect.Answered reply) = None
 outline effect = Some effect
 
--- the call of a place that holds the bucket of its aim
+-- the call of a worker that holds the bucket of its aim
 abbrev pub call_held : Option WorkerState → Option Call
 call_held (Some (Holding call k bucket)) = Some call
 call_held _ = None
 
 -- the call that an event serves in a state, if it is an act where a bucket is held
 abbrev pub served_by : State → Event → Option Call
-served_by state (event.Act place) = call_held (slice_get state.places place)
+served_by state (event.Act worker) = call_held (slice_get state.workers worker)
 served_by state _ = None
 
 -- whether a call is there, and is an insert

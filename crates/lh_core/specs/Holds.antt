@@ -1,4 +1,4 @@
--- Which buckets are held, and by whom: it follows from what the places and the splitter are doing
+-- Which buckets are held, and by whom: it follows from what the workers and the splitter are doing
 use Rattle.std.specs.Prelude.{ℕ, Bool, true, false, not, ◌||◌, ◌&&◌, ◌==◌, if◌then◌else◌}
 use Rattle.std.specs.List.{list_any}
 use Rattle.lh_addr.specs.Settings.{Settings}
@@ -10,13 +10,13 @@ use Rattle.lh_core.specs.declared.state.SplitState.{SplitState}
 use Rattle.lh_core.specs.declared.state.SplitState.TheVariants as split
 use Rattle.lh_core.specs.State.{State, splitting}
 
--- whether a place holds a bucket
+-- whether a worker holds a bucket
 abbrev pub holds : ℕ → WorkerState → Bool
 holds bucket (Holding call k m) = m == bucket
 holds bucket (Acted call m) = m == bucket
 holds bucket _ = false
 
--- whether a place holds a bucket exclusively, as it does for every call but a search
+-- whether a worker holds a bucket exclusively, as it does for every call but a search
 abbrev pub holds_alone : ℕ → WorkerState → Bool
 holds_alone bucket (Holding call k m) = (m == bucket) && not (is_search call)
 holds_alone bucket (Acted call m) = (m == bucket) && not (is_search call)
@@ -35,11 +35,11 @@ split_holds config state bucket =
 
 -- whether anyone holds a bucket
 unfoldable pub is_held : Settings → State → ℕ → Bool
-is_held config state bucket = list_any (holds bucket) state.places || split_holds config state bucket
+is_held config state bucket = list_any (holds bucket) state.workers || split_holds config state bucket
 
 -- whether anyone holds a bucket exclusively
 unfoldable pub is_held_alone : Settings → State → ℕ → Bool
-is_held_alone config state bucket = list_any (holds_alone bucket) state.places || split_holds config state bucket
+is_held_alone config state bucket = list_any (holds_alone bucket) state.workers || split_holds config state bucket
 
 -- whether a call may not lock a bucket: a search where it is held exclusively, another call where it is held at all
 unfoldable pub is_barred : Settings → State → Call → ℕ → Bool

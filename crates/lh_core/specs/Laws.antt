@@ -27,9 +27,9 @@ AimsLaw =
     (config : Settings) (log : Log) (state : State) → 1 ≤ config.initial → config.initial ≤ config.max →
     IsHistory config log state → AimsLead config state
 
--- The open call of a place is the one in whose span the place is.
+-- The open call of a worker is the one in whose span the worker is.
 abbrev pub OpenCallLaw : Type 0
-OpenCallLaw = (place : ℕ) (log : Log) (call : Call) → open_call place log ≡ Some call → IsInSpan place log call
+OpenCallLaw = (worker : ℕ) (log : Log) (call : Call) → open_call worker log ≡ Some call → IsInSpan worker log call
 
 -- In every list of steps that the rules allow, each accepted act lies in the span of its call.
 abbrev pub SpansLaw : Type 0

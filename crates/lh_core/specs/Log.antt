@@ -31,18 +31,18 @@ abbrev pub if_accepted : {X : Type 0} → Entry → X → X → X
 if_accepted (Ok effect) accepted refused = accepted
 if_accepted (Err refusal) accepted refused = refused
 
--- the open call of a place after an accepted event: a call opens it, an act and a release close it
+-- the open call of a worker after an accepted event: a call opens it, an act and a release close it
 abbrev pub open_after : ℕ → Event → Option Call → Option Call
-open_after place (event.Call other call) before = if other == place then Some call else before
-open_after place (event.Act other) before = if other == place then None else before
-open_after place (event.Release other) before = if other == place then None else before
-open_after place _ before = before
+open_after worker (event.Call other call) before = if other == worker then Some call else before
+open_after worker (event.Act other) before = if other == worker then None else before
+open_after worker (event.Release other) before = if other == worker then None else before
+open_after worker _ before = before
 
--- the open call of a place: the last one that came in there, unless there was an act or a release since
+-- the open call of a worker: the last one that came in there, unless there was an act or a release since
 abbrev pub open_call : ℕ → Log → Option Call
-open_call place [] = None
-open_call place (step ∷ log) =
-    if_accepted step.1 (open_after place step.0 (open_call place log)) (open_call place log)
+open_call worker [] = None
+open_call worker (step ∷ log) =
+    if_accepted step.1 (open_after worker step.0 (open_call worker log)) (open_call worker log)
 
 -- calls, and one more if there is one
 abbrev pub and_call : List Call → Option Call → List Call
@@ -51,7 +51,7 @@ and_call calls (Some call) = calls ++ call ∷ []
 
 -- the calls that were served, after one more accepted event
 abbrev pub acts_after : Event → Log → List Call → List Call
-acts_after (event.Act place) log calls = and_call calls (open_call place log)
+acts_after (event.Act worker) log calls = and_call calls (open_call worker log)
 acts_after _ log calls = calls
 
 -- the calls of the accepted acts, the oldest first

@@ -1,4 +1,4 @@
--- How the level that an act takes place at goes with the level that its place read
+-- How the level that an act takes place at goes with the level that its worker read
 use Rattle.std.specs.Prelude.{[], ◌∷◌, Ok}
 use Rattle.lh_addr.specs.Settings.{Settings}
 use Rattle.lh_core.specs.declared.event.Event.{Event}
@@ -8,11 +8,11 @@ use Rattle.lh_core.specs.Log.{Entry, Log}
 use Rattle.lh_core.specs.History.{IsHistory, IsEntry}
 use Rattle.lh_core.specs.Spans.{HasRisenToAct}
 
--- an accepted act after a log took place at the level that its place had come to
+-- an accepted act after a log took place at the level that its worker had come to
 abbrev pub ActHasRisen : Settings → Event → Entry → Log → Type 0
-ActHasRisen config (event.Act place) (Ok effect) log =
-    (before after : State) → IsHistory config log before → IsEntry config before (event.Act place) (Ok effect) after →
-    HasRisenToAct config before place log
+ActHasRisen config (event.Act worker) (Ok effect) log =
+    (before after : State) → IsHistory config log before → IsEntry config before (event.Act worker) (Ok effect) after →
+    HasRisenToAct config before worker log
 ActHasRisen config _ _ log = Unit {0}
 
 -- every accepted act of a log did

@@ -15,19 +15,19 @@ use Rattle.lh_core.specs.declared.state.WorkerState.{WorkerState}
 use Rattle.lh_core.specs.declared.state.WorkerState.TheVariants.{Idle, Called, Aimed, Holding, Acted}
 use Rattle.lh_core.specs.declared.state.SplitState.{SplitState}
 use Rattle.lh_core.specs.declared.state.SplitState.TheVariants as split
-use Rattle.lh_core.specs.State.{State, level, splitting, with_place, with_splitter, with_moved, with_pointed}
+use Rattle.lh_core.specs.State.{State, level, splitting, with_worker, with_splitter, with_moved, with_pointed}
 use Rattle.lh_core.specs.Holds.{is_barred, is_held}
 
--- what a step makes of one place: its effect and what the place does next, or the refusal. The effect is none where it is an act's reply, which the map gives
-abbrev pub Moved : Type 0
-Moved = Result (Option Effect × WorkerState) Refusal
+-- what a step makes of one worker: its effect and what the worker does next, or the refusal. The effect is none where it is an act's reply, which the map gives
+abbrev pub WorkerStep : Type 0
+WorkerStep = Result (Option Effect × WorkerState) Refusal
 
 -- what a step makes of the state: its effect and the next state, or the refusal
 abbrev pub Allowed : Type 0
 Allowed = Result (Option Effect × State) Refusal
 
--- a place with an aim
-abbrev pub aimed : Call → ℕ → ℕ → Moved
+-- a worker with an aim
+abbrev pub aimed : Call → ℕ → ℕ → WorkerStep
 aimed call k bucket = Ok (Some (effect.Aim k bucket), Aimed call k bucket)
 
 -- the bucket of a call's key, by the root
@@ -35,26 +35,26 @@ abbrev pub home : Settings → State → Call → ℕ
 home config state call = address config.initial state.buckets (code_of (key_of call))
 
 -- a call comes in where nothing happens
-abbrev pub called : Call → WorkerState → Moved
+abbrev pub called : Call → WorkerState → WorkerStep
 called call Idle = Ok (Some effect.Called, Called call)
 called call _ = Err WrongState
 
 -- a root is read: the aim is the key's bucket by that root, at the bucket's level by that root
-abbrev pub read : Settings → State → WorkerState → Moved
+abbrev pub read : Settings → State → WorkerState → WorkerStep
 read config state (Called call) =
     aimed call (level_of config.initial state.buckets (home config state call)) (home config state call)
 read config state _ = Err WrongState
 
 -- a bucket is locked, unless it is barred
-abbrev pub lock : Settings → State → WorkerState → Moved
+abbrev pub lock : Settings → State → WorkerState → WorkerStep
 lock config state (Aimed call k bucket) =
     if is_barred config state call bucket
     then Err Held
     else Ok (Some (effect.Locked bucket (level config state bucket)), Holding call k bucket)
 lock config state _ = Err WrongState
 
--- a rehash goes one level up, unless the bucket's level is the place's
-abbrev pub rehash : Settings → State → WorkerState → Moved
+-- a rehash goes one level up, unless the bucket's level is the worker's
+abbrev pub rehash : Settings → State → WorkerState → WorkerStep
 rehash config state (Holding call k bucket) =
     if k == level config state bucket
     then Err NothingToRehash
@@ -62,13 +62,13 @@ rehash config state (Holding call k bucket) =
 rehash config state _ = Err WrongState
 
 -- an act takes place at the bucket's own level, and not below it
-abbrev pub act : Settings → State → WorkerState → Moved
+abbrev pub act : Settings → State → WorkerState → WorkerStep
 act config state (Holding call k bucket) =
     if nat_lt k (level config state bucket) then Err MustRehash else Ok (None, Acted call bucket)
 act config state _ = Err WrongState
 
 -- a bucket is let go, after an act or without one
-abbrev pub release : WorkerState → Moved
+abbrev pub release : WorkerState → WorkerStep
 release (Holding call k bucket) = Ok (Some effect.GivenUp, Idle)
 release (Acted call bucket) = Ok (Some effect.Released, Idle)
 release _ = Err WrongState
@@ -110,28 +110,28 @@ abbrev pub drop_split : State → SplitState → Allowed
 drop_split state split.Begun = Ok (Some effect.Dropped, with_splitter state split.Idle)
 drop_split state _ = Err WrongState
 
--- what a step of one place makes of the state
-abbrev pub put : State → ℕ → Moved → Allowed
-put state place (Ok moved) = Ok (moved.0, with_place state place moved.1)
-put state place (Err refusal) = Err refusal
+-- what a step of one worker makes of the state
+abbrev pub put : State → ℕ → WorkerStep → Allowed
+put state worker (Ok moved) = Ok (moved.0, with_worker state worker moved.1)
+put state worker (Err refusal) = Err refusal
 
--- a step of a place, if there is such a place
-abbrev pub put_at : State → ℕ → (WorkerState → Moved) → Option WorkerState → Allowed
-put_at state place step None = Err WrongState
-put_at state place step (Some doing) = put state place (step doing)
+-- a step of a worker, if there is such a worker
+abbrev pub put_at : State → ℕ → (WorkerState → WorkerStep) → Option WorkerState → Allowed
+put_at state worker step None = Err WrongState
+put_at state worker step (Some doing) = put state worker (step doing)
 
--- a step of a place of the state
-abbrev pub at_place : State → ℕ → (WorkerState → Moved) → Allowed
-at_place state place step = put_at state place step (slice_get state.places place)
+-- a step of a worker of the state
+abbrev pub at_worker : State → ℕ → (WorkerState → WorkerStep) → Allowed
+at_worker state worker step = put_at state worker step (slice_get state.workers worker)
 
 -- the rules: what each event makes of a state
 abbrev pub allowed : Settings → State → Event → Allowed
-allowed config state (event.Call place call) = at_place state place (called call)
-allowed config state (event.Read place) = at_place state place (read config state)
-allowed config state (event.Lock place) = at_place state place (lock config state)
-allowed config state (event.Rehash place) = at_place state place (rehash config state)
-allowed config state (event.Act place) = at_place state place (act config state)
-allowed config state (event.Release place) = at_place state place release
+allowed config state (event.Call worker call) = at_worker state worker (called call)
+allowed config state (event.Read worker) = at_worker state worker (read config state)
+allowed config state (event.Lock worker) = at_worker state worker (lock config state)
+allowed config state (event.Rehash worker) = at_worker state worker (rehash config state)
+allowed config state (event.Act worker) = at_worker state worker (act config state)
+allowed config state (event.Release worker) = at_worker state worker release
 allowed config state event.SplitBegin = begin_split config state state.splitter
 allowed config state event.SplitLock = lock_both config state state.splitter
 allowed config state event.SplitMove = move_records config state state.splitter

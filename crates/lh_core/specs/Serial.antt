@@ -31,7 +31,7 @@ size_of config calls = size_from config empty config.initial calls
 
 -- nobody is at work, and no split is under way
 pub record IsAtRest (state : State) : Type 0 where
-  pub places : state.places ≡ all_idle
+  pub workers : state.workers ≡ all_idle
   pub splitter : state.splitter ≡ split.Idle
 
 -- Calls were served one after another: the replies are the plain map's, the file has grown as the policy wants, nobody is at work, and each record stands in its bucket and nowhere else.

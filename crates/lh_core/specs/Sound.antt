@@ -14,11 +14,11 @@ IsPhase config buckets filled split.Locked = (filled ≡ buckets) × (buckets < 
 IsPhase config buckets filled split.LockedMoved = (filled ≡ buckets + 1) × (buckets < config.max)
 IsPhase config buckets filled split.Moved = (filled ≡ buckets + 1) × (buckets < config.max)
 
--- the numbers of a state are within its configuration, sixteen places are there, and their aims lead
+-- the numbers of a state are within its configuration, sixteen workers are there, and their aims lead
 pub record IsSound (config : Settings) (state : State) : Type 0 where
   pub some : 1 ≤ config.initial
   pub from_initial : config.initial ≤ state.buckets
   pub to_max : state.buckets ≤ config.max
-  pub sixteen : length state.places ≡ 16
+  pub sixteen : length state.workers ≡ 16
   pub phase : IsPhase config state.buckets state.filled state.splitter
   pub aims : AimsLead config state

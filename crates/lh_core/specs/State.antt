@@ -7,20 +7,20 @@ use Rattle.lh_core.specs.declared.state.WorkerState.TheVariants.{Idle}
 use Rattle.lh_core.specs.declared.state.SplitState.{SplitState}
 use Rattle.lh_core.specs.declared.state.SplitState.TheVariants as split
 
--- the buckets that the root counts, the buckets that are filled, what each place is doing, and what the splitter is doing
+-- the buckets that the root counts, the buckets that are filled, what each worker is doing, and what the splitter is doing
 pub record State : Type 0 where
   pub buckets : ℕ
   pub filled : ℕ
-  pub places : List WorkerState
+  pub workers : List WorkerState
   pub splitter : SplitState
 
--- sixteen places at which nothing happens
+-- sixteen workers that do nothing
 abbrev pub all_idle : List WorkerState
 all_idle = replicate 16 Idle
 
 -- the first state of a file
 abbrev pub first : Settings → State
-first config = record { buckets = config.initial; filled = config.initial; places = all_idle; splitter = split.Idle }
+first config = record { buckets = config.initial; filled = config.initial; workers = all_idle; splitter = split.Idle }
 
 -- the local level of a bucket, by the number of filled buckets
 abbrev pub level : Settings → State → ℕ → ℕ
@@ -30,9 +30,9 @@ level config state bucket = level_of config.initial state.filled bucket
 abbrev pub splitting : Settings → State → ℕ
 splitting config state = pointer config.initial state.buckets
 
--- the state with other things done at a place
-abbrev pub with_place : State → ℕ → WorkerState → State
-with_place state place doing = record state { places = slice_set state.places place doing }
+-- the state with another thing done by a worker
+abbrev pub with_worker : State → ℕ → WorkerState → State
+with_worker state worker doing = record state { workers = slice_set state.workers worker doing }
 
 -- the state with another thing done by the splitter
 abbrev pub with_splitter : State → SplitState → State

@@ -16,11 +16,11 @@ pub(crate) struct Control {
     pub(crate) config: Config,
     pub(crate) root: Root,
     pub(crate) filled: Root,
-    pub(crate) places: [WorkerState; 16],
+    pub(crate) workers: [WorkerState; 16],
     pub(crate) splitter: SplitState,
 }
 
-/// A place's call that is to be served at a bucket, at the bucket's own level.
+/// A worker's call that is to be served at a bucket, at the bucket's own level.
 #[derive(Clone, Copy)]
 pub(crate) struct Act<'a> {
     pub(crate) call: &'a Call,
@@ -29,7 +29,7 @@ pub(crate) struct Act<'a> {
 }
 
 impl WorkerState {
-    /// Whether a place that does this holds a bucket.
+    /// Whether a worker that does this holds a bucket.
     fn holds(&self, bucket: u32) -> bool
         ensures { result ≡ holds bucket self.now }
     {
@@ -52,16 +52,16 @@ impl WorkerState {
     }
 }
 
-fn any_holds(places: &[WorkerState], bucket: u32) -> bool
-    ensures { result ≡ list_any (holds bucket) places.now }
+fn any_holds(workers: &[WorkerState], bucket: u32) -> bool
+    ensures { result ≡ list_any (holds bucket) workers.now }
 {
-    places.iter().any(|doing| doing.holds(bucket))
+    workers.iter().any(|doing| doing.holds(bucket))
 }
 
-fn any_holds_alone(places: &[WorkerState], bucket: u32) -> bool
-    ensures { result ≡ list_any (holds_alone bucket) places.now }
+fn any_holds_alone(workers: &[WorkerState], bucket: u32) -> bool
+    ensures { result ≡ list_any (holds_alone bucket) workers.now }
 {
-    places.iter().any(|doing| doing.holds_alone(bucket))
+    workers.iter().any(|doing| doing.holds_alone(bucket))
 }
 
 impl Control {
@@ -84,7 +84,7 @@ impl Control {
         requires { IsControl self.now }
         ensures { result ≡ is_held self.now.config (state_of self.now) bucket }
     {
-        any_holds(&self.places, bucket) || self.split_holds(bucket)
+        any_holds(&self.workers, bucket) || self.split_holds(bucket)
     }
 
     #[tactic(auto, unfolding(crate::specs::Holds::is_held_alone))]
@@ -92,7 +92,7 @@ impl Control {
         requires { IsControl self.now }
         ensures { result ≡ is_held_alone self.now.config (state_of self.now) bucket }
     {
-        any_holds_alone(&self.places, bucket) || self.split_holds(bucket)
+        any_holds_alone(&self.workers, bucket) || self.split_holds(bucket)
     }
 
     /// Whether a call may not lock a bucket now.

@@ -8,15 +8,15 @@ use thiserror::Error;
 pub enum Effect {
     /// A call came in.
     Called,
-    /// A place aims at this bucket, with this level: the effect of reading and of rehashing.
+    /// A worker aims at this bucket, with this level: the effect of reading and of rehashing.
     Aim { level: u8, bucket: u32 },
-    /// A place holds this bucket, whose local level is this.
+    /// A worker holds this bucket, whose local level is this.
     Locked { bucket: u32, level: u8 },
     /// An act got this reply.
     Answered(Reply),
-    /// A place that had acted is idle.
+    /// A worker that had acted is idle.
     Released,
-    /// A place that had not acted is idle, and its call has no reply.
+    /// A worker that had not acted is idle, and its call has no reply.
     GivenUp,
     /// A split of bucket `old` into itself and `new` has begun.
     Begun { old: u32, new: u32 },
@@ -35,16 +35,16 @@ pub enum Effect {
 /// Why an event is refused. The world is as it was before.
 #[derive(Clone, Copy, Debug, PartialEq, Eq, Error)]
 pub enum Refusal {
-    /// The place or the splitter isn't in a state for the event, or there is no such place (C1).
+    /// The worker or the splitter isn't in a state for the event, or there is no such worker (C1).
     #[error("not in a state for it")]
     WrongState,
     /// The bucket is held by another (C2).
     #[error("the bucket is held")]
     Held,
-    /// The bucket's level is above the place's, which has to rehash first (C3).
+    /// The bucket's level is above the worker's, which has to rehash first (C3).
     #[error("the place has to rehash")]
     MustRehash,
-    /// The bucket's level is the place's (C4).
+    /// The bucket's level is the worker's (C4).
     #[error("there is nothing to rehash")]
     NothingToRehash,
     /// A split is under way (C5).

@@ -2,20 +2,20 @@
 
 use lh_bucket::Call;
 
-/// One step that a worker or the splitter is to take. A worker is named by its place, 0 to 15.
+/// One step that a worker or the splitter is to take. A worker is named by its number, 0 to 15.
 #[derive(Clone, Copy, Debug, PartialEq, Eq)]
 pub enum Event {
-    /// A call comes in at an idle place.
+    /// A call comes in at an idle worker.
     Call(u8, Call),
-    /// A place with a call reads the root, and so gets an aim: a level and a bucket.
+    /// A worker with a call reads the root, and so gets an aim: a level and a bucket.
     Read(u8),
-    /// A place locks the bucket of its aim: shared for a search, else exclusively.
+    /// A worker locks the bucket of its aim: shared for a search, else exclusively.
     Lock(u8),
-    /// A place whose bucket was split since lets it go, and aims one level higher.
+    /// A worker whose bucket was split since lets it go, and aims one level higher.
     Rehash(u8),
-    /// A place serves its call at the bucket that it holds.
+    /// A worker serves its call at the bucket that it holds.
     Act(u8),
-    /// A place lets its bucket go and is idle again. Before its act it so gives its call up.
+    /// A worker lets its bucket go and is idle again. Before its act it so gives its call up.
     Release(u8),
     /// The splitter takes the right to split.
     SplitBegin,

@@ -25,7 +25,7 @@ pub fn aims_lead()
     linear_hashing();
 }
 
-/// Each accepted act lies in the span of the call that it serves: the open call of its place.
+/// Each accepted act lies in the span of the call that it serves: the open call of its worker.
 pub fn acts_lie_in_spans()
     ensures open_call { OpenCallLaw }
     ensures spans { SpansLaw }
@@ -33,7 +33,7 @@ pub fn acts_lie_in_spans()
     linear_hashing();
 }
 
-/// Each accepted act took place as many levels above the one that its place read as it has rehashed
+/// Each accepted act took place as many levels above the one that its worker read as it has rehashed
 /// since.
 pub fn acts_have_risen()
     ensures { RisesLaw }

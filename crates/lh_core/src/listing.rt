@@ -38,10 +38,11 @@ fn lists_of<B: Bucket>(alloc: Global, buckets: &[B]) -> Result<Vec<Vec<Pair>>, M
 
 impl<B: Bucket> World<B> {
     /// The whole file, where no split is under way: its configuration, and the records of each
-    /// bucket in the order of their places. A place that has a call doesn't stand in the way.
+    /// bucket in the order of their places. A worker that has a call doesn't stand in the way.
     pub fn listing(&self) -> Result<Listing, Memory>
         requires { self.now.state.splitter ≡ split.Idle }
-        ensures { IfOk result (λ listing. listing ≡ record { config = self.now.config; lists = map (λ b. b.pairs) self.now.buckets }) }
+        ensures { IfOk result (λ listing. listing
+            ≡ record { config = self.now.config; lists = map (λ b. b.pairs) self.now.buckets }) }
     {
         linear_hashing();
         self.is_kept();

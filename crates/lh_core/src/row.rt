@@ -31,14 +31,16 @@ pub(crate) fn first_row<B: Bucket>(alloc: Global, config: &Config) -> Result<Vec
 pub(crate) fn serve<B: Bucket>(
     control: &Control,
     buckets: &mut Vec<B>,
-    place: u8,
+    worker: u8,
     act: &Act<'_>,
 ) -> Result<Reply, Memory>
-    requires act { IsActOf control.now place act.now }
+    requires act { IsActOf control.now worker act.now }
     requires world { IsWorld (world_of control.now (map B.seen buckets.old.items)) }
     ensures row { IsRow control.now.config control.now.filled.buckets (map B.seen buckets.new.items) }
-    ensures reply { (m : Records) → StandsFor (world_of control.now (map B.seen buckets.old.items)) m → IfOk result (λ r. r ≡ reply m act.now.call.now) }
-    ensures stands { (m : Records) → StandsFor (world_of control.now (map B.seen buckets.old.items)) m → OnOk result (StandsFor (world_of control.now (map B.seen buckets.new.items)) (after m act.now.call.now)) }
+    ensures reply { (m : Records) → StandsFor (world_of control.now (map B.seen buckets.old.items)) m →
+        IfOk result (λ r. r ≡ reply m act.now.call.now) }
+    ensures stands { (m : Records) → StandsFor (world_of control.now (map B.seen buckets.old.items)) m →
+        OnOk result (StandsFor (world_of control.now (map B.seen buckets.new.items)) (after m act.now.call.now)) }
     ensures unchanged { OnErr result (map B.seen buckets.new.items ≡ map B.seen buckets.old.items) }
     ensures insert { OnErr result (IsInsert act.now.call.now) }
 {
@@ -62,8 +64,10 @@ fn split_one<B: Bucket>(
     requires capacity { IsCapacity capacity }
     requires within { i < vec_len buckets.old }
     requires few { vec_len buckets.old < 2 ^ 32 }
-    requires can { CanSplit (bucket_at (map B.seen buckets.old.items) i).head (unfilled (vec_len buckets.old) initial capacity) }
-    ensures split { OnOk result (IsSplit (map B.seen buckets.old.items) i initial capacity (map B.seen buckets.new.items)) }
+    requires can { CanSplit (bucket_at (map B.seen buckets.old.items) i).head
+        (unfilled (vec_len buckets.old) initial capacity) }
+    ensures split { OnOk result (IsSplit (map B.seen buckets.old.items) i initial capacity
+        (map B.seen buckets.new.items)) }
     ensures unchanged { OnErr result (map B.seen buckets.new.items ≡ map B.seen buckets.old.items) }
 {
     let number = buckets.len() as u32;
@@ -89,7 +93,9 @@ pub(crate) fn divide<B: Bucket>(
     requires before { control.now.filled.buckets ≡ control.now.root.buckets }
     requires world { IsWorld (world_of control.now (map B.seen buckets.old.items)) }
     ensures row { OnOk result (IsRow control.now.config (control.now.root.buckets + 1) (map B.seen buckets.new.items)) }
-    ensures stands { (m : Records) → StandsFor (world_of control.now (map B.seen buckets.old.items)) m → OnOk result (IsPlaced control.now.config.initial (control.now.root.buckets + 1) m (map B.seen buckets.new.items)) }
+    ensures stands { (m : Records) → StandsFor (world_of control.now (map B.seen buckets.old.items)) m →
+        OnOk result (IsPlaced control.now.config.initial (control.now.root.buckets + 1) m
+        (map B.seen buckets.new.items)) }
     ensures unchanged { OnErr result (map B.seen buckets.new.items ≡ map B.seen buckets.old.items) }
 {
     linear_hashing();

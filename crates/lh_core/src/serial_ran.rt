@@ -49,7 +49,7 @@ impl<B: Bucket> World<B> {
         }
     }
 
-    /// Serves a call by the five steps of place 0, where nobody else is at work.
+    /// Serves a call by the five steps of worker 0, where nobody else is at work.
     fn serve_alone(&mut self, call: Call) -> Result<Reply, Memory>
         requires { IsAtRest self.old.state }
         ensures { IfOk result (λ reply. IsServedAlone self.old call reply self.new) }
@@ -101,7 +101,8 @@ impl<B: Bucket> World<B> {
         requires rest { IsAtRest self.old.state }
         requires few { records < 2 ^ 64 - 1 }
         ensures few { IfOk result (λ p. p.1 ≤ records + 1) }
-        ensures served { (m : Records) → StandsFor self.old m → records ≡ len m → IfOk result (λ p. IsServed self.old m call p.0 p.1 self.new) }
+        ensures served { (m : Records) → StandsFor self.old m → records ≡ len m →
+            IfOk result (λ p. IsServed self.old m call p.0 p.1 self.new) }
     {
         let reply = self.serve_alone(call)?;
         let count = count_after(records, &reply);

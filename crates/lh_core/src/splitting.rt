@@ -61,7 +61,8 @@ impl Control {
     /// The effect of dividing the records of a split, if that is allowed now.
     pub(crate) fn moving(&self) -> Result<Effect, Refusal>
         requires { IsControl self.now }
-        ensures allowed { IfOk result (λ effect. allowed self.now.config (state_of self.now) event.SplitMove ≡ Ok (Some effect, with_moved (state_of self.now))) }
+        ensures allowed { IfOk result (λ effect. allowed self.now.config (state_of self.now) event.SplitMove
+            ≡ Ok (Some effect, with_moved (state_of self.now))) }
         ensures told { IfOk result IsTold }
         ensures locked { IfOk result (λ _. self.now.splitter ≡ split.Locked) }
         ensures refused { IfErr result (λ r. allowed self.now.config (state_of self.now) event.SplitMove ≡ Err r) }
@@ -154,11 +155,11 @@ impl Control {
         ensures err { OnErr result (self.new ≡ self.old) }
     {
         match event {
-            Event::Call(place, call) => self.call(place, call),
-            Event::Read(place) => self.read(place),
-            Event::Lock(place) => self.lock(place),
-            Event::Rehash(place) => self.rehash(place),
-            Event::Release(place) => self.release(place),
+            Event::Call(worker, call) => self.call(worker, call),
+            Event::Read(worker) => self.read(worker),
+            Event::Lock(worker) => self.lock(worker),
+            Event::Rehash(worker) => self.rehash(worker),
+            Event::Release(worker) => self.release(worker),
             Event::SplitBegin => self.begin_split(),
             Event::SplitLock => self.lock_both(),
             Event::SplitRelease => self.free_both(),

@@ -168,9 +168,9 @@ fn steps_are<B: Bucket>(
     steps: &[(Event, Result<Effect, Refusal>)],
 ) -> Result<(), Fail> {
     let mut world = World::<B>::new(alloc, config)?;
-    for (place, (event, want)) in steps.iter().enumerate() {
+    for (number, (event, want)) in steps.iter().enumerate() {
         let entry = world.step(*event);
-        assert_eq!(rt; entry, *want, "at {place}");
+        assert_eq!(rt; entry, *want, "at {number}");
     }
     Ok(())
 }

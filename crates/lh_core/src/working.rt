@@ -1,10 +1,10 @@
-//! The steps of the sixteen places.
+//! The steps of the sixteen workers.
 ghost use Rattle.std.specs.Prelude.{◌≡◌, ◌<◌, Ok, Err, Some, None, IfOk, IfErr, OnErr, IfSome, slice_get};
 ghost use Rattle.std.specs.Option.{option_copied};
 ghost use Rattle.lh_core.specs.declared.event.Event.TheVariants as event;
 ghost use Rattle.lh_core.specs.declared.control.Act.{Act as ActOf};
 ghost use Rattle.lh_core.specs.Aims.{Leads};
-ghost use Rattle.lh_core.specs.Rules.{called, read, lock, rehash, release, at_place, allowed};
+ghost use Rattle.lh_core.specs.Rules.{called, read, lock, rehash, release, at_worker, allowed};
 ghost use Rattle.lh_core.specs.Control.{IsControl, IsTold, IsActOf, KeepsFile, state_of, step_to, acted};
 
 use crate::control::{Act, Control};
@@ -14,69 +14,72 @@ use lh_addr::{Aim, fnv1a, hash_at};
 use lh_bucket::Call;
 
 impl Control {
-    /// What a place is doing, if there is such a place.
-    fn doing_at(&self, place: u8) -> Option<&WorkerState>
+    /// What a worker is doing, if there is such a worker.
+    fn doing_at(&self, worker: u8) -> Option<&WorkerState>
         requires { IsControl self.now }
-        ensures value { option_copied result ≡ slice_get self.now.places place }
-        ensures leads { IfSome result (λ doing. (place < 16) × Leads self.now.config.initial self.now.filled.buckets doing.now) }
+        ensures value { option_copied result ≡ slice_get self.now.workers worker }
+        ensures leads { IfSome result (λ doing. (worker < 16)
+            × Leads self.now.config.initial self.now.filled.buckets doing.now) }
     {
-        self.places.get(place as usize)
+        self.workers.get(worker as usize)
     }
 
-    /// A call comes in at a place.
-    pub(crate) fn call(&mut self, place: u8, call: Call) -> Result<Effect, Refusal>
+    /// A call comes in at a worker.
+    pub(crate) fn call(&mut self, worker: u8, call: Call) -> Result<Effect, Refusal>
         requires { IsControl self.old }
-        ensures value { step_to result self.new ≡ at_place (state_of self.old) place (called call) }
+        ensures value { step_to result self.new ≡ at_worker (state_of self.old) worker (called call) }
         ensures told { IfOk result IsTold }
         ensures keeps { KeepsFile self.old self.new }
         ensures filled { self.new.filled ≡ self.old.filled }
         ensures err { OnErr result (self.new ≡ self.old) }
     {
-        match self.doing_at(place) {
+        match self.doing_at(worker) {
             Some(WorkerState::Idle) => {
-                self.places[place as usize] = WorkerState::Called(call);
+                self.workers[worker as usize] = WorkerState::Called(call);
                 Ok(Effect::Called)
             }
             _ => Err(Refusal::WrongState),
         }
     }
 
-    /// A place reads the root.
-    pub(crate) fn read(&mut self, place: u8) -> Result<Effect, Refusal>
+    /// A worker reads the root.
+    pub(crate) fn read(&mut self, worker: u8) -> Result<Effect, Refusal>
         requires { IsControl self.old }
-        ensures value { step_to result self.new ≡ at_place (state_of self.old) place (read self.old.config (state_of self.old)) }
+        ensures value { step_to result self.new
+            ≡ at_worker (state_of self.old) worker (read self.old.config (state_of self.old)) }
         ensures told { IfOk result IsTold }
         ensures keeps { KeepsFile self.old self.new }
         ensures filled { self.new.filled ≡ self.old.filled }
         ensures err { OnErr result (self.new ≡ self.old) }
     {
-        match self.doing_at(place) {
+        match self.doing_at(worker) {
             Some(WorkerState::Called(call)) => {
                 let Aim { level, bucket } = self.root.aim(fnv1a(call.key().bytes()));
-                self.places[place as usize] = WorkerState::Aimed(*call, level, bucket);
+                self.workers[worker as usize] = WorkerState::Aimed(*call, level, bucket);
                 Ok(Effect::Aim { level, bucket })
             }
             _ => Err(Refusal::WrongState),
         }
     }
 
-    /// A place locks the bucket of its aim.
-    pub(crate) fn lock(&mut self, place: u8) -> Result<Effect, Refusal>
+    /// A worker locks the bucket of its aim.
+    pub(crate) fn lock(&mut self, worker: u8) -> Result<Effect, Refusal>
         requires { IsControl self.old }
-        ensures value { step_to result self.new ≡ at_place (state_of self.old) place (lock self.old.config (state_of self.old)) }
+        ensures value { step_to result self.new
+            ≡ at_worker (state_of self.old) worker (lock self.old.config (state_of self.old)) }
         ensures told { IfOk result IsTold }
         ensures keeps { KeepsFile self.old self.new }
         ensures filled { self.new.filled ≡ self.old.filled }
         ensures err { OnErr result (self.new ≡ self.old) }
     {
-        match self.doing_at(place) {
+        match self.doing_at(worker) {
             Some(WorkerState::Aimed(call, k, bucket)) => {
                 let bucket = *bucket;
                 if self.is_barred(call, bucket) {
                     Err(Refusal::Held)
                 } else {
                     let level = self.level(bucket);
-                    self.places[place as usize] = WorkerState::Holding(*call, *k, bucket);
+                    self.workers[worker as usize] = WorkerState::Holding(*call, *k, bucket);
                     Ok(Effect::Locked { bucket, level })
                 }
             }
@@ -84,23 +87,24 @@ impl Control {
         }
     }
 
-    /// A place lets a bucket go that was split, and aims one level up.
-    pub(crate) fn rehash(&mut self, place: u8) -> Result<Effect, Refusal>
+    /// A worker lets a bucket go that was split, and aims one level up.
+    pub(crate) fn rehash(&mut self, worker: u8) -> Result<Effect, Refusal>
         requires { IsControl self.old }
-        ensures value { step_to result self.new ≡ at_place (state_of self.old) place (rehash self.old.config (state_of self.old)) }
+        ensures value { step_to result self.new
+            ≡ at_worker (state_of self.old) worker (rehash self.old.config (state_of self.old)) }
         ensures told { IfOk result IsTold }
         ensures keeps { KeepsFile self.old self.new }
         ensures filled { self.new.filled ≡ self.old.filled }
         ensures err { OnErr result (self.new ≡ self.old) }
     {
-        match self.doing_at(place) {
+        match self.doing_at(worker) {
             Some(WorkerState::Holding(call, k, bucket)) => {
                 if *k == self.level(*bucket) {
                     Err(Refusal::NothingToRehash)
                 } else {
                     let level = *k + 1;
                     let bucket = hash_at(self.config.initial(), level, fnv1a(call.key().bytes()));
-                    self.places[place as usize] = WorkerState::Aimed(*call, level, bucket);
+                    self.workers[worker as usize] = WorkerState::Aimed(*call, level, bucket);
                     Ok(Effect::Aim { level, bucket })
                 }
             }
@@ -108,32 +112,33 @@ impl Control {
         }
     }
 
-    /// A place lets its bucket go.
-    pub(crate) fn release(&mut self, place: u8) -> Result<Effect, Refusal>
+    /// A worker lets its bucket go.
+    pub(crate) fn release(&mut self, worker: u8) -> Result<Effect, Refusal>
         requires { IsControl self.old }
-        ensures value { step_to result self.new ≡ at_place (state_of self.old) place (release) }
+        ensures value { step_to result self.new ≡ at_worker (state_of self.old) worker (release) }
         ensures told { IfOk result IsTold }
         ensures keeps { KeepsFile self.old self.new }
         ensures filled { self.new.filled ≡ self.old.filled }
         ensures err { OnErr result (self.new ≡ self.old) }
     {
-        let effect = match self.doing_at(place) {
+        let effect = match self.doing_at(worker) {
             Some(WorkerState::Holding(_, _, _)) => Effect::GivenUp,
             Some(WorkerState::Acted(_, _)) => Effect::Released,
             _ => return Err(Refusal::WrongState),
         };
-        self.places[place as usize] = WorkerState::Idle;
+        self.workers[worker as usize] = WorkerState::Idle;
         Ok(effect)
     }
 
-    /// The act that a place may take now.
-    pub(crate) fn act(&self, place: u8) -> Result<Act<'_>, Refusal>
+    /// The act that a worker may take now.
+    pub(crate) fn act(&self, worker: u8) -> Result<Act<'_>, Refusal>
         requires { IsControl self.now }
-        ensures allowed { IfOk result (λ act. allowed self.now.config (state_of self.now) (event.Act place) ≡ Ok (None, acted (state_of self.now) place act)) }
-        ensures act { IfOk result (IsActOf self.now place) }
-        ensures refused { IfErr result (λ r. allowed self.now.config (state_of self.now) (event.Act place) ≡ Err r) }
+        ensures allowed { IfOk result (λ act. allowed self.now.config (state_of self.now) (event.Act worker)
+            ≡ Ok (None, acted (state_of self.now) worker act)) }
+        ensures act { IfOk result (IsActOf self.now worker) }
+        ensures refused { IfErr result (λ r. allowed self.now.config (state_of self.now) (event.Act worker) ≡ Err r) }
     {
-        match self.doing_at(place) {
+        match self.doing_at(worker) {
             Some(WorkerState::Holding(call, level, bucket)) => {
                 if *level < self.level(*bucket) {
                     Err(Refusal::MustRehash)
@@ -150,16 +155,17 @@ impl Control {
         }
     }
 
-    /// Notes that a place has acted.
-    pub(crate) fn note_act(&mut self, place: u8)
+    /// Notes that a worker has acted.
+    pub(crate) fn note_act(&mut self, worker: u8)
         requires control { IsControl self.old }
-        requires there { place < 16 }
-        ensures state { (act : ActOf) → IsActOf self.old place act → state_of self.new ≡ acted (state_of self.old) place act }
+        requires there { worker < 16 }
+        ensures state { (act : ActOf) → IsActOf self.old worker act →
+            state_of self.new ≡ acted (state_of self.old) worker act }
         ensures keeps { KeepsFile self.old self.new }
         ensures filled { self.new.filled ≡ self.old.filled }
     {
-        if let WorkerState::Holding(call, _, bucket) = self.places[place as usize] {
-            self.places[place as usize] = WorkerState::Acted(call, bucket);
+        if let WorkerState::Holding(call, _, bucket) = self.workers[worker as usize] {
+            self.workers[worker as usize] = WorkerState::Acted(call, bucket);
         }
     }
 }

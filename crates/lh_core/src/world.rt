@@ -58,21 +58,21 @@ impl<B: Bucket> World<B> {
             config,
             root,
             filled: root,
-            places: [WorkerState::Idle; 16],
+            workers: [WorkerState::Idle; 16],
             splitter: SplitState::Idle,
         };
         Ok(World { control, buckets })
     }
 
-    fn act(&mut self, place: u8) -> Result<Effect, Refusal>
-        ensures step { IsStep self.old (event.Act place) result self.new }
+    fn act(&mut self, worker: u8) -> Result<Effect, Refusal>
+        ensures step { IsStep self.old (event.Act worker) result self.new }
         ensures unchanged { OnErr result (self.new ≡ self.old) }
     {
         linear_hashing();
-        match self.control.act(place) {
-            Ok(act) => match serve(&self.control, &mut self.buckets, place, &act) {
+        match self.control.act(worker) {
+            Ok(act) => match serve(&self.control, &mut self.buckets, worker, &act) {
                 Ok(reply) => {
-                    self.control.note_act(place);
+                    self.control.note_act(worker);
                     Ok(Effect::Answered(reply))
                 }
                 Err(Memory) => Err(Refusal::Memory),
@@ -114,7 +114,7 @@ impl<B: Bucket> World<B> {
         ensures unchanged { OnErr result (self.new ≡ self.old) }
     {
         match event {
-            Event::Act(place) => self.act(place),
+            Event::Act(worker) => self.act(worker),
             Event::SplitMove => self.move_records(),
             _ => self.turn(event),
         }
@@ -168,12 +168,12 @@ impl<B: Bucket> World<B> {
         self.control.filled.buckets()
     }
 
-    /// What the worker at a place is doing.
-    pub fn worker(&self, place: u8) -> WorkerState
-        requires { place < 16 }
-        ensures { slice_get self.now.state.places place ≡ Some result }
+    /// What a worker, 0 to 15, is doing.
+    pub fn worker(&self, worker: u8) -> WorkerState
+        requires { worker < 16 }
+        ensures { slice_get self.now.state.workers worker ≡ Some result }
     {
-        self.control.places[place as usize]
+        self.control.workers[worker as usize]
     }
 
     /// What the splitter is doing.
