@@ -9,7 +9,7 @@ use std::fmt;
 use std::marker::Model;
 
 /// The setting that [`Config::new`] refused: the first of the four, in this order, that is out of
-/// its range (the refusal A1).
+/// its range.
 #[derive(Clone, Copy, Debug, PartialEq, Eq)]
 pub enum Range {
     /// The initial number of buckets is not 1 to 256.
@@ -55,7 +55,8 @@ impl Model for Config {
 
     ghost view = { λ c. record { initial = c.initial; capacity = c.capacity; load = c.load; max = c.max } };
 
-    ghost invariant = { λ c. IsInRange (record { initial = c.initial; capacity = c.capacity; load = c.load; max = c.max }) };
+    ghost invariant = { λ c. IsInRange (
+        record { initial = c.initial; capacity = c.capacity; load = c.load; max = c.max }) };
 
     ghost inverse = { λ s. record { initial = s.initial; capacity = s.capacity; load = s.load; max = s.max } };
 }
@@ -68,9 +69,11 @@ impl Config {
     /// `initial` 1 to 256 buckets, `capacity` 1 to 14 records, `load` 10 to 200 percent, `max`
     /// from `initial` to 65,536 buckets.
     pub fn new(initial: u32, capacity: u32, load: u32, max: u32) -> Result<Config, Range>
-        ensures ok { IfOk result (λ config. config ≡ record { initial = initial; capacity = capacity; load = load; max = max }) }
+        ensures ok { IfOk result (λ config. config
+            ≡ record { initial = initial; capacity = capacity; load = load; max = max }) }
         ensures in_range { IfOk result IsInRange }
-        ensures err { IfErr result (IsFirstOutOfRange (record { initial = initial; capacity = capacity; load = load; max = max })) }
+        ensures err { IfErr result (IsFirstOutOfRange
+            (record { initial = initial; capacity = capacity; load = load; max = max })) }
     {
         if initial < MIN_INITIAL || initial > MAX_INITIAL {
             return Err(Range::Initial);

@@ -29,17 +29,18 @@ impl Model for Root {
     ghost use Rattle.std.proofs.Common.{sym, ap};
     ghost use Rattle.lh_addr.specs.Extent.{Extent};
     ghost use Rattle.lh_addr.specs.Growth.{level as level_at};
-    ghost use Rattle.lh_addr.specs.Root.{IsKept};
+    ghost use Rattle.lh_addr.specs.Root.{StoresLevel};
 
     ghost Value = { Extent };
 
     ghost view = { λ r. record { initial = r.initial; buckets = r.buckets } };
 
-    ghost invariant = { λ r. IsKept (record { initial = r.initial; buckets = r.buckets }) r.level };
+    ghost invariant = { λ r. StoresLevel (record { initial = r.initial; buckets = r.buckets }) r.level };
 
     ghost inverse = { λ e. record { initial = e.initial; buckets = e.buckets; level = level_at e.initial e.buckets } };
 
-    ghost inverse_ok = { λ a h. ap (λ k. record { initial = a.initial; buckets = a.buckets; level = k }) (sym h.level_is) };
+    ghost inverse_ok = { λ a h. ap (λ k. record { initial = a.initial; buckets = a.buckets; level = k })
+        (sym h.level_is) };
 }
 
 impl Root {

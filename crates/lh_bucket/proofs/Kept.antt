@@ -23,7 +23,7 @@ use Rattle.lh_bucket.specs.PlainMap.{Records, after}
 use Rattle.lh_bucket.specs.Records.{map_of}
 use Rattle.lh_bucket.specs.Verdict.{verdict_of, by_level}
 use Rattle.lh_bucket.specs.Leaving.{leads_to}
-use Rattle.lh_bucket.specs.Bucket.{Head, IsHome, IsKept, verdict, raised_level, stays}
+use Rattle.lh_bucket.specs.Bucket.{Head, HasOwnKeys, IsKept, verdict, raised_level, stays}
 use Rattle.lh_bucket.specs.Laws.{HereLaw, StayLaw}
 use Rattle.lh_bucket.specs.declared.call.Reply.{Reply}
 use Rattle.lh_bucket.specs.Answer.{IsAnswer}
@@ -103,7 +103,7 @@ none_some e = cc
 same_some : {j k : ℕ} → Some j ≡ Some k → j ≡ k
 same_some e = cc
 
-at_level : (head : Head) (old new : List Pair) (call : Call) (k : ℕ) (o : Option ℕ) → o ≡ Some k → hash_at head.initial k (code_of (key_of call)) ≡ head.number → map_of new ≡ after (map_of old) call → IsHome head old o → IsHome head new o
+at_level : (head : Head) (old new : List Pair) (call : Call) (k : ℕ) (o : Option ℕ) → o ≡ Some k → hash_at head.initial k (code_of (key_of call)) ≡ head.number → map_of new ≡ after (map_of old) call → HasOwnKeys head old o → HasOwnKeys head new o
 at_level head old new call k None is home left kept = none_some is
 at_level head old new call k (Some level) is home left kept = (
   kept.0,
@@ -114,7 +114,7 @@ at_level head old new call k (Some level) is home left kept = (
 )
 
 -- after a call that met the verdict Here, each key stands where it belongs
-pub home_served : (head : Head) (old new : List Pair) (call : Call) (k : ℕ) → verdict head (code_of (key_of call)) k ≡ Here → map_of new ≡ after (map_of old) call → IsHome head old head.level → IsHome head new head.level
+pub home_served : (head : Head) (old new : List Pair) (call : Call) (k : ℕ) → verdict head (code_of (key_of call)) k ≡ Here → map_of new ≡ after (map_of old) call → HasOwnKeys head old head.level → HasOwnKeys head new head.level
 home_served head old new call k here left kept =
     let e = verdict-Here head (code_of (key_of call)) k here in
     at_level head old new call k head.level e.1 e.0 left kept
@@ -123,7 +123,7 @@ no_key : {G : Type 0} (q : List ℕ) → IsTrue (contains_key (map_of []) q) →
 no_key q h = absurd (false≢true (sym (ap (λ m. contains_key m q) map_of-none ∙ ap is_some (get-empty (slice_cmp nat_cmp) q)) ∙ h))
 
 -- an empty bucket
-pub home_none : (head : Head) (level : Option ℕ) → ForSome level (λ l. (l ≤ 16) × (head.number < head.initial * 2 ^ l)) → IsHome head [] level
+pub home_none : (head : Head) (level : Option ℕ) → ForSome level (λ l. (l ≤ 16) × (head.number < head.initial * 2 ^ l)) → HasOwnKeys head [] level
 home_none head None h = refl
 home_none head (Some level) h = ((h level refl).0, λ q there. no_key q there)
 
@@ -138,7 +138,7 @@ raised_level-is : (old : Head) (level : ℕ) → old.level ≡ Some level → ra
 raised_level-is old level filled = ap (λ o. unwrap_or o 0 + 1) filled
 
 -- what stays in a split
-pub home_stay : (old : Head) (ps qs : List Pair) (level : ℕ) → old.level ≡ Some level → level < 16 → map_of qs ≡ retain_keys (map_of ps) (stays old) → IsHome old qs (Some (raised_level old))
+pub home_stay : (old : Head) (ps qs : List Pair) (level : ℕ) → old.level ≡ Some level → level < 16 → map_of qs ≡ retain_keys (map_of ps) (stays old) → HasOwnKeys old qs (Some (raised_level old))
 unfolding stays
 home_stay old ps qs level filled low left = (
   rw (raised_level-is old level filled) (omega arith),
@@ -146,7 +146,7 @@ home_stay old ps qs level filled low left = (
       exact_unsigned_eq _ _ (key_retained (map_of ps) (stays old) q (subst (λ m. IsTrue (contains_key m q)) left there)).0,
 )
 
-old_home : (head : Head) (ps : List Pair) (level : ℕ) (o : Option ℕ) → o ≡ Some level → IsHome head ps o → (q : List ℕ) → IsTrue (contains_key (map_of ps) q) → hash_at head.initial level (code_of q) ≡ head.number
+old_home : (head : Head) (ps : List Pair) (level : ℕ) (o : Option ℕ) → o ≡ Some level → HasOwnKeys head ps o → (q : List ℕ) → IsTrue (contains_key (map_of ps) q) → hash_at head.initial level (code_of q) ≡ head.number
 old_home head ps level None is kept q there = none_some is
 old_home head ps level (Some l) is kept q there = ap (λ i. hash_at head.initial i (code_of q)) (sym (same_some is)) ∙ kept.1 q there
 
@@ -161,7 +161,7 @@ gone_home initial level c m rises some e t =
     (rises initial level c some)
 
 -- what goes in a split
-pub home_go : (old new : Head) (ps qs : List Pair) (level : ℕ) → HashRises → 1 ≤ old.initial → old.level ≡ Some level → level < 16 → new.number ≡ old.number + old.initial * 2 ^ level → new.initial ≡ old.initial → IsHome old ps old.level → map_of qs ≡ retain_keys (map_of ps) (λ key. not (stays old key)) → IsHome new qs (Some (raised_level old))
+pub home_go : (old new : Head) (ps qs : List Pair) (level : ℕ) → HashRises → 1 ≤ old.initial → old.level ≡ Some level → level < 16 → new.number ≡ old.number + old.initial * 2 ^ level → new.initial ≡ old.initial → HasOwnKeys old ps old.level → map_of qs ≡ retain_keys (map_of ps) (λ key. not (stays old key)) → HasOwnKeys new qs (Some (raised_level old))
 unfolding stays
 home_go old new ps qs level rises some filled low number initial kept left =
     let up = raised_level-is old level filled in (

@@ -18,7 +18,7 @@ use Rattle.std.proofs.lemmas.Map.Made.{is_some-lookup}
 use Rattle.lh_addr.specs.Limits.{IsInitial, IsCapacity}
 use Rattle.lh_page.specs.Records.{keys_of}
 use Rattle.lh_bucket.specs.Records.{entry_of, map_of}
-use Rattle.lh_bucket.specs.Bucket.{Head, IsHome}
+use Rattle.lh_bucket.specs.Bucket.{Head, HasOwnKeys}
 use Rattle.lh_bucket.specs.PlainBucket.{pairs_of, IsInKeyOrder, IsPlain}
 use Rattle.lh_bucket.proofs.MapOf.{equals, same_records, get-map_of, get-retained, map_of-filter}
 
@@ -67,7 +67,7 @@ distinct_sorted ks h =
     subst (λ (e : List ℕ → List ℕ → Bool). IsDistinct e ks) (sym same) (IsDistinct-from_sorted (slice_cmp nat_cmp) ks h)
 
 -- a bucket of an ordered map's entries
-pub plain_made : (head : Head) (es : Entries) → IsInitial head.initial → IsCapacity head.capacity → IsStrictlySortedBy (slice_cmp nat_cmp) (entry_keys es) → IsHome head (pairs_of es) head.level → IsPlain (record { head = head; pairs = pairs_of es })
+pub plain_made : (head : Head) (es : Entries) → IsInitial head.initial → IsCapacity head.capacity → IsStrictlySortedBy (slice_cmp nat_cmp) (entry_keys es) → HasOwnKeys head (pairs_of es) head.level → IsPlain (record { head = head; pairs = pairs_of es })
 plain_made head es initial capacity ordered home =
     let sorted : IsInKeyOrder (pairs_of es) = subst (IsStrictlySortedBy (slice_cmp nat_cmp)) (sym (keys_of-pairs_of es)) ordered in
     record {

@@ -35,9 +35,9 @@ abbrev pub content : Seen → Records
 content bucket = map_of bucket.pairs
 
 -- a bucket that isn't filled has no records, and each key of a filled one leads to its number at its level
-abbrev pub IsHome : Head → List Pair → Option ℕ → Type 0
-IsHome head pairs None = pairs ≡ []
-IsHome head pairs (Some level) =
+abbrev pub HasOwnKeys : Head → List Pair → Option ℕ → Type 0
+HasOwnKeys head pairs None = pairs ≡ []
+HasOwnKeys head pairs (Some level) =
     (level ≤ 16) × ((key : List ℕ) → IsTrue (contains_key (map_of pairs) key) → hash_at head.initial level (code_of key) ≡ head.number)
 
 -- what holds of every bucket: its file's numbers are within their limits, no key stands twice, and each stands where it belongs
@@ -45,7 +45,7 @@ pub record IsKept (bucket : Seen) : Type 0 where
   pub initial : IsInitial bucket.head.initial
   pub capacity : IsCapacity bucket.head.capacity
   pub distinct : IsDistinct bytes_eq (keys_of bucket.pairs)
-  pub home : IsHome bucket.head bucket.pairs bucket.head.level
+  pub home : HasOwnKeys bucket.head bucket.pairs bucket.head.level
 
 -- a bucket's verdict on a key of code c that is looked for at level k
 abbrev pub verdict : Head → ℕ → ℕ → Verdict

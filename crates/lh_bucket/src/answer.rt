@@ -23,11 +23,14 @@ impl Model for Answer {
 
     ghost Value = { Answered };
 
-    ghost view = { λ a. record { call = a.call; reply = a.reply; bucket = a.bucket; level = a.level; initial = a.initial } };
+    ghost view = { λ a.
+        record { call = a.call; reply = a.reply; bucket = a.bucket; level = a.level; initial = a.initial } };
 
-    ghost invariant = { λ a. IsAnswer (record { call = a.call; reply = a.reply; bucket = a.bucket; level = a.level; initial = a.initial }) };
+    ghost invariant = { λ a. IsAnswer (
+        record { call = a.call; reply = a.reply; bucket = a.bucket; level = a.level; initial = a.initial }) };
 
-    ghost inverse = { λ a. record { call = a.call; reply = a.reply; bucket = a.bucket; level = a.level; initial = a.initial } };
+    ghost inverse = { λ a.
+        record { call = a.call; reply = a.reply; bucket = a.bucket; level = a.level; initial = a.initial } };
 }
 
 impl Answer {

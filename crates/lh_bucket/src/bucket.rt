@@ -38,7 +38,10 @@ pub trait Bucket: Drop {
         requires initial { IsInitial initial }
         requires capacity { IsCapacity capacity }
         requires level { ForSome level (λ l. (l ≤ 16) × (number < initial * 2 ^ l)) }
-        ensures { IfOk result (λ b. seen b ≡ record { head = record { number = number; initial = initial; capacity = capacity; level = level }; pairs = [] }) };
+        ensures { IfOk result (λ b. seen b ≡ record {
+          head = record { number = number; initial = initial; capacity = capacity; level = level };
+          pairs = [];
+        }) };
 
     /// The bucket's number in its file.
     fn number(&self) -> u32
@@ -97,8 +100,10 @@ pub trait Bucket: Drop {
         requires { CanSplit (seen self.old).head (seen new.old).head }
         ensures old_head { OnOk result ((seen self.new).head ≡ raised (seen self.old).head (seen self.old).head) }
         ensures new_head { OnOk result ((seen new.new).head ≡ raised (seen self.old).head (seen new.old).head) }
-        ensures old_content { OnOk result (content (seen self.new) ≡ retain_keys (content (seen self.old)) (stays (seen self.old).head)) }
-        ensures new_content { OnOk result (content (seen new.new) ≡ retain_keys (content (seen self.old)) (λ key. not (stays (seen self.old).head key))) }
+        ensures old_content { OnOk result (content (seen self.new)
+            ≡ retain_keys (content (seen self.old)) (stays (seen self.old).head)) }
+        ensures new_content { OnOk result (content (seen new.new)
+            ≡ retain_keys (content (seen self.old)) (λ key. not (stays (seen self.old).head key))) }
 
         // Without memory nothing changes.
         ensures old_unchanged { OnErr result (seen self.new ≡ seen self.old) }

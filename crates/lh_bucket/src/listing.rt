@@ -13,16 +13,16 @@ use thiserror::Error;
 #[derive(Clone, Copy, Debug, PartialEq, Eq, Error)]
 pub enum ListingFault {
     /// The number of buckets is not the initial one to the greatest one of the configuration, or
-    /// not the number of lists (B2).
+    /// not the number of lists.
     #[error("not one list for each bucket of the file")]
     Shape,
-    /// The record's key belongs to another bucket (B3).
+    /// The record's key belongs to another bucket.
     #[error("the record at place {place} of bucket {bucket} belongs to another bucket")]
     Misplaced { bucket: u32, place: usize },
-    /// A record before it in its list has the same key (B4).
+    /// A record before it in its list has the same key.
     #[error("the key at place {place} of bucket {bucket} stands there twice")]
     Twice { bucket: u32, place: usize },
-    /// There was no memory to look for keys that stand twice (B1).
+    /// There was no memory to look for keys that stand twice.
     #[error("no memory")]
     Memory,
 }
@@ -70,7 +70,8 @@ impl Listing {
         buckets: u32,
         lists: Vec<Vec<Pair>>,
     ) -> Result<Listing, ListingFault>
-        ensures ok { IfOk result (λ listing. listing ≡ record { config = config; lists = map (λ v. v.items) lists.items }) }
+        ensures ok { IfOk result (λ listing. listing
+            ≡ record { config = config; lists = map (λ v. v.items) lists.items }) }
         ensures buckets { IfOk result (λ listing. size listing ≡ buckets) }
         ensures kept { IfOk result IsListing }
         ensures err { IfErr result (IsFaultOf config buckets (map (λ v. v.items) lists.items)) }

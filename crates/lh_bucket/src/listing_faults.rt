@@ -15,11 +15,13 @@ use std::collections::BTreeSet;
 
 /// The place of the first record that belongs to another bucket than this one.
 fn away_in(root: &Root, bucket: u32, pairs: &[Pair]) -> Option<usize>
-    ensures none { IfNone result ((p : ℕ) → p < length pairs.now → IsHome root.now.initial root.now.buckets bucket pairs.now p) }
+    ensures none { IfNone result ((p : ℕ) → p < length pairs.now →
+        IsHome root.now.initial root.now.buckets bucket pairs.now p) }
     ensures records { IfNone result (All IsRecord pairs.now) }
     ensures within { IfSome result (λ place. place < length pairs.now) }
     ensures away { IfSome result (λ place. IsAway root.now.initial root.now.buckets bucket pairs.now place) }
-    ensures before { IfSome result (λ place. (p : ℕ) → p < place → IsHome root.now.initial root.now.buckets bucket pairs.now p) }
+    ensures before { IfSome result (λ place. (p : ℕ) → p < place →
+        IsHome root.now.initial root.now.buckets bucket pairs.now p) }
 {
     for (place, pair) in pairs.iter().enumerate() {
         // A listing has values of no other lengths than these.
@@ -71,7 +73,8 @@ fn is_new(tops: &[bool; 256], top: usize, pairs: &[Pair], place: usize) -> bool
 
 /// Whether a list that is not long is surely without a fault. The code of each key is computed once.
 fn is_sound(root: &Root, bucket: u32, pairs: &[Pair]) -> bool
-    ensures home { OnTrue result ((p : ℕ) → p < length pairs.now → IsHome root.now.initial root.now.buckets bucket pairs.now p) }
+    ensures home { OnTrue result ((p : ℕ) → p < length pairs.now →
+        IsHome root.now.initial root.now.buckets bucket pairs.now p) }
     ensures records { OnTrue result (All IsRecord pairs.now) }
     ensures new { OnTrue result ((p : ℕ) → p < length pairs.now → IsNew 0 pairs.now p) }
 {
@@ -136,7 +139,8 @@ fn twice_by(
 ) -> Option<ListingFault>
     ensures none { IfNone result (found ≡ None) }
     ensures new { IfNone result ((p : ℕ) → p < length pairs.now → IsNew 0 pairs.now p) }
-    ensures twice { IfSome result (λ fault. (found ≡ Some fault) ⊎ ((found ≡ None) × IsTwiceIn bucket pairs.now fault)) }
+    ensures twice { IfSome result (λ fault. (found ≡ Some fault)
+        ⊎ ((found ≡ None) × IsTwiceIn bucket pairs.now fault)) }
 {
     if found.is_some() {
         return found;

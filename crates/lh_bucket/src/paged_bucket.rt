@@ -37,9 +37,15 @@ impl Model for PagedBucket {
 
     ghost Value = { Seen };
 
-    ghost view = { λ b. record { head = record { number = b.number; initial = b.initial; capacity = b.chain.capacity; level = b.level }; pairs = b.chain.pairs } };
+    ghost view = { λ b. record {
+      head = record { number = b.number; initial = b.initial; capacity = b.chain.capacity; level = b.level };
+      pairs = b.chain.pairs;
+    } };
 
-    ghost invariant = { λ b. IsKept (record { head = record { number = b.number; initial = b.initial; capacity = b.chain.capacity; level = b.level }; pairs = b.chain.pairs }) };
+    ghost invariant = { λ b. IsKept (record {
+      head = record { number = b.number; initial = b.initial; capacity = b.chain.capacity; level = b.level };
+      pairs = b.chain.pairs;
+    }) };
 }
 
 impl PagedBucket {
@@ -65,8 +71,12 @@ impl PagedBucket {
         requires capacity { IsCapacity capacity }
         requires level { level ≤ 16 }
         requires distinct { IsDistinct bytes_eq (keys_of pairs.now) }
-        requires home { (place : ℕ) → place < length pairs.now → hash_at initial level (code_of (key_at pairs.now place)) ≡ number }
-        ensures { IfOk result (λ b. b ≡ record { head = record { number = number; initial = initial; capacity = capacity; level = Some level }; pairs = pairs.now }) }
+        requires home { (place : ℕ) → place < length pairs.now →
+            hash_at initial level (code_of (key_at pairs.now place)) ≡ number }
+        ensures { IfOk result (λ b. b ≡ record {
+          head = record { number = number; initial = initial; capacity = capacity; level = Some level };
+          pairs = pairs.now;
+        }) }
     {
         let chain = Chain::from_pairs(alloc, capacity, pairs)?;
         let bucket = PagedBucket {
@@ -91,8 +101,10 @@ fn search_in(chain: &Chain, key: &Key) -> Reply
 
 /// Puts a record last in a chain, unless its key is there: whether it was put.
 fn insert_into(chain: &mut Chain, key: &Key, value: &Value) -> Result<bool, Memory>
-    ensures reply { IfOk result (λ is_new. (if is_new then Inserted else Exists) ≡ reply (map_of chain.old.pairs) (Insert key.now value.now)) }
-    ensures list { OnOk result (chain.new ≡ record chain.old { pairs = served chain.old.pairs (Insert key.now value.now) }) }
+    ensures reply { IfOk result (λ is_new. (if is_new then Inserted else Exists)
+        ≡ reply (map_of chain.old.pairs) (Insert key.now value.now)) }
+    ensures list { OnOk result (
+        chain.new ≡ record chain.old { pairs = served chain.old.pairs (Insert key.now value.now) }) }
     ensures err { OnErr result (chain.new ≡ chain.old) }
 {
     match chain.find(key) {
@@ -228,7 +240,8 @@ impl Bucket for PagedBucket {
         ensures old_head { OnOk result (self.new.head ≡ raised self.old.head self.old.head) }
         ensures new_head { OnOk result (new.new.head ≡ raised self.old.head new.old.head) }
         ensures old_content { OnOk result (content self.new ≡ retain_keys (content self.old) (stays self.old.head)) }
-        ensures new_content { OnOk result (content new.new ≡ retain_keys (content self.old) (λ key. not (stays self.old.head key))) }
+        ensures new_content { OnOk result (content new.new
+            ≡ retain_keys (content self.old) (λ key. not (stays self.old.head key))) }
 
         // Each keeps the order of its records.
         ensures old_order { OnOk result (self.new.pairs ≡ filter (λ p. stays self.old.head p.key) self.old.pairs) }

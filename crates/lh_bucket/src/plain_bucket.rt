@@ -39,9 +39,15 @@ impl Model for PlainBucket {
 
     ghost Value = { Seen };
 
-    ghost view = { λ b. record { head = record { number = b.number; initial = b.initial; capacity = b.capacity; level = b.level }; pairs = pairs_of b.records.entries } };
+    ghost view = { λ b. record {
+      head = record { number = b.number; initial = b.initial; capacity = b.capacity; level = b.level };
+      pairs = pairs_of b.records.entries;
+    } };
 
-    ghost invariant = { λ b. IsPlain (record { head = record { number = b.number; initial = b.initial; capacity = b.capacity; level = b.level }; pairs = pairs_of b.records.entries }) };
+    ghost invariant = { λ b. IsPlain (record {
+      head = record { number = b.number; initial = b.initial; capacity = b.capacity; level = b.level };
+      pairs = pairs_of b.records.entries;
+    }) };
 }
 
 /// The value that a map has at a key.
@@ -53,7 +59,8 @@ fn value_at(records: &BTreeMap<Key, Value>, key: &Key) -> Option<Value>
 
 /// Adds a record whose key is not there yet.
 fn add(records: &mut BTreeMap<Key, Value>, key: Key, value: Value) -> Result<(), Memory>
-    ensures ok { OnOk result (map_of (pairs_of records.new.entries) ≡ insert (map_of (pairs_of records.old.entries)) key value) }
+    ensures ok { OnOk result (map_of (pairs_of records.new.entries)
+        ≡ insert (map_of (pairs_of records.old.entries)) key value) }
     ensures err { OnErr result (records.new.entries ≡ records.old.entries) }
     ensures ordered { IsOrdered (slice_cmp nat_cmp) records.new }
 {
@@ -64,7 +71,9 @@ fn add(records: &mut BTreeMap<Key, Value>, key: Key, value: Value) -> Result<(),
 /// Takes a key out, and says whether it was there.
 fn take(records: &mut BTreeMap<Key, Value>, key: &Key) -> bool
     ensures found { result ≡ contains_key (map_of (pairs_of records.old.entries)) key.now }
-    ensures left { map_of (pairs_of records.new.entries) ≡ (if result then remove (map_of (pairs_of records.old.entries)) key.now else map_of (pairs_of records.old.entries)) }
+    ensures left { map_of (pairs_of records.new.entries)
+        ≡ (if result then remove (map_of (pairs_of records.old.entries)) key.now
+        else map_of (pairs_of records.old.entries)) }
     ensures ordered { IsOrdered (slice_cmp nat_cmp) records.new }
 {
     records.remove(key).is_some()
@@ -74,7 +83,8 @@ fn take(records: &mut BTreeMap<Key, Value>, key: &Key) -> bool
 fn serve_at(records: &mut BTreeMap<Key, Value>, call: &Call) -> Result<Reply, Memory>
     requires { IsOrdered (slice_cmp nat_cmp) records.old }
     ensures reply { IfOk result (λ r. r ≡ reply (map_of (pairs_of records.old.entries)) call.now) }
-    ensures after { OnOk result (map_of (pairs_of records.new.entries) ≡ after (map_of (pairs_of records.old.entries)) call.now) }
+    ensures after { OnOk result (map_of (pairs_of records.new.entries)
+        ≡ after (map_of (pairs_of records.old.entries)) call.now) }
     ensures ordered { IsOrdered (slice_cmp nat_cmp) records.new }
     ensures no_memory { ¬ (IsInsert call.now) → IsOk result }
     ensures err { OnErr result (records.new.entries ≡ records.old.entries) }
@@ -197,7 +207,9 @@ fn select(
     records: &BTreeMap<Key, Value>,
     leaving: &Leaving,
 ) -> Result<BTreeMap<Key, Value>, Memory>
-    ensures map { IfOk result (λ m. map_of (pairs_of m.entries) ≡ retain_keys (map_of (pairs_of records.now.entries)) (λ key. not (leads_to leaving.now.initial leaving.now.level leaving.now.number key))) }
+    ensures map { IfOk result (λ m. map_of (pairs_of m.entries)
+        ≡ retain_keys (map_of (pairs_of records.now.entries))
+        (λ key. not (leads_to leaving.now.initial leaving.now.level leaving.now.number key))) }
     ensures ordered { IfOk result (λ m. IsOrdered (slice_cmp nat_cmp) m) }
 {
     let mut moved = BTreeMap::new(alloc);
@@ -211,7 +223,9 @@ fn select(
 
 /// Takes the records that leave a map out of it.
 fn keep_others(records: &mut BTreeMap<Key, Value>, leaving: &Leaving)
-    ensures map { map_of (pairs_of records.new.entries) ≡ retain_keys (map_of (pairs_of records.old.entries)) (leads_to leaving.now.initial leaving.now.level leaving.now.number) }
+    ensures map { map_of (pairs_of records.new.entries)
+        ≡ retain_keys (map_of (pairs_of records.old.entries))
+        (leads_to leaving.now.initial leaving.now.level leaving.now.number) }
     ensures ordered { IsOrdered (slice_cmp nat_cmp) records.new }
 {
     records.retain(|key, _| !leaving.contains(key));

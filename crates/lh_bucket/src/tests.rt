@@ -14,7 +14,8 @@ use std::test::Fail;
 fn serve_here<B: Bucket>(bucket: &mut B, call: &Call, k: u8) -> Result<Option<Answer>, Memory>
     requires { k ≤ 16 }
     ensures answer { IfOk result (λ r. IfSome r (λ a. a ≡ answer (B.seen bucket.old) call.now k)) }
-    ensures content { IfOk result (λ r. IfSome r (λ _. content (B.seen bucket.new) ≡ after (content (B.seen bucket.old)) call.now)) }
+    ensures content { IfOk result (λ r. IfSome r
+        (λ _. content (B.seen bucket.new) ≡ after (content (B.seen bucket.old)) call.now)) }
     ensures passed { IfOk result (λ r. IfNone r (B.seen bucket.new ≡ B.seen bucket.old)) }
     ensures head { (B.seen bucket.new).head ≡ (B.seen bucket.old).head }
     ensures err { OnErr result (B.seen bucket.new ≡ B.seen bucket.old) }

@@ -16,7 +16,7 @@ use Rattle.lh_page.specs.declared.pair.Pair.{Pair}
 use Rattle.lh_page.specs.Records.{keys_of, key_at, no_pair}
 use Rattle.lh_bucket.specs.declared.listing.ListingFault.{ListingFault}
 use Rattle.lh_bucket.specs.declared.listing.ListingFault.TheVariants.{Shape, Misplaced, Twice, Memory}
-use Rattle.lh_bucket.specs.Bucket.{Head, Seen, IsHome, IsKept}
+use Rattle.lh_bucket.specs.Bucket.{Head, Seen, HasOwnKeys, IsKept}
 use Rattle.lh_bucket.specs.Records.{map_of, entry_of}
 use Rattle.lh_bucket.specs.Listing.{IsShape, list_at}
 use Rattle.lh_bucket.specs.ListingFault.{IsFaultOf}
@@ -92,7 +92,7 @@ module _ (g : LinearHashing) (w : WorldSeen) (h : IsWorld w) (idle : w.state.spl
   home i p lt =
       let b : Seen = bucket_at w.buckets i in
       let in_row : i < w.state.filled = subst (λ n. i < n) h.row.all (within i p lt) in
-      let headed : IsHome (head_at w.config w.state.filled i) b.pairs (head_at w.config w.state.filled i).level = subst (λ (x : Head). IsHome x b.pairs x.level) (h.row.heads i in_row) (kept i (within i p lt)).home in
+      let headed : HasOwnKeys (head_at w.config w.state.filled i) b.pairs (head_at w.config w.state.filled i).level = subst (λ (x : Head). HasOwnKeys x b.pairs x.level) (h.row.heads i in_row) (kept i (within i p lt)).home in
       let has : contains_key (map_of b.pairs) (key_at b.pairs p) ≡ true = has_key b.pairs p (subst (λ (ps : List Pair). p < length ps) (at i) lt) in
       let leads : hash_at w.config.initial (level_of w.config.initial w.state.filled i) (code_of (key_at b.pairs p)) ≡ i = headed.1 (key_at b.pairs p) has in
       let there : address w.config.initial w.state.filled (code_of (key_at b.pairs p)) ≡ i = (g.address w.config.initial w.state.filled (code_of (key_at b.pairs p)) i h.sound.some (subst (λ n. w.config.initial ≤ n) (sym full) h.sound.from_initial)).1 (in_row, leads) in

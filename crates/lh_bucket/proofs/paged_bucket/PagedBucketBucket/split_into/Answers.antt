@@ -3,7 +3,7 @@ use Rattle.std.specs.List.{filter}
 use Rattle.std.specs.FinMap.{retain_keys}
 use Rattle.lh_page.specs.PackedList.{PackedList}
 use Rattle.lh_bucket.specs.Records.{map_of}
-use Rattle.lh_bucket.specs.Bucket.{Head, Seen, IsHome, content, raised_level, stays}
+use Rattle.lh_bucket.specs.Bucket.{Head, Seen, HasOwnKeys, content, raised_level, stays}
 use Rattle.lh_bucket.proofs.MapOf.{map_of-filter}
 use Rattle.lh_bucket.proofs.Kept.{stay_list, go_list, home_stay, home_go}
 use Rattle.lh_bucket.proofs.paged_bucket.PagedBucketBucket.split_into.Goals as goal
@@ -19,7 +19,7 @@ invariant_of-self-2 c =
       initial = c.self.invariant.initial;
       capacity = c.len.ensures.kept.capacity;
       distinct = c.len.ensures.kept.distinct;
-      home = subst (λ n. IsHome head new (Some n)) (sym level)
+      home = subst (λ n. HasOwnKeys head new (Some n)) (sym level)
           (home_stay head old new c.requires.level filled c.requires.below (ap map_of (stay_list head (c.unwrap_or-level.result + 1) old c.split_off.new.self.pairs level (ap (λ (l : PackedList). l.pairs) c.in_ok-gone.ensures.kept)) ∙ map_of-filter (stays head) old));
     }
 
@@ -38,7 +38,7 @@ invariant_of-new c =
       initial = c.new.invariant.initial;
       capacity = c.len-2.ensures.kept.capacity;
       distinct = c.len-2.ensures.kept.distinct;
-      home = subst (λ n. IsHome target new (Some n)) (sym level)
+      home = subst (λ n. HasOwnKeys target new (Some n)) (sym level)
           (home_go head target old new c.requires.level c.hashes_are_nested.ensures.rises c.self.invariant.initial.0 filled c.requires.below number initial c.self.invariant.home
           (ap map_of (go_list head (c.unwrap_or-level.result + 1) old c.in_ok-gone.gone.pairs level (ap (λ (l : PackedList). l.pairs) c.in_ok-gone.ensures.gone)) ∙ map_of-filter (λ key. not (stays head key)) old));
     }

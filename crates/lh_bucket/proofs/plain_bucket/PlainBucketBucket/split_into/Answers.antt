@@ -1,7 +1,7 @@
 use Rattle.std.proofs.Common.{◌≡◌, ◌∙◌, ◌+◌, ◌*◌, ◌^◌, Some, not, sym, ap, subst}
 use Rattle.std.specs.FinMap.{retain_keys}
 use Rattle.lh_bucket.specs.Records.{map_of}
-use Rattle.lh_bucket.specs.Bucket.{Head, Seen, IsHome, content, raised_level, stays}
+use Rattle.lh_bucket.specs.Bucket.{Head, Seen, HasOwnKeys, content, raised_level, stays}
 use Rattle.lh_bucket.specs.PlainBucket.{pairs_of}
 use Rattle.lh_bucket.proofs.Kept.{stays-is, goes-is, home_stay, home_go}
 use Rattle.lh_bucket.proofs.PlainBuckets.{plain_made}
@@ -15,7 +15,7 @@ invariant_of-self c =
     let old = pairs_of c.self.inside.records.entries in
     let new = pairs_of c.keep_others.new.records.entries in
     plain_made (record head { level = Some (c.unwrap_or-level.result + 1) }) c.keep_others.new.records.entries c.self.invariant.kept.initial c.self.invariant.kept.capacity c.keep_others.ensures.ordered
-    (subst (λ n. IsHome head new (Some n)) (sym level)
+    (subst (λ n. HasOwnKeys head new (Some n)) (sym level)
     (home_stay head old new c.requires.level filled c.requires.below (stays-is head (c.unwrap_or-level.result + 1) (map_of old) (map_of new) level c.keep_others.ensures.map)))
 
 pub invariant_of-new : goal.invariant_of-new
@@ -30,7 +30,7 @@ invariant_of-new c =
     let new = pairs_of c.in_ok-moved.moved.entries in
     let target : Head = record { number = c.new.inside.number; initial = c.new.inside.initial; capacity = c.new.inside.capacity; level = Some (c.unwrap_or-level.result + 1) } in
     plain_made target c.in_ok-moved.moved.entries c.new.invariant.kept.initial c.new.invariant.kept.capacity c.in_ok-moved.ensures.ordered
-    (subst (λ n. IsHome target new (Some n)) (sym level)
+    (subst (λ n. HasOwnKeys target new (Some n)) (sym level)
     (home_go head target old new c.requires.level c.hashes_are_nested.ensures.rises c.self.invariant.kept.initial.0 filled c.requires.below number initial c.self.invariant.kept.home
     (goes-is head (c.unwrap_or-level.result + 1) (map_of old) (map_of new) level c.in_ok-moved.ensures.map)))
 
