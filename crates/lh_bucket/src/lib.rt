@@ -34,6 +34,4 @@ pub use plain_bucket::PlainBucket;
 pub use verdict::Verdict;
 
 #[cfg(test)]
-mod filled_tests;
-#[cfg(test)]
 mod tests;

@@ -1,0 +1,31 @@
+//! Configurations, and when a file is to grow.
+use crate::{Config, Range};
+use std::test::Fail;
+
+#[test]
+fn configurations_have_limits(rt: HostRuntime) -> Result<(), Fail> {
+    assert_eq!(rt; Config::new(0, 14, 100, 1), Err(Range::Initial));
+    assert_eq!(rt; Config::new(1, 15, 300, 0), Err(Range::Capacity));
+    assert_eq!(rt; Config::new(1, 14, 201, 0), Err(Range::Load));
+    assert_eq!(rt; Config::new(3, 2, 100, 2), Err(Range::Max));
+    assert_eq!(rt;
+        Range::Max.to_string(rt.alloc())?.as_str(),
+        "max is out of range"
+    );
+    let config = Config::new(3, 2, 100, 65_536).ok().ok_or("config")?;
+    assert_eq!(rt; config.initial(), 3);
+    assert_eq!(rt; config.capacity(), 2);
+    assert_eq!(rt; config.load(), 100);
+    assert_eq!(rt; config.max(), 65_536);
+    Ok(())
+}
+
+#[test]
+fn a_split_is_wanted_above_the_threshold(rt: HostRuntime) -> Result<(), Fail> {
+    let config = Config::new(1, 2, 100, 3).ok().ok_or("config")?;
+    assert!(rt; !config.wants_split(2, 1));
+    assert!(rt; config.wants_split(3, 1));
+    assert!(rt; config.wants_split(u64::MAX, 2));
+    assert!(rt; !config.wants_split(u64::MAX, 3));
+    Ok(())
+}

@@ -1,0 +1,73 @@
+//! Roots, addresses and aims.
+use crate::{Aim, Config, Root, fnv1a, hash_at};
+use std::test::Fail;
+
+#[test]
+fn address_goes_up_below_the_pointer(rt: HostRuntime) -> Result<(), Fail> {
+    let code = fnv1a(b"a");
+    assert_eq!(rt; hash_at(3, 0, code), 1);
+    assert_eq!(rt; hash_at(3, 1, code), 4);
+    assert_eq!(rt; Root::new(3, 3).ok_or("root")?.address(code), 1);
+    assert_eq!(rt; Root::new(3, 4).ok_or("root")?.address(code), 1);
+    assert_eq!(rt; Root::new(3, 5).ok_or("root")?.address(code), 4);
+    Ok(())
+}
+
+#[test]
+fn root_of_three_buckets(rt: HostRuntime) -> Result<(), Fail> {
+    let root = Root::new(1, 3).ok_or("root")?;
+    assert_eq!(rt; root.level(), 1);
+    assert_eq!(rt; root.pointer(), 1);
+    assert_eq!(rt; root.buckets(), 3);
+    assert_eq!(rt; root.level_of(0), 2);
+    assert_eq!(rt; root.level_of(1), 1);
+    assert_eq!(rt; root.level_of(2), 2);
+    assert_eq!(rt; root.next_split(), (1, 3, 2));
+    Ok(())
+}
+
+#[test]
+fn an_aim_has_the_level_of_its_bucket(rt: HostRuntime) -> Result<(), Fail> {
+    let root = Root::new(1, 3).ok_or("root")?;
+    assert_eq!(rt;
+        root.aim(fnv1a(b"a")),
+        Aim {
+            level: 2,
+            bucket: 0
+        }
+    );
+    assert_eq!(rt;
+        root.aim(fnv1a(b"b")),
+        Aim {
+            level: 1,
+            bucket: 1
+        }
+    );
+    Ok(())
+}
+
+#[test]
+fn a_root_grows_by_one_bucket(rt: HostRuntime) -> Result<(), Fail> {
+    let root = Root::new(1, 3).ok_or("root")?.grown();
+    assert_eq!(rt; (root.buckets(), root.level(), root.pointer()), (4, 2, 0));
+    Ok(())
+}
+
+#[test]
+fn a_configuration_has_roots(rt: HostRuntime) -> Result<(), Fail> {
+    let config = Config::new(1, 2, 100, 4).ok().ok_or("config")?;
+    assert_eq!(rt; Some(config.root(3)), Root::new(1, 3));
+    Ok(())
+}
+
+#[test]
+fn roots_have_limits(rt: HostRuntime) -> Result<(), Fail> {
+    assert_eq!(rt; Root::new(3, 2), None);
+    assert_eq!(rt; Root::new(0, 1), None);
+    assert_eq!(rt; Root::new(257, 300), None);
+    assert_eq!(rt; Root::new(1, 65_537), None);
+    let largest = Root::new(1, 65_536).ok_or("root")?;
+    assert_eq!(rt; largest.level(), 16);
+    assert_eq!(rt; largest.level_of(65_535), 16);
+    Ok(())
+}

@@ -1,0 +1,100 @@
+//! Listings, and buckets that are filled with their records at once.
+ghost use Rattle.std.specs.Prelude.{◌<◌};
+ghost use Rattle.lh_bucket.specs.Listing.{size};
+
+use super::calls::{keys_of, pair};
+use crate::{Bucket, Listing, ListingFault, PagedBucket};
+use lh_addr::laws::address_is_only_bucket;
+use lh_addr::{Config, Root};
+use lh_page::Pair;
+use std::alloc::Global;
+use std::test::Fail;
+
+/// Lists of records with these first bytes of keys.
+fn lists_of(alloc: Global, keys: &[&[u8]]) -> Result<Vec<Vec<Pair>>, Fail> {
+    let mut lists = Vec::new(alloc);
+    for list in keys {
+        let mut pairs = Vec::new(alloc);
+        for key in *list {
+            pairs.push(pair(&[*key], b"1")?)?;
+        }
+        lists.push(pairs)?;
+    }
+    Ok(lists)
+}
+
+/// The fault of lists for a file of 1 to 4 buckets.
+fn fault_of(alloc: Global, buckets: u32, keys: &[&[u8]]) -> Result<Option<ListingFault>, Fail> {
+    let config = Config::new(1, 14, 100, 4).ok().ok_or("config")?;
+    Ok(Listing::new(alloc, config, buckets, lists_of(alloc, keys)?).err())
+}
+
+#[test]
+fn listings_name_their_first_fault(rt: HostRuntime) -> Result<(), Fail> {
+    let alloc = rt.alloc();
+    let misplaced = Some(ListingFault::Misplaced {
+        bucket: 1,
+        place: 0,
+    });
+    let twice = Some(ListingFault::Twice {
+        bucket: 0,
+        place: 1,
+    });
+    assert_eq!(rt; fault_of(alloc, 0, &[])?, Some(ListingFault::Shape));
+    assert_eq!(rt;
+        fault_of(alloc, 5, &[b"", b"", b"", b"", b""])?,
+        Some(ListingFault::Shape)
+    );
+    assert_eq!(rt; fault_of(alloc, 2, &[b"a"])?, Some(ListingFault::Shape));
+    assert_eq!(rt; fault_of(alloc, 2, &[b"", b"a"])?, misplaced);
+    assert_eq!(rt; fault_of(alloc, 2, &[b"aa", b""])?, twice);
+    assert_eq!(rt; fault_of(alloc, 2, &[b"aa", b"a"])?, misplaced);
+    Ok(())
+}
+
+#[test]
+fn listings_give_their_lists(rt: HostRuntime) -> Result<(), Fail> {
+    let alloc = rt.alloc();
+    let config = Config::new(2, 14, 100, 4).ok().ok_or("config")?;
+    let empty = Listing::empty(alloc, config)?;
+    assert_eq!(rt; empty.buckets(), 2);
+    assert_eq!(rt; empty.len(), 0);
+    let listing = Listing::new(alloc, config, 2, lists_of(alloc, &[b"ca", b"b"])?)?;
+    assert_eq!(rt; listing.config(), config);
+    assert_eq!(rt; listing.buckets(), 2);
+    assert_eq!(rt; Some(listing.root()), Root::new(2, 2));
+    assert_eq!(rt; listing.len(), 3);
+    assert_eq!(rt; listing.len_of(0), 2);
+    assert_eq!(rt; listing.pair_at(0, 1), pair(b"a", b"1")?);
+    Ok(())
+}
+
+/// A bucket of a listing.
+fn bucket_of(alloc: Global, listing: &Listing, number: u32) -> Result<PagedBucket, Fail>
+    requires { number < size listing.now }
+{
+    address_is_only_bucket();
+    let config = listing.config();
+    let bucket = PagedBucket::filled(
+        alloc,
+        config.initial(),
+        config.capacity(),
+        number,
+        listing.root().level_of(number),
+        listing.pairs_of(number),
+    )?;
+    Ok(bucket)
+}
+
+/// A file of two buckets that had them from the start, so both are at level 0.
+#[test]
+fn a_bucket_is_filled_with_a_list(rt: HostRuntime) -> Result<(), Fail> {
+    let alloc = rt.alloc();
+    let config = Config::new(2, 14, 100, 4).ok().ok_or("config")?;
+    let listing = Listing::new(alloc, config, 2, lists_of(alloc, &[b"ca", b"b"])?)?;
+    assert_eq!(rt; listing.pairs_of(0).len(), 2);
+    let bucket = bucket_of(alloc, &listing, 0)?;
+    assert_eq!(rt; keys_of(alloc, &bucket)?.as_slice(), b"ca".as_slice());
+    assert_eq!(rt; (bucket.number(), bucket.level()), (0, Some(0)));
+    Ok(())
+}

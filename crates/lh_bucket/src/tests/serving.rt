@@ -1,0 +1,95 @@
+//! What both buckets answer.
+ghost use Rattle.std.specs.Prelude.{◌≡◌, IfSome};
+ghost use Rattle.lh_bucket.specs.declared.call.Call.TheVariants.{Search};
+ghost use Rattle.lh_bucket.specs.Bucket.{answer};
+
+use super::calls::{fill, pair, reply_of};
+use crate::{Answer, Bucket, Call, PagedBucket, PlainBucket, Reply, Verdict};
+use lh_addr::fnv1a;
+use lh_page::{Key, Value};
+use std::alloc::Global;
+use std::process::Abort;
+use std::test::Fail;
+
+fn bucket_compares_levels<B: Bucket>(rt: &impl Abort, alloc: Global) -> Result<(), Fail> {
+    let low = B::make(alloc, 1, 14, 0, Some(0))?;
+    let high = B::make(alloc, 1, 14, 0, Some(2))?;
+    let unfilled = B::make(alloc, 1, 14, 0, None)?;
+    let a = fnv1a(b"a");
+    let h = fnv1a(b"h");
+    assert_eq!(rt; high.compare(h, 0), Verdict::Next { k: 1, bucket: 1 });
+    assert_eq!(rt; high.compare(h, 1), Verdict::Defect);
+    assert_eq!(rt; high.compare(a, 2), Verdict::Here);
+    assert_eq!(rt; low.compare(a, 0), Verdict::Here);
+    assert_eq!(rt; low.compare(a, 1), Verdict::Defect);
+    assert_eq!(rt; unfilled.compare(a, 0), Verdict::Defect);
+    assert_eq!(rt; unfilled.level(), None);
+    Ok(())
+}
+
+#[test]
+fn buckets_compare_levels(rt: HostRuntime) -> Result<(), Fail> {
+    bucket_compares_levels::<PlainBucket>(&rt, rt.alloc())?;
+    bucket_compares_levels::<PagedBucket>(&rt, rt.alloc())
+}
+
+fn bucket_serves_calls<B: Bucket>(rt: &impl Abort, alloc: Global) -> Result<(), Fail> {
+    let mut bucket = B::make(alloc, 1, 2, 0, Some(0))?;
+    let a = pair(b"a", b"1")?;
+    let other = Value::new(b"2")?;
+    assert_eq!(rt; reply_of(&mut bucket, Call::Delete(a.key))?, Reply::Absent);
+    assert_eq!(rt;
+        reply_of(&mut bucket, Call::Insert(a.key, a.value))?,
+        Reply::Inserted
+    );
+    assert_eq!(rt;
+        reply_of(&mut bucket, Call::Insert(a.key, other))?,
+        Reply::Exists
+    );
+    assert_eq!(rt;
+        reply_of(&mut bucket, Call::Search(a.key))?,
+        Reply::Found(a.value)
+    );
+    assert_eq!(rt; bucket.len(), 1);
+    assert_eq!(rt; reply_of(&mut bucket, Call::Delete(a.key))?, Reply::Deleted);
+    assert_eq!(rt; reply_of(&mut bucket, Call::Search(a.key))?, Reply::Absent);
+    assert_eq!(rt; bucket.number(), 0);
+    assert_eq!(rt; bucket.initial(), 1);
+    assert_eq!(rt; bucket.capacity(), 2);
+    Ok(())
+}
+
+#[test]
+fn buckets_serve_calls(rt: HostRuntime) -> Result<(), Fail> {
+    bucket_serves_calls::<PlainBucket>(&rt, rt.alloc())?;
+    bucket_serves_calls::<PagedBucket>(&rt, rt.alloc())
+}
+
+/// Answers a search at a bucket of level 0, and answers nothing at another bucket.
+fn look_here<B: Bucket>(bucket: &B, key: Key) -> Option<Answer>
+    ensures { IfSome result (λ a. a ≡ answer (B.seen bucket.now) (Search key) 0) }
+{
+    match bucket.compare(fnv1a(key.bytes()), 0) {
+        Verdict::Here => Some(bucket.look(&Call::Search(key), 0)),
+        _ => None,
+    }
+}
+
+fn look_answers_a_search<B: Bucket>(rt: &impl Abort, alloc: Global) -> Result<(), Fail> {
+    let mut bucket = B::make(alloc, 1, 14, 0, Some(0))?;
+    fill(&mut bucket, b"ab", 0)?;
+    let record = pair(b"b", b"b")?;
+    let answer = look_here(&bucket, record.key).ok_or("not the bucket")?;
+    assert_eq!(rt; answer.call(), Call::Search(record.key));
+    assert_eq!(rt; answer.reply(), Reply::Found(record.value));
+    assert_eq!(rt; answer.bucket(), 0);
+    assert_eq!(rt; answer.level(), 0);
+    assert_eq!(rt; answer.initial(), 1);
+    Ok(())
+}
+
+#[test]
+fn looks_answer_a_search(rt: HostRuntime) -> Result<(), Fail> {
+    look_answers_a_search::<PlainBucket>(&rt, rt.alloc())?;
+    look_answers_a_search::<PagedBucket>(&rt, rt.alloc())
+}
