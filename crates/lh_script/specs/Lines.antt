@@ -1,5 +1,5 @@
 -- The lines of a script, and the words of a line.
-use Rattle.std.specs.Prelude.{ℕ, ◌==◌, ◌&&◌, ◌||◌, Bool, true, false, if◌then◌else◌, nat_eq, List, [], ◌∷◌}
+use Rattle.std.specs.Prelude.{◌≡◌, ℕ, ◌==◌, ◌&&◌, ◌||◌, Bool, true, false, if◌then◌else◌, nat_eq, List, [], ◌∷◌}
 use Rattle.std.specs.Cmp.Lexicographic.{pointwise}
 
 -- LF, 10, ends a line
@@ -53,3 +53,12 @@ is_word = pointwise nat_eq
 abbrev pub is_comment : List ℕ → Bool
 is_comment [] = false
 is_comment (c ∷ cs) = c == 35
+
+-- whether a line says nothing: it has no words, or is a comment
+abbrev pub is_skipped : List (List ℕ) → Bool
+is_skipped [] = true
+is_skipped (word ∷ rest) = is_comment word
+
+-- the words of a line that says something are its first word and the rest
+abbrev pub IsStatement : List ℕ → List (List ℕ) → List (List ℕ) → Type 0
+IsStatement word rest line = (line ≡ word ∷ rest) × (is_comment word ≡ false)

@@ -1,8 +1,8 @@
 -- Keys and values as words of a line.
-use Rattle.std.specs.Prelude.{ℕ, ◌==◌, ◌||◌, if◌then◌else◌, nat_lt, List, [], ◌∷◌, length, Option, None, Some, Result, Ok, Err}
+use Rattle.std.specs.Prelude.{ℕ, ◌==◌, ◌||◌, if◌then◌else◌, nat_lt, List, length, Option, None, Some, Result, Ok, Err}
 use Rattle.lh_script.specs.Hexadecimal.{byte_string}
 use Rattle.lh_script.specs.declared.fault.LineFault.{LineFault}
-use Rattle.lh_script.specs.declared.fault.LineFault.TheVariants.{WordCount, BadHexadecimal, KeyLength, ValueLength}
+use Rattle.lh_script.specs.declared.fault.LineFault.TheVariants.{BadHexadecimal, KeyLength, ValueLength}
 
 -- one reading after another: the first fault is the fault of both
 infixl 10 ◌>>=◌
@@ -27,16 +27,3 @@ key word = key_from (byte_string word)
 -- the value that a word stands for
 abbrev pub value : List ℕ → Result (List ℕ) LineFault
 value word = value_from (byte_string word)
-
--- words that are to be one, a key
-unfoldable pub key_alone : List (List ℕ) → Result (List ℕ) LineFault
-key_alone (k ∷ []) = key k
-key_alone _ = Err WordCount
-
--- words that are to be two, a key and a value; the key is read first
-unfoldable pub key_and_value : List (List ℕ) → Result (List ℕ × List ℕ) LineFault
-key_and_value (k ∷ v ∷ []) = do
-  key ← key k
-  value ← value v
-  Ok (key, value)
-key_and_value _ = Err WordCount

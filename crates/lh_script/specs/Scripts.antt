@@ -1,6 +1,7 @@
 -- What a script gives: its statements, or its first fault.
-use Rattle.std.specs.Prelude.{◌≡◌, ℕ, ◌+◌, if◌then◌else◌, nat_lt, List, [], ◌∷◌, ◌++◌, length, Option, option_to_list, Result, Ok, Err}
-use Rattle.lh_script.specs.Lines.{lines, words}
+use Rattle.std.specs.Prelude.{◌≡◌, ℕ, ◌+◌, if◌then◌else◌, nat_lt, List, [], ◌∷◌, ◌++◌, length, Option, None, Some, option_to_list, Result, Ok, Err}
+use Rattle.lh_script.specs.Lines.{lines, words, is_comment}
+use Rattle.lh_script.specs.Operands.{◌>>=◌}
 use Rattle.lh_script.specs.declared.fault.LineFault.{LineFault}
 use Rattle.lh_script.specs.declared.fault.ParseError.{ParseError}
 use Rattle.lh_script.specs.declared.fault.ParseError.TheVariants.{Memory, Fault}
@@ -10,6 +11,11 @@ use Rattle.lh_script.specs.declared.fault.ScriptFault.TheVariants.{TooLong, AtLi
 -- how the words of a line are read: as a statement, as nothing, or as a fault
 abbrev pub Reading : Type 0 → Type 0
 Reading A = List (List ℕ) → Result (Option A) LineFault
+
+-- a line without words, and one that is a comment, is skipped; any other is read by its first word and the words behind it
+abbrev pub unless_skipped : {A : Type 0} → (List ℕ → List (List ℕ) → Result A LineFault) → Reading A
+unless_skipped read [] = Ok None
+unless_skipped read (word ∷ rest) = if is_comment word then Ok None else (read word rest >>= λ s. Ok (Some s))
 
 -- what a line adds to the statements before it
 abbrev pub added : {A : Type 0} → Result (Option A) LineFault → List A

@@ -9,6 +9,7 @@
 //! ```
 #![tactic(auto)]
 
+mod calls;
 mod commands;
 mod fault;
 mod hexadecimal;

@@ -1,7 +1,7 @@
 //! The lines of a script and the words of a line, as parts of the script's bytes.
-ghost use Rattle.std.specs.Prelude.{◌≡◌, ◌≢◌, [], ◌∷◌, ◌<◌, ◌≤◌, not, length, MatchOption};
+ghost use Rattle.std.specs.Prelude.{◌≡◌, ◌≢◌, [], ◌∷◌, ◌<◌, ◌≤◌, true, not, length, MatchOption};
 ghost use Rattle.std.specs.List.{position, position_or_len};
-ghost use Rattle.lh_script.specs.Lines.{lines, words, is_blank, is_comment, is_lf, without_last_cr};
+ghost use Rattle.lh_script.specs.Lines.{IsStatement, lines, words, is_blank, is_comment, is_lf, is_skipped, is_word, without_last_cr};
 
 use memchr::memchr;
 
@@ -111,9 +111,26 @@ pub fn first_line(text: &[u8]) -> (&[u8], &[u8])
     (without_cr(&text[..end]), &text[end + 1..])
 }
 
-/// Whether a line with this first word is a comment.
-pub fn is_comment_word(word: &[u8]) -> bool
+fn is_comment_word(word: &[u8]) -> bool
     ensures { result ≡ is_comment word.now }
 {
     !word.is_empty() && word[0] == b'#'
+}
+
+/// The first word of a line and what stands behind it, unless the line has no word or is a comment.
+pub fn statement_words(line: &[u8]) -> Option<(&[u8], &[u8])>
+    ensures { MatchOption result (is_skipped (words line.now) ≡ true) (λ x. IsStatement x.0.now (words x.1.now) (words line.now)) }
+{
+    let (word, rest) = first_word(line)?;
+    if is_comment_word(word) {
+        return None;
+    }
+    Some((word, rest))
+}
+
+/// Whether a word is this one.
+pub fn is_name(word: &[u8], name: &[u8]) -> bool
+    ensures { result ≡ is_word word.now name.now }
+{
+    word == name
 }

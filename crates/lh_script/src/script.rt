@@ -20,6 +20,25 @@ pub trait Statement: Copy {
         ensures added { statements.new.items ≡ statements.old.items ++ added (reads (words line.now)) };
 }
 
+/// Adds what was said, if it is a statement.
+pub fn keep<S: Copy>(
+    said: Result<Option<S>, LineFault>,
+    statements: &mut Vec<S>,
+) -> Result<(), LineFault>
+    requires { vec_len statements.old < vec_capacity statements.old }
+    ensures fault { result ≡ verdict said }
+    ensures added { statements.new.items ≡ statements.old.items ++ added said }
+{
+    match said {
+        Ok(Some(statement)) => {
+            statements.push_reserved(statement);
+            Ok(())
+        }
+        Ok(None) => Ok(()),
+        Err(fault) => Err(fault),
+    }
+}
+
 /// The most bytes that a script may have.
 pub const MOST_BYTES: usize = 16_777_216;
 
