@@ -41,7 +41,8 @@ pub fn answer_commands<R: Read, W: Write>(
     reader: &mut R,
     writer: &mut W,
 ) -> Status
-    ensures { IfSome (R.remaining reader.old) (λ input. Ends result (commands_due config input) (W.contents writer.old) (W.contents writer.new)) }
+    ensures { IfSome (R.remaining reader.old) (λ input.
+        Ends result (commands_due config input) (W.contents writer.old) (W.contents writer.new)) }
 {
     let calls: Vec<Call> = match read_script(alloc, reader) {
         Ok(calls) => calls,
@@ -86,7 +87,8 @@ pub fn answer_steps<R: Read, W: Write>(
     reader: &mut R,
     writer: &mut W,
 ) -> Status
-    ensures { IfSome (R.remaining reader.old) (λ input. EndsSteps config input result (W.contents writer.old) (W.contents writer.new)) }
+    ensures { IfSome (R.remaining reader.old) (λ input.
+        EndsSteps config input result (W.contents writer.old) (W.contents writer.new)) }
 {
     let events: Vec<Event> = match read_script(alloc, reader) {
         Ok(events) => events,

@@ -40,7 +40,8 @@ fn read_more<R: Read>(
 ) -> Result<usize, ReadError>
     requires room { 0 < length chunk.old }
     requires limited { 0 < limit }
-    ensures read { OnOk result (ReadsOnto (R.remaining reader.old) (R.remaining reader.new) bytes.old.items bytes.new.items) }
+    ensures read { OnOk result (ReadsOnto (R.remaining reader.old) (R.remaining reader.new)
+        bytes.old.items bytes.new.items) }
     ensures end { IfOk result (λ n. n ≡ 0 → IsAtEnd (R.remaining reader.new)) }
     ensures few { IfOk result (λ n. n ≤ limit) }
     ensures count { IfOk result (λ n. length bytes.new.items ≡ length bytes.old.items + n) }

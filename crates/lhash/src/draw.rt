@@ -1,10 +1,10 @@
 //! The subcommand `draw`, from an image to a drawing of the file.
-ghost use Rattle.std.specs.Prelude.{◌≡◌, ◌++◌, ◌<◌, ◌≤◌, ℕ, List, Option, OnOk, OnErr, IfSome, []};
+ghost use Rattle.std.specs.Prelude.{◌≡◌, ◌<◌, ◌≤◌, OnOk, OnErr, IfSome, []};
 ghost use Rattle.std.specs.String.{string_bytes};
 ghost use Rattle.std.specs.Io.KnownBytes.{Appends};
 ghost use Rattle.lh_bucket.specs.Listing.{size};
 ghost use Rattle.lh_draw.specs.Columns.{column_count, whole_tally};
-ghost use Rattle.lhash.specs.Devices.{Sends, TakesBeginning};
+ghost use Rattle.lhash.specs.Devices.{Adds, Breaks, TakesBeginning};
 ghost use Rattle.lh_draw.specs.Drawing.{chain_text, columns_text, drawing_of, foot_text, group_bar, head_text, in_turn};
 ghost use Rattle.lh_draw.specs.DrawingTexts.{bar_text};
 ghost use Rattle.lhash.specs.Images.{draw_due};
@@ -32,10 +32,10 @@ fn write_head<W: Write>(
     longest: usize,
 ) -> Result<(), WriteFailed>
     requires { longest ≡ (whole_tally listing.now).longest }
-    ensures ok { (before : Option (List ℕ)) (sent : List ℕ) → Sends before (W.contents writer.old) (string_bytes waiting.old) sent
-        → OnOk result (Sends before (W.contents writer.new) (string_bytes waiting.new) (sent ++ head_text listing.now)) }
-    ensures err { (before : Option (List ℕ)) (sent : List ℕ) → Sends before (W.contents writer.old) (string_bytes waiting.old) sent
-        → OnErr result (TakesBeginning before (W.contents writer.new) (sent ++ head_text listing.now)) }
+    ensures ok { Adds result (W.contents writer.old) (W.contents writer.new)
+        (string_bytes waiting.old) (string_bytes waiting.new) (head_text listing.now) }
+    ensures err { Breaks result (W.contents writer.old) (W.contents writer.new)
+        (string_bytes waiting.old) (head_text listing.now) }
 {
     put(writer, waiting, canvas_of(listing, longest))?;
     put(writer, waiting, title_of(listing, &whole_tally(listing)))?;
@@ -55,10 +55,10 @@ fn write_chain<W: Write>(
 ) -> Result<(), WriteFailed>
     requires few { size listing.now ≤ 128 }
     requires bucket { bucket < size listing.now }
-    ensures ok { (before : Option (List ℕ)) (sent : List ℕ) → Sends before (W.contents writer.old) (string_bytes waiting.old) sent
-        → OnOk result (Sends before (W.contents writer.new) (string_bytes waiting.new) (sent ++ chain_text listing.now bucket)) }
-    ensures err { (before : Option (List ℕ)) (sent : List ℕ) → Sends before (W.contents writer.old) (string_bytes waiting.old) sent
-        → OnErr result (TakesBeginning before (W.contents writer.new) (sent ++ chain_text listing.now bucket)) }
+    ensures ok { Adds result (W.contents writer.old) (W.contents writer.new)
+        (string_bytes waiting.old) (string_bytes waiting.new) (chain_text listing.now bucket) }
+    ensures err { Breaks result (W.contents writer.old) (W.contents writer.new)
+        (string_bytes waiting.old) (chain_text listing.now bucket) }
 {
     let pages = chain_length(listing, bucket).min(24) as u32;
     for page in 0..pages {
@@ -74,10 +74,10 @@ fn write_chains<W: Write>(
     listing: &Listing,
 ) -> Result<(), WriteFailed>
     requires { size listing.now ≤ 128 }
-    ensures ok { (before : Option (List ℕ)) (sent : List ℕ) → Sends before (W.contents writer.old) (string_bytes waiting.old) sent
-        → OnOk result (Sends before (W.contents writer.new) (string_bytes waiting.new) (sent ++ in_turn (chain_text listing.now) (size listing.now))) }
-    ensures err { (before : Option (List ℕ)) (sent : List ℕ) → Sends before (W.contents writer.old) (string_bytes waiting.old) sent
-        → OnErr result (TakesBeginning before (W.contents writer.new) (sent ++ in_turn (chain_text listing.now) (size listing.now))) }
+    ensures ok { Adds result (W.contents writer.old) (W.contents writer.new)
+        (string_bytes waiting.old) (string_bytes waiting.new) (in_turn (chain_text listing.now) (size listing.now)) }
+    ensures err { Breaks result (W.contents writer.old) (W.contents writer.new)
+        (string_bytes waiting.old) (in_turn (chain_text listing.now) (size listing.now)) }
 {
     for bucket in 0..listing.buckets() {
         write_chain(writer, waiting, listing, bucket)?;
@@ -91,10 +91,10 @@ fn write_groups<W: Write>(
     waiting: &mut String,
     listing: &Listing,
 ) -> Result<(), WriteFailed>
-    ensures ok { (before : Option (List ℕ)) (sent : List ℕ) → Sends before (W.contents writer.old) (string_bytes waiting.old) sent
-        → OnOk result (Sends before (W.contents writer.new) (string_bytes waiting.new) (sent ++ in_turn (λ column. bar_text (group_bar listing.now column)) (column_count (size listing.now)))) }
-    ensures err { (before : Option (List ℕ)) (sent : List ℕ) → Sends before (W.contents writer.old) (string_bytes waiting.old) sent
-        → OnErr result (TakesBeginning before (W.contents writer.new) (sent ++ in_turn (λ column. bar_text (group_bar listing.now column)) (column_count (size listing.now)))) }
+    ensures ok { Adds result (W.contents writer.old) (W.contents writer.new)
+        (string_bytes waiting.old) (string_bytes waiting.new) (in_turn (λ column. bar_text (group_bar listing.now column)) (column_count (size listing.now))) }
+    ensures err { Breaks result (W.contents writer.old) (W.contents writer.new)
+        (string_bytes waiting.old) (in_turn (λ column. bar_text (group_bar listing.now column)) (column_count (size listing.now))) }
 {
     for column in 0..column_count(listing.buckets()) {
         put(writer, waiting, group_bar(listing, column))?;
@@ -108,10 +108,10 @@ fn write_columns<W: Write>(
     waiting: &mut String,
     listing: &Listing,
 ) -> Result<(), WriteFailed>
-    ensures ok { (before : Option (List ℕ)) (sent : List ℕ) → Sends before (W.contents writer.old) (string_bytes waiting.old) sent
-        → OnOk result (Sends before (W.contents writer.new) (string_bytes waiting.new) (sent ++ columns_text listing.now)) }
-    ensures err { (before : Option (List ℕ)) (sent : List ℕ) → Sends before (W.contents writer.old) (string_bytes waiting.old) sent
-        → OnErr result (TakesBeginning before (W.contents writer.new) (sent ++ columns_text listing.now)) }
+    ensures ok { Adds result (W.contents writer.old) (W.contents writer.new)
+        (string_bytes waiting.old) (string_bytes waiting.new) (columns_text listing.now) }
+    ensures err { Breaks result (W.contents writer.old) (W.contents writer.new)
+        (string_bytes waiting.old) (columns_text listing.now) }
 {
     if is_detailed(listing.buckets()) {
         write_chains(writer, waiting, listing)
@@ -128,10 +128,10 @@ fn write_foot<W: Write>(
     longest: usize,
 ) -> Result<(), WriteFailed>
     requires { longest ≡ (whole_tally listing.now).longest }
-    ensures ok { (before : Option (List ℕ)) (sent : List ℕ) → Sends before (W.contents writer.old) (string_bytes waiting.old) sent
-        → OnOk result (Sends before (W.contents writer.new) (string_bytes waiting.new) (sent ++ foot_text listing.now)) }
-    ensures err { (before : Option (List ℕ)) (sent : List ℕ) → Sends before (W.contents writer.old) (string_bytes waiting.old) sent
-        → OnErr result (TakesBeginning before (W.contents writer.new) (sent ++ foot_text listing.now)) }
+    ensures ok { Adds result (W.contents writer.old) (W.contents writer.new)
+        (string_bytes waiting.old) (string_bytes waiting.new) (foot_text listing.now) }
+    ensures err { Breaks result (W.contents writer.old) (W.contents writer.new)
+        (string_bytes waiting.old) (foot_text listing.now) }
 {
     put(writer, waiting, cuts_of(listing, longest))?;
     for place in 0..label_count(listing) {
@@ -147,8 +147,10 @@ fn write_drawing<W: Write>(
     listing: &Listing,
 ) -> Result<(), WriteFailed>
     requires { string_bytes waiting.old ≡ [] }
-    ensures ok { OnOk result (Appends (W.contents writer.old) (W.contents writer.new) (drawing_of listing.now)) }
-    ensures err { OnErr result (TakesBeginning (W.contents writer.old) (W.contents writer.new) (drawing_of listing.now)) }
+    ensures ok { OnOk result (Appends (W.contents writer.old) (W.contents writer.new)
+        (drawing_of listing.now)) }
+    ensures err { OnErr result (TakesBeginning (W.contents writer.old) (W.contents writer.new)
+        (drawing_of listing.now)) }
 {
     let longest = whole_tally(listing).longest;
     write_head(writer, waiting, listing, longest)?;
@@ -159,7 +161,8 @@ fn write_drawing<W: Write>(
 
 /// Reads an image, and writes a drawing of the file.
 pub fn answer_draw<R: Read, W: Write>(alloc: Global, reader: &mut R, writer: &mut W) -> Status
-    ensures { IfSome (R.remaining reader.old) (λ input. Ends result (draw_due input) (W.contents writer.old) (W.contents writer.new)) }
+    ensures { IfSome (R.remaining reader.old) (λ input.
+        Ends result (draw_due input) (W.contents writer.old) (W.contents writer.new)) }
 {
     let listing = match read_image(alloc, reader) {
         Ok(listing) => listing,

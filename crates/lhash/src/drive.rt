@@ -131,7 +131,8 @@ pub fn answer_drive<A: Threads + Wait + Sync, R: Read, W: Write>(
     writer: &mut W,
 ) -> Status
     requires { 1 ≤ threads }
-    ensures { IfSome (R.remaining reader.old) (λ input. EndsDriving config input result (W.contents writer.old) (W.contents writer.new)) }
+    ensures { IfSome (R.remaining reader.old) (λ input.
+        EndsDriving config input result (W.contents writer.old) (W.contents writer.new)) }
 {
     let calls: Vec<Call> = match read_script(alloc, reader) {
         Ok(calls) => calls,

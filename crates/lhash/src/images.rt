@@ -37,7 +37,8 @@ pub fn answer_build<R: Read, W: Write>(
     reader: &mut R,
     writer: &mut W,
 ) -> Status
-    ensures { IfSome (R.remaining reader.old) (λ input. EndsBuilding config input result (W.contents writer.old) (W.contents writer.new)) }
+    ensures { IfSome (R.remaining reader.old) (λ input.
+        EndsBuilding config input result (W.contents writer.old) (W.contents writer.new)) }
 {
     let calls: Vec<Call> = match read_script(alloc, reader) {
         Ok(calls) => calls,
@@ -68,7 +69,8 @@ pub fn unreadable(fault: ImageFault) -> Status
 
 /// Reads an image, and writes what is counted of it.
 pub fn answer_check<R: Read, W: Write>(alloc: Global, reader: &mut R, writer: &mut W) -> Status
-    ensures { IfSome (R.remaining reader.old) (λ input. Ends result (check_due input) (W.contents writer.old) (W.contents writer.new)) }
+    ensures { IfSome (R.remaining reader.old) (λ input.
+        Ends result (check_due input) (W.contents writer.old) (W.contents writer.new)) }
 {
     let census = match check_image(alloc, reader) {
         Ok(census) => census,
@@ -85,7 +87,8 @@ pub fn answer_check<R: Read, W: Write>(alloc: Global, reader: &mut R, writer: &m
 
 /// Reads an image, and writes a line for each of its records.
 pub fn answer_dump<R: Read, W: Write>(alloc: Global, reader: &mut R, writer: &mut W) -> Status
-    ensures { IfSome (R.remaining reader.old) (λ input. Ends result (dump_due input) (W.contents writer.old) (W.contents writer.new)) }
+    ensures { IfSome (R.remaining reader.old) (λ input.
+        Ends result (dump_due input) (W.contents writer.old) (W.contents writer.new)) }
 {
     let listing = match read_image(alloc, reader) {
         Ok(listing) => listing,

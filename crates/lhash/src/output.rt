@@ -3,7 +3,7 @@ ghost use Rattle.std.specs.Prelude.{◌≡◌, ◌<◌, ◌++◌, ℕ, List, Opt
 ghost use Rattle.std.specs.String.{string_bytes};
 ghost use Rattle.std.specs.Io.KnownBytes.{Appends};
 ghost use Rattle.lh_bucket.specs.Listing.{list_at, size};
-ghost use Rattle.lhash.specs.Devices.{TakesBeginning, Sends};
+ghost use Rattle.lhash.specs.Devices.{Adds, Breaks, Sends, TakesBeginning};
 ghost use Rattle.lhash.specs.ImageTexts.{bucket_text, dump_text};
 ghost use Rattle.lh_script.specs.StepTexts.{steps_text};
 ghost use Rattle.lh_script.specs.Texts.{commands_text, line, reply_text, size_text};
@@ -33,10 +33,12 @@ pub fn room(alloc: Global) -> Result<String, AllocError>
 /// Writes what waits where it is enough.
 #[tactic(auto, using(crate::proofs::Sending::sends_now, crate::proofs::Sending::stops_within))]
 fn send_enough<W: Write>(writer: &mut W, waiting: &mut String) -> Result<(), WriteFailed>
-    ensures ok { (before : Option (List ℕ)) (text : List ℕ) → Sends before (W.contents writer.old) (string_bytes waiting.old) text
-        → OnOk result (Sends before (W.contents writer.new) (string_bytes waiting.new) text) }
-    ensures err { (before : Option (List ℕ)) (text : List ℕ) → Sends before (W.contents writer.old) (string_bytes waiting.old) text
-        → OnErr result (TakesBeginning before (W.contents writer.new) text) }
+    ensures ok { (before : Option (List ℕ)) (text : List ℕ) →
+        Sends before (W.contents writer.old) (string_bytes waiting.old) text →
+        OnOk result (Sends before (W.contents writer.new) (string_bytes waiting.new) text) }
+    ensures err { (before : Option (List ℕ)) (text : List ℕ) →
+        Sends before (W.contents writer.old) (string_bytes waiting.old) text →
+        OnErr result (TakesBeginning before (W.contents writer.new) text) }
 {
     if waiting.len() >= CHUNK {
         write_all(writer, waiting.as_bytes())?;
@@ -52,10 +54,14 @@ fn put_line<W: Write, D: Display + Drop>(
     waiting: &mut String,
     text: D,
 ) -> Result<(), WriteFailed>
-    ensures ok { (before : Option (List ℕ)) (sent : List ℕ) → Sends before (W.contents writer.old) (string_bytes waiting.old) sent
-        → OnOk result (IfSome (D.output text) (λ bytes. Sends before (W.contents writer.new) (string_bytes waiting.new) (sent ++ line bytes))) }
-    ensures err { (before : Option (List ℕ)) (sent : List ℕ) → Sends before (W.contents writer.old) (string_bytes waiting.old) sent
-        → OnErr result (IfSome (D.output text) (λ bytes. TakesBeginning before (W.contents writer.new) (sent ++ line bytes))) }
+    ensures ok { (before : Option (List ℕ)) (sent : List ℕ) →
+        Sends before (W.contents writer.old) (string_bytes waiting.old) sent →
+        OnOk result (IfSome (D.output text) (λ bytes.
+        Sends before (W.contents writer.new) (string_bytes waiting.new) (sent ++ line bytes))) }
+    ensures err { (before : Option (List ℕ)) (sent : List ℕ) →
+        Sends before (W.contents writer.old) (string_bytes waiting.old) sent →
+        OnErr result (IfSome (D.output text) (λ bytes.
+        TakesBeginning before (W.contents writer.new) (sent ++ line bytes))) }
 {
     if waiting.writeln(text).is_err() {
         return Err(WriteFailed);
@@ -70,10 +76,14 @@ pub fn put<W: Write, D: Display + Drop>(
     waiting: &mut String,
     text: D,
 ) -> Result<(), WriteFailed>
-    ensures ok { (before : Option (List ℕ)) (sent : List ℕ) → Sends before (W.contents writer.old) (string_bytes waiting.old) sent
-        → OnOk result (IfSome (D.output text) (λ bytes. Sends before (W.contents writer.new) (string_bytes waiting.new) (sent ++ bytes))) }
-    ensures err { (before : Option (List ℕ)) (sent : List ℕ) → Sends before (W.contents writer.old) (string_bytes waiting.old) sent
-        → OnErr result (IfSome (D.output text) (λ bytes. TakesBeginning before (W.contents writer.new) (sent ++ bytes))) }
+    ensures ok { (before : Option (List ℕ)) (sent : List ℕ) →
+        Sends before (W.contents writer.old) (string_bytes waiting.old) sent →
+        OnOk result (IfSome (D.output text) (λ bytes.
+        Sends before (W.contents writer.new) (string_bytes waiting.new) (sent ++ bytes))) }
+    ensures err { (before : Option (List ℕ)) (sent : List ℕ) →
+        Sends before (W.contents writer.old) (string_bytes waiting.old) sent →
+        OnErr result (IfSome (D.output text) (λ bytes.
+        TakesBeginning before (W.contents writer.new) (sent ++ bytes))) }
 {
     if waiting.write(text).is_err() {
         return Err(WriteFailed);
@@ -89,8 +99,10 @@ pub fn write_replies<W: Write>(
     buckets: u32,
 ) -> Result<(), WriteFailed>
     requires { string_bytes waiting.old ≡ [] }
-    ensures ok { OnOk result (Appends (W.contents writer.old) (W.contents writer.new) (commands_text replies.now buckets)) }
-    ensures err { OnErr result (TakesBeginning (W.contents writer.old) (W.contents writer.new) (commands_text replies.now buckets)) }
+    ensures ok { OnOk result (Appends (W.contents writer.old) (W.contents writer.new)
+        (commands_text replies.now buckets)) }
+    ensures err { OnErr result (TakesBeginning (W.contents writer.old) (W.contents writer.new)
+        (commands_text replies.now buckets)) }
 {
     for reply in replies {
         put_line(writer, waiting, ReplyText(reply))?;
@@ -106,8 +118,10 @@ pub fn write_entries<W: Write>(
     entries: &[Result<Effect, Refusal>],
 ) -> Result<(), WriteFailed>
     requires { string_bytes waiting.old ≡ [] }
-    ensures ok { OnOk result (Appends (W.contents writer.old) (W.contents writer.new) (steps_text entries.now)) }
-    ensures err { OnErr result (TakesBeginning (W.contents writer.old) (W.contents writer.new) (steps_text entries.now)) }
+    ensures ok { OnOk result (Appends (W.contents writer.old) (W.contents writer.new)
+        (steps_text entries.now)) }
+    ensures err { OnErr result (TakesBeginning (W.contents writer.old) (W.contents writer.new)
+        (steps_text entries.now)) }
 {
     for entry in entries {
         put_line(writer, waiting, EntryText(entry))?;
@@ -123,10 +137,10 @@ fn write_bucket<W: Write>(
     bucket: u32,
 ) -> Result<(), WriteFailed>
     requires { bucket < size listing.now }
-    ensures ok { (before : Option (List ℕ)) (sent : List ℕ) → Sends before (W.contents writer.old) (string_bytes waiting.old) sent
-        → OnOk result (Sends before (W.contents writer.new) (string_bytes waiting.new) (sent ++ bucket_text bucket (list_at listing.now.lists bucket))) }
-    ensures err { (before : Option (List ℕ)) (sent : List ℕ) → Sends before (W.contents writer.old) (string_bytes waiting.old) sent
-        → OnErr result (TakesBeginning before (W.contents writer.new) (sent ++ bucket_text bucket (list_at listing.now.lists bucket))) }
+    ensures ok { Adds result (W.contents writer.old) (W.contents writer.new)
+        (string_bytes waiting.old) (string_bytes waiting.new) (bucket_text bucket (list_at listing.now.lists bucket)) }
+    ensures err { Breaks result (W.contents writer.old) (W.contents writer.new)
+        (string_bytes waiting.old) (bucket_text bucket (list_at listing.now.lists bucket)) }
 {
     for place in 0..listing.len_of(bucket) {
         let pair = listing.pair_at(bucket, place);
@@ -149,8 +163,10 @@ pub fn write_records<W: Write>(
     listing: &Listing,
 ) -> Result<(), WriteFailed>
     requires { string_bytes waiting.old ≡ [] }
-    ensures ok { OnOk result (Appends (W.contents writer.old) (W.contents writer.new) (dump_text listing.now)) }
-    ensures err { OnErr result (TakesBeginning (W.contents writer.old) (W.contents writer.new) (dump_text listing.now)) }
+    ensures ok { OnOk result (Appends (W.contents writer.old) (W.contents writer.new)
+        (dump_text listing.now)) }
+    ensures err { OnErr result (TakesBeginning (W.contents writer.old) (W.contents writer.new)
+        (dump_text listing.now)) }
 {
     for bucket in 0..listing.buckets() {
         write_bucket(writer, waiting, listing, bucket)?;

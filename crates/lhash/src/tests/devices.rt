@@ -1,6 +1,6 @@
 //! Readers and writers that fail, or that take little.
-use super::{Sink, Source};
 use crate::run;
+use crate::tests::support::{Sink, Source};
 use std::test::Fail;
 
 #[test]

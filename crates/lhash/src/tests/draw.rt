@@ -1,6 +1,6 @@
 //! Drawings of images.
-use super::{Sink, ran};
 use crate::run;
+use crate::tests::support::{Sink, ran};
 use std::process::Abort;
 use std::sync::Wait;
 use std::test::Fail;

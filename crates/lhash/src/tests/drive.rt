@@ -1,6 +1,6 @@
 //! Command scripts in threads.
-use super::{fails, writes};
 use crate::status::Status;
+use crate::tests::support::{fails, writes};
 use crate::unsettled::Unsettled;
 use crate::workers::work_in_threads;
 use crate::{Driven, drive_with};

@@ -1,5 +1,5 @@
 //! Images, from scripts to bytes and from bytes to what is told of them.
-use super::{fails, ran};
+use crate::tests::support::{fails, ran};
 use std::process::Abort;
 use std::sync::Wait;
 use std::test::Fail;

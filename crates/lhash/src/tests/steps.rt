@@ -1,6 +1,6 @@
 //! Step scripts, from words and bytes to bytes and a status.
-use super::{Sink, fails, ran, writes};
 use crate::run;
+use crate::tests::support::{Sink, fails, ran, writes};
 use std::process::Abort;
 use std::sync::Wait;
 use std::test::Fail;

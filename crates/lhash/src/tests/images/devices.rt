@@ -1,7 +1,7 @@
 //! Readers that give few bytes at a time, writers that take few, and devices that fail.
 use super::{FIVE, FIVE_CENSUS, FIVE_RECORDS, FIVE_WORDS, built};
 use crate::run;
-use crate::tests::{Sink, Source};
+use crate::tests::support::{Sink, Source};
 use std::process::Abort;
 use std::sync::Wait;
 use std::test::Fail;

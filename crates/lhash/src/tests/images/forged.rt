@@ -1,6 +1,6 @@
 //! Bytes that are no image, or another one than was built.
 use super::{CHAIN, CHAIN_WORDS, FIVE, FIVE_WORDS, accepted, built, put};
-use crate::tests::ran;
+use crate::tests::support::ran;
 use std::process::Abort;
 use std::sync::Wait;
 use std::test::Fail;
