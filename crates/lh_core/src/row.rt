@@ -27,7 +27,7 @@ pub(crate) fn first_row<B: Bucket>(alloc: Global, config: &Config) -> Result<Vec
     Ok(buckets)
 }
 
-/// Serves the call of an act at its bucket.
+/// Serves the call of an act at its bucket. The contract alone asks which worker it is of, in which world.
 pub(crate) fn serve<B: Bucket>(
     control: &Control,
     buckets: &mut Vec<B>,
@@ -75,7 +75,7 @@ fn split_one<B: Bucket>(
     buckets.reserve(1)?;
     let old = &mut buckets[i];
     old.split_into(&mut new)?;
-    // There is room for it: nothing may be wanting once the records are divided.
+    // There is room for it, so nothing can fail once the records are divided.
     if let Err(_) = buckets.push(new) {
         unreachable!();
     }

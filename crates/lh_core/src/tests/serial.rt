@@ -1,5 +1,5 @@
 //! Calls served one after another, and what wants memory.
-use super::{delete, insert, search, small};
+use super::calls::{delete, insert, search, small};
 use crate::{Effect, Event, Ran, Refusal, SerialRan, run, serial};
 use lh_addr::Config;
 use lh_bucket::{Bucket, Call, PagedBucket, PlainBucket, Reply};

@@ -1,5 +1,5 @@
-use Rattle.lh_core.proofs.Histories.{spans_law}
-use Rattle.lh_core.proofs.Spans.{open_call_law}
+use Rattle.lh_core.proofs.Logs.Histories.{spans_law}
+use Rattle.lh_core.proofs.Logs.Spans.{open_call_law}
 use Rattle.lh_core.proofs.laws.acts_lie_in_spans.Goals as goal
 
 pub returns-clause-open_call : goal.returns-clause-open_call

@@ -1,4 +1,4 @@
-use Rattle.lh_core.proofs.Histories.{aims_law}
+use Rattle.lh_core.proofs.Logs.Histories.{aims_law}
 use Rattle.lh_core.proofs.laws.aims_lead.Goals as goal
 
 pub returns : goal.returns

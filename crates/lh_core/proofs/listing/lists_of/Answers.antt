@@ -1,5 +1,5 @@
 use Rattle.std.proofs.Common.{map, ap, ◌∙◌}
-use Rattle.lh_core.proofs.Listed.{lists_more, kept_more}
+use Rattle.lh_core.proofs.Records.Listed.{lists_more, kept_more}
 use Rattle.lh_core.proofs.listing.lists_of.Goals as goal
 
 pub loop-bucket-preserved : goal.loop-bucket-preserved

@@ -1,6 +1,6 @@
 use Rattle.std.proofs.Common.{◌<◌, ◌∷◌, [], ◌++◌, length, sym, ap, ◌∙◌, arith}
 use Rattle.std.proofs.lemmas.Option.{get_or_from_slice_get}
-use Rattle.lh_core.proofs.Running.{taken}
+use Rattle.lh_core.proofs.Logs.Running.{taken}
 use Rattle.lh_core.proofs.listing.pairs_of.Goals as goal
 
 pub loop-place-preserved : goal.loop-place-preserved

@@ -4,7 +4,7 @@ use Rattle.lh_addr.specs.Growth.{pointer}
 use Rattle.lh_core.specs.Splits.{IsSplit}
 use Rattle.lh_core.specs.Kept.{IsRow}
 use Rattle.lh_core.specs.World.{IsPlaced}
-use Rattle.lh_core.proofs.Placing.{pointer_below, can_split, split_placed, split_row}
+use Rattle.lh_core.proofs.Records.Placing.{pointer_below, can_split, split_placed, split_row}
 use Rattle.lh_core.proofs.row.divide.Goals as goal
 
 pub split_one-requires-clause-within : goal.split_one-requires-clause-within

@@ -6,8 +6,8 @@ use Rattle.lh_bucket.specs.Bucket.{Seen, content, verdict}
 use Rattle.lh_core.specs.World.{no_bucket}
 use Rattle.lh_addr.specs.Fnv.{code_of}
 use Rattle.lh_bucket.specs.Call.{key_of}
-use Rattle.lh_core.proofs.Aiming.{some_filled}
-use Rattle.lh_core.proofs.Placing.{act_here, act_reply, act_placed, act_row}
+use Rattle.lh_core.proofs.Logs.Aiming.{some_filled}
+use Rattle.lh_core.proofs.Records.Placing.{act_here, act_reply, act_placed, act_row}
 use Rattle.lh_core.specs.Control.{state_of}
 use Rattle.lh_bucket.specs.Answer.{Answered}
 use Rattle.lh_core.proofs.row.serve.Goals as goal

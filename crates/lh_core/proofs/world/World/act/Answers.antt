@@ -5,7 +5,7 @@ use Rattle.lh_core.specs.declared.effect.Effect.TheVariants as effect
 use Rattle.lh_core.specs.Control.{world_of}
 use Rattle.lh_core.specs.Kept.{IsRow}
 use Rattle.lh_core.specs.World.{IsStep}
-use Rattle.lh_core.proofs.Stepping.{acted, after_step}
+use Rattle.lh_core.proofs.Worlds.Stepping.{acted, after_step}
 use Rattle.lh_core.proofs.world.World.act.Goals as goal
 
 pub returns-in-Ok-serve-clause-step : goal.returns-in-Ok-serve-clause-step

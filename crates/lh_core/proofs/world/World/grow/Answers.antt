@@ -1,4 +1,4 @@
-use Rattle.lh_core.proofs.Alone.{may_lock_both, grown}
+use Rattle.lh_core.proofs.OneCaller.Alone.{may_lock_both, grown}
 use Rattle.lh_core.proofs.world.World.grow.Goals as goal
 
 pub take-requires-2 : goal.take-requires-2

@@ -8,7 +8,7 @@ use Rattle.lh_bucket.specs.ListingFault.{IsFaultOf}
 use Rattle.lh_core.specs.declared.state.SplitState.TheVariants as split
 use Rattle.lh_core.specs.Control.{world_of}
 use Rattle.lh_core.specs.World.{WorldSeen, bucket_at}
-use Rattle.lh_core.proofs.Listed.{no_fault}
+use Rattle.lh_core.proofs.Records.Listed.{no_fault}
 use Rattle.lh_core.proofs.world.World.listing.Goals as goal
 
 pub unreachable-requires : goal.unreachable-requires

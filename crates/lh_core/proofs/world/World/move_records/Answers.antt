@@ -4,7 +4,7 @@ use Rattle.lh_core.specs.State.{State}
 use Rattle.lh_core.specs.Control.{world_of}
 use Rattle.lh_core.specs.Kept.{IsRow}
 use Rattle.lh_core.specs.World.{IsStep}
-use Rattle.lh_core.proofs.Stepping.{moved, after_step}
+use Rattle.lh_core.proofs.Worlds.Stepping.{moved, after_step}
 use Rattle.lh_core.proofs.world.World.move_records.Goals as goal
 
 pub returns-in-Ok-divide-clause-step : goal.returns-in-Ok-divide-clause-step

@@ -4,8 +4,8 @@ use Rattle.lh_addr.specs.Extent.{Extent}
 use Rattle.lh_core.specs.declared.state.SplitState.TheVariants as split
 use Rattle.lh_core.specs.State.{all_idle}
 use Rattle.lh_core.specs.World.{IsPlaced}
-use Rattle.lh_core.proofs.Begin.{first_world, first_placed}
-use Rattle.lh_core.proofs.Leading.{led_none}
+use Rattle.lh_core.proofs.Worlds.Begin.{first_world, first_placed}
+use Rattle.lh_core.proofs.Logs.Leading.{led_none}
 use Rattle.lh_core.proofs.world.World.new.Goals as goal
 
 pub invariant_of-result : goal.invariant_of-result

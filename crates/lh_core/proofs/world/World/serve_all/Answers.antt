@@ -2,8 +2,8 @@ use Rattle.std.proofs.Common.{◌≡◌, ◌+◌, ◌++◌, ◌∷◌, [], take}
 use Rattle.std.specs.FinMap.{empty}
 use Rattle.std.proofs.lemmas.List.{take_all}
 use Rattle.lh_bucket.specs.PlainMap.{outcome}
-use Rattle.lh_core.proofs.Running.{taken}
-use Rattle.lh_core.proofs.Serving.{served_none, served_more, served_all}
+use Rattle.lh_core.proofs.Logs.Running.{taken}
+use Rattle.lh_core.proofs.OneCaller.Serving.{served_none, served_more, served_all}
 use Rattle.lh_core.proofs.world.World.serve_all.Goals as goal
 
 pub loop-call-init : goal.loop-call-init

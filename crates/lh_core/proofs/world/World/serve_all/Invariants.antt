@@ -1,5 +1,5 @@
 use Rattle.std.proofs.Common.{take}
-use Rattle.lh_core.proofs.Serving.{Served}
+use Rattle.lh_core.proofs.OneCaller.Serving.{Served}
 use Rattle.lh_core.proofs.world.World.serve_all.Given as goal
 
 abbrev pub invariant-loop-call : goal.invariant-loop-call

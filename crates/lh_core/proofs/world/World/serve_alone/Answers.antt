@@ -1,4 +1,4 @@
-use Rattle.lh_core.proofs.Alone.{may_lock, served}
+use Rattle.lh_core.proofs.OneCaller.Alone.{may_lock, served}
 use Rattle.lh_core.proofs.world.World.serve_alone.Goals as goal
 
 pub take-requires-3 : goal.take-requires-3

@@ -1,4 +1,4 @@
-use Rattle.lh_core.proofs.Serving.{served_still, served_grown}
+use Rattle.lh_core.proofs.OneCaller.Serving.{served_still, served_grown}
 use Rattle.lh_core.proofs.world.World.serve_and_grow.Goals as goal
 
 pub returns-else-wants-clause-served : goal.returns-else-wants-clause-served

@@ -1,4 +1,4 @@
-use Rattle.lh_core.proofs.Leading.{led_more}
+use Rattle.lh_core.proofs.Logs.Leading.{led_more}
 use Rattle.lh_core.proofs.world.World.step.Goals as goal
 
 pub returns-clause-led : goal.returns-clause-led

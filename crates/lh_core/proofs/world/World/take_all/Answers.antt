@@ -1,6 +1,6 @@
 use Rattle.std.proofs.Common.{◌≡◌, ◌+◌, ◌++◌, ◌∷◌, [], take}
 use Rattle.std.proofs.lemmas.List.{take_all}
-use Rattle.lh_core.proofs.Running.{headline_none, headline_more, taken}
+use Rattle.lh_core.proofs.Logs.Running.{headline_none, headline_more, taken}
 use Rattle.lh_core.proofs.world.World.take_all.Goals as goal
 
 pub loop-event-init : goal.loop-event-init

@@ -1,5 +1,5 @@
 use Rattle.std.proofs.Common.{map}
-use Rattle.lh_core.proofs.Stepping.{after_turn}
+use Rattle.lh_core.proofs.Worlds.Stepping.{after_turn}
 use Rattle.lh_core.proofs.world.World.turn.Goals as goal
 
 pub invariant_of-self : goal.invariant_of-self

@@ -28,8 +28,8 @@ use Rattle.lh_core.specs.Sound.{IsPhase}
 use Rattle.lh_core.specs.Kept.{IsWorld}
 use Rattle.lh_core.specs.Serial.{IsAtRest, IsServedAlone, HasGrown}
 use Rattle.lh_core.specs.World.{WorldSeen, IsStep, StandsFor, reply_to, map_after}
-use Rattle.lh_core.proofs.Steps.{became, told, some_same, none_some}
-use Rattle.lh_core.proofs.Leading.{idle_filled}
+use Rattle.lh_core.proofs.Logs.Steps.{became, told, some_same, none_some}
+use Rattle.lh_core.proofs.Logs.Leading.{idle_filled}
 
 -- worker 0 does x, and nobody else does anything
 abbrev pub alone : ℕ → WorkerState → State

@@ -15,7 +15,7 @@ use Rattle.lh_core.specs.Kept.{IsWorld}
 use Rattle.lh_core.specs.Laws.{LinearHashing}
 use Rattle.lh_core.specs.Headline.{HasLedTo}
 use Rattle.lh_core.specs.World.{WorldSeen, IsPlaced, IsStep, StandsFor, FollowsMap, reply_to, map_after}
-use Rattle.lh_core.proofs.Histories.{Told, told, acts_more, spans_law, rises_law}
+use Rattle.lh_core.proofs.Logs.Histories.{Told, told, acts_more, spans_law, rises_law}
 
 -- one call more
 pub outcome_more : (m : Records) (cs : List Call) (c : Call) → outcome m (cs ++ c ∷ []) ≡ after (outcome m cs) c

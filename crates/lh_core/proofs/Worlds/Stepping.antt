@@ -26,7 +26,7 @@ use Rattle.lh_core.specs.Kept.{IsRow, IsWorld}
 use Rattle.lh_core.specs.Control.{IsControl, KeepsFile, IsActOf, IsTold, IsQuiet, state_of, step_to, acted as acted_state, world_of}
 use Rattle.lh_core.specs.Laws.{LinearHashing}
 use Rattle.lh_core.specs.World.{WorldSeen, IsPlaced, IsStep, StandsFor, reply_to, map_after}
-use Rattle.lh_core.proofs.Aiming.{sound_ok}
+use Rattle.lh_core.proofs.Logs.Aiming.{sound_ok}
 
 told_outline : (f : Effect) → IsTold f → Some f ≡ outline f
 told_outline effect.Called t = refl

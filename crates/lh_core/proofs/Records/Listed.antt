@@ -24,8 +24,8 @@ use Rattle.lh_core.specs.declared.state.SplitState.TheVariants as split
 use Rattle.lh_core.specs.Kept.{IsWorld, head_at}
 use Rattle.lh_core.specs.Laws.{LinearHashing}
 use Rattle.lh_core.specs.World.{WorldSeen, bucket_at, no_bucket}
-use Rattle.lh_core.proofs.Leading.{idle_filled}
-use Rattle.lh_core.proofs.Running.{taken}
+use Rattle.lh_core.proofs.Logs.Leading.{idle_filled}
+use Rattle.lh_core.proofs.Logs.Running.{taken}
 
 abbrev ties : List ℕ → List ℕ → Bool
 ties x y = eq_by_cmp (slice_cmp nat_cmp) x y

@@ -23,7 +23,7 @@ use Rattle.lh_core.specs.Aims.{Leads}
 use Rattle.lh_core.specs.Rules.{WorkerStep, allowed, called, read, lock, rehash, act, release, at_worker, begin_split, lock_both, move_records, free_both, point, drop_split}
 use Rattle.lh_core.specs.Sound.{IsPhase, IsSound}
 use Rattle.lh_core.specs.Laws.{LinearHashing}
-use Rattle.lh_core.proofs.Steps.{err_ok, became, passed, step_at, all_at, written, unwritten}
+use Rattle.lh_core.proofs.Logs.Steps.{err_ok, became, passed, step_at, all_at, written, unwritten}
 
 -- the first state
 pub first_sound : (s : Settings) → 1 ≤ s.initial → s.initial ≤ s.max → IsSound s (first s)

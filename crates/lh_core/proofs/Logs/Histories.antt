@@ -26,10 +26,10 @@ use Rattle.lh_core.specs.Spans.{ActLiesInSpan, ActsLieInSpans, HasRisenToAct}
 use Rattle.lh_core.specs.Rises.{ActHasRisen, ActsHaveRisen}
 use Rattle.lh_core.specs.Sound.{IsSound}
 use Rattle.lh_core.specs.Laws.{LinearHashing, AimsLaw, SpansLaw, RisesLaw}
-use Rattle.lh_core.proofs.Steps.{IsOther, err_ok, step_at, all_at, written, unwritten}
-use Rattle.lh_core.proofs.Tied.{IsTied, tied_other, tied_refused, tied_called, tied_read, tied_lock, tied_rehash, tied_act, tied_release}
-use Rattle.lh_core.proofs.Spans.{open_call_law}
-use Rattle.lh_core.proofs.Aiming.{first_sound, aimed_called, aimed_read, aimed_lock, aimed_rehash, aimed_act, aimed_release, sound_with_worker, sound_begin, sound_lock_both, sound_move, sound_free, sound_point, sound_drop}
+use Rattle.lh_core.proofs.Logs.Steps.{IsOther, err_ok, step_at, all_at, written, unwritten}
+use Rattle.lh_core.proofs.Logs.Tied.{IsTied, tied_other, tied_refused, tied_called, tied_read, tied_lock, tied_rehash, tied_act, tied_release}
+use Rattle.lh_core.proofs.Logs.Spans.{open_call_law}
+use Rattle.lh_core.proofs.Logs.Aiming.{first_sound, aimed_called, aimed_read, aimed_lock, aimed_rehash, aimed_act, aimed_release, sound_with_worker, sound_begin, sound_lock_both, sound_move, sound_free, sound_point, sound_drop}
 
 -- a sound state, and what the log tells of its workers
 pub record Told (s : Settings) (log : Log) (a : State) : Type 0 where

@@ -14,7 +14,7 @@ use Rattle.lh_core.specs.State.{State, first}
 use Rattle.lh_core.specs.Kept.{IsWorld}
 use Rattle.lh_core.specs.Serial.{IsAtRest, IsServedAlone, IsServed, IsSerial, HasGrown, grows_after, size_after, size_from, size_of, count_after}
 use Rattle.lh_core.specs.World.{WorldSeen, IsPlaced, HasLevels, StandsFor}
-use Rattle.lh_core.proofs.Leading.{outcome_more, replies_more, idle_filled}
+use Rattle.lh_core.proofs.Logs.Leading.{outcome_more, replies_more, idle_filled}
 
 -- the number of records
 found_keeps : (n : ℕ) (o : Option (List ℕ)) → n ≡ count_after n (found o)

@@ -1,0 +1,3 @@
+-- A file with one caller
+pub mod Alone
+pub mod Serving

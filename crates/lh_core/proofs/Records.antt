@@ -1,0 +1,4 @@
+-- Where the records of a map stand, in a row of buckets and in a listing
+pub mod PlainMaps
+pub mod Placing
+pub mod Listed

@@ -1,0 +1,3 @@
+-- A world as it begins, and through one step
+pub mod Begin
+pub mod Stepping

@@ -1,0 +1,217 @@
+//! Lists of steps, and what they leave.
+use super::calls::{insert, search, small};
+use crate::{Effect, Event, Ran, Refusal, SplitState, WorkerState, World, run};
+use lh_addr::Config;
+use lh_bucket::{Bucket, PagedBucket, PlainBucket, Reply};
+use lh_page::Value;
+use std::alloc::Global;
+use std::process::Abort;
+use std::test::Fail;
+
+/// Runs events on an empty file, and compares their entries.
+fn entries_are<B: Bucket>(
+    rt: &impl Abort,
+    alloc: Global,
+    config: Config,
+    events: &[Event],
+    want: &[Result<Effect, Refusal>],
+) -> Result<World<B>, Fail> {
+    let Ran { entries, world } = run::<B>(alloc, config, events)?;
+    assert_eq!(rt; entries.as_slice(), want);
+    Ok(world)
+}
+
+/// Takes steps by hand on an empty file, and compares each entry.
+fn steps_are<B: Bucket>(
+    rt: &impl Abort,
+    alloc: Global,
+    config: Config,
+    steps: &[(Event, Result<Effect, Refusal>)],
+) -> Result<(), Fail> {
+    let mut world = World::<B>::new(alloc, config)?;
+    for (number, (event, want)) in steps.iter().enumerate() {
+        let entry = world.step(*event);
+        assert_eq!(rt; entry, *want, "at {number}");
+    }
+    Ok(())
+}
+
+fn aim(level: u8, bucket: u32) -> Result<Effect, Refusal> {
+    Ok(Effect::Aim { level, bucket })
+}
+
+fn locked(bucket: u32, level: u8) -> Result<Effect, Refusal> {
+    Ok(Effect::Locked { bucket, level })
+}
+
+fn an_old_root_by_one_split<B: Bucket>(rt: &impl Abort, alloc: Global) -> Result<(), Fail> {
+    let events = [
+        Event::Call(0, insert(b"b", b"1")?),
+        Event::Read(0),
+        Event::SplitBegin,
+        Event::SplitLock,
+        Event::SplitMove,
+        Event::SplitRelease,
+        Event::SplitPoint,
+        Event::Lock(0),
+        Event::Act(0),
+        Event::Rehash(0),
+        Event::Lock(0),
+        Event::Act(0),
+        Event::Release(0),
+    ];
+    let want = [
+        Ok(Effect::Called),
+        aim(0, 0),
+        Ok(Effect::Begun { old: 0, new: 1 }),
+        Ok(Effect::Both { old: 0, new: 1 }),
+        Ok(Effect::Moved { old: 0, new: 1 }),
+        Ok(Effect::Freed),
+        Ok(Effect::Point { buckets: 2 }),
+        locked(0, 1),
+        Err(Refusal::MustRehash),
+        aim(1, 1),
+        locked(1, 1),
+        Ok(Effect::Answered(Reply::Inserted)),
+        Ok(Effect::Released),
+    ];
+    let world = entries_are::<B>(rt, alloc, small()?, &events, &want)?;
+    assert_eq!(rt; world.root().buckets(), 2);
+    assert_eq!(rt; world.filled(), 2);
+    assert_eq!(rt; world.splitter(), SplitState::Idle);
+    assert_eq!(rt; world.worker(0), WorkerState::Idle);
+    Ok(())
+}
+
+#[test]
+fn a_call_finds_its_bucket_past_one_split(rt: HostRuntime) -> Result<(), Fail> {
+    an_old_root_by_one_split::<PlainBucket>(&rt, rt.alloc())?;
+    an_old_root_by_one_split::<PagedBucket>(&rt, rt.alloc())
+}
+
+fn an_old_root_by_four_splits<B: Bucket>(rt: &impl Abort, alloc: Global) -> Result<(), Fail> {
+    let steps = [
+        (Event::Call(0, search(b"h")?), Ok(Effect::Called)),
+        (Event::Read(0), aim(0, 0)),
+        (Event::SplitBegin, Ok(Effect::Begun { old: 0, new: 1 })),
+        (Event::SplitLock, Ok(Effect::Both { old: 0, new: 1 })),
+        (Event::SplitMove, Ok(Effect::Moved { old: 0, new: 1 })),
+        (Event::SplitRelease, Ok(Effect::Freed)),
+        (Event::SplitPoint, Ok(Effect::Point { buckets: 2 })),
+        (Event::SplitBegin, Ok(Effect::Begun { old: 0, new: 2 })),
+        (Event::SplitLock, Ok(Effect::Both { old: 0, new: 2 })),
+        (Event::SplitMove, Ok(Effect::Moved { old: 0, new: 2 })),
+        (Event::SplitRelease, Ok(Effect::Freed)),
+        (Event::SplitPoint, Ok(Effect::Point { buckets: 3 })),
+        (Event::SplitBegin, Ok(Effect::Begun { old: 1, new: 3 })),
+        (Event::SplitLock, Ok(Effect::Both { old: 1, new: 3 })),
+        (Event::SplitMove, Ok(Effect::Moved { old: 1, new: 3 })),
+        (Event::SplitRelease, Ok(Effect::Freed)),
+        (Event::SplitPoint, Ok(Effect::Point { buckets: 4 })),
+        (Event::SplitBegin, Ok(Effect::Begun { old: 0, new: 4 })),
+        (Event::SplitLock, Ok(Effect::Both { old: 0, new: 4 })),
+        (Event::SplitMove, Ok(Effect::Moved { old: 0, new: 4 })),
+        (Event::SplitRelease, Ok(Effect::Freed)),
+        (Event::SplitPoint, Ok(Effect::Point { buckets: 5 })),
+        (Event::Lock(0), locked(0, 3)),
+        (Event::Rehash(0), aim(1, 1)),
+        (Event::Lock(0), locked(1, 2)),
+        (Event::Rehash(0), aim(2, 3)),
+        (Event::Lock(0), locked(3, 2)),
+        (Event::Act(0), Ok(Effect::Answered(Reply::Absent))),
+    ];
+    steps_are::<B>(rt, alloc, small()?, &steps)
+}
+
+#[test]
+fn a_call_finds_its_bucket_past_four_splits(rt: HostRuntime) -> Result<(), Fail> {
+    an_old_root_by_four_splits::<PlainBucket>(&rt, rt.alloc())?;
+    an_old_root_by_four_splits::<PagedBucket>(&rt, rt.alloc())
+}
+
+fn between_move_and_pointer<B: Bucket>(rt: &impl Abort, alloc: Global) -> Result<(), Fail> {
+    let steps = [
+        (Event::Call(0, insert(b"b", b"1")?), Ok(Effect::Called)),
+        (Event::Read(0), aim(0, 0)),
+        (Event::Lock(0), locked(0, 0)),
+        (Event::Act(0), Ok(Effect::Answered(Reply::Inserted))),
+        (Event::Release(0), Ok(Effect::Released)),
+        (Event::SplitBegin, Ok(Effect::Begun { old: 0, new: 1 })),
+        (Event::SplitLock, Ok(Effect::Both { old: 0, new: 1 })),
+        (Event::SplitMove, Ok(Effect::Moved { old: 0, new: 1 })),
+        (Event::SplitRelease, Ok(Effect::Freed)),
+        (Event::Call(1, search(b"b")?), Ok(Effect::Called)),
+        (Event::Read(1), aim(0, 0)),
+        (Event::Lock(1), locked(0, 1)),
+        (Event::Act(1), Err(Refusal::MustRehash)),
+        (Event::Rehash(1), aim(1, 1)),
+        (Event::Lock(1), locked(1, 1)),
+        (
+            Event::Act(1),
+            Ok(Effect::Answered(Reply::Found(Value::new(b"1")?))),
+        ),
+        (Event::Release(1), Ok(Effect::Released)),
+        (Event::SplitDrop, Err(Refusal::WrongState)),
+        (Event::SplitPoint, Ok(Effect::Point { buckets: 2 })),
+    ];
+    steps_are::<B>(rt, alloc, small()?, &steps)
+}
+
+#[test]
+fn a_search_between_move_and_pointer(rt: HostRuntime) -> Result<(), Fail> {
+    between_move_and_pointer::<PlainBucket>(&rt, rt.alloc())?;
+    between_move_and_pointer::<PagedBucket>(&rt, rt.alloc())
+}
+
+#[test]
+fn locks_have_two_modes(rt: HostRuntime) -> Result<(), Fail> {
+    let steps = [
+        (Event::Call(0, search(b"a")?), Ok(Effect::Called)),
+        (Event::Read(0), aim(0, 0)),
+        (Event::Lock(0), locked(0, 0)),
+        (Event::Call(1, insert(b"a", b"1")?), Ok(Effect::Called)),
+        (Event::Read(1), aim(0, 0)),
+        (Event::Lock(1), Err(Refusal::Held)),
+        (Event::Call(2, search(b"a")?), Ok(Effect::Called)),
+        (Event::Read(2), aim(0, 0)),
+        (Event::Lock(2), locked(0, 0)),
+        (Event::SplitBegin, Ok(Effect::Begun { old: 0, new: 1 })),
+        (Event::SplitLock, Err(Refusal::Held)),
+        (Event::Rehash(0), Err(Refusal::NothingToRehash)),
+        (Event::Release(2), Ok(Effect::GivenUp)),
+    ];
+    steps_are::<PlainBucket>(&rt, rt.alloc(), small()?, &steps)?;
+    steps_are::<PagedBucket>(&rt, rt.alloc(), small()?, &steps)
+}
+
+#[test]
+fn events_out_of_turn_are_refused(rt: HostRuntime) -> Result<(), Fail> {
+    let begun = Ok(Effect::Begun { old: 0, new: 1 });
+    let wrong = Err(Refusal::WrongState);
+    steps_are::<PlainBucket>(
+        &rt,
+        rt.alloc(),
+        small()?,
+        &[
+            (Event::Read(0), wrong),
+            (Event::Read(16), wrong),
+            (Event::Call(15, search(b"a")?), Ok(Effect::Called)),
+            (Event::Call(16, search(b"a")?), wrong),
+            (Event::SplitBegin, begun),
+            (Event::SplitBegin, Err(Refusal::SplitBusy)),
+            (Event::SplitMove, wrong),
+            (Event::SplitDrop, Ok(Effect::Dropped)),
+            (Event::SplitBegin, begun),
+            (Event::SplitLock, Ok(Effect::Both { old: 0, new: 1 })),
+            (Event::SplitRelease, Ok(Effect::Freed)),
+            (Event::SplitPoint, wrong),
+        ],
+    )?;
+    let full = Config::new(1, 14, 100, 1)?;
+    steps_are::<PagedBucket>(
+        &rt,
+        rt.alloc(),
+        full,
+        &[(Event::SplitBegin, Err(Refusal::FileFull))],
+    )
+}
