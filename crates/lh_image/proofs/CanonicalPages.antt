@@ -8,8 +8,8 @@ use Rattle.std.proofs.lemmas.List.Elements.{All-take, All-drop}
 use Rattle.std.proofs.lemmas.List.Folds.{flat_map-map}
 use Rattle.std.proofs.lemmas.List.FromFn.{fill_by_all}
 use Rattle.lh_addr.specs.Growth.{level_of}
-use Rattle.lh_page.specs.Format.{version_1, FitsSlot, FitsFormat}
 use Rattle.lh_page.specs.declared.page.PageKind.TheVariants.{Primary, Overflow}
+use Rattle.lh_page.specs.Format.{version_1, FitsSlot, FitsFormat}
 use Rattle.lh_page.specs.PackedList.{PackingLaw, PiecesLaw, IsPacked}
 use Rattle.lh_page.specs.PageFields.{page_of}
 use Rattle.lh_page.specs.PageLaws.{PageTextLaw, ReadBackLaw}
@@ -17,8 +17,9 @@ use Rattle.lh_page.specs.PageTable.{IsPage, IsWritable, page_text, kind_byte}
 use Rattle.lh_bucket.specs.Listing.{Lists, IsListing, size, list_at}
 use Rattle.lh_image.specs.Canonical.{canonical, header_in, page_count_in, pages_in, page_in, page_total, number_of, text_in, overflow_text, overflow_before, CanonicalLaw}
 use Rattle.lh_image.specs.Chains.{IsPath, IsCovered, stands_in}
-use Rattle.lh_image.specs.Image.{IsImageBy}
-use Rattle.lh_image.specs.Layout.{header_of, header_text, page, page_at, kind, level, bucket, next, records}
+use Rattle.lh_image.specs.Image.{IsImageBy, Shows}
+use Rattle.lh_image.specs.Layout.{header_of, header_text, page, page_at, view_of}
+use Rattle.lh_image.specs.View.{View, bucket, next}
 use Rattle.lh_image.proofs.Counting.{overflow_found, overflow_within, page_count_is, page_starts, records_few}
 use Rattle.lh_image.proofs.Fitting.{fits_slot}
 use Rattle.lh_image.proofs.HeaderText.{header_of_text, length-header_text}
@@ -38,6 +39,9 @@ module _ (packing : PackingLaw) (pieces : PiecesLaw) (texts : PageTextLaw) (back
   number_low : (i k : ℕ) → i < size l → k < page_count_in l i → (1 ≤ number_of l i k) × (number_of l i k < page_total l)
   number_low i zero low under = (omega arith, omega arith)
   number_low i (suc k) low under = (omega arith, omega (arith, overflow_within l i (size l) low))
+
+  some_number : (i k : ℕ) → i < size l → k < page_count_in l i → number_of l i k ≢ 0
+  some_number i k low under = λ e. omega (arith, e, (number_low i k low under).0)
 
   next_low : (i k : ℕ) → i < size l → k < page_count_in l i → cond (eqb (k + 1) (page_count_in l i)) 0 (number_of l i (suc k)) < 2 ^ 32
   next_low i k low under = elim (cases_eq (k + 1) (page_count_in l i)) [
@@ -116,33 +120,31 @@ module _ (packing : PackingLaw) (pieces : PiecesLaw) (texts : PageTextLaw) (back
   shown i k low under =
       ap (page_of version_1) (page_is i k low under) ∙ (back version_1 (text_in l i k) (page_in l i k) 14 (writable i k low under) (is_page i k low under) (fits i k low under).few).0
 
-  level_at : (i k : ℕ) → i < size l → k < page_count_in l i → level (canonical l) (number_of l i k) ≡ level_of l.config.initial (size l) i
-  unfolding level
-  level_at i k low under = ap (λ g. g.level) (shown i k low under)
+  level_at : (i k : ℕ) → i < size l → k < page_count_in l i → ((view_of (canonical l)).head (number_of l i k)).level ≡ level_of l.config.initial (size l) i
+  unfolding view_of
+  level_at i k low under = rw (ne_eqb (number_of l i k) 0 (some_number i k low under)) (ap (λ g. g.level) (shown i k low under))
 
-  bucket_at : (i k : ℕ) → i < size l → k < page_count_in l i → bucket (canonical l) (number_of l i k) ≡ i
-  unfolding bucket
-  bucket_at i k low under = ap (λ g. g.bucket) (shown i k low under)
+  bucket_at : (i k : ℕ) → i < size l → k < page_count_in l i → bucket (view_of (canonical l)) (number_of l i k) ≡ i
+  unfolding view_of
+  bucket_at i k low under = rw (bucket, ne_eqb (number_of l i k) 0 (some_number i k low under)) (ap (λ g. g.bucket) (shown i k low under))
 
-  records_at : (i k : ℕ) → i < size l → k < page_count_in l i → records (canonical l) (number_of l i k) ≡ get_or (pages_in l i) k []
-  unfolding records
+  records_at : (i k : ℕ) → i < size l → k < page_count_in l i → (view_of (canonical l)).records (number_of l i k) ≡ get_or (pages_in l i) k []
+  unfolding view_of
   records_at i k low under = ap (λ g. g.pairs) (shown i k low under)
 
-  next_at : (i k : ℕ) → i < size l → k < page_count_in l i → next (canonical l) (number_of l i k) ≡ cond (eqb (k + 1) (page_count_in l i)) 0 (number_of l i (suc k))
-  unfolding next
-  next_at i k low under =
-      let some : number_of l i k ≢ 0 = λ e. omega (arith, e, (number_low i k low under).0) in
-      rw (ne_eqb (number_of l i k) 0 some) (ap (λ g. g.next) (shown i k low under))
+  next_at : (i k : ℕ) → i < size l → k < page_count_in l i → next (view_of (canonical l)) (number_of l i k) ≡ cond (eqb (k + 1) (page_count_in l i)) 0 (number_of l i (suc k))
+  unfolding view_of
+  next_at i k low under = rw (next, ne_eqb (number_of l i k) 0 (some_number i k low under)) (ap (λ g. g.next) (shown i k low under))
 
-  kind_at : (i k : ℕ) → i < size l → k < page_count_in l i → kind (canonical l) (number_of l i k) ≡ cond (leb (number_of l i k) (size l)) 1 2
-  unfolding kind
-  kind_at i zero low under =
+  kind_at : (i k : ℕ) → i < size l → k < page_count_in l i → ((view_of (canonical l)).head (number_of l i k)).kind ≡ cond (leb (number_of l i k) (size l)) 1 2
+  unfolding view_of
+  kind_at i zero low under = rw (ne_eqb (number_of l i zero) 0 (some_number i zero low under)) (
       ap (λ xs. get_or xs 0 0) (page_is i zero low under) ∙ sym (get_or-take 1 (text_in l i 0) 0 0 (omega arith)) ∙ ap (λ xs. get_or xs 0 0) (is_page i zero low under).kind
-      ∙ sym (ap (λ b. cond b 1 2) (le-leb (1 + i) (size l) (omega arith)))
-  kind_at i (suc k) low under =
+      ∙ sym (ap (λ b. cond b 1 2) (le-leb (1 + i) (size l) (omega arith))))
+  kind_at i (suc k) low under = rw (ne_eqb (number_of l i (suc k)) 0 (some_number i (suc k) low under)) (
       ap (λ xs. get_or xs 0 0) (page_is i (suc k) low under) ∙ sym (get_or-take 1 (text_in l i (suc k)) 0 0 (omega arith)) ∙ ap (λ xs. get_or xs 0 0) (is_page i (suc k) low under).kind
       ∙ ap (λ b. kind_byte (cond b Primary Overflow)) (ne_eqb (suc k) 0 (λ e. omega (arith, e)))
-      ∙ sym (ap (λ b. cond b 1 2) (lt-leb (1 + size l + overflow_before l i + k) (size l) (omega arith)))
+      ∙ sym (ap (λ b. cond b 1 2) (lt-leb (1 + size l + overflow_before l i + k) (size l) (omega arith))))
 
   -- ---- the paths
 
@@ -157,34 +159,34 @@ module _ (packing : PackingLaw) (pieces : PiecesLaw) (texts : PageTextLaw) (back
     | inr under ↦ (p - 1, 0, omega arith, omega (arith, one_page (p - 1)), omega arith)
   ]
 
-  follows_from : (i m k : ℕ) → i < size l → k + m ≡ page_count_in l i → IsPath (next (canonical l)) (cond (eqb k (page_count_in l i)) 0 (number_of l i k)) (map (number_of l i) (range_with_len k m))
+  follows_from : (i m k : ℕ) → i < size l → k + m ≡ page_count_in l i → IsPath (next (view_of (canonical l))) (cond (eqb k (page_count_in l i)) 0 (number_of l i k)) (map (number_of l i) (range_with_len k m))
   follows_from i zero k low e = rw (eq-eqb k (page_count_in l i) (let f : k ≡ page_count_in l i = omega (arith, e) in f)) refl
   follows_from i (suc m) k low e =
       let under : k < page_count_in l i = omega (arith, e) in
       let other : k ≢ page_count_in l i = λ f. omega (arith, f, under) in
-      let rest : IsPath (next (canonical l)) (cond (eqb (k + 1) (page_count_in l i)) 0 (number_of l i (k + 1))) (map (number_of l i) (range_with_len (k + 1) m)) = follows_from i m (k + 1) low (omega (arith, e)) in
-      let step : cond (eqb (k + 1) (page_count_in l i)) 0 (number_of l i (k + 1)) ≡ next (canonical l) (number_of l i k) =
+      let rest : IsPath (next (view_of (canonical l))) (cond (eqb (k + 1) (page_count_in l i)) 0 (number_of l i (k + 1))) (map (number_of l i) (range_with_len (k + 1) m)) = follows_from i m (k + 1) low (omega (arith, e)) in
+      let step : cond (eqb (k + 1) (page_count_in l i)) 0 (number_of l i (k + 1)) ≡ next (view_of (canonical l)) (number_of l i k) =
       ap (λ n. cond (eqb (k + 1) (page_count_in l i)) 0 (number_of l i n)) (add-one k) ∙ sym (next_at i k low under) in
       rw (ne_eqb k (page_count_in l i) other)
-      (refl, (number_low i k low under).0, subst (λ p. IsPath (next (canonical l)) p (map (number_of l i) (range_with_len (k + 1) m))) step rest)
+      (refl, (number_low i k low under).0, subst (λ p. IsPath (next (view_of (canonical l))) p (map (number_of l i) (range_with_len (k + 1) m))) step rest)
 
-  follows : (i : ℕ) → i < size l → IsPath (next (canonical l)) (1 + i) (path i)
+  follows : (i : ℕ) → i < size l → IsPath (next (view_of (canonical l))) (1 + i) (path i)
   unfolding path
   follows i low =
       let other : 0 ≢ page_count_in l i = λ e. omega (arith, e, one_page i) in
       rw (ne_eqb 0 (page_count_in l i) other) at (follows_from i (page_count_in l i) 0 low (omega arith))
 
-  covered : IsCovered (next (canonical l)) (bucket (canonical l)) (size l) (page_total l) path
+  covered : IsCovered (next (view_of (canonical l))) (bucket (view_of (canonical l))) (size l) (page_total l) path
   unfolding path
   covered = record {
     follows = follows;
     own = λ i p low there.
         let r = any_found (number_of l i) p 0 (page_count_in l i) there in
         let under : r.0 < page_count_in l i = omega (arith, r.2) in
-        (omega (arith, r.3, (number_low i r.0 low under).0), omega (arith, r.3, (number_low i r.0 low under).1), ap (bucket (canonical l)) (sym r.3) ∙ bucket_at i r.0 low under);
+        (omega (arith, r.3, (number_low i r.0 low under).0), omega (arith, r.3, (number_low i r.0 low under).1), ap (bucket (view_of (canonical l))) (sym r.3) ∙ bucket_at i r.0 low under);
     all = λ p low high.
         let r = found p low high in
-        let at : bucket (canonical l) p ≡ r.0 = ap (bucket (canonical l)) (sym r.4) ∙ bucket_at r.0 r.1 r.2 r.3 in (
+        let at : bucket (view_of (canonical l)) p ≡ r.0 = ap (bucket (view_of (canonical l))) (sym r.4) ∙ bucket_at r.0 r.1 r.2 r.3 in (
           omega (arith, at, r.2),
           ap (λ i. stands_in (map (number_of l i) (range_with_len 0 (page_count_in l i))) p) at ∙ any_there (number_of l r.0) p 0 (page_count_in l r.0) r.1 (omega arith) (omega (arith, r.3)) r.4,
         );
@@ -192,18 +194,18 @@ module _ (packing : PackingLaw) (pieces : PiecesLaw) (texts : PageTextLaw) (back
 
   -- ---- the records along a path
 
-  along : (i : ℕ) → i < size l → map (records (canonical l)) (path i) ≡ pages_in l i
+  along : (i : ℕ) → i < size l → map ((view_of (canonical l)).records) (path i) ≡ pages_in l i
   unfolding path page_count_in
   along i low =
-      map_map (records (canonical l)) (number_of l i) (range_with_len 0 (length (pages_in l i)))
-      ∙ sym (fill_by_all (λ k. records (canonical l) (number_of l i k)) (pages_in l i) (length (pages_in l i)) [] refl (λ k under. sym (records_at i k low under)))
+      map_map ((view_of (canonical l)).records) (number_of l i) (range_with_len 0 (length (pages_in l i)))
+      ∙ sym (fill_by_all (λ k. (view_of (canonical l)).records (number_of l i k)) (pages_in l i) (length (pages_in l i)) [] refl (λ k under. sym (records_at i k low under)))
 
   packed : (i : ℕ) → i < size l → IsPacked l.config.capacity (pages_in l i)
   packed i low = ((packing l.config.capacity (list_at l.lists i) (pages_in l i) listing.config.capacity.0).1 refl).0
 
-  content : (i : ℕ) → i < size l → flat_map (records (canonical l)) (path i) ≡ list_at l.lists i
+  content : (i : ℕ) → i < size l → flat_map ((view_of (canonical l)).records) (path i) ≡ list_at l.lists i
   content i low =
-      sym (flat_map-map (λ pairs. pairs) (records (canonical l)) (path i)) ∙ ap (flat_map (λ pairs. pairs)) (along i low)
+      sym (flat_map-map (λ pairs. pairs) ((view_of (canonical l)).records) (path i)) ∙ ap (flat_map (λ pairs. pairs)) (along i low)
       ∙ ((packing l.config.capacity (list_at l.lists i) (pages_in l i) listing.config.capacity.0).1 refl).1
 
   -- ---- the header
@@ -224,26 +226,35 @@ module _ (packing : PackingLaw) (pieces : PiecesLaw) (texts : PageTextLaw) (back
     records = omega (arith, records_few l pieces listing.config.capacity few);
   })
 
-  is_image : IsImageBy (canonical l) l (page_total l) path
-  is_image = record {
+  header_is : (view_of (canonical l)).header ≡ header_in l
+  unfolding view_of
+  header_is = header_shown
+
+  shows : Shows (view_of (canonical l)) l (page_total l) path
+  shows = record {
     listing = listing;
     few = few;
+    header = header_is;
+    kinds = λ p low high. let r = found p low high in subst (λ n. ((view_of (canonical l)).head n).kind ≡ cond (leb n (size l)) 1 2) r.4 (kind_at r.0 r.1 r.2 r.3);
+    levels = λ p low high.
+        let r = found p low high in
+        subst (λ n. ((view_of (canonical l)).head n).level ≡ level_of l.config.initial (size l) (bucket (view_of (canonical l)) n)) r.4
+        (level_at r.0 r.1 r.2 r.3 ∙ ap (level_of l.config.initial (size l)) (sym (bucket_at r.0 r.1 r.2 r.3)));
+    paths = covered;
+    content = content;
+    packed = λ i low. subst (IsPacked l.config.capacity) (sym (along i low)) (packed i low);
+  }
+
+  is_image : IsImageBy (canonical l) l (page_total l) path
+  is_image = record {
     whole = whole;
-    header = header_at ∙ ap header_text (sym header_shown);
-    fields = header_shown;
+    spelled = header_at ∙ ap header_text (sym header_shown);
     pages = λ p low high.
         let r = found p low high in
         subst (λ n. IsPage version_1 (page (canonical l) n) (page_at (canonical l) n) × IsWritable version_1 (page_at (canonical l) n)) r.4
         (subst (λ xs. IsPage version_1 xs (page_at (canonical l) (number_of l r.0 r.1)) × IsWritable version_1 (page_at (canonical l) (number_of l r.0 r.1))) (sym (page_is r.0 r.1 r.2 r.3))
         (subst (λ g. IsPage version_1 (text_in l r.0 r.1) g × IsWritable version_1 g) (sym (shown r.0 r.1 r.2 r.3)) (is_page r.0 r.1 r.2 r.3, writable r.0 r.1 r.2 r.3)));
-    kinds = λ p low high. let r = found p low high in subst (λ n. kind (canonical l) n ≡ cond (leb n (size l)) 1 2) r.4 (kind_at r.0 r.1 r.2 r.3);
-    levels = λ p low high.
-        let r = found p low high in
-        subst (λ n. level (canonical l) n ≡ level_of l.config.initial (size l) (bucket (canonical l) n)) r.4
-        (level_at r.0 r.1 r.2 r.3 ∙ ap (level_of l.config.initial (size l)) (sym (bucket_at r.0 r.1 r.2 r.3)));
-    paths = covered;
-    content = content;
-    packed = λ i low. subst (IsPacked l.config.capacity) (sym (along i low)) (packed i low);
+    shown = shows;
   }
 
 pub canonical_image : PackingLaw → PiecesLaw → PageTextLaw → ReadBackLaw → CanonicalLaw

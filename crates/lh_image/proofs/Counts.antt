@@ -4,15 +4,18 @@ use Rattle.std.specs.List.{flat_map, range_with_len, sum_by}
 use Rattle.std.proofs.lemmas.List.{length-map}
 use Rattle.std.proofs.lemmas.List.Concat.{flat_map-cons}
 use Rattle.std.proofs.lemmas.List.Sums.{sum_by-cons}
+use Rattle.lh_addr.specs.Growth.{level, pointer}
 use Rattle.lh_page.specs.declared.pair.Pair.{Pair}
 use Rattle.lh_page.specs.PackedList.{PackingLaw, joined}
 use Rattle.lh_bucket.specs.Listing.{Lists, size, list_at, count_of}
 use Rattle.lh_image.specs.Canonical.{overflow_before, page_count_in, page_total, pages_in}
 use Rattle.lh_image.specs.Census.{census_of, longest_before}
-use Rattle.lh_image.specs.Chains.{chain, IsPath}
+use Rattle.lh_image.specs.declared.first_page.Header.{Header}
+use Rattle.lh_image.specs.Chains.{IsPath}
 use Rattle.lh_image.specs.Counted.{CensusLaw, counted, longest_chain}
-use Rattle.lh_image.specs.Image.{IsImageBy}
-use Rattle.lh_image.specs.Layout.{Header, initial, buckets, page_count, record_count, bucket, next, records}
+use Rattle.lh_image.specs.Image.{Shows}
+use Rattle.lh_image.specs.Layout.{view_of}
+use Rattle.lh_image.specs.View.{View, initial, buckets, page_count, record_count, bucket, next, chain_of}
 use Rattle.lh_image.proofs.Listings.{pages_are}
 use Rattle.lh_image.proofs.Totals.{sum_covered}
 use Rattle.lh_image.proofs.ShortPaths.{paths_are_chains}
@@ -35,20 +38,20 @@ sum_more : (f : ℕ → ℕ) (a n j : ℕ) → a + n ≡ j → sum_by f (range_w
 sum_more f a zero j e = let same : a ≡ j = omega arith in sum_by-cons f a (range_with_len (a + 1) zero) ∙ rw same (omega arith)
 sum_more f a (suc n) j e = omega (arith, sum_by-cons f a (range_with_len (a + 1) (suc n)), sum_by-cons f a (range_with_len (a + 1) n), sum_more f (a + 1) n j (omega arith))
 
-module _ (packing : PackingLaw) (bytes : List ℕ) (l : Lists) (P : ℕ) (path : ℕ → List ℕ) (image : IsImageBy bytes l P path) where
+module _ (packing : PackingLaw) (v : View) (l : Lists) (P : ℕ) (path : ℕ → List ℕ) (image : Shows v l P path) where
   -- the path of a bucket has as many pages as its packed list
   length-path : (i : ℕ) → i < size l → length (path i) ≡ page_count_in l i
   unfolding page_count_in
   length-path i below =
       let capacity = image.listing.config.capacity in
-      let pages : map (records bytes) (path i) ≡ pages_in l i =
-      (packing l.config.capacity (list_at l.lists i) (map (records bytes) (path i)) capacity.0).0 (image.packed i below, joined_pages (records bytes) (path i) ∙ image.content i below) in
-      sym (length-map (path i) (records bytes)) ∙ ap length pages
+      let pages : map (v.records) (path i) ≡ pages_in l i =
+      (packing l.config.capacity (list_at l.lists i) (map (v.records) (path i)) capacity.0).0 (image.packed i below, joined_pages (v.records) (path i) ∙ image.content i below) in
+      sym (length-map (path i) (v.records)) ∙ ap length pages
 
   some_page : (i : ℕ) → i < size l → 1 ≤ length (path i)
   some_page i below = some (path i) (image.paths.follows i below)
     where
-      some : (xs : List ℕ) → IsPath (next bytes) (1 + i) xs → 1 ≤ length xs
+      some : (xs : List ℕ) → IsPath (next v) (1 + i) xs → 1 ≤ length xs
       some [] e = absurd (omega (arith, e))
       some (x ∷ xs) p = omega arith
 
@@ -63,30 +66,39 @@ module _ (packing : PackingLaw) (bytes : List ℕ) (l : Lists) (P : ℕ) (path :
   pages_are_total =
       omega (
         arith,
-        sum_covered (next bytes) (bucket bytes) (size l) P path (λ _. 1) image.paths,
+        sum_covered (next v) (bucket v) (size l) P path (λ _. 1) image.paths,
         ones_below 1 (P - 1),
         pages_before (size l) (omega arith),
         image.listing.config.initial.0,
         image.listing.shape.from_initial,
       )
 
-  longest_same : (n : ℕ) → n ≤ size l → longest_before l n ≡ longest_chain bytes n
+  longest_same : (n : ℕ) → n ≤ size l → longest_before l n ≡ longest_chain v n
   unfolding longest_before longest_chain
   longest_same zero low = refl
   longest_same (suc n) low =
       let before = longest_same n (omega arith) in
-      let same : chain (next bytes) (page_count bytes) n ≡ path n =
-      rw (← pages_are bytes l P path image) (paths_are_chains (next bytes) (bucket bytes) (size l) P path image.paths n (omega arith)) in
-      let here : page_count_in l n ≡ length (chain (next bytes) (page_count bytes) n) = sym (length-path n (omega arith)) ∙ ap length (sym same) in
+      let same : chain_of v n ≡ path n =
+      rw (← pages_are v l P path image) (paths_are_chains (next v) (bucket v) (size l) P path image.paths n (omega arith)) in
+      let here : page_count_in l n ≡ length (chain_of v n) = sym (length-path n (omega arith)) ∙ ap length (sym same) in
       rw (before, here) refl
 
-  census_is : census_of l ≡ counted bytes
+  census_is : census_of l ≡ counted v
   census_is =
-      let first : initial bytes ≡ l.config.initial = ap (λ (h : Header). h.config.initial) image.fields in
-      let size_is : buckets bytes ≡ size l = ap (λ (h : Header). h.buckets) image.fields in
-      let count_is : record_count bytes ≡ count_of l.lists = ap (λ (h : Header). h.records) image.fields in
-      let pages_is : page_count bytes ≡ page_total l = ap (λ (h : Header). h.pages) image.fields ∙ pages_are_total in
-      rw (first, size_is, count_is, pages_is, longest_same (size l) (omega arith)) refl
+      let first : initial v ≡ l.config.initial = ap (λ (h : Header). h.config.initial) image.header in
+      let size_is : buckets v ≡ size l = ap (λ (h : Header). h.buckets) image.header in
+      let count_is : record_count v ≡ count_of l.lists = ap (λ (h : Header). h.records) image.header in
+      let pages_is : page_count v ≡ page_total l = ap (λ (h : Header). h.pages) image.header ∙ pages_are_total in
+      let longest : longest_before l (size l) ≡ longest_chain v (buckets v) = longest_same (size l) (omega arith) ∙ ap (longest_chain v) (sym size_is) in
+      λ i. record {
+        buckets = sym size_is i;
+        level = level (sym first i) (sym size_is i);
+        pointer = pointer (sym first i) (sym size_is i);
+        records = sym count_is i;
+        pages = sym pages_is i;
+        overflow = sym pages_is i - 1 - sym size_is i;
+        longest = longest i;
+      }
 
 pub census_law : PackingLaw → CensusLaw
-census_law packing bytes l (P, path, image) = census_is packing bytes l P path image
+census_law packing bytes l (P, path, image) = census_is packing (view_of bytes) l P path image.shown

@@ -1,77 +1,52 @@
 -- What the first page decides alone
-use Rattle.std.proofs.Common.{◌≡◌, ℕ, ◌<◌, ◌≤◌, Bool, true, false, leb, List, length, take, drop, get_or, Option, Some, None, Result, Ok, Err, refl, sym, ap, ◌∙◌, arith}
-use Rattle.std.specs.Prelude.{min, IfSome, IfOk}
+use Rattle.std.proofs.Common.{◌≡◌, ℕ, ◌<◌, ◌≤◌, Bool, true, false, ◌*◌, ◌||◌, leb, ltb, List, [], ◌∷◌, ◌++◌, length, take, drop, get_or, Option, Some, None, Result, Ok, Err, refl, sym, ap, ◌∙◌, arith}
+use Rattle.std.specs.Prelude.{min, option_map, IfSome, IfOk}
 use Rattle.std.specs.Result.{result_err}
 use Rattle.std.specs.Io.KnownBytes.{Consumes}
 use Rattle.std.proofs.lemmas.Bool.Decides.{nat_tests}
 use Rattle.std.proofs.lemmas.List.{take-take, drop-take, take-append-drop, take_all, get_or-take}
 use Rattle.byteorder.specs.Numbers.{little_from-take}
+use Rattle.lh_page.specs.PageFields.{all_zero}
 use Rattle.lh_bucket.specs.Listing.{Lists}
 use Rattle.lh_image.specs.declared.fault.ImageFault.{ImageFault}
 use Rattle.lh_image.specs.declared.fault.ImageFault.TheVariants.{Magic, HeaderField, Counts, Short, ReadFault, Memory}
 use Rattle.lh_image.specs.declared.first_page.Header.{Header}
-use Rattle.lh_image.specs.Faults.{bad_field, bad_counts, no_magic, header_fault, image_fault, or_at, or_else}
+use Rattle.lh_image.specs.Faults.{bad_field, bad_counts, no_magic, is_short, where_so, field_rows, header_rows, size_rows, page_rows, first_of, image_fault}
 use Rattle.lh_image.specs.Filling.{IsFilled}
-use Rattle.lh_image.specs.Header.{IsHeader, ReadsHeader}
-use Rattle.lh_image.specs.Layout.{initial, capacity, load, buckets, max, page_count, record_count}
+use Rattle.lh_image.specs.Header.{ReadsHeader}
+use Rattle.lh_image.specs.Layout.{ends_in_zeros, header_of, view_of}
 use Rattle.lh_image.specs.Reading.{IsTold, Leaves, reading_of}
-use Rattle.lh_image.proofs.HeaderTests.{due}
+use Rattle.lh_image.proofs.FirstAnswers.{first_before}
 
 -- ---- the fields are those of the first page
 
-initial-front : (bytes : List ℕ) → initial (take 1024 bytes) ≡ initial bytes
-unfolding initial
-initial-front bytes = little_from-take 4 4 1024 bytes (omega arith)
-
-capacity-front : (bytes : List ℕ) → capacity (take 1024 bytes) ≡ capacity bytes
-unfolding capacity
-capacity-front bytes = little_from-take 8 4 1024 bytes (omega arith)
-
-load-front : (bytes : List ℕ) → load (take 1024 bytes) ≡ load bytes
-unfolding load
-load-front bytes = little_from-take 12 4 1024 bytes (omega arith)
-
-buckets-front : (bytes : List ℕ) → buckets (take 1024 bytes) ≡ buckets bytes
-unfolding buckets
-buckets-front bytes = little_from-take 16 4 1024 bytes (omega arith)
-
-max-front : (bytes : List ℕ) → max (take 1024 bytes) ≡ max bytes
-unfolding max
-max-front bytes = little_from-take 20 4 1024 bytes (omega arith)
-
-page_count-front : (bytes : List ℕ) → page_count (take 1024 bytes) ≡ page_count bytes
-unfolding page_count
-page_count-front bytes = little_from-take 24 4 1024 bytes (omega arith)
-
-record_count-front : (bytes : List ℕ) → record_count (take 1024 bytes) ≡ record_count bytes
-unfolding record_count
-record_count-front bytes = little_from-take 28 8 1024 bytes (omega arith)
+header-front : (bytes : List ℕ) → header_of (take 1024 bytes) ≡ header_of bytes
+unfolding header_of
+header-front bytes = λ i. record {
+  config = record {
+    initial = little_from-take 4 4 1024 bytes (omega arith) i;
+    capacity = little_from-take 8 4 1024 bytes (omega arith) i;
+    load = little_from-take 12 4 1024 bytes (omega arith) i;
+    max = little_from-take 20 4 1024 bytes (omega arith) i;
+  };
+  buckets = little_from-take 16 4 1024 bytes (omega arith) i;
+  pages = little_from-take 24 4 1024 bytes (omega arith) i;
+  records = little_from-take 28 8 1024 bytes (omega arith) i;
+}
 
 no_magic-front : (bytes : List ℕ) → no_magic (take 1024 bytes) ≡ no_magic bytes
 unfolding no_magic
 no_magic-front bytes = rw (take-take 4 1024 bytes (omega arith)) refl
 
-zeros-front : (bytes : List ℕ) → take 988 (drop 36 (take 1024 bytes)) ≡ take 988 (drop 36 bytes)
-zeros-front bytes = ap (take 988) (drop-take 36 988 bytes) ∙ take-take 988 988 (drop 36 bytes) (omega arith)
+zeros-front : (bytes : List ℕ) → ends_in_zeros (take 1024 bytes) ≡ ends_in_zeros bytes
+zeros-front bytes = ap all_zero (ap (take 988) (drop-take 36 988 bytes) ∙ take-take 988 988 (drop 36 bytes) (omega arith))
 
-bad_field-front : (bytes : List ℕ) → bad_field (take 1024 bytes) ≡ bad_field bytes
-unfolding bad_field
-bad_field-front bytes = rw (initial-front bytes, capacity-front bytes, load-front bytes, buckets-front bytes, max-front bytes, zeros-front bytes) refl
-
-bad_counts-front : (bytes : List ℕ) → bad_counts (take 1024 bytes) ≡ bad_counts bytes
-unfolding bad_counts
-bad_counts-front bytes = rw (page_count-front bytes, buckets-front bytes, capacity-front bytes, record_count-front bytes) refl
+-- what the header's fields are due
+abbrev pub due : List ℕ → Option ImageFault
+due bytes = first_of (field_rows (header_of bytes) (ends_in_zeros bytes))
 
 due-front : (bytes : List ℕ) → due (take 1024 bytes) ≡ due bytes
-due-front bytes = rw (bad_field-front bytes, bad_counts-front bytes) refl
-
-header-front : (header : Header) (bytes : List ℕ) → IsHeader header (take 1024 bytes) → IsHeader header bytes
-header-front header bytes is = record {
-  config = is.config ∙ rw (initial-front bytes, capacity-front bytes, load-front bytes, max-front bytes) refl;
-  buckets = is.buckets ∙ buckets-front bytes;
-  pages = is.pages ∙ page_count-front bytes;
-  records = is.records ∙ record_count-front bytes;
-}
+due-front bytes = rw (header-front bytes, zeros-front bytes) refl
 
 -- ---- the answers
 
@@ -82,30 +57,34 @@ told f answer e = e
 
 pub read_as : (bytes : List ℕ) (f : ImageFault) → image_fault bytes ≡ Some f → reading_of bytes ≡ Err f
 unfolding reading_of
-read_as bytes f e = rw (e, reading_of) refl
+read_as bytes f e = rw e refl
 
-from_header : (bytes : List ℕ) (f : ImageFault) → header_fault bytes ≡ Some f → reading_of bytes ≡ Err f
+from_header : (bytes : List ℕ) (f : ImageFault) → first_of (header_rows bytes) ≡ Some f → reading_of bytes ≡ Err f
 unfolding image_fault
-from_header bytes f e = read_as bytes f (rw (e, image_fault) refl)
+from_header bytes f e = read_as bytes f (first_before (header_rows bytes) (size_rows bytes ++ page_rows (view_of bytes)) f e)
 
 consumed : (bytes : List ℕ) (now : Option (List ℕ)) → now ≡ Some (drop 1024 bytes) → Consumes (Some bytes) now (take 1024 bytes)
 consumed bytes now e = rw e (sym (take-append-drop 1024 bytes))
 
-leaves_due : (o : Option ℕ) (b : Bool) (f : ImageFault) (bytes : List ℕ) (now : Option (List ℕ)) → now ≡ Some (drop 1024 bytes) → Some f ≡ or_at o HeaderField (or_else b Counts None) → Leaves {X = Header} (Err f) bytes now
+leaves_due : (o : Option ℕ) (b : Bool) (f : ImageFault) (bytes : List ℕ) (now : Option (List ℕ)) → now ≡ Some (drop 1024 bytes) → Some f ≡ first_of (option_map HeaderField o ∷ where_so b Counts ∷ []) → Leaves {X = Header} (Err f) bytes now
+unfolding first_of
 leaves_due (Some x) b f bytes now rest e = let is : f ≡ HeaderField x = cc in rw is (consumed bytes now rest)
 leaves_due None true f bytes now rest e = let is : f ≡ Counts = cc in rw is (consumed bytes now rest)
 leaves_due None false f bytes now rest e = let no_fault : ⊥ = cc in absurd no_fault
 
-magic_is : (bytes : List ℕ) → no_magic bytes ≡ true → header_fault bytes ≡ Some Magic
-unfolding header_fault
+magic_is : (bytes : List ℕ) → no_magic bytes ≡ true → first_of (header_rows bytes) ≡ Some Magic
+unfolding first_of
 magic_is bytes e = rw e refl
 
-short_is : (bytes : List ℕ) → no_magic bytes ≡ false → length bytes < 1024 → header_fault bytes ≡ Some Short
-unfolding header_fault
-short_is bytes e less = let test : leb 1024 (length bytes) ≡ false = grind (arith, nat_tests) in rw (e, test) refl
+short_is : (bytes : List ℕ) → no_magic bytes ≡ false → length bytes < 1024 → reading_of bytes ≡ Err Short
+unfolding image_fault is_short first_of
+short_is bytes e less =
+    let test : leb 1024 (length bytes) ≡ false = grind (arith, nat_tests) in
+    let short : (ltb (length bytes) 1024 || ltb (length bytes) (1024 * (header_of bytes).pages)) ≡ true = grind (arith, nat_tests) in
+    read_as bytes Short (rw (e, test, short) refl)
 
-due_is : (bytes : List ℕ) → no_magic bytes ≡ false → 1024 ≤ length bytes → header_fault bytes ≡ due bytes
-unfolding header_fault
+due_is : (bytes : List ℕ) → no_magic bytes ≡ false → 1024 ≤ length bytes → first_of (header_rows bytes) ≡ due bytes
+unfolding first_of
 due_is bytes e enough = let test : leb 1024 (length bytes) ≡ true = grind (arith, nat_tests) in rw (e, test) refl
 
 pub not_magic : (old new : Option (List ℕ)) (n : ℕ) (buffer : List ℕ) → length buffer ≡ 1024 → IfSome old (λ bytes. IsFilled bytes n buffer new) → no_magic (take n buffer) ≡ true →
@@ -122,12 +101,12 @@ too_short None new n buffer size filled test less = tt
 too_short (Some bytes) new n buffer size filled test less =
     let front : take n buffer ≡ take 1024 bytes = rw size at filled.front in
     let count : n ≡ min 1024 (length bytes) = rw size at filled.count in
-    (from_header bytes Short (short_is bytes (sym (no_magic-front bytes) ∙ ap no_magic (sym front) ∙ test) (omega arith)), tt)
+    (short_is bytes (sym (no_magic-front bytes) ∙ ap no_magic (sym front) ∙ test) (omega arith), tt)
 
 reads : (bytes : List ℕ) (now : Option (List ℕ)) (result : Result Header ImageFault) → no_magic bytes ≡ false → 1024 ≤ length bytes → now ≡ Some (drop 1024 bytes) →
-    ((i : ℕ) → i < 1024 → get_or bytes i 0 < 256) → IfOk result (λ header. IsHeader header (take 1024 bytes)) → result_err result ≡ due (take 1024 bytes) → ReadsHeader bytes result now
+    ((i : ℕ) → i < 1024 → get_or bytes i 0 < 256) → IfOk result (λ header. header ≡ header_of (take 1024 bytes)) → result_err result ≡ due (take 1024 bytes) → ReadsHeader bytes result now
 reads bytes now (Ok header) test enough rest each is fault = record {
-  fields = header-front header bytes is;
+  fields = is ∙ header-front bytes;
   faultless = due_is bytes test enough ∙ sym (due-front bytes) ∙ sym fault;
   size = enough;
   rest = rest;
@@ -135,10 +114,10 @@ reads bytes now (Ok header) test enough rest each is fault = record {
 }
 reads bytes now (Err f) test enough rest each is fault =
     let here : Some f ≡ due bytes = fault ∙ due-front bytes in
-    (told f (reading_of bytes) (from_header bytes f (due_is bytes test enough ∙ sym here)), leaves_due (bad_field bytes) (bad_counts bytes) f bytes now rest here)
+    (told f (reading_of bytes) (from_header bytes f (due_is bytes test enough ∙ sym here)), leaves_due (bad_field (header_of bytes) (ends_in_zeros bytes)) (bad_counts (header_of bytes)) f bytes now rest here)
 
 pub reads_first : (old new : Option (List ℕ)) (n : ℕ) (buffer : List ℕ) (result : Result Header ImageFault) → length buffer ≡ 1024 → IfSome old (λ bytes. IsFilled bytes n buffer new) →
-    no_magic (take n buffer) ≡ false → 1024 ≤ n → n ≤ 1024 → ((i : ℕ) → get_or buffer i 0 < 256) → IfOk result (λ header. IsHeader header buffer) → result_err result ≡ due buffer →
+    no_magic (take n buffer) ≡ false → 1024 ≤ n → n ≤ 1024 → ((i : ℕ) → get_or buffer i 0 < 256) → IfOk result (λ header. header ≡ header_of buffer) → result_err result ≡ due buffer →
     IfSome old (λ bytes. ReadsHeader bytes result new)
 reads_first None new n buffer result size filled test enough most each is fault = tt
 reads_first (Some bytes) new n buffer result size filled test enough most each is fault =

@@ -5,9 +5,9 @@ use Rattle.lh_image.specs.declared.first_page.Header.{Header}
 use Rattle.lh_image.specs.declared.page_checks.PageFaults.{PageFaults}
 use Rattle.lh_image.specs.declared.table.Entry.{Entry}
 use Rattle.lh_image.specs.Header.{HasHeader}
-use Rattle.lh_image.specs.Layout.{next}
+use Rattle.lh_image.specs.Layout.{view_of}
 use Rattle.lh_image.specs.Pages.{HaveCome}
-use Rattle.lh_image.specs.Table.{no_entry, entry_at, next_in, AreWithin}
+use Rattle.lh_image.specs.Table.{no_entry, entry_at, next_in, bucket_in, AreWithin}
 
 first_entry : (p : ℕ) → entry_at (no_entry ∷ []) p ≡ no_entry
 first_entry zero = refl
@@ -18,14 +18,14 @@ within_first entries pairs e p = rw (e, first_entry p) (omega arith)
 
 pub come_first : (bytes : List ℕ) (header : Header) (entries : List Entry) (pairs : List Pair) (faults : PageFaults) (now : Option (List ℕ)) → entries ≡ no_entry ∷ [] →
     faults ≡ record { kind = None; bucket = None; level = None; used = None; slot = None; sum = 0 } → HasHeader header bytes now → HaveCome bytes header 1 entries pairs faults
-unfolding next next_in
+unfolding view_of next_in bucket_in
 come_first bytes header entries pairs faults now first none has = record {
   fields = has.fields;
   kept = record {
     size = rw first refl;
     next = λ p less. let at : p ≡ 0 = omega arith in rw (at, first) refl;
-    bucket = λ p from less. absurd (omega arith);
-    records = λ p from less sound. absurd (omega arith);
+    bucket = λ p less. let at : p ≡ 0 = omega arith in rw (at, first) refl;
+    records = λ p from less plain none. absurd (omega arith);
   };
   noted = rw none (record { sum = refl; kind = refl; bucket = refl; level = refl; used = refl; slot = refl });
   enough = has.size;

@@ -10,7 +10,7 @@ use Rattle.std.specs.Int.{w32, w64, from_le_bytes}
 use Rattle.byteorder.specs.Endian.{little_from, little_bytes}
 use Rattle.lh_page.specs.PageFields.{all_zero}
 use Rattle.lh_page.specs.PageLaws.{AreBytes}
-use Rattle.lh_image.specs.Layout.{magic, initial, capacity, load, buckets, max, page_count, record_count, header_of, header_text, page}
+use Rattle.lh_image.specs.Layout.{magic, ends_in_zeros, header_of, header_text, page}
 use Rattle.lh_image.specs.Faults.{no_magic}
 
 -- no bytes give zeros from any offset
@@ -80,8 +80,8 @@ module _ (bytes : List ℕ) (fit : AreBytes bytes) (long : 1024 ≤ length bytes
       (cut 4 996 24 bytes ∙ ap (λ x. take 4 (drop 24 bytes) ++ x) (cut 8 988 28 bytes)))))))
 
   -- bytes that pass the header's own tests begin with a header
-  pub header_spelled : no_magic bytes ≡ false → all_zero (take 988 (drop 36 bytes)) ≡ true → page bytes 0 ≡ header_text (header_of bytes)
-  unfolding no_magic initial capacity load buckets max page_count record_count
+  pub header_spelled : no_magic bytes ≡ false → ends_in_zeros bytes ≡ true → page bytes 0 ≡ header_text (header_of bytes)
+  unfolding no_magic header_of
   header_spelled m z =
       let a : take 4 bytes ≡ magic = (bytes_eq-Decides (take 4 bytes) magic).0 (not-false _ m) in
       let e : take 988 (drop 36 bytes) ≡ replicate 988 0 = zeros_are (take 988 (drop 36 bytes)) z ∙ ap (λ n. replicate n 0) (length-part bytes 36 988 (omega arith)) in
@@ -93,7 +93,7 @@ header_magic bytes e =
     let a : take 4 bytes ≡ magic = sym (take-take 4 1024 bytes (omega arith)) ∙ ap (take 4) e in
     not_from_true _ ((bytes_eq-Decides (take 4 bytes) magic).1 a)
 
-header_zeros : (bytes : List ℕ) → page bytes 0 ≡ header_text (header_of bytes) → all_zero (take 988 (drop 36 bytes)) ≡ true
+header_zeros : (bytes : List ℕ) → page bytes 0 ≡ header_text (header_of bytes) → ends_in_zeros bytes ≡ true
 unfolding page
 header_zeros bytes e =
     let a : take 988 (drop 36 bytes) ≡ drop 36 (take 1024 bytes) = sym (drop-take 36 988 bytes) in
@@ -101,5 +101,5 @@ header_zeros bytes e =
     rw (a ∙ b) (zeros_all 988)
 
 -- a header passes its own tests
-pub header_tests : (bytes : List ℕ) → page bytes 0 ≡ header_text (header_of bytes) → (no_magic bytes ≡ false) × (all_zero (take 988 (drop 36 bytes)) ≡ true)
+pub header_tests : (bytes : List ℕ) → page bytes 0 ≡ header_text (header_of bytes) → (no_magic bytes ≡ false) × (ends_in_zeros bytes ≡ true)
 header_tests bytes e = (header_magic bytes e, header_zeros bytes e)

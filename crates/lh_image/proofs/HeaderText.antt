@@ -2,7 +2,8 @@
 use Rattle.std.proofs.Common.{◌≡◌, ℕ, ◌<◌, ◌^◌, List, ◌++◌, length, drop, refl, ap, ◌∙◌}
 use Rattle.byteorder.specs.Numbers.{little_number-reads_back}
 use Rattle.byteorder.specs.Endian.{little_from, little_bytes}
-use Rattle.lh_image.specs.Layout.{Header, header_of, header_text, initial, capacity, load, buckets, max, page_count, record_count}
+use Rattle.lh_image.specs.declared.first_page.Header.{Header}
+use Rattle.lh_image.specs.Layout.{header_of, header_text}
 use Rattle.lh_image.proofs.Header.{from_drop}
 
 -- a number that stands at an offset
@@ -20,7 +21,7 @@ pub record FitsHeader (h : Header) : Type 0 where
   pub records : h.records < 2 ^ 64
 
 pub header_of_text : (h : Header) (rest : List ℕ) → FitsHeader h → header_of (header_text h ++ rest) ≡ h
-unfolding initial capacity load buckets max page_count record_count
+unfolding header_of
 header_of_text h rest fits =
     let xs : List ℕ = header_text h ++ rest in
     let p4 : little_from 4 4 xs ≡ h.config.initial = read_at 4 4 h.config.initial xs (drop 8 xs) refl fits.initial in

@@ -1,116 +1,90 @@
--- An image passes all tests, so bytes have no fault exactly where they are an image of a listing, and then of that one alone.
-use Rattle.std.proofs.Common.{◌≡◌, ℕ, zero, suc, ◌+◌, ◌-◌, ◌*◌, ◌<◌, ◌≤◌, cond, leb, List, length, sym, ap, ◌∙◌, arith}
-use Rattle.std.specs.List.{range_with_len, sum_by}
-use Rattle.std.proofs.lemmas.Bool.{not_from_true, eq-eqb, ne_eqb, le-leb}
-use Rattle.std.proofs.lemmas.List.Sums.{sum_by-cons}
-use Rattle.lh_addr.specs.Fnv.{code_of}
-use Rattle.lh_addr.specs.Growth.{address}
-use Rattle.lh_page.specs.PageFields.{is_clear}
-use Rattle.lh_page.specs.PageLaws.{FaultlessLaw, ReadBackLaw}
-use Rattle.lh_bucket.specs.Listing.{size, list_at, count_of}
-use Rattle.lh_image.specs.Chains.{chain, IsCovered}
-use Rattle.lh_image.specs.Layout.{Header, initial, capacity, buckets, max, page_count, record_count, page, kind, used, level, bucket, next, records}
-use Rattle.lh_image.specs.Faults.{bad_counts, is_short, has_trailing, bad_kind, bad_level, bad_used, has_bad_slot, has_misfit, numbers, is_at_home}
+-- Bytes have no fault exactly where they are an image of a listing, and then of that one alone.
+use Rattle.std.proofs.Common.{◌≡◌, ◌≢◌, ℕ, ◌+◌, ◌-◌, ◌*◌, ◌<◌, ◌≤◌, Bool, true, false, ◌||◌, ltb, leb, List, length, refl, sym, ap, ◌∙◌, ◌↔◌, arith}
+use Rattle.std.proofs.lemmas.Bool.{le-leb, leb-true, ne_eqb}
+use Rattle.std.proofs.lemmas.Bool.Decides.{nat_tests}
+use Rattle.std.proofs.lemmas.List.FromFn.{length-map-range_with_len}
+use Rattle.lh_page.specs.Format.{version_1}
+use Rattle.lh_page.specs.PageFields.{pairs_of, used_of}
+use Rattle.lh_page.specs.PageLaws.{AreBytes, FaultlessLaw, ReadBackLaw}
+use Rattle.lh_page.specs.PageTable.{IsPage, IsWritable}
+use Rattle.lh_image.specs.Faults.{bad_kind, bad_used, has_bad_slot, is_short, has_trailing}
+use Rattle.lh_image.specs.Header.{AreInRange}
 use Rattle.lh_image.specs.Image.{IsImageBy, ImageLaw, OneListingLaw, listing_of}
-use Rattle.lh_image.proofs.ShortPaths.{paths_are_chains}
-use Rattle.lh_image.proofs.Walks.{begins, covered_same, linked_from_covered}
-use Rattle.lh_image.proofs.Linking.{clean_bucket_from, clean_next_from, clean_twice_from, clean_chains_from}
-use Rattle.lh_image.proofs.Sound.{IsSound, sound_law, ranged_law}
-use Rattle.lh_image.proofs.Packing.{used_rule, IsFilled, filled}
-use Rattle.lh_image.proofs.Keys.{no_misfit, home_tests}
-use Rattle.lh_image.proofs.Header.{header_tests}
-use Rattle.lh_image.proofs.PageTests.{kind_rule, two_above, tests_from_page}
-use Rattle.lh_image.proofs.Listings.{chain_records, size-listing_of, list_at-listing_of, length-records, count-listing_of, pages_are, listing_is}
-use Rattle.lh_image.proofs.FromTests.{counts_rule, whole_rule, next-header, bucket_fits, image_from_sound}
+use Rattle.lh_image.specs.Layout.{header_of, page, page_at, view_of}
+use Rattle.lh_image.specs.View.{View, IsView, buckets, capacity, page_count, used, chain_of}
+use Rattle.lh_image.proofs.Fitting.{record_from_fits}
+use Rattle.lh_image.proofs.Header.{header_spelled, header_tests}
+use Rattle.lh_image.proofs.HeaderTests.{are_in_range, counts_fit, no_bad_field}
+use Rattle.lh_image.proofs.Listings.{pages_are, listing_is}
+use Rattle.lh_image.proofs.Packing.{used_rule}
+use Rattle.lh_image.proofs.PageTests.{kind_rule, page_from_tests, tests_from_page, page_bytes, length-page}
+use Rattle.lh_image.proofs.Shown.{shows_from_clean, clean_from_shows, shown_range, records_fit}
+use Rattle.lh_image.proofs.Sound.{IsSound, sound_law}
 
-sum_most : (f : ℕ → ℕ) (b a n : ℕ) → ((p : ℕ) → a ≤ p → p < a + n → f p ≤ b) → sum_by f (range_with_len a n) ≤ b * n
-sum_most f b a zero all = omega arith
-sum_most f b a (suc n) all =
-    let here = all a (omega arith) (omega arith) in
-    let rest = sum_most f b (a + 1) n (λ p low high. all p (omega arith) (omega arith)) in
-    let e : b * suc n ≡ b * n + b = grind arith in
-    omega (arith, sum_by-cons f a (range_with_len (a + 1) n))
+whole_rule : (n P : ℕ) → 1 ≤ P → ((ltb n 1024 || ltb n (1024 * P) ≡ false) × (ltb (1024 * P) n ≡ false)) ↔ (n ≡ 1024 * P)
+whole_rule n P one = (λ (e, f). grind (arith, nat_tests), λ e. (grind (arith, nat_tests), grind (arith, nat_tests)))
+
+-- ---- the View that bytes give
+
+pub is_view : (bytes : List ℕ) → IsView (view_of bytes)
+unfolding view_of pairs_of
+is_view bytes = record {
+  none = refl;
+  counted = λ p low. rw (used, ne_eqb p 0 (λ z. omega arith)) (length-map-range_with_len _ 0 (used_of (page bytes p)));
+}
+
+module _ (faultless : FaultlessLaw) (bytes : List ℕ) (fit : AreBytes bytes) (sound : IsSound bytes) where
+  pub image_from_sound : IsImageBy bytes (listing_of (view_of bytes)) (page_count (view_of bytes)) (chain_of (view_of bytes))
+  unfolding view_of is_short has_trailing bad_kind bad_used
+  image_from_sound =
+      let v : View = view_of bytes in
+      let r = are_in_range (header_of bytes) _ sound.fields sound.counts in
+      let whole : length bytes ≡ 1024 * page_count v = (whole_rule (length bytes) (page_count v) (omega (arith, r.0.enough))).0 (sound.long_enough, sound.ended) in
+      let shown : (p : ℕ) → 1 ≤ p → p < page_count v → IsPage version_1 (page bytes p) (page_at bytes p) × IsWritable version_1 (page_at bytes p) =
+      λ p low high.
+      let other : p ≢ 0 = λ z. omega arith in
+      let kind = rw (ne_eqb p 0 other) at ((kind_rule (v.head p).kind p (buckets v) (v.head p).clear).0 (sound.clean.kinds p low high)) in
+      let few = rw (ne_eqb p 0 other) at ((used_rule (capacity v) (v.head p).used (v.head p).next (v.head p).kind).0 (sound.clean.used p low high)).0 in
+      page_from_tests faultless (page bytes p) (page_bytes bytes p fit) (length-page bytes p (page_count v) whole high) (leb p (buckets v)) kind.0 kind.1
+      (omega (arith, few, r.0.settings.capacity.1)) (sound.clean.slots p low high) in
+      record {
+        whole = whole;
+        spelled = header_spelled bytes fit (leb-true 1024 (length bytes) sound.header) sound.magic r.1;
+        pages = shown;
+        shown = shows_from_clean v (is_view bytes) r.0 sound.clean (λ p low high k d below. record_from_fits _ ((shown p low high).1.pairs.records k d below));
+      }
 
 module _ (read_back : ReadBackLaw) where
-  sound_from_image : (bytes : List ℕ) (path : ℕ → List ℕ) → IsImageBy bytes (listing_of bytes) (page_count bytes) path → IsSound bytes
-  unfolding listing_of bad_counts is_short has_trailing bad_kind bad_level bad_used has_bad_slot has_misfit kind used level records numbers
+  sound_from_image : (bytes : List ℕ) (path : ℕ → List ℕ) → IsImageBy bytes (listing_of (view_of bytes)) (page_count (view_of bytes)) path → IsSound bytes
+  unfolding is_short has_trailing view_of
   sound_from_image bytes path i =
-      let S : ℕ = buckets bytes in
-      let P : ℕ = page_count bytes in
-      let b : ℕ = capacity bytes in
-      let sz : size (listing_of bytes) ≡ S = size-listing_of bytes in
-      let c : IsCovered (next bytes) (bucket bytes) S P path = rw sz at i.paths in
-      let same : (j : ℕ) → j < S → chain (next bytes) P j ≡ path j = paths_are_chains (next bytes) (bucket bytes) S P path c in
-      let covered : IsCovered (next bytes) (bucket bytes) S P (chain (next bytes) P) = covered_same (next bytes) (bucket bytes) S P path (chain (next bytes) P) same c in
-      let linked = linked_from_covered (next bytes) (bucket bytes) S P path (next-header bytes) c in
-      let ranges = i.listing.config in
-      let low_size : initial bytes ≤ S = rw sz at i.listing.shape.from_initial in
-      let high_size : S ≤ max bytes = rw sz at i.listing.shape.to_max in
-      let first : S - 1 < S = omega (arith, ranges.initial.0) in
-      let last : 1 + (S - 1) < P = (c.own (S - 1) (1 + (S - 1)) first (begins (next bytes) (path (S - 1)) (1 + (S - 1)) (c.follows (S - 1) first) (λ e. omega arith))).1 in
-      let some : S < P = omega arith in
-      let fills : (p : ℕ) → 1 ≤ p → p < P → IsFilled (next bytes) (λ r. length (records bytes r)) b S p =
-      λ p low high.
-      let at = c.all p low high in
-      filled (next bytes) (bucket bytes) S P b (records bytes) linked (path (bucket bytes p)) (1 + bucket bytes p) (omega arith) (omega (arith, at.0)) (c.follows (bucket bytes p) at.0)
-      (i.packed (bucket bytes p) (rw sz at.0)) (λ more. absurd (omega (arith, at.0))) p at.1 in
-      let kinds : (p : ℕ) → 1 ≤ p → p < P → kind bytes p ≡ cond (leb p S) 1 2 = λ p low high. rw sz at (i.kinds p low high) in
-      let own = λ (p : ℕ) (low : 1 ≤ p) (high : p < P). tests_from_page read_back (page bytes p) (i.pages p low high) in
-      let head = header_tests bytes i.header in
-      let total : count_of (listing_of bytes).lists ≡ record_count bytes = sym (ap (λ (h : Header). h.records) i.fields) in
-      let sums : sum_by (used bytes) (numbers bytes) ≡ record_count bytes = sym (count-listing_of bytes covered) ∙ total in
-      let most : sum_by (used bytes) (range_with_len 1 (P - 1)) ≤ b * (P - 1) = sum_most (used bytes) b 1 (P - 1) (λ p low high. omega (arith, (fills p low (omega arith)).most, length-records bytes p)) in
+      let v : View = view_of bytes in
+      let own : (p : ℕ) → 1 ≤ p → p < page_count v → ((v.head p).clear ≡ true) × (has_bad_slot v p ≡ false) =
+      λ p low high. let t = tests_from_page read_back (page bytes p) (i.pages p low high) in rw (ne_eqb p 0 (λ z. omega arith)) t in
+      let r : AreInRange v.header = shown_range v (is_view bytes) path i.shown own in
+      let head = header_tests bytes i.spelled in
+      let size = (whole_rule (length bytes) (page_count v) (omega (arith, r.enough))).1 i.whole in
       record {
         magic = head.0;
-        header = le-leb 1024 (length bytes) (omega (arith, i.whole));
-        fields = (ranged_law bytes).1 (record {
-          initial_low = ranges.initial.0;
-          initial_high = ranges.initial.1;
-          capacity_low = ranges.capacity.0;
-          capacity_high = ranges.capacity.1;
-          load_low = ranges.load.0;
-          load_high = ranges.load.1;
-          size_low = low_size;
-          size_high = high_size;
-          max_high = ranges.max.1;
-          zeros = head.1;
-        });
-        counts = (counts_rule P S b (record_count bytes)).1 (omega arith, i.few, rw sums at most);
-        long_enough = ((whole_rule (length bytes) P (omega arith)).1 i.whole).0;
-        ended = ((whole_rule (length bytes) P (omega arith)).1 i.whole).1;
-        kinds = λ p low high. (kind_rule (kind bytes p) p S (is_clear (page bytes p))).1 (kinds p low high, (own p low high).0);
-        numbers_are = clean_bucket_from bytes (λ p low high. (c.all p low high).0) linked;
-        levels = λ p low high. not_from_true _ (eq-eqb _ _ (rw sz at (i.levels p low high)));
-        total = not_from_true _ (eq-eqb _ _ sums);
-        used = λ p low high.
-            let f = fills p low high in
-            rw (ne_eqb p 0 (λ e. omega arith)) ((used_rule b (used bytes p) (next bytes p) (kind bytes p)).1
-            (rw (← length-records bytes p) f.most, (λ more. rw (← length-records bytes p) (f.full more)), λ two. rw (← length-records bytes p) (f.some (two_above p S (kind bytes p) (kinds p low high) two))));
-        nexts = clean_next_from bytes linked;
-        twice = clean_twice_from bytes linked;
-        on_chains = clean_chains_from bytes (λ p low high. let at = covered.all p low high in (bucket bytes p, at.0, at.1));
-        slots = λ p low high. (own p low high).1;
-        fitting = λ p low high.
-            let at = covered.all p low high in
-            let j : ℕ = bucket bytes p in
-            let li : list_at (listing_of bytes).lists j ≡ chain_records bytes j = list_at-listing_of bytes j at.0 in
-            let home = rw (li, sz) at (i.listing.home j) in
-            let once = rw li at (i.listing.distinct j) in
-            let none = (no_misfit (is_at_home bytes j) (chain_records bytes j)).1 (home_tests (λ k. address (initial bytes) (buckets bytes) (code_of k)) j (chain_records bytes j) home, once) in
-            (bucket_fits bytes S covered j at.0).1 none p at.1;
+        header = le-leb 1024 (length bytes) (omega (arith, i.whole, r.enough));
+        fields = no_bad_field (header_of bytes) _ r head.1;
+        counts = counts_fit (header_of bytes) r (records_fit v (is_view bytes) path i.shown own);
+        long_enough = size.0;
+        ended = size.1;
+        clean = clean_from_shows v (is_view bytes) path i.shown own;
       }
 
   -- An image has no fault, and no other listing.
   pub one_listing_law : OneListingLaw
   one_listing_law bytes l (P, path, i) =
-      let e = listing_is bytes l P path i in
-      let f = pages_are bytes l P path i in
-      let j : IsImageBy bytes (listing_of bytes) (page_count bytes) path = rw (e, f) at i in
+      let e = listing_is (view_of bytes) l P path i.shown in
+      let f = pages_are (view_of bytes) l P path i.shown in
+      let j : IsImageBy bytes (listing_of (view_of bytes)) (page_count (view_of bytes)) path = rw (e, f) at i in
       ((sound_law bytes).1 (sound_from_image bytes path j), e)
 
 -- Bytes have no fault exactly where they are an image of a listing, and then of that one alone.
 pub image_law : ReadBackLaw → FaultlessLaw → ImageLaw
 image_law read_back faultless bytes l fit = (
   one_listing_law read_back bytes l,
-  λ (none, e). (page_count bytes, chain (next bytes) (page_count bytes), rw e (image_from_sound faultless bytes fit ((sound_law bytes).0 none))),
+  λ (none, e). (page_count (view_of bytes), chain_of (view_of bytes), rw e (image_from_sound faultless bytes fit ((sound_law bytes).0 none))),
 )

@@ -16,16 +16,12 @@ pub mod Keys
 pub mod Packing
 pub mod Totals
 pub mod Header
-pub mod Deciding
-pub mod DecidingRecords
-pub mod DecidingHeader
 pub mod FirstAnswers
-pub mod TestAnswers
 pub mod FirstFaults
 pub mod Sound
 pub mod PageTests
 pub mod Listings
-pub mod FromTests
+pub mod Shown
 pub mod ImageLaws
 pub mod Counts
 pub mod RoundTrip
@@ -45,7 +41,6 @@ pub mod Finding
 pub mod Misplacing
 pub mod Whole
 pub mod LinkFaults
-pub mod Slots
 pub mod Judging
 pub mod Last
 pub mod Closing

@@ -12,7 +12,7 @@ use Rattle.lh_page.specs.PageLaws.{AreBytes, FaultlessLaw, ReadBackLaw}
 use Rattle.lh_page.specs.PageTable.{IsPage, IsWritable}
 use Rattle.lh_image.specs.Layout.{page}
 use Rattle.lh_image.proofs.Header.{part_bytes}
-use Rattle.lh_image.proofs.Sound.{none_if}
+use Rattle.lh_image.proofs.HeaderTests.{none_if}
 
 -- over plain values: k is a page's kind, S the number of buckets, c whether its reserved bytes are zero
 pub kind_rule : (k p S : ℕ) (c : Bool) → (not (eqb k (cond (leb p S) 1 2)) || not c ≡ false) ↔ ((k ≡ cond (leb p S) 1 2) × (c ≡ true))
@@ -27,7 +27,7 @@ kind_above p S l = grind (arith, nat_tests)
 pub two_above : (p S k : ℕ) → k ≡ cond (leb p S) 1 2 → k ≡ 2 → S < p
 two_above p S k a b = grind (arith, nat_tests)
 
-one_or_two : (k : ℕ) (b : Bool) → k ≡ cond b 1 2 → (eqb k 1 || eqb k 2) ≡ true
+pub one_or_two : (k : ℕ) (b : Bool) → k ≡ cond b 1 2 → (eqb k 1 || eqb k 2) ≡ true
 one_or_two k true e = rw e refl
 one_or_two k false e = rw e refl
 

@@ -6,22 +6,22 @@ use Rattle.lh_page.specs.PageFields.{bad_slot, bucket_of, is_bad_record, is_bad_
 use Rattle.lh_image.specs.declared.fault.ImageFault.TheVariants.{Magic, HeaderField, Counts, Short, Trailing, Kind, BucketNumber, Level, Used, Next, Twice, Never, Slot, Misfit}
 use Rattle.lh_bucket.specs.Listing.{Lists}
 use Rattle.lh_image.specs.Chains.{pages_from, stands_in}
-use Rattle.lh_image.specs.Faults.{bad_bucket, bad_counts, bad_field, bad_kind, bad_level, bad_next, bad_used, has_bad_slot, has_misfit, has_trailing, header_fault, image_fault, is_short, misfits, named_twice, no_magic, numbers, on_no_chain, page_fault}
+use Rattle.lh_image.specs.Faults.{bad_bucket, bad_counts, bad_field, is_bad_field, bad_kind, bad_level, bad_next, bad_used, bad_total, has_misfit, has_trailing, image_fault, first_of, is_short, misfits, names, no_magic, on_no_chain}
 use Rattle.lh_image.specs.Image.{listing_of}
-use Rattle.lh_image.specs.Layout.{initial, capacity, load, buckets, max, page_count, record_count, page, kind, used, bucket, next, records}
-use Rattle.lh_image.specs.Layout.{level as level_byte}
+use Rattle.lh_image.specs.Layout.{header_of, page, view_of}
+use Rattle.lh_image.specs.View.{numbers}
 use Rattle.lh_image.proofs.Samples.{empty, empty_listing, five, five_listing, two_pages, two_pages_listing, four_pages, four_pages_listing, two_chains, two_chains_listing, exchanged}
 
 -- the bytes have no fault, and they are an image of the listing
 abbrev Shows : List ℕ → Lists → Type 0
-Shows bytes l = (image_fault bytes ≡ None) × (listing_of bytes ≡ l)
+Shows bytes l = (image_fault bytes ≡ None) × (listing_of (view_of bytes) ≡ l)
 
 -- bytes from an offset on replaced by others
 abbrev with_bytes : ℕ → List ℕ → List ℕ → List ℕ
 with_bytes offset new bytes = take offset bytes ++ new ++ drop (offset + length new) bytes
 
 images : Shows empty empty_listing × Shows five five_listing × Shows two_pages two_pages_listing × Shows four_pages four_pages_listing × Shows two_chains two_chains_listing × Shows exchanged two_chains_listing
-unfolding bad_bucket bad_counts bad_field bad_kind bad_level bad_next bad_used has_bad_slot has_misfit has_trailing header_fault image_fault is_short misfits named_twice no_magic numbers on_no_chain page_fault listing_of initial capacity load buckets max page_count record_count page kind used level_byte bucket next records pages_from stands_in bad_slot bucket_of is_bad_record is_bad_slot is_clear next_of pairs_of address code_of greatest level_of level pointer empty five two_pages four_pages two_chains exchanged
+unfolding bad_bucket bad_counts bad_field is_bad_field bad_kind bad_level bad_next bad_used bad_total has_misfit has_trailing image_fault first_of is_short misfits names no_magic numbers on_no_chain listing_of header_of view_of page pages_from stands_in bad_slot bucket_of is_bad_record is_bad_slot is_clear next_of pairs_of address code_of greatest level_of level pointer empty five two_pages four_pages two_chains exchanged
 images = ((refl, refl), (refl, refl), (refl, refl), (refl, refl), (refl, refl), (refl, refl))
 
 -- a part of an image, and a byte too many
@@ -34,7 +34,7 @@ cut :
     × (image_fault (take 1024 five) ≡ Some Short)
     × (image_fault (take 4095 five) ≡ Some Short)
     × (image_fault (five ++ 0 ∷ []) ≡ Some Trailing)
-unfolding bad_bucket bad_counts bad_field bad_kind bad_level bad_next bad_used has_bad_slot has_misfit has_trailing header_fault image_fault is_short misfits named_twice no_magic numbers on_no_chain page_fault listing_of initial capacity load buckets max page_count record_count page kind used level_byte bucket next records pages_from stands_in bad_slot bucket_of is_bad_record is_bad_slot is_clear next_of pairs_of address code_of greatest level_of level pointer five
+unfolding bad_bucket bad_counts bad_field is_bad_field bad_kind bad_level bad_next bad_used bad_total has_misfit has_trailing image_fault first_of is_short misfits names no_magic numbers on_no_chain listing_of header_of view_of page pages_from stands_in bad_slot bucket_of is_bad_record is_bad_slot is_clear next_of pairs_of address code_of greatest level_of level pointer empty five two_pages four_pages two_chains exchanged
 cut = (refl, refl, refl, refl, refl, refl, refl, refl)
 
 -- fields of the header
@@ -51,7 +51,7 @@ headers :
     × (image_fault (set five 28 7) ≡ Some Counts)
     × (image_fault (set five 24 3) ≡ Some Counts)
     × (image_fault (with_bytes 24 (255 ∷ 255 ∷ 255 ∷ 255 ∷ []) (take 1024 five)) ≡ Some Counts)
-unfolding bad_bucket bad_counts bad_field bad_kind bad_level bad_next bad_used has_bad_slot has_misfit has_trailing header_fault image_fault is_short misfits named_twice no_magic numbers on_no_chain page_fault listing_of initial capacity load buckets max page_count record_count page kind used level_byte bucket next records pages_from stands_in bad_slot bucket_of is_bad_record is_bad_slot is_clear next_of pairs_of address code_of greatest level_of level pointer five
+unfolding bad_bucket bad_counts bad_field is_bad_field bad_kind bad_level bad_next bad_used bad_total has_misfit has_trailing image_fault first_of is_short misfits names no_magic numbers on_no_chain listing_of header_of view_of page pages_from stands_in bad_slot bucket_of is_bad_record is_bad_slot is_clear next_of pairs_of address code_of greatest level_of level pointer empty five two_pages four_pages two_chains exchanged
 headers = (refl, refl, refl, refl, refl, refl, refl, refl, refl, refl, refl, refl)
 
 -- single pages
@@ -67,7 +67,7 @@ pages :
     × (image_fault (set five 1032 1) ≡ Some (Next 1))
     × (image_fault (set five 1043 1) ≡ Some (Slot 1))
     × (image_fault (set five 1184 1) ≡ Some (Slot 1))
-unfolding bad_bucket bad_counts bad_field bad_kind bad_level bad_next bad_used has_bad_slot has_misfit has_trailing header_fault image_fault is_short misfits named_twice no_magic numbers on_no_chain page_fault listing_of initial capacity load buckets max page_count record_count page kind used level_byte bucket next records pages_from stands_in bad_slot bucket_of is_bad_record is_bad_slot is_clear next_of pairs_of address code_of greatest level_of level pointer five
+unfolding bad_bucket bad_counts bad_field is_bad_field bad_kind bad_level bad_next bad_used bad_total has_misfit has_trailing image_fault first_of is_short misfits names no_magic numbers on_no_chain listing_of header_of view_of page pages_from stands_in bad_slot bucket_of is_bad_record is_bad_slot is_clear next_of pairs_of address code_of greatest level_of level pointer empty five two_pages four_pages two_chains exchanged
 pages = (refl, refl, refl, refl, refl, refl, refl, refl, refl, refl, refl)
 
 -- pages among each other
@@ -77,12 +77,12 @@ chains :
     × (image_fault (set two_pages 1032 0) ≡ Some (Never 2))
     × (image_fault (set (set four_pages 2056 0) 4104 3) ≡ Some (Never 3))
     × (image_fault (set two_chains 1032 4) ≡ Some (Next 1))
-unfolding bad_bucket bad_counts bad_field bad_kind bad_level bad_next bad_used has_bad_slot has_misfit has_trailing header_fault image_fault is_short misfits named_twice no_magic numbers on_no_chain page_fault listing_of initial capacity load buckets max page_count record_count page kind used level_byte bucket next records pages_from stands_in bad_slot bucket_of is_bad_record is_bad_slot is_clear next_of pairs_of address code_of greatest level_of level pointer two_pages four_pages two_chains
+unfolding bad_bucket bad_counts bad_field is_bad_field bad_kind bad_level bad_next bad_used bad_total has_misfit has_trailing image_fault first_of is_short misfits names no_magic numbers on_no_chain listing_of header_of view_of page pages_from stands_in bad_slot bucket_of is_bad_record is_bad_slot is_clear next_of pairs_of address code_of greatest level_of level pointer empty five two_pages four_pages two_chains exchanged
 chains = (refl, refl, refl, refl, refl)
 
 -- records that stand where they don't belong
 records_of_others :
     (image_fault (with_bytes 2064 (take 72 (drop 1040 two_pages)) two_pages) ≡ Some (Misfit 2))
     × (image_fault (set (set (set (set two_chains 1032 4) 2056 3) 3076 1) 4100 0) ≡ Some (Misfit 3))
-unfolding bad_bucket bad_counts bad_field bad_kind bad_level bad_next bad_used has_bad_slot has_misfit has_trailing header_fault image_fault is_short misfits named_twice no_magic numbers on_no_chain page_fault listing_of initial capacity load buckets max page_count record_count page kind used level_byte bucket next records pages_from stands_in bad_slot bucket_of is_bad_record is_bad_slot is_clear next_of pairs_of address code_of greatest level_of level pointer two_pages two_chains
+unfolding bad_bucket bad_counts bad_field is_bad_field bad_kind bad_level bad_next bad_used bad_total has_misfit has_trailing image_fault first_of is_short misfits names no_magic numbers on_no_chain listing_of header_of view_of page pages_from stands_in bad_slot bucket_of is_bad_record is_bad_slot is_clear next_of pairs_of address code_of greatest level_of level pointer empty five two_pages four_pages two_chains exchanged
 records_of_others = (refl, refl)

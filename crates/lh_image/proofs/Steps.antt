@@ -1,23 +1,25 @@
 -- One page more
-use Rattle.std.proofs.Common.{◌≡◌, ◌≢◌, ℕ, zero, suc, ◌+◌, ◌-◌, ◌*◌, ◌<◌, ◌≤◌, inl, inr, Bool, true, false, cond, List, [], ◌∷◌, ◌++◌, length, take, drop, get_or, Option, Some, None, refl, sym, ap, ◌∙◌, arith, length-append}
+use Rattle.std.proofs.Common.{◌≡◌, ◌≢◌, ℕ, zero, suc, ◌+◌, ◌-◌, ◌*◌, ◌<◌, ◌≤◌, inl, inr, Bool, true, false, cond, not, ◌||◌, ◌&&◌, eqb, ltb, List, [], ◌∷◌, ◌++◌, length, take, drop, get_or, Option, Some, None, refl, sym, ap, ◌∙◌, arith, length-append}
+use Rattle.std.specs.Prelude.{option_map}
 use Rattle.std.specs.List.{range_with_len, find, sum_by}
+use Rattle.std.specs.Option.{is_some}
 use Rattle.std.proofs.lemmas.Bool.{cases_lt, cases_order, ne_eqb}
 use Rattle.std.proofs.lemmas.List.{get_or_append_left, get_or_at, get_or_past, take_all, drop_at, get_or-take, get_or-drop, length-drop, take-append-le, drop-append-le}
 use Rattle.std.proofs.lemmas.List.Sums.{sum_by-cons}
-use Rattle.lh_addr.specs.Extent.{Extent}
-use Rattle.lh_page.specs.Format.{version_1}
+use Rattle.lh_page.specs.declared.fault.PageFault.TheVariants.{Kind as OwnKind, Used as OwnUsed, Slot as OwnSlot}
 use Rattle.lh_page.specs.declared.head.PageHead.{PageHead}
 use Rattle.lh_page.specs.declared.pair.Pair.{Pair}
-use Rattle.lh_page.specs.PageFields.{fault_of}
+use Rattle.lh_page.specs.Format.{version_1}
+use Rattle.lh_page.specs.PageFields.{bad_slot, fault_of, has_bad_kind, head_of, is_clear, kind_of, pairs_of, used_of}
 use Rattle.lh_image.specs.declared.first_page.Header.{Header}
 use Rattle.lh_image.specs.declared.page_checks.PageFaults.{PageFaults}
 use Rattle.lh_image.specs.declared.table.Entry.{Entry}
-use Rattle.lh_image.specs.Faults.{bad_kind, bad_bucket, bad_level, bad_used}
-use Rattle.lh_image.specs.Header.{IsHeader}
-use Rattle.lh_image.specs.Layout.{page, kind, used, level, bucket, next, records, initial, buckets, capacity}
-use Rattle.lh_image.specs.PageChecks.{IsHead, AreNoted, noted, kind_test, bucket_test, level_test, used_test, known_bad_level, slot_faulty, seen}
+use Rattle.lh_image.specs.Faults.{at_head, bad_kind, bad_bucket, bad_level, bad_used}
+use Rattle.lh_image.specs.Layout.{header_of, page, view_of}
+use Rattle.lh_image.specs.PageChecks.{AreNoted, known_bad_level, known_bad_slot, noted, seen}
 use Rattle.lh_image.specs.Pages.{HaveCome}
-use Rattle.lh_image.specs.Table.{no_entry, entry_at, next_in, bucket_in, records_in, AreWithin, IsPushed, IsTable, is_of_slot}
+use Rattle.lh_image.specs.Table.{no_entry, entry_at, next_in, bucket_in, records_in, has_plain_head, AreWithin, IsPushed, IsTable, is_of_slot}
+use Rattle.lh_image.specs.View.{View, capacity, used}
 
 -- ---- one number more
 
@@ -41,43 +43,21 @@ sum_more f a (suc m) =
 
 -- ---- the tests
 
-same_kind : (bytes : List ℕ) (header : Header) (p : ℕ) (head : PageHead) → IsHeader header bytes → IsHead head (page bytes p) → kind_test header.buckets p head ≡ bad_kind bytes p
-unfolding kind_test bad_kind kind
-same_kind bytes header p head is shows = rw (is.buckets, shows.kind, shows.clear) refl
-
-same_bucket : (bytes : List ℕ) (header : Header) (p : ℕ) (head : PageHead) → IsHeader header bytes → IsHead head (page bytes p) → bucket_test header.buckets p head ≡ bad_bucket bytes p
-unfolding bucket_test bad_bucket bucket
-same_bucket bytes header p head is shows = rw (is.buckets, shows.bucket) refl
-
-same_level : (bytes : List ℕ) (root : Extent) (p : ℕ) (head : PageHead) → root.initial ≡ initial bytes → root.buckets ≡ buckets bytes → IsHead head (page bytes p) →
-    level_test root.initial root.buckets head ≡ known_bad_level bytes p
-unfolding level_test known_bad_level bad_level bucket level
-same_level bytes root p head first size shows = rw (first, size, shows.bucket, shows.level) refl
-
-same_used : (bytes : List ℕ) (header : Header) (p : ℕ) (head : PageHead) → 1 ≤ p → header.config.capacity ≡ capacity bytes → IsHead head (page bytes p) →
-    used_test header.config.capacity head ≡ bad_used bytes p
-unfolding used_test bad_used used next kind
-same_used bytes header p head low room shows = let some : p ≢ 0 = omega arith in rw (ne_eqb p 0 some, room, shows.used, shows.next, shows.kind) refl
-
-noted_more : (bytes : List ℕ) (header : Header) (root : Extent) (n : ℕ) (head : PageHead) (faults : PageFaults) (bad : Bool) → 1 ≤ n → IsHeader header bytes →
-    root ≡ record { initial = header.config.initial; buckets = header.buckets } → IsHead head (page bytes n) → bad ≡ is_of_slot (fault_of version_1 (page bytes n) header.config.capacity) →
-    AreNoted bytes (n - 1) faults → AreNoted bytes ((n + 1) - 1) (seen faults header root n head bad)
-unfolding slot_faulty used
-noted_more bytes header root n head faults bad low is extent shows slot so_far =
+pub noted_more : (v : View) (header : Header) (n : ℕ) (head : PageHead) (faults : PageFaults) (bad : Bool) → 1 ≤ n → header ≡ v.header → head ≡ v.head n → bad ≡ known_bad_slot v n →
+    AreNoted v (n - 1) faults → AreNoted v ((n + 1) - 1) (seen faults header n head bad)
+noted_more v header n head faults bad low is shows slot so_far =
     let here : 1 + (n - 1) ≡ n = omega arith in
     let size : (n + 1) - 1 ≡ suc (n - 1) = omega arith in
-    let room : header.config.capacity ≡ capacity bytes = ap (λ s. s.capacity) is.config in
-    let first : root.initial ≡ initial bytes = ap (λ e. e.initial) extent ∙ ap (λ s. s.initial) is.config in
-    let whole : root.buckets ≡ buckets bytes = ap (λ e. e.buckets) extent ∙ is.buckets in
     let more : (f : ℕ → Bool) (o : Option ℕ) (test : Bool) → o ≡ find f (range_with_len 1 (n - 1)) → test ≡ f n → noted o n test ≡ find f (range_with_len 1 (suc (n - 1))) =
     λ f o test e t. rw (e, t) (sym (rw here at (find_more f 1 (n - 1)))) in
+    let same : (test : Header → ℕ → PageHead → Bool) → test header n head ≡ at_head test v n = λ test. rw (is, shows) refl in
     rw size (record {
-      sum = ap (λ (k : ℕ). k + head.used) so_far.sum ∙ ap (λ (k : ℕ). sum_by (used bytes) (range_with_len 1 (n - 1)) + k) shows.used ∙ sym (rw here at (sum_more (used bytes) 1 (n - 1)));
-      kind = more (bad_kind bytes) faults.kind (kind_test header.buckets n head) so_far.kind (same_kind bytes header n head is shows);
-      bucket = more (bad_bucket bytes) faults.bucket (bucket_test header.buckets n head) so_far.bucket (same_bucket bytes header n head is shows);
-      level = more (known_bad_level bytes) faults.level (level_test root.initial root.buckets head) so_far.level (same_level bytes root n head first whole shows);
-      used = more (bad_used bytes) faults.used (used_test header.config.capacity head) so_far.used (same_used bytes header n head low room shows);
-      slot = more (slot_faulty bytes) faults.slot bad so_far.slot (slot ∙ ap (λ b. is_of_slot (fault_of version_1 (page bytes n) b)) room);
+      sum = ap (λ (k : ℕ). k + head.used) so_far.sum ∙ ap (λ (h : PageHead). sum_by (used v) (range_with_len 1 (n - 1)) + h.used) shows ∙ sym (rw here at (sum_more (used v) 1 (n - 1)));
+      kind = more (at_head bad_kind v) faults.kind (bad_kind header n head) so_far.kind (same bad_kind);
+      bucket = more (at_head bad_bucket v) faults.bucket (bad_bucket header n head) so_far.bucket (same bad_bucket);
+      level = more (at_head known_bad_level v) faults.level (known_bad_level header n head) so_far.level (same known_bad_level);
+      used = more (at_head bad_used v) faults.used (bad_used header n head) so_far.used (same bad_used);
+      slot = more (known_bad_slot v) faults.slot bad so_far.slot slot;
     })
 
 -- ---- the table
@@ -108,48 +88,83 @@ within_more entries new_entries pairs new_pairs own following bytes room within 
       | inr (inr behind) ↦ let is : entry_at (entries ++ last ∷ []) p ≡ no_entry = get_or_past (entries ++ last ∷ []) p no_entry (omega (arith, length-append entries (last ∷ []))) in rw is (omega arith)
     ])
 
-table_more : (bytes : List ℕ) (n : ℕ) (entries new_entries : List Entry) (pairs new_pairs : List Pair) (head : PageHead) (room : ℕ) → 1 ≤ n → room ≡ capacity bytes →
-    AreWithin entries pairs → IsHead head (page bytes n) → IsPushed entries pairs new_entries new_pairs head.bucket head.next (page bytes n) room →
-    IsTable bytes n entries pairs → IsTable bytes (n + 1) new_entries new_pairs
-unfolding next_in bucket_in records_in next bucket records
-table_more bytes n entries new_entries pairs new_pairs head room low same_room within shows pushed table =
-    let added : List Pair = pushed.added in
+-- the table after one page more, whose records are those of a View where nothing is wrong with them
+table_more : (v : View) (n : ℕ) (entries new_entries : List Entry) (pairs added : List Pair) (head : PageHead) → 1 ≤ n → head ≡ v.head n → AreWithin entries pairs →
+    new_entries ≡ entries ++ record { bucket = head.bucket; next = head.next; start = length pairs; used = length added } ∷ [] →
+    (has_plain_head v n ≡ true → v.bad_slot n ≡ None → added ≡ v.records n) → IsTable v n entries pairs → IsTable v (n + 1) new_entries (pairs ++ added)
+unfolding next_in bucket_in records_in
+table_more v n entries new_entries pairs added head low shows within entered sound table =
     let last : Entry = record { bucket = head.bucket; next = head.next; start = length pairs; used = length added } in
-    let here : entry_at new_entries n ≡ last = rw pushed.entered (entry_last entries last n table.size) in
-    let before : (p : ℕ) → p < n → entry_at new_entries p ≡ entry_at entries p = λ p less. rw pushed.entered (entry_before entries last p (omega (arith, table.size))) in
-    let some : n ≢ 0 = omega arith in
+    let here : entry_at new_entries n ≡ last = rw entered (entry_last entries last n table.size) in
+    let before : (p : ℕ) → p < n → entry_at new_entries p ≡ entry_at entries p = λ p less. rw entered (entry_before entries last p (omega (arith, table.size))) in
     record {
-      size = rw pushed.entered (omega (arith, table.size, length-append entries (last ∷ [])));
+      size = rw entered (omega (arith, table.size, length-append entries (last ∷ [])));
       next = λ p less. elim (cases_lt p n) [
         | inl old ↦ ap (λ e. e.next) (before p old) ∙ table.next p old
-        | inr new ↦ let at : p ≡ n = omega arith in rw (at, ne_eqb n 0 some) (ap (λ e. e.next) here ∙ shows.next)
+        | inr new ↦ let at : p ≡ n = omega arith in rw at (ap (λ e. e.next) here ∙ ap (λ h. h.next) shows)
       ];
-      bucket = λ p from less. elim (cases_lt p n) [
-        | inl old ↦ ap (λ e. e.bucket) (before p old) ∙ table.bucket p from old
-        | inr new ↦ let at : p ≡ n = omega arith in rw at (ap (λ e. e.bucket) here ∙ shows.bucket)
+      bucket = λ p less. elim (cases_lt p n) [
+        | inl old ↦ ap (λ e. e.bucket) (before p old) ∙ table.bucket p old
+        | inr new ↦ let at : p ≡ n = omega arith in rw at (ap (λ e. e.bucket) here ∙ ap (λ h. h.bucket) shows)
       ];
-      records = λ p from less sound. elim (cases_lt p n) [
-        | inl old ↦ ap (λ e. take e.used (drop e.start new_pairs)) (before p old) ∙ ap (λ (xs : List Pair). take (entry_at entries p).used (drop (entry_at entries p).start xs)) pushed.appended
-            ∙ kept_slice (entry_at entries p).start (entry_at entries p).used pairs added (within p) ∙ table.records p from old sound
+      records = λ p from less plain none. elim (cases_lt p n) [
+        | inl old ↦ ap (λ e. take e.used (drop e.start (pairs ++ added))) (before p old)
+            ∙ kept_slice (entry_at entries p).start (entry_at entries p).used pairs added (within p) ∙ table.records p from old plain none
         | inr new ↦
             let at : p ≡ n = omega arith in
-            let here_sound : fault_of version_1 (page bytes n) room ≡ None = rw (same_room, ← at) sound in
-            rw at (ap (λ e. take e.used (drop e.start new_pairs)) here ∙ ap (λ (xs : List Pair). take (length added) (drop (length pairs) xs)) pushed.appended ∙ added_slice pairs added ∙ pushed.records here_sound)
+            rw at (ap (λ e. take e.used (drop e.start (pairs ++ added))) here ∙ added_slice pairs added ∙ sound (rw at at plain) (rw at at none))
       ];
     }
 
+-- ---- the page's own faults
+
+-- over plain values: k says whether a page's kind is known, c whether its reserved bytes are zeros, u whether it has too many records, o is its first bad slot
+own_slot : (k c u : Bool) (o : Option ℕ) → is_of_slot (cond (not k || not c) (Some OwnKind) (cond u (Some OwnUsed) (option_map OwnSlot o))) ≡ ((k && c && not u) && is_some o)
+own_slot false c u o = refl
+own_slot true false u o = refl
+own_slot true true true o = refl
+own_slot true true false None = refl
+own_slot true true false (Some i) = refl
+
+own_none : (k c u : Bool) (o : Option ℕ) → (k && c && not u) ≡ true → o ≡ None → cond (not k || not c) (Some OwnKind) (cond u (Some OwnUsed) (option_map OwnSlot o)) ≡ None
+own_none false c u o plain none = absurd cc
+own_none true false u o plain none = absurd cc
+own_none true true true o plain none = absurd cc
+own_none true true false None plain none = refl
+own_none true true false (Some i) plain none = absurd cc
+
+head_at : (bytes : List ℕ) (n : ℕ) → 1 ≤ n → (view_of bytes).head n ≡ head_of (page bytes n)
+unfolding view_of
+head_at bytes n low = rw (ne_eqb n 0 (λ z. omega arith)) refl
+
+slot_same : (bytes : List ℕ) (n : ℕ) → 1 ≤ n → is_of_slot (fault_of version_1 (page bytes n) (capacity (view_of bytes))) ≡ known_bad_slot (view_of bytes) n
+unfolding view_of fault_of has_bad_kind
+slot_same bytes n low =
+    let g : List ℕ = page bytes n in
+    rw (ne_eqb n 0 (λ z. omega arith)) (own_slot (eqb (kind_of g) 1 || eqb (kind_of g) 2) (is_clear g) (ltb (header_of bytes).config.capacity (used_of g)) (bad_slot version_1 g))
+
+own_sound : (bytes : List ℕ) (n : ℕ) → 1 ≤ n → has_plain_head (view_of bytes) n ≡ true → (view_of bytes).bad_slot n ≡ None → fault_of version_1 (page bytes n) (capacity (view_of bytes)) ≡ None
+unfolding view_of fault_of has_bad_kind
+own_sound bytes n low plain none =
+    let g : List ℕ = page bytes n in
+    own_none (eqb (kind_of g) 1 || eqb (kind_of g) 2) (is_clear g) (ltb (header_of bytes).config.capacity (used_of g)) (bad_slot version_1 g) (rw (ne_eqb n 0 (λ z. omega arith)) at plain) none
+
 -- ---- all of it
 
-pub come_more : (bytes : List ℕ) (header : Header) (root : Extent) (n : ℕ) (entries new_entries : List Entry) (pairs new_pairs : List Pair) (faults : PageFaults) (head : PageHead) (bad : Bool) (buffer : List ℕ) →
-    1 ≤ n → root ≡ record { initial = header.config.initial; buckets = header.buckets } → buffer ≡ page bytes n → IsHead head buffer → bad ≡ is_of_slot (fault_of version_1 buffer header.config.capacity) →
+pub come_more : (bytes : List ℕ) (header : Header) (n : ℕ) (entries new_entries : List Entry) (pairs new_pairs : List Pair) (faults : PageFaults) (head : PageHead) (bad : Bool) (buffer : List ℕ) →
+    1 ≤ n → buffer ≡ page bytes n → head ≡ head_of buffer → bad ≡ is_of_slot (fault_of version_1 buffer header.config.capacity) →
     AreWithin entries pairs → IsPushed entries pairs new_entries new_pairs head.bucket head.next buffer header.config.capacity → 1024 * (n + 1) ≤ length bytes → ((i : ℕ) → get_or buffer i 0 < 256) →
-    HaveCome bytes header n entries pairs faults → HaveCome bytes header (n + 1) new_entries new_pairs (seen faults header root n head bad)
-unfolding page
-come_more bytes header root n entries new_entries pairs new_pairs faults head bad buffer low extent is shows slot within pushed enough each come =
+    HaveCome bytes header n entries pairs faults → HaveCome bytes header (n + 1) new_entries new_pairs (seen faults header n head bad)
+unfolding page view_of
+come_more bytes header n entries new_entries pairs new_pairs faults head bad buffer low is shows slot within pushed enough each come =
+    let room : header.config.capacity ≡ capacity (view_of bytes) = ap (λ (h : Header). h.config.capacity) come.fields in
+    let at_page : head ≡ (view_of bytes).head n = shows ∙ ap head_of is ∙ sym (head_at bytes n low) in
+    let fault_same : fault_of version_1 buffer header.config.capacity ≡ fault_of version_1 (page bytes n) (capacity (view_of bytes)) = rw (is, room) refl in
     record {
       fields = come.fields;
-      kept = table_more bytes n entries new_entries pairs new_pairs head header.config.capacity low (ap (λ s. s.capacity) come.fields.config) within (rw is at shows) (rw is at pushed) come.kept;
-      noted = noted_more bytes header root n head faults bad low come.fields extent (rw is at shows) (rw is at slot) come.noted;
+      kept = rw pushed.appended (table_more (view_of bytes) n entries new_entries pairs pushed.added head low at_page within pushed.entered
+          (λ plain none. pushed.records (fault_same ∙ own_sound bytes n low plain none) ∙ ap (pairs_of version_1) is) come.kept);
+      noted = noted_more (view_of bytes) header n head faults bad low come.fields at_page (slot ∙ ap is_of_slot fault_same ∙ slot_same bytes n low) come.noted;
       enough = enough;
       each_byte = λ i less. elim (cases_lt i (1024 * n)) [
         | inl old ↦ come.each_byte i old

@@ -9,8 +9,9 @@ use Rattle.lh_page.specs.declared.pair.Pair.{Pair}
 use Rattle.lh_page.specs.PackedList.{pages_of}
 use Rattle.lh_page.specs.PageTable.{page_text}
 use Rattle.lh_bucket.specs.Listing.{Lists, IsListing, size, list_at, count_of}
+use Rattle.lh_image.specs.declared.first_page.Header.{Header}
 use Rattle.lh_image.specs.Image.{IsImage}
-use Rattle.lh_image.specs.Layout.{Header, header_text}
+use Rattle.lh_image.specs.Layout.{header_text}
 
 -- the records of the pages of bucket i
 abbrev pub pages_in : Lists → ℕ → List (List Pair)

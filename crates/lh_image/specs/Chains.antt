@@ -2,6 +2,13 @@
 use Rattle.std.specs.Prelude.{◌≡◌, ◌≢◌, ℕ, zero, suc, Bool, true, ◌+◌, ◌<◌, ◌≤◌, List, [], ◌∷◌, length, slice_index, ◌==◌, if◌then◌else◌, ◌↔◌}
 use Rattle.std.specs.List.{list_any}
 
+-- where pages lead: the next page of each and its bucket, how many of the pages from 1 on are heads of chains, and how many pages there are
+pub record Links : Type 0 where
+  pub next : ℕ → ℕ
+  pub bucket : ℕ → ℕ
+  pub heads : ℕ
+  pub pages : ℕ
+
 -- the pages that come from page p by `next`, itself first and no more than so many; 0 stands for none
 unfoldable pub pages_from : (ℕ → ℕ) → ℕ → ℕ → List ℕ
 pages_from next zero p = []

@@ -1,30 +1,19 @@
--- The faults of an image: one test for each row of the table of faults, and the fault that is answered
-use Rattle.std.specs.Prelude.{ℕ, ◌+◌, ◌-◌, ◌*◌, Bool, false, not, ◌&&◌, ◌||◌, List, [], ◌∷◌, ◌++◌, length, take, drop, Option, Some, None, nat_lt, nat_le, ◌==◌, if◌then◌else◌}
+-- The faults of an image: the condition of each, the table of them, and the fault that is answered
+use Rattle.std.specs.Prelude.{ℕ, ◌+◌, ◌-◌, ◌*◌, Bool, true, false, not, ◌&&◌, ◌||◌, List, [], ◌∷◌, ◌++◌, length, map, take, option_map, Option, Some, None, nat_lt, nat_le, ◌==◌, if◌then◌else◌}
 use Rattle.std.specs.List.{range_with_len, list_any, count_by, sum_by, find, before_first, flat_map}
 use Rattle.std.specs.Option.{is_some}
 use Rattle.std.specs.Str.{bytes_eq}
 use Rattle.lh_addr.specs.Fnv.{code_of}
 use Rattle.lh_addr.specs.Growth.{address, level_of}
-use Rattle.lh_page.specs.Format.{version_1}
+use Rattle.lh_page.specs.declared.head.PageHead.{PageHead}
 use Rattle.lh_page.specs.declared.pair.Pair.{Pair}
-use Rattle.lh_page.specs.PageFields.{all_zero, is_clear, bad_slot}
 use Rattle.lh_page.specs.Records.{keys_of}
 use Rattle.lh_image.specs.declared.fault.ImageFault.{ImageFault}
 use Rattle.lh_image.specs.declared.fault.ImageFault.TheVariants.{Magic, HeaderField, Counts, Short, Trailing, Kind, BucketNumber, Level, Used, Next, Twice, Never, Slot, Misfit}
-use Rattle.lh_image.specs.Chains.{chain, stands_in}
-use Rattle.lh_image.specs.Layout.{magic, initial, capacity, load, buckets, max, page_count, record_count, page, kind, used, level, bucket, next, records}
-
--- whether a number is below a range or above it
-abbrev pub out_of : ℕ → ℕ → ℕ → Bool
-out_of low high x = nat_lt x low || nat_lt high x
-
--- whether there are enough bytes for a header
-abbrev pub has_header : List ℕ → Bool
-has_header bytes = nat_le 1024 (length bytes)
-
--- the numbers of all pages but the header
-unfoldable pub numbers : List ℕ → List ℕ
-numbers bytes = range_with_len 1 (page_count bytes - 1)
+use Rattle.lh_image.specs.declared.first_page.Header.{Header}
+use Rattle.lh_image.specs.Chains.{Links, chain, stands_in}
+use Rattle.lh_image.specs.Layout.{magic, header_of, ends_in_zeros, view_of}
+use Rattle.lh_image.specs.View.{View, initial, buckets, page_count, record_count, numbers, used, bucket, links, chain_of}
 
 -- ---- the file as a whole
 
@@ -32,128 +21,177 @@ numbers bytes = range_with_len 1 (page_count bytes - 1)
 unfoldable pub no_magic : List ℕ → Bool
 no_magic bytes = not (bytes_eq (take 4 bytes) magic)
 
+-- whether there are enough bytes for a header
+abbrev pub has_header : List ℕ → Bool
+has_header bytes = nat_le 1024 (length bytes)
+
+-- whether a number is below a range or above it
+abbrev pub out_of : ℕ → ℕ → ℕ → Bool
+out_of low high x = nat_lt x low || nat_lt high x
+
+-- the field of the header at an offset is out of its range; offset 36 stands for the bytes behind the fields, and `zeros` says whether they are zeros
+unfoldable pub is_bad_field : Header → Bool → ℕ → Bool
+is_bad_field h zeros offset =
+    if offset == 4 then out_of 1 256 h.config.initial
+    else if offset == 8 then out_of 1 14 h.config.capacity
+    else if offset == 12 then out_of 10 200 h.config.load
+    else if offset == 16 then out_of h.config.initial 65536 h.buckets
+    else if offset == 20 then out_of h.config.initial 65536 h.config.max || nat_lt h.config.max h.buckets
+    else not zeros
+
 -- the offset of the first field of the header at fault (I2)
-unfoldable pub bad_field : List ℕ → Option ℕ
-bad_field bytes =
-    if out_of 1 256 (initial bytes) then Some 4
-    else if out_of 1 14 (capacity bytes) then Some 8
-    else if out_of 10 200 (load bytes) then Some 12
-    else if nat_lt (buckets bytes) (initial bytes) || nat_lt 65536 (buckets bytes) then Some 16
-    else if nat_lt (max bytes) (initial bytes) || nat_lt 65536 (max bytes) || nat_lt (max bytes) (buckets bytes) then Some 20
-    else if not (all_zero (take 988 (drop 36 bytes))) then Some 36
-    else None
+unfoldable pub bad_field : Header → Bool → Option ℕ
+bad_field h zeros = find (is_bad_field h zeros) (4 ∷ 8 ∷ 12 ∷ 16 ∷ 20 ∷ 36 ∷ [])
 
 -- fewer pages than header and buckets, more pages than an image may have, or more records than the pages have slots for (I3)
-unfoldable pub bad_counts : List ℕ → Bool
-bad_counts bytes =
-    nat_lt (page_count bytes) (1 + buckets bytes) || nat_lt 1048576 (page_count bytes)
-    || nat_lt (capacity bytes * (page_count bytes - 1)) (record_count bytes)
+unfoldable pub bad_counts : Header → Bool
+bad_counts h = nat_lt h.pages (1 + h.buckets) || nat_lt 1048576 h.pages || nat_lt (h.config.capacity * (h.pages - 1)) h.records
 
 -- fewer bytes than a header, or than the header's number of pages (I4)
 unfoldable pub is_short : List ℕ → Bool
-is_short bytes = nat_lt (length bytes) 1024 || nat_lt (length bytes) (1024 * page_count bytes)
+is_short bytes = nat_lt (length bytes) 1024 || nat_lt (length bytes) (1024 * (header_of bytes).pages)
 
 -- bytes behind the last page (I5)
 unfoldable pub has_trailing : List ℕ → Bool
-has_trailing bytes = nat_lt (1024 * page_count bytes) (length bytes)
+has_trailing bytes = nat_lt (1024 * (header_of bytes).pages) (length bytes)
 
--- ---- page p by itself
+-- ---- page p by itself, by its head
 
 -- a primary page behind the buckets' pages or an overflow page among them, or a reserved byte that isn't zero (I6)
-unfoldable pub bad_kind : List ℕ → ℕ → Bool
-bad_kind bytes p = not (kind bytes p == (if nat_le p (buckets bytes) then 1 else 2)) || not (is_clear (page bytes p))
+unfoldable pub bad_kind : Header → ℕ → PageHead → Bool
+bad_kind h p head = not (head.kind == (if nat_le p h.buckets then 1 else 2)) || not head.clear
 
 -- a primary page of another bucket than its own, or a bucket that the file hasn't (I7)
-unfoldable pub bad_bucket : List ℕ → ℕ → Bool
-bad_bucket bytes p = (nat_le p (buckets bytes) && not (bucket bytes p == p - 1)) || nat_le (buckets bytes) (bucket bytes p)
+unfoldable pub bad_bucket : Header → ℕ → PageHead → Bool
+bad_bucket h p head = (nat_le p h.buckets && not (head.bucket == p - 1)) || nat_le h.buckets head.bucket
 
 -- another level than the local level of the page's bucket (I8)
-unfoldable pub bad_level : List ℕ → ℕ → Bool
-bad_level bytes p = not (level bytes p == level_of (initial bytes) (buckets bytes) (bucket bytes p))
+unfoldable pub bad_level : Header → ℕ → PageHead → Bool
+bad_level h p head = not (head.level == level_of h.config.initial h.buckets head.bucket)
 
--- more records than a page holds, a page with a next one that isn't full, or an overflow page without records; at page 0, another number of records in all pages than the header's (I9)
-unfoldable pub bad_used : List ℕ → ℕ → Bool
-bad_used bytes p =
-    if p == 0 then not (sum_by (used bytes) (numbers bytes) == record_count bytes)
-    else nat_lt (capacity bytes) (used bytes p) || (not (next bytes p == 0) && nat_lt (used bytes p) (capacity bytes)) || (kind bytes p == 2 && used bytes p == 0)
+-- more records than a page holds, a page with a next one that isn't full, or an overflow page without records (I9)
+unfoldable pub bad_used : Header → ℕ → PageHead → Bool
+bad_used h p head =
+    nat_lt h.config.capacity head.used || (not (head.next == 0) && nat_lt head.used h.config.capacity)
+    || (head.kind == 2 && head.used == 0)
+
+-- a test of heads, at page p of an image
+abbrev pub at_head : (Header → ℕ → PageHead → Bool) → View → ℕ → Bool
+at_head test v p = test v.header p (v.head p)
+
+-- another number of records in all pages than the header's (I9, at page 0)
+unfoldable pub bad_total : View → Bool
+bad_total v = not (sum_by (used v) (numbers (page_count v)) == record_count v)
+
+-- the ninth fault at page p, where page 0 stands for the number of all records
+abbrev pub bad_used_at : View → ℕ → Bool
+bad_used_at v p = if p == 0 then bad_total v else at_head bad_used v p
 
 -- ---- pages among each other
 
 -- a next page that is no overflow page of the file, or one of another bucket (I10)
-unfoldable pub bad_next : List ℕ → ℕ → Bool
-bad_next bytes p =
-    not (next bytes p == 0)
-    && (nat_le (next bytes p) (buckets bytes) || nat_le (page_count bytes) (next bytes p) || not (bucket bytes (next bytes p) == bucket bytes p))
+unfoldable pub bad_next : Links → ℕ → Bool
+bad_next l p =
+    not (l.next p == 0)
+    && (nat_le (l.next p) l.heads || nat_le l.pages (l.next p) || not (l.bucket (l.next p) == l.bucket p))
+
+-- how many of the first n pages name page p as their next one
+unfoldable pub names : (ℕ → ℕ) → ℕ → ℕ → ℕ
+names next n p = count_by (λ q. next q == p) (range_with_len 0 n)
 
 -- the next page of two pages or more (I11)
-unfoldable pub named_twice : List ℕ → ℕ → Bool
-named_twice bytes p = nat_le 2 (count_by (λ q. next bytes q == p) (numbers bytes))
+abbrev pub named_twice : Links → ℕ → Bool
+named_twice l p = nat_le 2 (names l.next l.pages p)
 
 -- on the chain of no bucket (I12)
-unfoldable pub on_no_chain : List ℕ → ℕ → Bool
-on_no_chain bytes p = not (list_any (λ i. stands_in (chain (next bytes) (page_count bytes) i) p) (range_with_len 0 (buckets bytes)))
+unfoldable pub on_no_chain : Links → ℕ → Bool
+on_no_chain l p = not (list_any (λ i. stands_in (chain l.next l.pages i) p) (range_with_len 0 l.heads))
 
--- ---- records
+-- ---- slots and records
 
 -- a used slot without a record, or an unused one that isn't all zeros (I13)
-unfoldable pub has_bad_slot : List ℕ → ℕ → Bool
-has_bad_slot bytes p = is_some (bad_slot version_1 (page bytes p))
+abbrev pub has_bad_slot : View → ℕ → Bool
+has_bad_slot v p = is_some (v.bad_slot p)
 
--- one of some records, which stand behind some keys, isn't at home or has a key that stands before it
+-- of some records, which stand behind some keys, one isn't at home or has a key that stands before it
 unfoldable pub misfits : (List ℕ → Bool) → List (List ℕ) → List Pair → Bool
 misfits at_home before [] = false
 misfits at_home before (r ∷ rs) = not (at_home r.key) || list_any (bytes_eq r.key) before || misfits at_home (before ++ r.key ∷ []) rs
 
 -- whether a key's address is bucket i
-abbrev pub is_at_home : List ℕ → ℕ → List ℕ → Bool
-is_at_home bytes i key = address (initial bytes) (buckets bytes) (code_of key) == i
+abbrev pub is_at_home : View → ℕ → List ℕ → Bool
+is_at_home v i key = address (initial v) (buckets v) (code_of key) == i
 
 -- the keys that stand before page p in the chain of bucket i
-abbrev pub keys_before : List ℕ → ℕ → ℕ → List (List ℕ)
-keys_before bytes i p = keys_of (flat_map (records bytes) (before_first (λ q. q == p) (chain (next bytes) (page_count bytes) i)))
+abbrev pub keys_before : View → ℕ → ℕ → List (List ℕ)
+keys_before v i p = keys_of (flat_map v.records (before_first (λ q. q == p) (chain_of v i)))
 
 -- a record whose address is another bucket, or whose key stands before it in its chain (I14)
-unfoldable pub has_misfit : List ℕ → ℕ → Bool
-has_misfit bytes p = misfits (is_at_home bytes (bucket bytes p)) (keys_before bytes (bucket bytes p) p) (records bytes p)
+unfoldable pub has_misfit : View → ℕ → Bool
+has_misfit v p = misfits (is_at_home v (bucket v p)) (keys_before v (bucket v p) p) (v.records p)
 
--- ---- the fault that is answered: the first in this order, at the least page
+-- ---- the table of faults: a row gives its fault where the condition holds, at the first place where it does
 
-abbrev pub or_else : Bool → ImageFault → Option ImageFault → Option ImageFault
-or_else test f rest = if test then Some f else rest
+-- a fault where a condition holds
+abbrev pub where_so : Bool → ImageFault → Option ImageFault
+where_so test fault = if test then Some fault else None
 
-abbrev pub or_at : Option ℕ → (ℕ → ImageFault) → Option ImageFault → Option ImageFault
-or_at None f rest = rest
-or_at (Some p) f rest = Some (f p)
+-- the least page but the header for which a condition holds
+abbrev pub least : ℕ → (ℕ → Bool) → Option ℕ
+least pages test = find test (numbers pages)
 
--- the least page but the header for which a test holds
-abbrev pub least : List ℕ → (List ℕ → ℕ → Bool) → Option ℕ
-least bytes test = find (test bytes) (numbers bytes)
+-- the faults of the header's fields: I2 and I3
+abbrev pub field_rows : Header → Bool → List (Option ImageFault)
+field_rows h zeros = option_map HeaderField (bad_field h zeros) ∷ where_so (bad_counts h) Counts ∷ []
 
--- the fault that the first 1,024 bytes show
-unfoldable pub header_fault : List ℕ → Option ImageFault
-header_fault bytes =
-    or_else (no_magic bytes) Magic
-    (if not (has_header bytes) then Some Short else
-    or_at (bad_field bytes) HeaderField
-    (or_else (bad_counts bytes) Counts None))
+-- what the first 1,024 bytes show: I1, and I2 and I3 where there is a header
+abbrev pub header_rows : List ℕ → List (Option ImageFault)
+header_rows bytes =
+    where_so (no_magic bytes) Magic
+    ∷ map (λ row. if has_header bytes then row else None) (field_rows (header_of bytes) (ends_in_zeros bytes))
 
--- the fault of a file of the right size
-unfoldable pub page_fault : List ℕ → Option ImageFault
-page_fault bytes =
-    or_at (least bytes bad_kind) Kind
-    (or_at (least bytes bad_bucket) BucketNumber
-    (or_at (least bytes bad_level) Level
-    (or_at (find (bad_used bytes) (0 ∷ numbers bytes)) Used
-    (or_at (least bytes bad_next) Next
-    (or_at (least bytes named_twice) Twice
-    (or_at (least bytes on_no_chain) Never
-    (or_at (least bytes has_bad_slot) Slot
-    (or_at (least bytes has_misfit) Misfit None))))))))
+-- what the number of bytes shows: I4 and I5
+abbrev pub size_rows : List ℕ → List (Option ImageFault)
+size_rows bytes = where_so (is_short bytes) Short ∷ where_so (has_trailing bytes) Trailing ∷ []
 
--- the fault that is answered, or none
+-- the faults of pages by their heads: I6 to I9
+abbrev pub head_rows : View → List (Option ImageFault)
+head_rows v =
+    option_map Kind (least (page_count v) (at_head bad_kind v))
+    ∷ option_map BucketNumber (least (page_count v) (at_head bad_bucket v))
+    ∷ option_map Level (least (page_count v) (at_head bad_level v))
+    ∷ option_map Used (find (bad_used_at v) (range_with_len 0 (page_count v)))
+    ∷ []
+
+-- the faults of pages that name one another: I10 to I12
+abbrev pub link_rows : Links → List (Option ImageFault)
+link_rows l =
+    option_map Next (least l.pages (bad_next l))
+    ∷ option_map Twice (least l.pages (named_twice l))
+    ∷ option_map Never (least l.pages (on_no_chain l))
+    ∷ []
+
+-- the faults of slots and records: I13 and I14
+abbrev pub record_rows : View → List (Option ImageFault)
+record_rows v =
+    option_map Slot (least (page_count v) (has_bad_slot v))
+    ∷ option_map Misfit (least (page_count v) (has_misfit v))
+    ∷ []
+
+-- the first fault of some rows
+unfoldable pub first_of : List (Option ImageFault) → Option ImageFault
+first_of [] = None
+first_of (None ∷ rows) = first_of rows
+first_of (Some fault ∷ rows) = Some fault
+
+-- the rows of the faults of pages, which a View shows whatever the format of its bytes
+abbrev pub page_rows : View → List (Option ImageFault)
+page_rows v = head_rows v ++ link_rows (links v) ++ record_rows v
+
+-- the first fault of the pages, or none
+unfoldable pub page_fault : View → Option ImageFault
+page_fault v = first_of (page_rows v)
+
+-- the fault that is answered, or none: the first of the table
 unfoldable pub image_fault : List ℕ → Option ImageFault
-image_fault bytes =
-    elim (header_fault bytes) [
-      | Some f ↦ Some f
-      | None ↦ or_else (is_short bytes) Short (or_else (has_trailing bytes) Trailing (page_fault bytes))
-    ]
+image_fault bytes = first_of (header_rows bytes ++ size_rows bytes ++ page_rows (view_of bytes))

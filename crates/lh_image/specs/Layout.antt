@@ -1,54 +1,36 @@
 -- The bytes of an image, by page, offset and size. An image is a row of pages of 1,024 bytes: page 0 is the header, page 1 + i is the primary page of bucket i, and behind those come overflow pages. Numbers are little-endian.
-use Rattle.std.specs.Prelude.{ℕ, ◌*◌, List, [], ◌∷◌, ◌++◌, take, drop, replicate, ◌==◌, if◌then◌else◌}
+use Rattle.std.specs.Prelude.{ℕ, ◌*◌, Bool, true, List, [], ◌∷◌, ◌++◌, take, drop, replicate, ◌==◌, if◌then◌else◌}
 use Rattle.byteorder.specs.Endian.{little_from, little_bytes}
-use Rattle.lh_addr.specs.Settings.{Settings}
-use Rattle.lh_page.specs.Format.{version_1}
+use Rattle.lh_page.specs.declared.head.PageHead.{PageHead}
 use Rattle.lh_page.specs.declared.page.Page.{Page}
-use Rattle.lh_page.specs.declared.pair.Pair.{Pair}
-use Rattle.lh_page.specs.PageFields.{kind_of, used_of, level_of, bucket_of, next_of, pairs_of, page_of}
+use Rattle.lh_page.specs.Format.{version_1}
+use Rattle.lh_page.specs.PageFields.{all_zero, head_of, pairs_of, bad_slot, page_of}
+use Rattle.lh_image.specs.declared.first_page.Header.{Header}
+use Rattle.lh_image.specs.View.{View}
 
 -- the first four bytes: LHF1
 abbrev pub magic : List ℕ
 magic = 76 ∷ 72 ∷ 70 ∷ 49 ∷ []
 
--- ---- the fields of the header
-
-unfoldable pub initial : List ℕ → ℕ
-initial bytes = little_from 4 4 bytes
-
-unfoldable pub capacity : List ℕ → ℕ
-capacity bytes = little_from 8 4 bytes
-
-unfoldable pub load : List ℕ → ℕ
-load bytes = little_from 12 4 bytes
-
-unfoldable pub buckets : List ℕ → ℕ
-buckets bytes = little_from 16 4 bytes
-
-unfoldable pub max : List ℕ → ℕ
-max bytes = little_from 20 4 bytes
-
-unfoldable pub page_count : List ℕ → ℕ
-page_count bytes = little_from 24 4 bytes
-
-unfoldable pub record_count : List ℕ → ℕ
-record_count bytes = little_from 28 8 bytes
-
--- the header's fields: the configuration, and how many buckets, pages and records the file has
-pub record Header : Type 0 where
-  pub config : Settings
-  pub buckets : ℕ
-  pub pages : ℕ
-  pub records : ℕ
+-- ---- the header
 
 -- the header that the bytes show
-abbrev pub header_of : List ℕ → Header
+unfoldable pub header_of : List ℕ → Header
 header_of bytes = record {
-  config = record { initial = initial bytes; capacity = capacity bytes; load = load bytes; max = max bytes };
-  buckets = buckets bytes;
-  pages = page_count bytes;
-  records = record_count bytes;
+  config = record {
+    initial = little_from 4 4 bytes;
+    capacity = little_from 8 4 bytes;
+    load = little_from 12 4 bytes;
+    max = little_from 20 4 bytes;
+  };
+  buckets = little_from 16 4 bytes;
+  pages = little_from 24 4 bytes;
+  records = little_from 28 8 bytes;
 }
+
+-- whether the bytes behind the header's fields are zeros
+abbrev pub ends_in_zeros : List ℕ → Bool
+ends_in_zeros bytes = all_zero (take 988 (drop 36 bytes))
 
 -- the 1,024 bytes of a header
 abbrev pub header_text : Header → List ℕ
@@ -67,21 +49,15 @@ page bytes p = take 1024 (drop (1024 * p) bytes)
 abbrev pub page_at : List ℕ → ℕ → Page
 page_at bytes p = page_of version_1 (page bytes p)
 
-unfoldable pub kind : List ℕ → ℕ → ℕ
-kind bytes p = kind_of (page bytes p)
+-- what stands for the head of page 0
+abbrev pub no_head : PageHead
+no_head = record { kind = 0; used = 0; level = 0; clear = true; bucket = 0; next = 0 }
 
-unfoldable pub used : List ℕ → ℕ → ℕ
-used bytes p = used_of (page bytes p)
-
-unfoldable pub level : List ℕ → ℕ → ℕ
-level bytes p = level_of (page bytes p)
-
-unfoldable pub bucket : List ℕ → ℕ → ℕ
-bucket bytes p = bucket_of (page bytes p)
-
--- the page that follows in the chain, 0 for none; the header is on no chain
-unfoldable pub next : List ℕ → ℕ → ℕ
-next bytes p = if p == 0 then 0 else next_of (page bytes p)
-
-unfoldable pub records : List ℕ → ℕ → List Pair
-records bytes p = pairs_of version_1 (page bytes p)
+-- what the bytes show
+unfoldable pub view_of : List ℕ → View
+view_of bytes = record {
+  header = header_of bytes;
+  head = λ p. if p == 0 then no_head else head_of (page bytes p);
+  records = λ p. pairs_of version_1 (page bytes p);
+  bad_slot = λ p. bad_slot version_1 (page bytes p);
+}

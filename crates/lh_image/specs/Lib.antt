@@ -1,5 +1,6 @@
-pub mod Layout
 pub mod Chains
+pub mod View
+pub mod Layout
 pub mod Faults
 pub mod FirstFault
 pub mod Image

@@ -7,15 +7,15 @@ use Rattle.lh_image.specs.declared.first_page.Header.{Header}
 use Rattle.lh_image.specs.declared.page_checks.PageFaults.{PageFaults}
 use Rattle.lh_image.specs.declared.table.Entry.{Entry}
 use Rattle.lh_image.specs.declared.table.Table.{Table}
-use Rattle.lh_image.specs.Header.{IsHeader}
+use Rattle.lh_image.specs.Layout.{header_of, view_of}
 use Rattle.lh_image.specs.PageChecks.{AreNoted}
 use Rattle.lh_image.specs.Table.{IsTable}
 
 -- the first n pages of these bytes came, the header's page among them
 pub record HaveCome (bytes : List ℕ) (header : Header) (n : ℕ) (entries : List Entry) (pairs : List Pair) (faults : PageFaults) : Type 0 where
-  pub fields : IsHeader header bytes
-  pub kept : IsTable bytes n entries pairs
-  pub noted : AreNoted bytes (n - 1) faults
+  pub fields : header ≡ header_of bytes
+  pub kept : IsTable (view_of bytes) n entries pairs
+  pub noted : AreNoted (view_of bytes) (n - 1) faults
   pub enough : 1024 * n ≤ length bytes
   pub each_byte : (i : ℕ) → i < 1024 * n → slice_index bytes i < 256
 

@@ -4,13 +4,23 @@ use Rattle.std.specs.Io.KnownBytes.{Consumes, IsAtEnd}
 use Rattle.lh_bucket.specs.Listing.{Lists}
 use Rattle.lh_image.specs.declared.fault.ImageFault.{ImageFault}
 use Rattle.lh_image.specs.declared.fault.ImageFault.TheVariants.{Magic, HeaderField, Counts, Trailing, ReadFault, Memory}
-use Rattle.lh_image.specs.Faults.{image_fault}
+use Rattle.lh_image.specs.Faults.{page_fault, image_fault}
 use Rattle.lh_image.specs.Image.{listing_of}
-use Rattle.lh_image.specs.Layout.{page_count}
+use Rattle.lh_image.specs.Layout.{header_of, view_of}
+use Rattle.lh_image.specs.View.{View}
+
+-- a fault where there is one, or else the listing that pages show
+abbrev pub judged_by : Option ImageFault → View → Result Lists ImageFault
+judged_by (Some f) v = Err f
+judged_by None v = Ok (listing_of v)
+
+-- what is to be answered to pages: their first fault, or their listing
+abbrev pub judged : View → Result Lists ImageFault
+judged v = judged_by (page_fault v) v
 
 -- what is to be answered to some bytes: their first fault, or their listing
 unfoldable pub reading_of : List ℕ → Result Lists ImageFault
-reading_of bytes = elim (image_fault bytes) [ Some f ↦ Err f | None ↦ Ok (listing_of bytes) ]
+reading_of bytes = judged_by (image_fault bytes) (view_of bytes)
 
 -- A failed read and want of memory say nothing of the bytes; every other fault is the one that is due.
 abbrev pub IsTold : ImageFault → Result Lists ImageFault → Type 0
@@ -29,5 +39,5 @@ Leaves (Ok x) bytes now = IsAtEnd now
 Leaves (Err Magic) bytes now = Consumes (Some bytes) now (take 1024 bytes)
 Leaves (Err (HeaderField offset)) bytes now = Consumes (Some bytes) now (take 1024 bytes)
 Leaves (Err Counts) bytes now = Consumes (Some bytes) now (take 1024 bytes)
-Leaves (Err Trailing) bytes now = Consumes (Some bytes) now (take (1024 * page_count bytes + 1) bytes)
+Leaves (Err Trailing) bytes now = Consumes (Some bytes) now (take (1024 * (header_of bytes).pages + 1) bytes)
 Leaves (Err f) bytes now = Unit {0}

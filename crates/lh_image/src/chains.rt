@@ -1,8 +1,8 @@
 //! The chains of all buckets.
 ghost use Rattle.std.specs.Prelude.{◌≡◌, ℕ, ◌+◌, ◌-◌, ◌<◌, ◌≤◌, ◌||◌, not, false, length, map, slice_index_or, IfOk, IfErr};
 ghost use Rattle.std.specs.List.{find, list_any, range_with_len};
-ghost use Rattle.lh_image.specs.Chains.{stands_in};
-ghost use Rattle.lh_image.specs.Table.{chain_in};
+ghost use Rattle.lh_image.specs.Chains.{chain, pages_from, stands_in};
+ghost use Rattle.lh_image.specs.Table.{next_in};
 
 use crate::fault::ImageFault;
 use crate::links::next_of;
@@ -11,7 +11,7 @@ use std::alloc::Global;
 
 /// The pages that come from a page by following `next`.
 fn chain_from(alloc: Global, entries: &[Entry], first: u32) -> Result<Vec<u32>, ImageFault>
-    ensures ok { IfOk result (λ v. v.items ≡ chain_in entries.now first) }
+    ensures ok { IfOk result (λ v. v.items ≡ pages_from (next_in entries.now) (length entries.now) first) }
     ensures fault { IfErr result (λ f. f ≡ ImageFault.Memory) }
 {
     let mut pages = Vec::new(alloc);
@@ -33,7 +33,7 @@ pub(crate) fn all_chains(
     buckets: u32,
 ) -> Result<Vec<Vec<u32>>, ImageFault>
     requires { buckets ≤ 65536 }
-    ensures ok { IfOk result (λ v. map (λ chain. chain.items) v.items ≡ map (λ i. chain_in entries.now (1 + i)) (range_with_len 0 buckets)) }
+    ensures ok { IfOk result (λ v. map (λ chain. chain.items) v.items ≡ map (chain (next_in entries.now) (length entries.now)) (range_with_len 0 buckets)) }
     ensures fault { IfErr result (λ f. f ≡ ImageFault.Memory) }
 {
     let mut chains = Vec::new(alloc);

@@ -1,10 +1,10 @@
 //! The first page: the header's fields, and the faults that it decides alone.
-ghost use Rattle.std.specs.Prelude.{◌≡◌, ◌*◌, ◌+◌, ◌-◌, ◌≤◌, ◌||◌, not, take, drop, nat_lt, None, IfOk, IfSome};
+ghost use Rattle.std.specs.Prelude.{◌≡◌, ◌≤◌, ◌||◌, true, nat_lt, IfOk, IfSome};
 ghost use Rattle.std.specs.Result.{result_err};
 ghost use Rattle.lh_addr.specs.Settings.{IsInRange};
-ghost use Rattle.lh_page.specs.PageFields.{all_zero};
-ghost use Rattle.lh_image.specs.Faults.{bad_field, bad_counts, header_fault, no_magic, or_at, or_else};
-ghost use Rattle.lh_image.specs.Header.{AreFields, AreInRange, IsHeader, ReadsHeader, range_fault, settings_of};
+ghost use Rattle.lh_image.specs.Faults.{bad_field, bad_counts, field_rows, first_of, no_magic, out_of};
+ghost use Rattle.lh_image.specs.Header.{AreInRange, ReadsHeader, header_with};
+ghost use Rattle.lh_image.specs.Layout.{ends_in_zeros, header_of};
 
 use crate::fault::ImageFault;
 use crate::filling::read_into;
@@ -37,9 +37,8 @@ pub(crate) struct Header {
 }
 
 /// The numbers that stand in a page's bytes.
-#[tactic(auto, unfolding(crate::specs::Layout::initial, crate::specs::Layout::capacity, crate::specs::Layout::load, crate::specs::Layout::buckets, crate::specs::Layout::max, crate::specs::Layout::page_count, crate::specs::Layout::record_count))]
 fn fields_of(page: &[u8; 1024]) -> Fields
-    ensures { AreFields result page.now }
+    ensures { header_with result ≡ header_of page.now }
 {
     Fields {
         initial: LittleEndian::read_u32(&page[4..8]),
@@ -54,17 +53,17 @@ fn fields_of(page: &[u8; 1024]) -> Fields
 
 /// Whether the number of buckets is out of its range.
 fn has_bad_buckets(fields: &Fields) -> bool
-    ensures { result ≡ (nat_lt fields.now.buckets fields.now.initial || nat_lt 65536 fields.now.buckets) }
+    ensures { result ≡ out_of fields.now.initial 65536 fields.now.buckets }
 {
     fields.buckets < fields.initial || fields.buckets > MAX_BUCKETS
 }
 
 /// The configuration that the fields say, or the offset of the first that is out of its range.
 fn config_of(fields: &Fields) -> Result<Config, u32>
-    ensures ok { IfOk result (λ config. config ≡ settings_of fields.now) }
+    ensures ok { IfOk result (λ config. config ≡ (header_with fields.now).config) }
     ensures in_range { IfOk result (λ config. IsInRange config) }
     ensures buckets { IfOk result (λ config. (config.initial ≤ fields.now.buckets) × (fields.now.buckets ≤ config.max)) }
-    ensures fault { result_err result ≡ range_fault fields.now }
+    ensures fault { result_err result ≡ bad_field (header_with fields.now) true }
 {
     match Config::new(fields.initial, fields.capacity, fields.load, fields.max) {
         Err(Range::Initial) => Err(4),
@@ -84,10 +83,11 @@ fn config_of(fields: &Fields) -> Result<Config, u32>
 }
 
 /// Whether the numbers of pages and of records can't be.
+#[tactic(auto, unfolding(crate::specs::Faults::bad_counts))]
 fn has_bad_counts(fields: &Fields) -> bool
     requires buckets { fields.now.buckets ≤ 65536 }
     requires capacity { fields.now.capacity ≤ 14 }
-    ensures { result ≡ (nat_lt fields.now.pages (1 + fields.now.buckets) || nat_lt 1048576 fields.now.pages || nat_lt (fields.now.capacity * (fields.now.pages - 1)) fields.now.records) }
+    ensures { result ≡ bad_counts (header_with fields.now) }
 {
     let pages = fields.pages;
     if pages < 1 + fields.buckets || pages > MAX_PAGES {
@@ -98,16 +98,16 @@ fn has_bad_counts(fields: &Fields) -> bool
 
 /// Whether the bytes behind the fields are zero.
 fn has_zeros(page: &[u8; 1024]) -> bool
-    ensures { result ≡ all_zero (take 988 (drop 36 page.now)) }
+    ensures { result ≡ ends_in_zeros page.now }
 {
     page[36..].iter().all(|byte| *byte == 0)
 }
 
 /// The header that a page is, or the fault of its fields.
 fn header_of(page: &[u8; 1024]) -> Result<Header, ImageFault>
-    ensures header { IfOk result (λ header. IsHeader header page.now) }
+    ensures header { IfOk result (λ header. header ≡ header_of page.now) }
     ensures in_range { IfOk result (λ header. AreInRange header) }
-    ensures fault { result_err result ≡ or_at (bad_field page.now) ImageFault.HeaderField (or_else (bad_counts page.now) ImageFault.Counts None) }
+    ensures fault { result_err result ≡ first_of (field_rows (header_of page.now) (ends_in_zeros page.now)) }
 {
     let fields = fields_of(page);
     let config = match config_of(&fields) {

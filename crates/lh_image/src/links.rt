@@ -1,17 +1,18 @@
 //! The faults of pages that name one another.
 ghost use Rattle.std.specs.Prelude.{◌≡◌, ℕ, ◌-◌, ◌<◌, ◌≤◌, length, nat_le, slice_index, IfOk, IfErr};
 ghost use Rattle.std.specs.List.{find, range_with_len};
-ghost use Rattle.lh_image.specs.Table.{bad_next_in, names, next_in};
+ghost use Rattle.lh_image.specs.Faults.{bad_next, least, named_twice, names};
+ghost use Rattle.lh_image.specs.Table.{links_in, next_in};
 
 use crate::fault::ImageFault;
 use crate::table::Entry;
 use std::alloc::Global;
 
 /// Whether a page's next one is no overflow page of its bucket.
-#[tactic(auto, unfolding(crate::specs::Table::bad_next_in, crate::specs::Table::next_in, crate::specs::Table::bucket_in))]
+#[tactic(auto, unfolding(crate::specs::Faults::bad_next, crate::specs::Table::next_in, crate::specs::Table::bucket_in))]
 fn has_bad_next(entries: &[Entry], buckets: u32, page: u32) -> bool
     requires { page < length entries.now }
-    ensures { result ≡ bad_next_in entries.now buckets page }
+    ensures { result ≡ bad_next (links_in entries.now buckets) page }
 {
     let entry = entries[page as usize];
     if entry.next == 0 {
@@ -23,9 +24,10 @@ fn has_bad_next(entries: &[Entry], buckets: u32, page: u32) -> bool
 }
 
 /// The least page whose next one is no overflow page of its bucket.
+#[tactic(auto, unfolding(crate::specs::View::numbers))]
 pub(crate) fn least_bad_next(entries: &[Entry], buckets: u32) -> Option<u32>
     requires { length entries.now ≤ 1048576 }
-    ensures { result ≡ find (bad_next_in entries.now buckets) (range_with_len 1 (length entries.now - 1)) }
+    ensures { result ≡ least (length entries.now) (bad_next (links_in entries.now buckets)) }
 {
     (1..entries.len() as u32).find(|page| has_bad_next(entries, buckets, *page))
 }
@@ -46,7 +48,7 @@ pub(crate) fn next_of(entries: &[Entry], page: usize) -> u32
 fn count_names(alloc: Global, entries: &[Entry]) -> Result<Vec<u32>, ImageFault>
     requires { length entries.now ≤ 1048576 }
     ensures size { IfOk result (λ v. length v.items ≡ length entries.now) }
-    ensures counts { IfOk result (λ v. (p : ℕ) → p < length entries.now → slice_index v.items p ≡ names entries.now (length entries.now) p) }
+    ensures counts { IfOk result (λ v. (p : ℕ) → p < length entries.now → slice_index v.items p ≡ names (next_in entries.now) (length entries.now) p) }
     ensures fault { IfErr result (λ f. f ≡ ImageFault.Memory) }
 {
     let mut counts = vec![in alloc; 0; entries.len()]?;
@@ -70,7 +72,7 @@ fn least_of_two(counts: &[u32]) -> Option<u32>
 /// The least page that two pages or more name.
 pub(crate) fn least_named_twice(alloc: Global, entries: &[Entry]) -> Result<Option<u32>, ImageFault>
     requires { length entries.now ≤ 1048576 }
-    ensures least { IfOk result (λ r. r ≡ find (λ p. nat_le 2 (names entries.now (length entries.now) p)) (range_with_len 1 (length entries.now - 1))) }
+    ensures least { (buckets : ℕ) → IfOk result (λ r. r ≡ least (length entries.now) (named_twice (links_in entries.now buckets))) }
     ensures fault { IfErr result (λ f. f ≡ ImageFault.Memory) }
 {
     let counts = count_names(alloc, entries)?;

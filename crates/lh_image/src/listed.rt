@@ -1,15 +1,17 @@
 //! From the table of all pages to the listing.
-ghost use Rattle.std.specs.Prelude.{◌≡◌, ℕ, ◌+◌, List, None, length, map, IfOk, IfErr};
+ghost use Rattle.std.specs.Prelude.{◌≡◌, None, length, map, IfOk, IfErr};
 ghost use Rattle.std.specs.List.{range_with_len};
 ghost use Rattle.lh_image.specs.Header.{AreInRange};
-ghost use Rattle.lh_image.specs.Listed.{IsDue, IsLate, IsRead, fault_of_links};
-ghost use Rattle.lh_image.specs.Reading.{IsAnswer, reading_of};
-ghost use Rattle.lh_image.specs.Table.{AreWithin, chain_in};
+ghost use Rattle.lh_image.specs.Chains.{chain};
+ghost use Rattle.lh_image.specs.Faults.{first_of, link_rows};
+ghost use Rattle.lh_image.specs.Listed.{IsDue, IsKept, IsLate};
+ghost use Rattle.lh_image.specs.Reading.{IsAnswer, judged};
+ghost use Rattle.lh_image.specs.Table.{AreWithin, links_in, next_in};
+ghost use Rattle.lh_image.specs.View.{View};
 
 use crate::chains::{all_chains, least_on_no_chain};
 use crate::fault::ImageFault;
 use crate::first_page::Header;
-use crate::laws::faultless_bytes_are_an_image;
 use crate::links::{least_bad_next, least_named_twice};
 use crate::lists::lists_of;
 use crate::misplaced::least_misfit;
@@ -23,9 +25,9 @@ use std::alloc::Global;
 fn chains_of(alloc: Global, header: &Header, table: &Table) -> Result<Vec<Vec<u32>>, ImageFault>
     requires in_range { AreInRange header.now }
     requires size { length table.now.entries.items ≡ header.now.pages }
-    ensures faultless { IfOk result (λ v. fault_of_links table.now.entries.items header.now.buckets ≡ None) }
-    ensures chains { IfOk result (λ v. map (λ chain. chain.items) v.items ≡ map (λ i. chain_in table.now.entries.items (1 + i)) (range_with_len 0 header.now.buckets)) }
-    ensures fault { IfErr result (λ f. IsDue f (fault_of_links table.now.entries.items header.now.buckets)) }
+    ensures faultless { IfOk result (λ v. first_of (link_rows (links_in table.now.entries.items header.now.buckets)) ≡ None) }
+    ensures chains { IfOk result (λ v. map (λ chain. chain.items) v.items ≡ map (chain (next_in table.now.entries.items) (length table.now.entries.items)) (range_with_len 0 header.now.buckets)) }
+    ensures fault { IfErr result (λ f. IsDue f (first_of (link_rows (links_in table.now.entries.items header.now.buckets)))) }
     ensures late { IfErr result IsLate }
 {
     if let Some(page) = least_bad_next(&table.entries, header.buckets) {
@@ -62,10 +64,9 @@ pub(crate) fn listing_of_pages(
     requires in_range { AreInRange header.now }
     requires size { length table.now.entries.items ≡ header.now.pages }
     requires within { AreWithin table.now.entries.items table.now.pairs.items }
-    ensures exact { (bytes : List ℕ) → IsRead bytes header.now table.now.entries.items table.now.pairs.items faults.now → IsAnswer (λ listing l. listing ≡ l) result (reading_of bytes) }
+    ensures exact { (v : View) → v.header ≡ header.now → IsKept v table.now.entries.items table.now.pairs.items faults.now → IsAnswer (λ listing l. listing ≡ l) result (judged v) }
     ensures late { IfErr result IsLate }
 {
-    faultless_bytes_are_an_image();
     faults.of_heads(header.records)?;
     let chains = chains_of(alloc, header, table)?;
     faults.of_slots()?;

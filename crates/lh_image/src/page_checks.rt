@@ -1,7 +1,8 @@
 //! The faults of pages by themselves: of each, the least page that has it.
-ghost use Rattle.std.specs.Prelude.{◌≡◌, ◌*◌, ◌≤◌, None, option_map};
+ghost use Rattle.std.specs.Prelude.{◌≡◌, ℕ, ◌*◌, ◌≤◌, None, option_map};
 ghost use Rattle.std.specs.Result.{result_err};
-ghost use Rattle.lh_image.specs.PageChecks.{noted, kind_test, bucket_test, level_test, used_test, seen, fault_of_heads};
+ghost use Rattle.lh_image.specs.Faults.{bad_bucket, bad_kind, bad_used, first_of};
+ghost use Rattle.lh_image.specs.PageChecks.{known_bad_level, noted, noted_rows, seen};
 
 use crate::fault::ImageFault;
 use crate::first_page::Header;
@@ -29,35 +30,36 @@ fn note(least: &mut Option<u32>, page: u32, at_fault: bool)
 }
 
 /// Whether a page isn't of the kind of its place, or a reserved byte isn't zero.
-#[tactic(auto, unfolding(crate::specs::PageChecks::kind_test))]
+#[tactic(auto, unfolding(crate::specs::Faults::bad_kind))]
 fn has_bad_kind(header: &Header, page: u32, head: &PageHead) -> bool
-    ensures { result ≡ kind_test header.now.buckets page head.now }
+    ensures { result ≡ bad_kind header.now page head.now }
 {
     let kind = if page <= header.buckets { 1 } else { 2 };
     head.kind != kind || !head.clear
 }
 
 /// Whether a page has another bucket than its own, or one that the file hasn't.
-#[tactic(auto, unfolding(crate::specs::PageChecks::bucket_test))]
+#[tactic(auto, unfolding(crate::specs::Faults::bad_bucket))]
 fn has_bad_bucket(header: &Header, page: u32, head: &PageHead) -> bool
     requires { 1 ≤ page }
-    ensures { result ≡ bucket_test header.now.buckets page head.now }
+    ensures { result ≡ bad_bucket header.now page head.now }
 {
     page <= header.buckets && head.bucket != page - 1 || head.bucket >= header.buckets
 }
 
 /// Whether a page's level isn't the local level of its bucket, where the file has that bucket.
-#[tactic(auto, unfolding(crate::specs::PageChecks::level_test))]
-fn has_bad_level(root: &Root, head: &PageHead) -> bool
-    ensures { result ≡ level_test root.now.initial root.now.buckets head.now }
+#[tactic(auto, unfolding(crate::specs::Faults::bad_level))]
+fn has_bad_level(header: &Header, root: &Root, head: &PageHead) -> bool
+    requires { root.now ≡ record { initial = header.now.config.initial; buckets = header.now.buckets } }
+    ensures { (page : ℕ) → result ≡ known_bad_level header.now page head.now }
 {
-    head.bucket < root.buckets() && head.level != root.level_of(head.bucket)
+    head.bucket < header.buckets && head.level != root.level_of(head.bucket)
 }
 
 /// Whether a page can't have so many records.
-#[tactic(auto, unfolding(crate::specs::PageChecks::used_test))]
+#[tactic(auto, unfolding(crate::specs::Faults::bad_used))]
 fn has_bad_used(header: &Header, head: &PageHead) -> bool
-    ensures { result ≡ used_test header.now.config.capacity head.now }
+    ensures { (page : ℕ) → result ≡ bad_used header.now page head.now }
 {
     let used = head.used as u32;
     let capacity = header.config.capacity();
@@ -93,19 +95,21 @@ impl PageFaults {
     )
         requires page { 1 ≤ page }
         requires sum { self.old.sum ≤ 255 * page }
-        ensures { self.new ≡ seen self.old header.now root.now page head.now has_bad_slot }
+        requires root { root.now ≡ record { initial = header.now.config.initial; buckets = header.now.buckets } }
+        ensures { self.new ≡ seen self.old header.now page head.now has_bad_slot }
     {
         note(&mut self.kind, page, has_bad_kind(header, page, head));
         note(&mut self.bucket, page, has_bad_bucket(header, page, head));
-        note(&mut self.level, page, has_bad_level(root, head));
+        note(&mut self.level, page, has_bad_level(header, root, head));
         note(&mut self.used, page, has_bad_used(header, head));
         note(&mut self.slot, page, has_bad_slot);
         self.sum += head.used as u64;
     }
 
     /// The first fault of the pages' heads.
+    #[tactic(auto, unfolding(crate::specs::Faults::first_of))]
     pub(crate) fn of_heads(&self, records: u64) -> Result<(), ImageFault>
-        ensures fault { result_err result ≡ fault_of_heads self.now records }
+        ensures fault { result_err result ≡ first_of (noted_rows self.now records) }
         ensures late { IfErr result IsLate }
     {
         if let Some(page) = self.kind {

@@ -19,15 +19,15 @@ returns-clause-read g c bytes left come =
     let enough : 1024 * (n + 1) ≤ length bytes = omega (arith, count, come.enough, length-drop (1024 * n) bytes, c.if-branch-lt1024.false) in
     let place : 1024 * n + 1024 ≡ 1024 * (n + 1) = omega arith in (
       rw c.see.ensures
-          (come_more bytes c.args.header.now c.args.root.now n c.args.table.now.entries.items c.push.new.self.entries.items c.args.table.now.pairs.items c.push.new.self.pairs.items c.args.faults.now
-          c.page_head-head.result c.in_ok-has_bad_slot.has_bad_slot c.read_into.new.buffer c.requires.page c.requires.root whole
-          (record {
-            kind = c.page_head-head.ensures.kind;
-            used = c.page_head-head.ensures.used;
-            level = c.page_head-head.ensures.level;
-            clear = c.page_head-head.ensures.clear;
-            bucket = c.page_head-head.ensures.bucket;
-            next = c.page_head-head.ensures.next;
+          (come_more bytes c.args.header.now n c.args.table.now.entries.items c.push.new.self.entries.items c.args.table.now.pairs.items c.push.new.self.pairs.items c.args.faults.now
+          c.page_head-head.result c.in_ok-has_bad_slot.has_bad_slot c.read_into.new.buffer c.requires.page whole
+          (λ i. record {
+            kind = c.page_head-head.ensures.kind i;
+            used = c.page_head-head.ensures.used i;
+            level = c.page_head-head.ensures.level i;
+            clear = c.page_head-head.ensures.clear i;
+            bucket = c.page_head-head.ensures.bucket i;
+            next = c.page_head-head.ensures.next i;
           })
           (rw c.capacity.ensures.value at c.in_ok-has_bad_slot.ensures.slot) c.requires.within (rw c.capacity.ensures.value at c.in_ok-has_bad_slot.ensures.pushed) enough c.in_ok-read_into.ensures.each_byte come),
       rest ∙ ap Some (drop-drop 1024 (1024 * n) bytes ∙ ap (λ (k : ℕ). drop k bytes) place),

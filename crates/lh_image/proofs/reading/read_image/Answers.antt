@@ -1,3 +1,4 @@
+use Rattle.std.proofs.Common.{arith}
 use Rattle.std.proofs.lemmas.Result.{err_from_is_err_and}
 use Rattle.lh_image.proofs.Whole.{cut_told, end_told, end_left, have_all, answered, image_read}
 use Rattle.lh_image.proofs.reading.read_image.Goals as goal
@@ -27,10 +28,10 @@ pub returns-clause-exact : goal.returns-clause-exact
 returns-clause-exact g c =
     answered (g.R.Read.remaining c.args.reader.now) (g.R.Read.remaining c.read_header.new.reader) (g.R.Read.remaining c.read_pages.new.reader) (g.R.Read.remaining c.read_end.new.reader)
     c.in_ok-header.header c.in_ok-table.table.entries.items c.in_ok-table.table.pairs.items c.in_ok-table.faults c.listing_of_pages.result
-    c.in_ok-header.ensures.read c.in_ok-table.ensures.read c.in_ok-read_end.ensures c.listing_of_pages.ensures.exact
+    (omega (arith, c.in_ok-header.ensures.in_range.enough)) c.in_ok-header.ensures.read c.in_ok-table.ensures.read c.in_ok-read_end.ensures c.listing_of_pages.ensures.exact
 
 pub returns-clause-image : goal.returns-clause-image
 returns-clause-image g c =
     image_read (g.R.Read.remaining c.args.reader.now) (g.R.Read.remaining c.read_header.new.reader) (g.R.Read.remaining c.read_pages.new.reader) (g.R.Read.remaining c.read_end.new.reader)
     c.in_ok-header.header c.in_ok-table.table.entries.items c.in_ok-table.table.pairs.items c.in_ok-table.faults c.listing_of_pages.result c.faultless_bytes_are_an_image.ensures
-    c.in_ok-header.ensures.read c.in_ok-table.ensures.read c.in_ok-read_end.ensures c.listing_of_pages.ensures.exact
+    (omega (arith, c.in_ok-header.ensures.in_range.enough)) c.in_ok-header.ensures.read c.in_ok-table.ensures.read c.in_ok-read_end.ensures c.listing_of_pages.ensures.exact
