@@ -7,7 +7,7 @@ ghost use Rattle.lh_image.specs.Reading.{IsAnswer, Leaves, reading_of};
 
 use crate::fault::ImageFault;
 use crate::laws::census_counts_pages;
-use crate::listing_pages::{page_count_in, page_total, root_of};
+use crate::listing_pages::{page_count_in, page_total};
 use crate::reading::read_image;
 use lh_bucket::Listing;
 use lh_page::laws::pages_are_pieces;
@@ -56,7 +56,7 @@ fn census_of(listing: &Listing) -> Census
     ensures { page_total listing.now ≤ 1048576 → result ≡ census_of listing.now }
 {
     pages_are_pieces();
-    let root = root_of(listing);
+    let root = listing.root();
     let buckets = listing.buckets();
     let pages = page_total(listing);
     Census {
@@ -73,7 +73,8 @@ fn census_of(listing: &Listing) -> Census
 /// The census of the image that the reader's bytes are, or why they are none, as [`read_image`](crate::read_image)
 /// says it.
 pub fn check_image<R: Read>(alloc: Global, reader: &mut R) -> Result<Census, ImageFault>
-    ensures exact { IfSome (R.remaining reader.old) (λ bytes. IsAnswer (λ census l. census ≡ census_of l) result (reading_of bytes)) }
+    ensures exact { IfSome (R.remaining reader.old) (λ bytes.
+        IsAnswer (λ census l. census ≡ census_of l) result (reading_of bytes)) }
     ensures rest { IfSome (R.remaining reader.old) (λ bytes. Leaves result bytes (R.remaining reader.new)) }
 {
     census_counts_pages();

@@ -33,7 +33,8 @@ pub(crate) fn all_chains(
     buckets: u32,
 ) -> Result<Vec<Vec<u32>>, ImageFault>
     requires { buckets ≤ 65536 }
-    ensures ok { IfOk result (λ v. map (λ chain. chain.items) v.items ≡ map (chain (next_in entries.now) (length entries.now)) (range_with_len 0 buckets)) }
+    ensures ok { IfOk result (λ v. map (λ chain. chain.items) v.items
+        ≡ map (chain (next_in entries.now) (length entries.now)) (range_with_len 0 buckets)) }
     ensures fault { IfErr result (λ f. f ≡ ImageFault.Memory) }
 {
     let mut chains = Vec::new(alloc);
@@ -46,7 +47,8 @@ pub(crate) fn all_chains(
 /// Marks the pages of a chain.
 fn mark(marks: &mut [bool], pages: &[u32])
     ensures size { length marks.new ≡ length marks.old }
-    ensures marked { (p : ℕ) → p < length marks.old → slice_index_or marks.new p false ≡ (slice_index_or marks.old p false || stands_in pages.now p) }
+    ensures marked { (p : ℕ) → p < length marks.old →
+        slice_index_or marks.new p false ≡ (slice_index_or marks.old p false || stands_in pages.now p) }
 {
     for page in pages {
         let page = *page as usize;
@@ -59,7 +61,8 @@ fn mark(marks: &mut [bool], pages: &[u32])
 /// The pages that stand on a chain.
 fn marks_of(alloc: Global, pages: usize, chains: &[Vec<u32>]) -> Result<Vec<bool>, ImageFault>
     ensures size { IfOk result (λ v. length v.items ≡ pages) }
-    ensures marks { IfOk result (λ v. (p : ℕ) → p < pages → slice_index_or v.items p false ≡ list_any (λ chain. stands_in chain.items p) chains.now) }
+    ensures marks { IfOk result (λ v. (p : ℕ) → p < pages →
+        slice_index_or v.items p false ≡ list_any (λ chain. stands_in chain.items p) chains.now) }
     ensures fault { IfErr result (λ f. f ≡ ImageFault.Memory) }
 {
     let mut marks = vec![in alloc; false; pages]?;
@@ -84,7 +87,8 @@ pub(crate) fn least_on_no_chain(
     chains: &[Vec<u32>],
 ) -> Result<Option<u32>, ImageFault>
     requires { pages ≤ 1048576 }
-    ensures least { IfOk result (λ r. r ≡ find (λ p. not (list_any (λ chain. stands_in chain.items p) chains.now)) (range_with_len 1 (pages - 1))) }
+    ensures least { IfOk result (λ r. r ≡ find (λ p. not (list_any (λ chain. stands_in chain.items p) chains.now))
+        (range_with_len 1 (pages - 1))) }
     ensures fault { IfErr result (λ f. f ≡ ImageFault.Memory) }
 {
     let marks = marks_of(alloc, pages as usize, chains)?;

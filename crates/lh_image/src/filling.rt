@@ -26,7 +26,8 @@ fn fill<R: Read>(reader: &mut R, buffer: &mut [u8]) -> io::Result<usize>
 /// fails is never tried again, an interrupted one neither.
 pub(crate) fn read_into<R: Read>(reader: &mut R, buffer: &mut [u8]) -> Result<usize, ImageFault>
     ensures size { length buffer.new ≡ length buffer.old }
-    ensures filled { IfOk result (λ n. IfSome (R.remaining reader.old) (λ bytes. IsFilled bytes n buffer.new (R.remaining reader.new))) }
+    ensures filled { IfOk result (λ n. IfSome (R.remaining reader.old) (λ bytes.
+        IsFilled bytes n buffer.new (R.remaining reader.new))) }
     ensures within { IfOk result (λ n. n ≤ length buffer.old) }
     ensures each_byte { (i : ℕ) → slice_index buffer.new i < 256 }
     ensures fault { IfErr result (λ f. f ≡ ImageFault.ReadFault) }

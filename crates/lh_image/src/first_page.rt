@@ -62,7 +62,8 @@ fn has_bad_buckets(fields: &Fields) -> bool
 fn config_of(fields: &Fields) -> Result<Config, u32>
     ensures ok { IfOk result (λ config. config ≡ (header_with fields.now).config) }
     ensures in_range { IfOk result (λ config. IsInRange config) }
-    ensures buckets { IfOk result (λ config. (config.initial ≤ fields.now.buckets) × (fields.now.buckets ≤ config.max)) }
+    ensures buckets { IfOk result (λ config. (config.initial ≤ fields.now.buckets)
+        × (fields.now.buckets ≤ config.max)) }
     ensures fault { result_err result ≡ bad_field (header_with fields.now) true }
 {
     match Config::new(fields.initial, fields.capacity, fields.load, fields.max) {

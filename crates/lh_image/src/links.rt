@@ -48,7 +48,8 @@ pub(crate) fn next_of(entries: &[Entry], page: usize) -> u32
 fn count_names(alloc: Global, entries: &[Entry]) -> Result<Vec<u32>, ImageFault>
     requires { length entries.now ≤ 1048576 }
     ensures size { IfOk result (λ v. length v.items ≡ length entries.now) }
-    ensures counts { IfOk result (λ v. (p : ℕ) → p < length entries.now → slice_index v.items p ≡ names (next_in entries.now) (length entries.now) p) }
+    ensures counts { IfOk result (λ v. (p : ℕ) → p < length entries.now →
+        slice_index v.items p ≡ names (next_in entries.now) (length entries.now) p) }
     ensures fault { IfErr result (λ f. f ≡ ImageFault.Memory) }
 {
     let mut counts = vec![in alloc; 0; entries.len()]?;
@@ -72,7 +73,8 @@ fn least_of_two(counts: &[u32]) -> Option<u32>
 /// The least page that two pages or more name.
 pub(crate) fn least_named_twice(alloc: Global, entries: &[Entry]) -> Result<Option<u32>, ImageFault>
     requires { length entries.now ≤ 1048576 }
-    ensures least { (buckets : ℕ) → IfOk result (λ r. r ≡ least (length entries.now) (named_twice (links_in entries.now buckets))) }
+    ensures least { (buckets : ℕ) → IfOk result (λ r.
+        r ≡ least (length entries.now) (named_twice (links_in entries.now buckets))) }
     ensures fault { IfErr result (λ f. f ≡ ImageFault.Memory) }
 {
     let counts = count_names(alloc, entries)?;

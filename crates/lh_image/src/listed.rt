@@ -16,7 +16,6 @@ use crate::links::{least_bad_next, least_named_twice};
 use crate::lists::lists_of;
 use crate::misplaced::least_misfit;
 use crate::page_checks::PageFaults;
-use crate::pages::root_of;
 use crate::table::Table;
 use lh_bucket::{Listing, ListingFault};
 use std::alloc::Global;
@@ -25,9 +24,13 @@ use std::alloc::Global;
 fn chains_of(alloc: Global, header: &Header, table: &Table) -> Result<Vec<Vec<u32>>, ImageFault>
     requires in_range { AreInRange header.now }
     requires size { length table.now.entries.items ≡ header.now.pages }
-    ensures faultless { IfOk result (λ v. first_of (link_rows (links_in table.now.entries.items header.now.buckets)) ≡ None) }
-    ensures chains { IfOk result (λ v. map (λ chain. chain.items) v.items ≡ map (chain (next_in table.now.entries.items) (length table.now.entries.items)) (range_with_len 0 header.now.buckets)) }
-    ensures fault { IfErr result (λ f. IsDue f (first_of (link_rows (links_in table.now.entries.items header.now.buckets)))) }
+    ensures faultless { IfOk result (λ v.
+        first_of (link_rows (links_in table.now.entries.items header.now.buckets)) ≡ None) }
+    ensures chains { IfOk result (λ v. map (λ chain. chain.items) v.items
+        ≡ map (chain (next_in table.now.entries.items) (length table.now.entries.items))
+        (range_with_len 0 header.now.buckets)) }
+    ensures fault { IfErr result (λ f. IsDue f
+        (first_of (link_rows (links_in table.now.entries.items header.now.buckets)))) }
     ensures late { IfErr result IsLate }
 {
     if let Some(page) = least_bad_next(&table.entries, header.buckets) {
@@ -64,7 +67,9 @@ pub(crate) fn listing_of_pages(
     requires in_range { AreInRange header.now }
     requires size { length table.now.entries.items ≡ header.now.pages }
     requires within { AreWithin table.now.entries.items table.now.pairs.items }
-    ensures exact { (v : View) → v.header ≡ header.now → IsKept v table.now.entries.items table.now.pairs.items faults.now → IsAnswer (λ listing l. listing ≡ l) result (judged v) }
+    ensures exact { (v : View) → v.header ≡ header.now →
+        IsKept v table.now.entries.items table.now.pairs.items faults.now →
+        IsAnswer (λ listing l. listing ≡ l) result (judged v) }
     ensures late { IfErr result IsLate }
 {
     faults.of_heads(header.records)?;
@@ -76,7 +81,8 @@ pub(crate) fn listing_of_pages(
         Err(refused) => refused,
     };
     // The lists have no fault where the records have none; of those that have one the least page is told.
-    match least_misfit(alloc, &root_of(header), table, &chains)? {
+    let root = header.config.root(header.buckets);
+    match least_misfit(alloc, &root, table, &chains)? {
         Some(page) => Err(ImageFault::Misfit(page)),
         None => Err(refusal_of(refused)),
     }

@@ -12,7 +12,7 @@ use byteorder::{ByteOrder, LittleEndian};
 use lh_addr::Root;
 use lh_bucket::Listing;
 use lh_page::laws::{a_page_is_its_bytes, pages_are_pieces};
-use lh_page::{Page, PageKind, Pairs, page_to_bytes};
+use lh_page::{Page, PageKind, Pairs, page_to_bytes, pages_needed};
 
 /// The number of pages of a bucket, the primary page counted.
 pub(crate) fn page_count_in(listing: &Listing, bucket: u32) -> usize
@@ -22,8 +22,7 @@ pub(crate) fn page_count_in(listing: &Listing, bucket: u32) -> usize
     ensures kept { IsListing listing.now }
 {
     pages_are_pieces();
-    let last = listing.len_of(bucket).saturating_sub(1);
-    last / listing.config().capacity() as usize + 1
+    pages_needed(listing.len_of(bucket), listing.config().capacity())
 }
 
 /// The number of pages of an image, the header counted, where it is below 2^64; a memory that held more
@@ -39,16 +38,6 @@ pub(crate) fn page_total(listing: &Listing) -> u64
     pages
 }
 
-/// The root of the file that a listing is of.
-pub(crate) fn root_of(listing: &Listing) -> Root
-    ensures { result ≡ record { initial = listing.now.config.initial; buckets = size listing.now } }
-{
-    match Root::new(listing.config().initial(), listing.buckets()) {
-        Some(root) => root,
-        None => unreachable!(),
-    }
-}
-
 /// The fields of the header, in its first 36 bytes.
 fn header_fields(
     initial: u32,
@@ -59,7 +48,12 @@ fn header_fields(
     pages: u32,
     records: u64,
 ) -> [u8; 36]
-    ensures { result ++ replicate 988 0 ≡ header_text (record { config = record { initial = initial; capacity = capacity; load = load; max = max }; buckets = buckets; pages = pages; records = records }) }
+    ensures { result ++ replicate 988 0 ≡ header_text (record {
+          config = record { initial = initial; capacity = capacity; load = load; max = max };
+          buckets = buckets;
+          pages = pages;
+          records = records;
+        }) }
 {
     let mut bytes = [0; 36];
     bytes[..4].copy_from_slice(b"LHF1");
@@ -103,6 +97,7 @@ fn pairs_from(listing: &Listing, bucket: u32, start: usize) -> Pairs
     for place in 0..count {
         pairs.push(listing.pair_at(bucket, start + place));
     }
+    // Pairs that tell their length are known to fit a page.
     let _ = pairs.len();
     pairs
 }

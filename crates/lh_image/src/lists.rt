@@ -22,7 +22,8 @@ fn count_of(table: &Table, chain: &[u32]) -> usize
 /// The records of a chain. Room for all of them is got at once.
 fn list_of(alloc: Global, table: &Table, chain: &[u32]) -> Result<Vec<Pair>, ImageFault>
     requires { AreWithin table.now.entries.items table.now.pairs.items }
-    ensures ok { IfOk result (λ v. v.items ≡ flat_map (records_in table.now.entries.items table.now.pairs.items) chain.now) }
+    ensures ok { IfOk result (λ v. v.items ≡ flat_map
+        (records_in table.now.entries.items table.now.pairs.items) chain.now) }
     ensures fault { IfErr result (λ f. f ≡ ImageFault.Memory) }
 {
     let mut list = Vec::with_capacity(alloc, count_of(table, chain))?;
@@ -39,7 +40,8 @@ pub(crate) fn lists_of(
     chains: &[Vec<u32>],
 ) -> Result<Vec<Vec<Pair>>, ImageFault>
     requires { AreWithin table.now.entries.items table.now.pairs.items }
-    ensures ok { IfOk result (λ v. map (λ list. list.items) v.items ≡ map (λ chain. flat_map (records_in table.now.entries.items table.now.pairs.items) chain.items) chains.now) }
+    ensures ok { IfOk result (λ v. map (λ list. list.items) v.items
+        ≡ map (λ chain. flat_map (records_in table.now.entries.items table.now.pairs.items) chain.items) chains.now) }
     ensures fault { IfErr result (λ f. f ≡ ImageFault.Memory) }
 {
     let mut lists = Vec::new(alloc);

@@ -24,8 +24,11 @@ fn is_misfit(
     bucket: u32,
     pair: &Pair,
 ) -> Result<bool, ImageFault>
-    ensures value { (before : List (List ℕ)) → IsSetOf (contains (slice_cmp nat_cmp) came.old) before → IfOk result (λ b. b ≡ (not (is_home root.now bucket pair.now.key) || list_any (bytes_eq pair.now.key) before)) }
-    ensures known { (before : List (List ℕ)) → IsSetOf (contains (slice_cmp nat_cmp) came.old) before → IfOk result (λ b. IsSetOf (contains (slice_cmp nat_cmp) came.new) (before ++ pair.now.key ∷ [])) }
+    ensures value { (before : List (List ℕ)) → IsSetOf (contains (slice_cmp nat_cmp) came.old) before →
+        IfOk result (λ b.
+        b ≡ (not (is_home root.now bucket pair.now.key) || list_any (bytes_eq pair.now.key) before)) }
+    ensures known { (before : List (List ℕ)) → IsSetOf (contains (slice_cmp nat_cmp) came.old) before →
+        IfOk result (λ b. IsSetOf (contains (slice_cmp nat_cmp) came.new) (before ++ pair.now.key ∷ [])) }
     ensures fault { IfErr result (λ f. f ≡ ImageFault.Memory) }
 {
     let is_new = came.insert(pair.key)?;
@@ -39,8 +42,10 @@ fn has_misfit(
     bucket: u32,
     pairs: &[Pair],
 ) -> Result<bool, ImageFault>
-    ensures value { (before : List (List ℕ)) → IsSetOf (contains (slice_cmp nat_cmp) came.old) before → IfOk result (λ b. b ≡ misfits (is_home root.now bucket) before pairs.now) }
-    ensures known { (before : List (List ℕ)) → IsSetOf (contains (slice_cmp nat_cmp) came.old) before → IfOk result (λ b. IsSetOf (contains (slice_cmp nat_cmp) came.new) (before ++ keys_of pairs.now)) }
+    ensures value { (before : List (List ℕ)) → IsSetOf (contains (slice_cmp nat_cmp) came.old) before →
+        IfOk result (λ b. b ≡ misfits (is_home root.now bucket) before pairs.now) }
+    ensures known { (before : List (List ℕ)) → IsSetOf (contains (slice_cmp nat_cmp) came.old) before →
+        IfOk result (λ b. IsSetOf (contains (slice_cmp nat_cmp) came.new) (before ++ keys_of pairs.now)) }
     ensures fault { IfErr result (λ f. f ≡ ImageFault.Memory) }
 {
     let mut misfit = false;
@@ -72,7 +77,9 @@ fn least_in_chain(
     before: Option<u32>,
 ) -> Result<Option<u32>, ImageFault>
     requires { AreWithin table.now.entries.items table.now.pairs.items }
-    ensures least { IfOk result (λ r. (bad : ℕ → Bool) (seen : List ℕ) → IsTestOf bad (is_home root.now bucket) (records_in table.now.entries.items table.now.pairs.items) chain.now → IsLeast bad seen before → IsLeast bad (seen ++ chain.now) r) }
+    ensures least { IfOk result (λ r. (bad : ℕ → Bool) (seen : List ℕ) →
+        IsTestOf bad (is_home root.now bucket) (records_in table.now.entries.items table.now.pairs.items) chain.now →
+        IsLeast bad seen before → IsLeast bad (seen ++ chain.now) r) }
     ensures fault { IfErr result (λ f. f ≡ ImageFault.Memory) }
 {
     let mut came = BTreeSet::new(alloc);
@@ -94,7 +101,10 @@ pub(crate) fn least_misfit(
 ) -> Result<Option<u32>, ImageFault>
     requires within { AreWithin table.now.entries.items table.now.pairs.items }
     requires few { length chains.now ≤ 65536 }
-    ensures least { IfOk result (λ r. (bad : ℕ → Bool) → ((i : ℕ) → i < length chains.now → IsTestOf bad (is_home root.now i) (records_in table.now.entries.items table.now.pairs.items) (slice_index_or (map (λ chain. chain.items) chains.now) i [])) → IsLeast bad (flat_map (λ chain. chain.items) chains.now) r) }
+    ensures least { IfOk result (λ r. (bad : ℕ → Bool) → ((i : ℕ) → i < length chains.now →
+        IsTestOf bad (is_home root.now i) (records_in table.now.entries.items table.now.pairs.items)
+        (slice_index_or (map (λ chain. chain.items) chains.now) i [])) →
+        IsLeast bad (flat_map (λ chain. chain.items) chains.now) r) }
     ensures fault { IfErr result (λ f. f ≡ ImageFault.Memory) }
 {
     let mut least = None;

@@ -14,17 +14,6 @@ use lh_page::page_head;
 use std::alloc::Global;
 use std::io::Read;
 
-/// The root of the file.
-pub(crate) fn root_of(header: &Header) -> Root
-    requires { AreInRange header.now }
-    ensures { result ≡ record { initial = header.now.config.initial; buckets = header.now.buckets } }
-{
-    match Root::new(header.config.initial(), header.buckets) {
-        Some(root) => root,
-        None => unreachable!(),
-    }
-}
-
 /// Reads one page more into these bytes, keeps its records, and looks at it by itself.
 fn read_page<R: Read>(
     reader: &mut R,
@@ -42,7 +31,10 @@ fn read_page<R: Read>(
     ensures within { OnOk result (AreWithin table.new.entries.items table.new.pairs.items) }
     ensures size { OnOk result (length table.new.entries.items ≡ length table.old.entries.items + 1) }
     ensures sum { OnOk result (faults.new.sum ≤ faults.old.sum + 255) }
-    ensures read { (bytes : List ℕ) → R.remaining reader.old ≡ Some (drop (1024 * page) bytes) → HaveCome bytes header.now page table.old.entries.items table.old.pairs.items faults.old → ReadsTo bytes header.now (page + 1) result table.new.entries.items table.new.pairs.items faults.new (R.remaining reader.new) }
+    ensures read { (bytes : List ℕ) → R.remaining reader.old ≡ Some (drop (1024 * page) bytes) →
+        HaveCome bytes header.now page table.old.entries.items table.old.pairs.items faults.old →
+        ReadsTo bytes header.now (page + 1) result table.new.entries.items table.new.pairs.items faults.new
+        (R.remaining reader.new) }
 {
     if read_into(reader, bytes)? < 1024 {
         return Err(ImageFault::Short);
@@ -62,9 +54,10 @@ pub(crate) fn read_pages<R: Read>(
     requires { AreInRange header.now }
     ensures within { IfOk result (λ r. AreWithin r.0.entries.items r.0.pairs.items) }
     ensures size { IfOk result (λ r. length r.0.entries.items ≡ header.now.pages) }
-    ensures read { (bytes : List ℕ) → HasHeader header.now bytes (R.remaining reader.old) → ReadsAll bytes header.now result (R.remaining reader.new) }
+    ensures read { (bytes : List ℕ) → HasHeader header.now bytes (R.remaining reader.old) →
+        ReadsAll bytes header.now result (R.remaining reader.new) }
 {
-    let root = root_of(header);
+    let root = header.config.root(header.buckets);
     let mut table = Table::new(alloc)?;
     let mut faults = PageFaults::new();
     let mut bytes = [0; 1024];

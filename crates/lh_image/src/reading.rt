@@ -18,7 +18,8 @@ use std::io::Read;
 /// first page is read first and decides the faults of the header; then the rest is read, up to one byte
 /// past the last page.
 pub fn read_image<R: Read>(alloc: Global, reader: &mut R) -> Result<Listing, ImageFault>
-    ensures exact { IfSome (R.remaining reader.old) (λ bytes. IsAnswer (λ listing l. listing ≡ l) result (reading_of bytes)) }
+    ensures exact { IfSome (R.remaining reader.old) (λ bytes.
+        IsAnswer (λ listing l. listing ≡ l) result (reading_of bytes)) }
     ensures image { IfSome (R.remaining reader.old) (λ bytes. IfOk result (λ listing. IsImage bytes listing)) }
     ensures rest { IfSome (R.remaining reader.old) (λ bytes. Leaves result bytes (R.remaining reader.new)) }
 {

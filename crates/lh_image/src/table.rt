@@ -65,7 +65,8 @@ impl Table {
         capacity: u32,
     ) -> Result<bool, ImageFault>
         requires { IsCapacity capacity }
-        ensures pushed { OnOk result (IsPushed self.old.entries.items self.old.pairs.items self.new.entries.items self.new.pairs.items head.now.bucket head.now.next bytes.now capacity) }
+        ensures pushed { OnOk result (IsPushed self.old.entries.items self.old.pairs.items self.new.entries.items
+            self.new.pairs.items head.now.bucket head.now.next bytes.now capacity) }
         ensures slot { IfOk result (λ bad. bad ≡ is_of_slot (fault_of version_1 bytes.now capacity)) }
         ensures fault { IfErr result (λ f. f ≡ ImageFault.Memory) }
     {

@@ -8,7 +8,7 @@ ghost use Rattle.lh_image.specs.Writing.{IsSent, IsWritten};
 use crate::fault::WriteImageFault;
 use crate::limits::MAX_PAGES;
 use crate::listing_pages::{
-    following_after, header_bytes, page_bytes, page_count_in, page_total, root_of,
+    following_after, header_bytes, page_bytes, page_count_in, page_total,
 };
 use crate::sending::{WriteFailed, write_page};
 use lh_addr::Root;
@@ -23,7 +23,8 @@ fn write_primary_pages<W: Write>(
 ) -> Result<(), WriteFailed>
     requires root { root.now ≡ record { initial = listing.now.config.initial; buckets = size listing.now } }
     requires few { page_total listing.now ≤ 1048576 }
-    ensures { IsSent (flat_map (λ i. text_in listing.now i 0) (range_with_len 0 (size listing.now))) result (W.contents writer.old) (W.contents writer.new) }
+    ensures { IsSent (flat_map (λ i. text_in listing.now i 0) (range_with_len 0 (size listing.now))) result
+        (W.contents writer.old) (W.contents writer.new) }
 {
     let buckets = listing.buckets();
     let mut following = 1 + buckets;
@@ -49,7 +50,6 @@ fn write_overflow_pages_of<W: Write>(
     requires following { following ≡ 1 + size listing.now + overflow_before listing.now bucket }
     ensures { IsSent (overflow_text listing.now bucket) result (W.contents writer.old) (W.contents writer.new) }
 {
-    let _ = following_after(listing, bucket, following);
     for k in 1..page_count_in(listing, bucket) as u32 {
         write_page(writer, &page_bytes(listing, root, bucket, k, following))?;
     }
@@ -64,7 +64,8 @@ fn write_overflow_pages<W: Write>(
 ) -> Result<(), WriteFailed>
     requires root { root.now ≡ record { initial = listing.now.config.initial; buckets = size listing.now } }
     requires few { page_total listing.now ≤ 1048576 }
-    ensures { IsSent (flat_map (overflow_text listing.now) (range_with_len 0 (size listing.now))) result (W.contents writer.old) (W.contents writer.new) }
+    ensures { IsSent (flat_map (overflow_text listing.now) (range_with_len 0 (size listing.now))) result
+        (W.contents writer.old) (W.contents writer.new) }
 {
     let buckets = listing.buckets();
     let mut following = 1 + buckets;
@@ -81,7 +82,7 @@ fn write_pages<W: Write>(listing: &Listing, pages: u32, writer: &mut W) -> Resul
     requires pages { pages ≡ page_total listing.now }
     ensures { IsSent (canonical listing.now) result (W.contents writer.old) (W.contents writer.new) }
 {
-    let root = root_of(listing);
+    let root = listing.root();
     write_page(writer, &header_bytes(listing, pages))?;
     write_primary_pages(listing, &root, writer)?;
     write_overflow_pages(listing, &root, writer)

@@ -94,7 +94,7 @@ returns-in-Some-clause-exact c v same kept =
     } in
     let found = rw c.deref-2.ensures.value at c.in_ok-page.ensures.least in
     let chains = chains_are v (links_in entries c.args.header.now.buckets) c.in_ok-chains.chains.items linked c.in_ok-chains.ensures.chains in
-    let misfit = misfit_is v entries c.args.table.now.pairs.items c.args.faults.now fine c.root_of.result c.in_ok-chains.chains.items c.in_ok-page.field-0 (rw same c.root_of.ensures) chains found in
+    let misfit = misfit_is v entries c.args.table.now.pairs.items c.args.faults.now fine c.root-root.result c.in_ok-chains.chains.items c.in_ok-page.field-0 (rw same c.root-root.ensures.value) chains found in
     misfit_told v entries c.args.table.now.pairs.items c.args.faults.now fine c.in-Some.page (misfit ∙ c.in-Some.is)
 
 pub returns-clause-exact : goal.returns-clause-exact
@@ -111,7 +111,7 @@ returns-clause-exact c v same kept =
     let found = rw c.deref-2.ensures.value at c.in_ok-page.ensures.least in
     let filled = rw c.deref.ensures.value at c.in_ok-lists.ensures.ok in
     let chains = chains_are v (links_in entries c.args.header.now.buckets) c.in_ok-chains.chains.items linked c.in_ok-chains.ensures.chains in
-    let none = misfit_is v entries c.args.table.now.pairs.items c.args.faults.now fine c.root_of.result c.in_ok-chains.chains.items c.in_ok-page.field-0 (rw same c.root_of.ensures) chains found ∙ c.in-None.is in
+    let none = misfit_is v entries c.args.table.now.pairs.items c.args.faults.now fine c.root-root.result c.in_ok-chains.chains.items c.in_ok-page.field-0 (rw same c.root-root.ensures.value) chains found ∙ c.in-None.is in
     let lists : List (List Pair) = map (λ (v : Vec Pair Global). v.items) c.in_ok-lists.lists.items in
     let made = listing_is v entries c.args.table.now.pairs.items c.args.faults.now fine c.in_ok-chains.chains.items lists chains filled in
     let memory = lists_refused v lists c.in-Err.refused (covered v entries c.args.table.now.pairs.items c.args.faults.now fine) (rw same c.requires.in_range) none (ap (λ (l : Lists). l.lists) made) (rw same c.in-Err.ensures.err) in
