@@ -1,5 +1,5 @@
 //! `commands`, from words and bytes to bytes and a status.
-use crate::tests::support::{fails, writes};
+use crate::tests::support::{fails, ran, writes};
 use std::test::Fail;
 
 #[test]

@@ -1,5 +1,5 @@
 //! Words that ask for no file.
-use crate::tests::support::{fails, ran};
+use crate::tests::support::{fails, ran, writes};
 use std::test::Fail;
 
 #[test]
