@@ -10,6 +10,7 @@ use lh_bucket::Call;
 use lh_page::{Key, Value};
 
 /// What stands before a verb, and the key that a word stands for.
+#[inline(always)]
 fn key_after<B: Copy>(before: Result<B, LineFault>, word: &[u8]) -> Result<(B, Key), LineFault>
     ensures { result ≡ then_key before word.now }
 {
@@ -18,6 +19,7 @@ fn key_after<B: Copy>(before: Result<B, LineFault>, word: &[u8]) -> Result<(B, K
 
 /// What stands before a verb, and the key that is the one word of a text.
 #[tactic(auto, using(crate::proofs::Verbs::not_one, crate::proofs::Verbs::one_key))]
+#[inline(always)]
 fn key_behind<B: Copy>(before: Result<B, LineFault>, text: &[u8]) -> Result<(B, Key), LineFault>
     ensures { result ≡ with_key before (words text.now) }
 {
@@ -28,6 +30,7 @@ fn key_behind<B: Copy>(before: Result<B, LineFault>, text: &[u8]) -> Result<(B, 
 }
 
 /// What stands before a verb, and the key and the value that two words stand for.
+#[inline(always)]
 fn pair_after<B: Copy>(
     before: Result<B, LineFault>,
     first: &[u8],
@@ -40,6 +43,7 @@ fn pair_after<B: Copy>(
 
 /// What stands before a verb, and the key and the value that are the two words of a text.
 #[tactic(auto, using(crate::proofs::Verbs::not_two, crate::proofs::Verbs::two_words))]
+#[inline(always)]
 fn pair_behind<B: Copy>(
     before: Result<B, LineFault>,
     text: &[u8],

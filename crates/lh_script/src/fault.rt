@@ -13,9 +13,9 @@ pub enum LineFault {
     WordCount,
     /// A byte string has an odd number of digits, or a byte that is no digit.
     BadHexadecimal,
-    /// A key of this many bytes, which is 0 or more than 30.
+    /// A key of this many bytes, which is 0 or more than a key has.
     KeyLength(usize),
-    /// A value of this many bytes, which is more than 40.
+    /// A value of this many bytes, which is more than a value has.
     ValueLength(usize),
     /// A worker's number isn't one or two decimal digits of a value up to 15.
     WorkerNumber,

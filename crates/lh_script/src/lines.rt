@@ -119,7 +119,8 @@ fn is_comment_word(word: &[u8]) -> bool
 
 /// The first word of a line and what stands behind it, unless the line has no word or is a comment.
 pub fn statement_words(line: &[u8]) -> Option<(&[u8], &[u8])>
-    ensures { MatchOption result (is_skipped (words line.now) ≡ true) (λ x. IsStatement x.0.now (words x.1.now) (words line.now)) }
+    ensures { MatchOption result (is_skipped (words line.now) ≡ true)
+        (λ x. IsStatement x.0.now (words x.1.now) (words line.now)) }
 {
     let (word, rest) = first_word(line)?;
     if is_comment_word(word) {

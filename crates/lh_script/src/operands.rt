@@ -4,31 +4,35 @@ ghost use Rattle.lh_script.specs.Operands.{key, value};
 
 use crate::fault::LineFault;
 use crate::hexadecimal::decode;
+use lh_page::limits::{LONGEST_KEY, LONGEST_VALUE};
 use lh_page::{Key, Value};
 
 /// The key that a word stands for.
+// Inlined, since a key that is handed on through memory is waited for.
+#[inline(always)]
 pub fn read_key(word: &[u8]) -> Result<Key, LineFault>
     ensures { result ≡ key word.now }
 {
-    let mut room = [0; 30];
+    let mut room = [0; LONGEST_KEY];
     let Some(length) = decode(word, &mut room) else {
         return Err(LineFault::BadHexadecimal);
     };
-    if length == 0 || length > 30 {
+    if length == 0 || length > LONGEST_KEY {
         return Err(LineFault::KeyLength(length));
     }
     Ok(Key::new(&room[..length]).unwrap())
 }
 
 /// The value that a word stands for.
+#[inline(always)]
 pub fn read_value(word: &[u8]) -> Result<Value, LineFault>
     ensures { result ≡ value word.now }
 {
-    let mut room = [0; 40];
+    let mut room = [0; LONGEST_VALUE];
     let Some(length) = decode(word, &mut room) else {
         return Err(LineFault::BadHexadecimal);
     };
-    if length > 40 {
+    if length > LONGEST_VALUE {
         return Err(LineFault::ValueLength(length));
     }
     Ok(Value::new(&room[..length]).unwrap())
