@@ -105,7 +105,8 @@ impl<G: Gate> HashFile<G> {
     ) -> Result<(HashFile<G>, Hand), Memory>
     where
         G: Drop,
-        ensures { IfOk result (λ made. IsOpened listing.now.config (size listing.now) recording (min (count_of listing.now.lists) (2 ^ 64 - 1)) made.0.state made.1) }
+        ensures { IfOk result (λ made. IsOpened listing.now.config (size listing.now) recording
+            (min (count_of listing.now.lists) (2 ^ 64 - 1)) made.0.state made.1) }
     {
         let segments = Segments::opened(alloc, listing)?;
         let (words, hand) = Words::open(

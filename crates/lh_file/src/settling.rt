@@ -79,7 +79,8 @@ pub fn settle(
     ensures ok { IfOk result (IsSettled opening.now closed.now acts.now) }
     ensures err { IfErr result (IsDue opening.now closed.now acts.now) }
     ensures settled { result ≢ Err Memory → IsOk result ↔ Settled opening.now closed.now acts.now }
-    ensures fault { (fault : SettleFault) → fault ≢ Memory → result ≢ Err Memory → (result ≡ Err fault) ↔ IsDue opening.now closed.now acts.now fault }
+    ensures fault { (fault : SettleFault) → fault ≢ Memory → result ≢ Err Memory →
+        (result ≡ Err fault) ↔ IsDue opening.now closed.now acts.now fault }
 {
     // Its laws make both answers exact: one history at most, and one fault.
     settling_has_one_answer();

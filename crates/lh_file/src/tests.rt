@@ -5,6 +5,7 @@ mod crowd;
 mod ended;
 mod gates;
 mod hands;
+mod made;
 mod memory;
 mod opened;
 mod outer;

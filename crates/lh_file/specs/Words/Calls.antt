@@ -1,4 +1,4 @@
--- What the calls on the words of a running file promise: of the file, of the hand before and after, and of what is answered
+-- What the calls on the words of a file promise: of the file, of the hand before and after, and of the answer
 use Rattle.std.specs.Prelude.{◌≡◌, ℕ, ◌<◌, ◌≤◌, true, Result, IfOk, IfErr, OnOk, OnErr}
 use Rattle.lh_file.specs.FileState.{FileState, IsSize}
 use Rattle.lh_file.specs.Words.HandState.{HandState, knowing, seeing, IsSame, IsBranch, IsJoined}

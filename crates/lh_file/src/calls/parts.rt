@@ -109,7 +109,8 @@ pub fn segment<'a, G: Gate>(
     requires below { j < 17 }
     requires cell { note.old.cell ≡ slice_index file.now.cells j }
     ensures cell { note.new.cell ≡ note.old.cell }
-    ensures value { MatchOption result ((note.old.known ≡ None) × (note.new.known ≡ None)) (λ r. (note.new.known ≡ Some r.now) × Agrees note.old.known r.now) }
+    ensures value { MatchOption result ((note.old.known ≡ None) × (note.new.known ≡ None))
+        (λ r. (note.new.known ≡ Some r.now) × Agrees note.old.known r.now) }
 {
     file.segments.cells[j].get_as(note)
 }

@@ -39,7 +39,8 @@ fn divide(
     requires initial { root.now.initial ≡ config.now.initial }
     requires below { root.now.buckets < 65536 }
     ensures old_content { OnOk result (content old.new ≡ retain_keys (content old.old) (stays old.old.head)) }
-    ensures new_content { OnOk result (content new.new ≡ retain_keys (content old.old) (λ key. not (stays old.old.head key))) }
+    ensures new_content { OnOk result (content new.new ≡
+        retain_keys (content old.old) (λ key. not (stays old.old.head key))) }
     ensures fault { IfErr result IsNotSpent }
     ensures old_unchanged { OnErr result (old.new ≡ old.old) }
     ensures new_unchanged { OnErr result (new.new ≡ new.old) }

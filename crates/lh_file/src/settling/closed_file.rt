@@ -51,7 +51,12 @@ impl Closed {
         requires from_initial { config.initial ≤ size_of root }
         requires to_max { size_of root ≤ config.max }
         requires few { length lists.items ≤ config.max }
-        ensures { result ≡ record { config = config; root = root; stamps = stamps; lists = map (λ v. v.items) lists.items } }
+        ensures { result ≡ record {
+          config = config;
+          root = root;
+          stamps = stamps;
+          lists = map (λ v. v.items) lists.items;
+        } }
     {
         let _initial = config.initial();
         Closed {
@@ -106,8 +111,12 @@ impl Closed {
 
     /// The file as a listing of its buckets, or the first fault that its lists have as such.
     pub fn listing(&self, alloc: Global) -> Result<Listing, ListingFault>
-        ensures ok { IfOk result (λ listing. listing ≡ record { config = self.now.config; lists = take (size_of self.now.root) self.now.lists }) }
-        ensures err { IfErr result (IsFaultOf self.now.config (size_of self.now.root) (take (size_of self.now.root) self.now.lists)) }
+        ensures ok { IfOk result (λ listing. listing ≡ record {
+          config = self.now.config;
+          lists = take (size_of self.now.root) self.now.lists;
+        }) }
+        ensures err { IfErr result (IsFaultOf self.now.config (size_of self.now.root)
+            (take (size_of self.now.root) self.now.lists)) }
     {
         let buckets = self.buckets();
         let end = self.lists.len().min(buckets as usize);
@@ -120,7 +129,10 @@ impl Closed {
     /// The file as a listing of its buckets, or the first fault that its lists have as such, like `listing`.
     /// The records are moved, so that none is copied; with a fault they are gone.
     pub fn into_listing(self, alloc: Global) -> Result<Listing, ListingFault>
-        ensures ok { IfOk result (λ listing. listing ≡ record { config = self.config; lists = take (size_of self.root) self.lists }) }
+        ensures ok { IfOk result (λ listing. listing ≡ record {
+          config = self.config;
+          lists = take (size_of self.root) self.lists;
+        }) }
         ensures err { IfErr result (IsFaultOf self.config (size_of self.root) (take (size_of self.root) self.lists)) }
     {
         let buckets = self.buckets();

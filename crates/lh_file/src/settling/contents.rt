@@ -41,7 +41,8 @@ fn is_value(found: Option<Value>, value: &Value) -> bool
 /// Takes the keys of some records out of a map, and answers the least key so far that doesn't stand
 /// as the map had it.
 fn tally(records: &mut PlainMap, mut stray: Option<Key>, pairs: &[Pair]) -> Option<Key>
-    ensures { (m : Records) (done : List Pair) → IsTally m done records.old stray → IsTally m (done ++ pairs.now) records.new result }
+    ensures { (m : Records) (done : List Pair) → IsTally m done records.old stray →
+        IsTally m (done ++ pairs.now) records.new result }
 {
     for pair in pairs {
         let found = records.take(&pair.key);
@@ -69,7 +70,8 @@ pub(crate) fn first_stray(mut records: PlainMap, lists: &[Vec<Pair>]) -> Option<
 
 /// The least key in a bucket's list that has another address.
 fn away_in(root: &Root, bucket: u32, pairs: &[Pair]) -> Option<Key>
-    ensures none { IfNone result ((place : ℕ) → place < length pairs.now → IsHome root.now.initial root.now.buckets bucket pairs.now place) }
+    ensures none { IfNone result ((place : ℕ) → place < length pairs.now →
+        IsHome root.now.initial root.now.buckets bucket pairs.now place) }
     ensures some { IfSome result (IsLeastAway root.now.initial root.now.buckets bucket pairs.now) }
 {
     let mut away = None;
@@ -85,7 +87,8 @@ fn away_in(root: &Root, bucket: u32, pairs: &[Pair]) -> Option<Key>
 pub(crate) fn first_away(root: &Root, lists: &[Vec<Pair>]) -> Option<(u32, Key)>
     requires { length lists.now ≤ 65536 }
     ensures none { IfNone result (EachPlace (IsHome root.now.initial root.now.buckets) (map (λ v. v.items) lists.now)) }
-    ensures some { IfSome result (λ f. IsFirstAway root.now.initial root.now.buckets (map (λ v. v.items) lists.now) f.0 f.1) }
+    ensures some { IfSome result (λ f. IsFirstAway root.now.initial root.now.buckets
+        (map (λ v. v.items) lists.now) f.0 f.1) }
 {
     for (bucket, list) in lists.iter().enumerate() {
         if let Some(key) = away_in(root, bucket as u32, list) {

@@ -70,7 +70,8 @@ fn add(records: &mut HashMap<Name, Value>, key: Key, value: Value) -> Result<(),
 /// Takes a key out, and says what value it had.
 fn take(records: &mut HashMap<Name, Value>, key: &Key) -> Option<Value>
     ensures value { result ≡ get (records_of records.old.entries) key.now }
-    ensures left { records_of records.new.entries ≡ (if is_some result then remove (records_of records.old.entries) key.now else records_of records.old.entries) }
+    ensures left { records_of records.new.entries ≡
+        (if is_some result then remove (records_of records.old.entries) key.now else records_of records.old.entries) }
 {
     records.remove(&Name(*key))
 }
@@ -79,7 +80,8 @@ fn take(records: &mut HashMap<Name, Value>, key: &Key) -> Option<Value>
 fn least_of(records: &HashMap<Name, Value>) -> Option<Key>
     ensures none { IfNone result ((key : List ℕ) → get (records_of records.now.entries) key ≡ None) }
     ensures there { IfSome result (λ key. IsSome (get (records_of records.now.entries) key)) }
-    ensures least { IfSome result (λ key. (other : List ℕ) → IsBefore other key → get (records_of records.now.entries) other ≡ None) }
+    ensures least { IfSome result (λ key. (other : List ℕ) → IsBefore other key →
+        get (records_of records.now.entries) other ≡ None) }
 {
     let mut least: Option<Key> = None;
     for name in records.keys() {

@@ -1,44 +1,58 @@
 //! What closed files tell of themselves, and their listings.
 
 use super::settling::{AE, BD, C, closed, config};
-use lh_bucket::ListingFault;
+use crate::Closed;
+use lh_bucket::{Listing, ListingFault};
 use std::alloc::Global;
 use std::test::Fail;
 
+/// The numbers of buckets, stamps and records that a closed file tells, and whether a hand had the right to
+/// split.
+fn told(file: &Closed) -> (u32, u64, u64, bool) {
+    (
+        file.buckets(),
+        file.stamps(),
+        file.records(),
+        file.split_open(),
+    )
+}
+
 #[test]
 fn a_closed_file_tells_what_it_has(rt: HostRuntime) -> Result<(), Fail> {
-    let file = closed(rt.alloc(), 7, 9, &[AE, BD, C, &[]])?;
-    assert_eq!(rt; (file.buckets(), file.stamps(), file.records()), (3, 9, 5));
-    assert!(rt; file.split_open());
-    assert!(rt; !closed(rt.alloc(), 6, 9, &[])?.split_open());
+    let open = closed(rt.alloc(), 7, 9, &[AE, BD, C, &[]])?;
+    assert_eq!(rt; told(&open), (3, 9, 5, true));
+    let whole = closed(rt.alloc(), 6, 9, &[])?;
+    assert_eq!(rt; told(&whole), (3, 9, 0, false));
     Ok(())
 }
 
-/// How many buckets and records stand in the listing of a closed file of three buckets with these
-/// records, or the fault of its lists.
-fn listed(alloc: Global, lists: &[&[(u8, u8)]]) -> Result<Result<(u32, u64), ListingFault>, Fail> {
-    let listing = closed(alloc, 6, 0, lists)?.listing(alloc);
-    Ok(listing.map(|listing| (listing.buckets(), listing.len())))
+/// The listing of a closed file of three buckets with these records.
+fn listed(alloc: Global, lists: &[&[(u8, u8)]]) -> Result<Result<Listing, ListingFault>, Fail> {
+    Ok(closed(alloc, 6, 0, lists)?.listing(alloc))
+}
+
+/// The listing that such a file becomes.
+fn moved(alloc: Global, lists: &[&[(u8, u8)]]) -> Result<Result<Listing, ListingFault>, Fail> {
+    Ok(closed(alloc, 6, 0, lists)?.into_listing(alloc))
+}
+
+/// Whether a listing is of such a file, and has so many buckets and records.
+fn has_size(listing: &Listing, buckets: u32, records: u64) -> Result<bool, Fail> {
+    Ok(listing.config() == config()? && listing.buckets() == buckets && listing.len() == records)
 }
 
 #[test]
 fn a_closed_file_has_a_listing(rt: HostRuntime) -> Result<(), Fail> {
-    assert_eq!(rt; listed(rt.alloc(), &[AE, BD, C, &[]])?, Ok((3, 5)));
-    let listing = closed(rt.alloc(), 6, 0, &[AE, BD, C])?.listing(rt.alloc())?;
-    assert_eq!(rt; listing.config(), config()?);
+    assert!(rt; has_size(&listed(rt.alloc(), &[AE, BD, C, &[]])??, 3, 5)?);
+    assert!(rt; has_size(&listed(rt.alloc(), &[AE, BD, C])??, 3, 5)?);
     Ok(())
 }
 
 #[test]
 fn a_closed_file_becomes_its_listing(rt: HostRuntime) -> Result<(), Fail> {
-    let listing = closed(rt.alloc(), 6, 0, &[AE, BD, C, &[]])?.into_listing(rt.alloc())?;
-    assert_eq!(rt; (listing.buckets(), listing.len()), (3, 5));
-    assert_eq!(rt; listing.config(), config()?);
-    let fault = closed(rt.alloc(), 6, 0, &[AE, BD])?.into_listing(rt.alloc());
-    assert_eq!(rt;
-        fault.map(|listing| listing.len()),
-        Err(ListingFault::Shape)
-    );
+    assert!(rt; has_size(&moved(rt.alloc(), &[AE, BD, C, &[]])??, 3, 5)?);
+    let fault = moved(rt.alloc(), &[AE, BD])?.err();
+    assert_eq!(rt; fault, Some(ListingFault::Shape));
     Ok(())
 }
 
@@ -48,8 +62,10 @@ fn a_closed_file_tells_the_fault_of_its_listing(rt: HostRuntime) -> Result<(), F
         bucket: 1,
         place: 0,
     };
-    assert_eq!(rt; listed(rt.alloc(), &[AE, BD])?, Err(ListingFault::Shape));
-    assert_eq!(rt; listed(rt.alloc(), &[AE, C, BD])?, Err(misplaced));
+    let shape = listed(rt.alloc(), &[AE, BD])?.err();
+    assert_eq!(rt; shape, Some(ListingFault::Shape));
+    let place = listed(rt.alloc(), &[AE, C, BD])?.err();
+    assert_eq!(rt; place, Some(misplaced));
     Ok(())
 }
 

@@ -2,6 +2,7 @@
 ghost use Rattle.std.specs.Prelude.{◌≡◌, All, IfSome};
 ghost use Rattle.lh_file.specs.FileState.{IsOf};
 
+use super::made::{closed_by, joined, made, second_of};
 use super::play::settled_acts;
 use crate::{Gate, Hand, HashFile, Point};
 use lh_addr::Config;
@@ -102,10 +103,10 @@ fn join_all<R: Threads + Wait>(
 {
     for worker in workers {
         let Finished { hand, is_well } = worker.join(rt);
-        if !is_well || hand.has_right() {
+        if !is_well {
             return None;
         }
-        all = file.join_hands(all, hand).ok()?;
+        all = joined(file, all, hand)?;
     }
     Some(all)
 }
@@ -130,9 +131,7 @@ fn crowd<R: Threads + Wait + Sync>(
             let mut all = hand;
             let mut workers = Vec::new(alloc);
             for first in 0..8 {
-                let Ok(part) = file.split_hand(&mut all, 250) else {
-                    return None;
-                };
+                let part = second_of(file, &mut all, 250)?;
                 let Ok(worker) = scope.spawn_with(
                     OfCrowd(file),
                     move || share(rt, file, part, first),
@@ -148,16 +147,23 @@ fn crowd<R: Threads + Wait + Sync>(
     )
 }
 
+/// How many records eight threads leave in an empty file, and how many of their acts are settled.
+fn crowded<R: Threads + Wait + Sync>(
+    rt: &R,
+    alloc: Global,
+    config: Config,
+) -> Option<(u64, usize)> {
+    let (file, hand) = made(alloc, config, GiveWay).ok()?;
+    let all = crowd(rt, alloc, &file, hand)?;
+    let (closed, acts) = closed_by(rt, file, all)?;
+    let settled = settled_acts(alloc, config, &closed, &acts)?;
+    Some((closed.records(), settled))
+}
+
 #[test]
 fn eight_threads_insert_and_find_a_thousand_records(rt: HostRuntime) -> Result<(), Fail> {
     let config = Config::new(1, 1, 100, 65536)?;
-    let (file, hand) = HashFile::create(rt.alloc(), config, true, GiveWay)?;
-    let all = crowd(&rt, rt.alloc(), &file, hand).ok_or("a call went wrong")?;
-    let (closed, acts) = file.close(&rt, all)?;
-    assert_eq!(rt; closed.records(), 1000);
-    assert_eq!(rt;
-        settled_acts(rt.alloc(), config, &closed, &acts),
-        Some(2000)
-    );
+    let left = crowded(&rt, rt.alloc(), config).ok_or("a call went wrong")?;
+    assert_eq!(rt; left, (1000, 2000));
     Ok(())
 }

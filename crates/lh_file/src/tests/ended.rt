@@ -1,6 +1,7 @@
 //! What stays of a thread that has ended.
 ghost use Rattle.lh_file.specs.FileState.{IsOf};
 
+use super::made::{made, second_of};
 use super::play::beside;
 use super::stage::Progress;
 use super::tasks::{Task, Told, one};
@@ -33,8 +34,8 @@ fn told_after<R: Threads + Wait + Sync>(
 #[test]
 fn a_record_outlives_the_thread_of_its_writer(rt: HostRuntime) -> Result<(), Fail> {
     let config = Config::new(1, 14, 100, 65536)?;
-    let (file, mut first) = HashFile::create(rt.alloc(), config, true, NoGate)?;
-    let second = file.split_hand(&mut first, 10)?;
+    let (file, mut first) = made(rt.alloc(), config, NoGate)?;
+    let second = second_of(&file, &mut first, 10).ok_or("no second hand")?;
     let told = told_after(&rt, &file, first, second).ok_or("a thread was refused")?;
     assert_eq!(rt; told, Told::Found);
     Ok(())

@@ -1,5 +1,5 @@
 //! Hands of one thread: the right to split, sizes, acts and their counts, and want of memory.
-ghost use Rattle.std.specs.Prelude.{◌≡◌, false, IfOk};
+ghost use Rattle.std.specs.Prelude.{◌≡◌, ◌≤◌, true, false, IfOk, OnOk};
 ghost use Rattle.lh_file.specs.FileState.{IsOf};
 
 use crate::{ActLine, FileFault, FileWords, Hand, JoinFault, Load, Right, Words};
@@ -26,7 +26,21 @@ fn delete(key: &[u8]) -> Result<Call, Fail> {
     Ok(Call::Delete(Key::new(key)?))
 }
 
-/// Notes an act, whose room may be refused once: then the hand is as it was.
+/// Makes room for an act, which may be refused once: then the hand is as it was.
+fn make_room(rt: &impl Abort, file: &Words, hand: &mut Hand) -> Result<(), Fail>
+    requires { IsOf file.now hand.old }
+    ensures of { IsOf file.now hand.new }
+    ensures room { OnOk result (file.now.recording ≡ true → 1 ≤ hand.new.room) }
+{
+    let left = hand.left();
+    if file.make_room(hand).is_err() {
+        assert_eq!(rt; hand.left(), left);
+        file.make_room(hand)?;
+    }
+    Ok(())
+}
+
+/// Notes an act.
 fn note(
     rt: &impl Abort,
     file: &Words,
@@ -37,11 +51,8 @@ fn note(
     requires { IsOf file.now hand.old }
     ensures { IsOf file.now hand.new }
 {
+    make_room(rt, file, hand)?;
     let left = hand.left();
-    if file.make_room(hand).is_err() {
-        assert_eq!(rt; hand.left(), left);
-        file.make_room(hand)?;
-    }
     assert!(rt; left >= 1);
     let stamp = file.record_act(hand, &call, reply);
     assert_eq!(rt; hand.left(), left - 1);

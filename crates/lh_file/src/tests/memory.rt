@@ -2,6 +2,7 @@
 ghost use Rattle.std.specs.Prelude.{IfOk, IfSome};
 ghost use Rattle.lh_file.specs.FileState.{IsOf};
 
+use super::made::{made, second_of};
 use super::stage::Progress;
 use super::tasks::{Task, Told, one};
 use crate::{
@@ -112,9 +113,9 @@ fn used<R: Wait>(rt: &R, file: &HashFile<NoGate>, mut first: Hand, mut second: H
 fn narrow(alloc: Global, config: Config) -> Result<(HashFile<NoGate>, Hand), Memory>
     ensures { IfOk result (λ made. IsOf made.0.state made.1) }
 {
-    match HashFile::create(alloc, config, true, NoGate) {
+    match made(alloc, config, NoGate) {
         Ok(made) => Ok(made),
-        Err(Memory) => HashFile::create(alloc, config, true, NoGate),
+        Err(Memory) => made(alloc, config, NoGate),
     }
 }
 
@@ -135,7 +136,7 @@ fn settled(alloc: Global, config: Config, closed: &Closed, acts: &Acts) -> Optio
 fn refused_growth_changes_nothing(rt: HostRuntime) -> Result<(), Fail> {
     let config = Config::new(1, 1, 100, 65536)?;
     let (file, mut first) = narrow(rt.alloc(), config)?;
-    let second = file.split_hand(&mut first, 100)?;
+    let second = second_of(&file, &mut first, 100).ok_or("no second hand")?;
     let hand = used(&rt, &file, first, second).ok_or("a call went wrong")?;
     if let Ok((closed, acts)) = file.close(&rt, hand) {
         assert_eq!(rt; closed.records(), 8);

@@ -2,6 +2,7 @@
 ghost use Rattle.std.specs.Prelude.{◌≡◌, IfSome};
 ghost use Rattle.lh_file.specs.FileState.{IsOf};
 
+use super::made::{closed_by, joined, made, second_of};
 use super::stage::{Hold, Log, Progress, Stage};
 use super::tasks::{OfFile, Task, Told, Worked, work};
 use crate::{Acts, Closed, Gate, Hand, HashFile, Point, settle};
@@ -56,7 +57,8 @@ pub(crate) fn beside<G: Gate + Sync, R: Threads + Wait + Sync>(
         |scope| -> Option<Both>
             requires first { IsOf file.now.state first }
             requires second { IsOf file.now.state second }
-            ensures { IfSome result (λ both. IsOf file.entry.now.state both.first × IsOf file.entry.now.state both.second) }
+            ensures { IfSome result (λ both. IsOf file.entry.now.state both.first
+                × IsOf file.entry.now.state both.second) }
         {
             let child = scope
                 .spawn_with(OfFile(file), move || {
@@ -90,17 +92,12 @@ pub(crate) fn closed<G: Gate + Drop, R: Wait>(
     requires first { IsOf file.state first }
     requires second { IsOf file.state second }
 {
-    let all = if !second.has_right() {
-        file.join_hands(first, second)
-    } else if !first.has_right() {
-        file.join_hands(second, first)
+    let hand = if second.has_right() {
+        joined(&file, second, first)?
     } else {
-        return None;
+        joined(&file, first, second)?
     };
-    match all {
-        Ok(hand) => file.close(rt, hand).ok(),
-        Err(_fault) => None,
-    }
+    closed_by(rt, file, hand)
 }
 
 /// What came of a scene: the first answer that was not due, the number of buckets, and that of acts, if
@@ -135,7 +132,7 @@ fn play<G: Gate + Sync, R: Threads + Wait + Sync>(
     requires { IsOf file.now.state first }
     ensures { IfSome result (λ both. IsOf file.now.state both.first × IsOf file.now.state both.second) }
 {
-    let second = file.split_hand(&mut first, 1000).ok()?;
+    let second = second_of(file, &mut first, 1000)?;
     beside(rt, file, progress, first, scene.first, second, scene.second)
 }
 
@@ -154,7 +151,7 @@ fn staged<R: Threads + Wait + Sync>(
         progress: &progress,
         log,
     };
-    let (file, hand) = HashFile::create(alloc, config, true, gate).ok()?;
+    let (file, hand) = made(alloc, config, gate).ok()?;
     let Both {
         first,
         second,

@@ -7,26 +7,44 @@ use lh_page::Key;
 use std::alloc::Global;
 use std::test::Fail;
 
-/// Stamp words, the stamps of acts, and the first that is missing.
-const MISSING: [(u64, &[u64], u64); 7] = [
-    (2, &[], 0),
-    (3, &[1, 0, 0], 1),
-    (3, &[1, 0], 2),
-    (3, &[2, 0], 1),
-    (2, &[0, 2, 1], 2),
-    (1, &[5, 0, 1], 1),
-    (1, &[u64::MAX], 0),
+/// The record of key a.
+const A: &[(u8, u8)] = &[(b'a', b'a')];
+
+/// Stamp words, records, the stamps of acts, and the first that is missing, if one is.
+const MISSING: [(u64, &[(u8, u8)], &[u64], Option<u64>); 9] = [
+    (0, &[], &[], None),
+    (1, A, &[0], None),
+    (2, A, &[], Some(0)),
+    (3, A, &[1, 0, 0], Some(1)),
+    (3, A, &[1, 0], Some(2)),
+    (3, A, &[2, 0], Some(1)),
+    (2, A, &[0, 2, 1], Some(2)),
+    (1, A, &[5, 0, 1], Some(1)),
+    (1, A, &[u64::MAX], Some(0)),
 ];
+
+/// Whether a closed file with these root and stamp words and records, and inserts with these stamps, has this
+/// fault: a stamp that is missing, or none.
+fn misses(
+    alloc: Global,
+    root: u64,
+    drawn: u64,
+    lists: &[&[(u8, u8)]],
+    stamps: &[u64],
+    missing: Option<u64>,
+) -> Result<bool, Fail> {
+    let due = match missing {
+        Some(stamp) => Some(SettleFault::MissingStamp(stamp)),
+        None => None,
+    };
+    Ok(fault_of(alloc, root, drawn, lists, stamps)? == due)
+}
 
 #[test]
 fn missing_stamps_are_named(rt: HostRuntime) -> Result<(), Fail> {
     let alloc = rt.alloc();
-    let a: &[(u8, u8)] = &[(b'a', b'a')];
-    assert_eq!(rt; fault_of(alloc, 2, 0, &[&[]], &[])?, None);
-    assert_eq!(rt; fault_of(alloc, 2, 1, &[a], &[0])?, None);
-    for (drawn, stamps, stamp) in &MISSING {
-        let fault = fault_of(alloc, 2, *drawn, &[a], stamps)?;
-        assert_eq!(rt; fault, Some(SettleFault::MissingStamp(*stamp)));
+    for (drawn, list, stamps, missing) in &MISSING {
+        assert!(rt; misses(alloc, 2, *drawn, &[*list], stamps, *missing)?);
     }
     Ok(())
 }
@@ -66,28 +84,37 @@ fn strays(
     Ok(fault == Some(SettleFault::Content(key(letter)?)))
 }
 
+const MORE: &[(u8, u8)] = &[(b'd', b'd'), (b'b', b'b'), (b'a', b'a')];
+
+/// Lists of records, the stamps of inserts, and the least key whose content is wrong.
+const STRAYS: [(&[(u8, u8)], &[u64], u8); 5] = [
+    (&[], &[0], b'a'),
+    (&[(b'b', b'b'), (b'a', b'0')], &[0, 1], b'a'),
+    (MORE, &[0, 1], b'd'),
+    (MORE, &[0, 1, 2], b'c'),
+    (&[(b'b', b'0'), (b'a', b'0')], &[0, 1], b'a'),
+];
+
 #[test]
 fn the_least_stray_key_is_named(rt: HostRuntime) -> Result<(), Fail> {
-    let alloc = rt.alloc();
-    let zero: &[(u8, u8)] = &[(b'b', b'b'), (b'a', b'0')];
-    let more: &[(u8, u8)] = &[(b'd', b'd'), (b'b', b'b'), (b'a', b'a')];
-    let both: &[(u8, u8)] = &[(b'b', b'0'), (b'a', b'0')];
-    assert!(rt; strays(alloc, 2, &[&[]], &[0], b'a')?);
-    assert!(rt; strays(alloc, 2, &[zero], &[0, 1], b'a')?);
-    assert!(rt; strays(alloc, 2, &[more], &[0, 1], b'd')?);
-    assert!(rt; strays(alloc, 2, &[more], &[0, 1, 2], b'c')?);
-    assert!(rt; strays(alloc, 2, &[both], &[0, 1], b'a')?);
+    for (list, stamps, letter) in &STRAYS {
+        assert!(rt; strays(rt.alloc(), 2, &[*list], stamps, *letter)?);
+    }
     Ok(())
 }
 
+/// Root words and lists of a file in which the key a stands twice.
+const TWICE: [(u64, &[&[(u8, u8)]]); 3] = [
+    (2, &[&[(b'a', b'a'), (b'a', b'a')]]),
+    (4, &[A, A]),
+    (2, &[A, A]),
+];
+
 #[test]
 fn a_key_that_stands_twice_is_stray(rt: HostRuntime) -> Result<(), Fail> {
-    let alloc = rt.alloc();
-    let a: &[(u8, u8)] = &[(b'a', b'a')];
-    let aa: &[(u8, u8)] = &[(b'a', b'a'), (b'a', b'a')];
-    assert!(rt; strays(alloc, 2, &[aa], &[0], b'a')?);
-    assert!(rt; strays(alloc, 4, &[a, a], &[0], b'a')?);
-    assert!(rt; strays(alloc, 2, &[a, a], &[0], b'a')?);
+    for (root, lists) in &TWICE {
+        assert!(rt; strays(rt.alloc(), *root, lists, &[0], b'a')?);
+    }
     Ok(())
 }
 
@@ -108,13 +135,20 @@ fn records_may_stand_in_any_order(rt: HostRuntime) -> Result<(), Fail> {
     Ok(())
 }
 
+/// Lists of a file of three buckets, and the bucket and the key of the first record that stands in another
+/// than its own.
+const MISPLACED: [(&[&[(u8, u8)]], u32, u8); 4] = [
+    (&[BD, AE, C], 0, b'b'),
+    (&[AE, C, BD], 1, b'c'),
+    (&[AE, BD, &[], C], 3, b'c'),
+    (&[&[], BD, C, EA], 3, b'a'),
+];
+
 #[test]
 fn the_first_misplaced_key_is_named(rt: HostRuntime) -> Result<(), Fail> {
-    let alloc = rt.alloc();
-    assert!(rt; strands(alloc, &[BD, AE, C], 0, b'b')?);
-    assert!(rt; strands(alloc, &[AE, C, BD], 1, b'c')?);
-    assert!(rt; strands(alloc, &[AE, BD, &[], C], 3, b'c')?);
-    assert!(rt; strands(alloc, &[&[], BD, C, EA], 3, b'a')?);
+    for (lists, bucket, letter) in &MISPLACED {
+        assert!(rt; strands(rt.alloc(), lists, *bucket, *letter)?);
+    }
     Ok(())
 }
 
@@ -133,6 +167,11 @@ fn wrong_settled(alloc: Global, root: u64, drawn: u64) -> Result<Result<usize, S
     settled(alloc, &closed, &wrong_acts(alloc)?)
 }
 
+/// Whether this is why.
+fn is_wrong(alloc: Global, root: u64, drawn: u64, fault: SettleFault) -> Result<bool, Fail> {
+    Ok(wrong_settled(alloc, root, drawn)? == Err(fault))
+}
+
 /// A file with every fault: the first is named, in their order, as one after another is mended.
 #[test]
 fn the_first_fault_is_named(rt: HostRuntime) -> Result<(), Fail> {
@@ -142,16 +181,15 @@ fn the_first_fault_is_named(rt: HostRuntime) -> Result<(), Fail> {
         given: Reply::Exists,
         due: Reply::Inserted,
     };
-    assert_eq!(rt;
-        wrong_settled(alloc, 5, 3)?,
-        Err(SettleFault::SplitUnderWay)
-    );
-    assert_eq!(rt;
-        wrong_settled(alloc, 4, 3)?,
-        Err(SettleFault::MissingStamp(2))
-    );
-    assert_eq!(rt; wrong_settled(alloc, 4, 2)?, Err(wrong));
+    assert!(rt; is_wrong(alloc, 5, 3, SettleFault::SplitUnderWay)?);
+    assert!(rt; is_wrong(alloc, 4, 3, SettleFault::MissingStamp(2))?);
+    assert!(rt; is_wrong(alloc, 4, 2, wrong)?);
     Ok(())
+}
+
+/// Whether a closed file of two buckets with these records, after the inserts of a and b, has this fault.
+fn has_fault(alloc: Global, lists: &[&[(u8, u8)]], fault: SettleFault) -> Result<bool, Fail> {
+    Ok(fault_of(alloc, 4, 2, lists, &[1, 0])? == Some(fault))
 }
 
 /// The same with the right replies.
@@ -165,10 +203,9 @@ fn the_first_fault_of_contents_is_named(rt: HostRuntime) -> Result<(), Fail> {
         key: key(b'b')?,
     };
     let content = SettleFault::Content(key(b'a')?);
-    assert_eq!(rt; fault_of(alloc, 4, 2, &[stray], &[1, 0])?, Some(content));
-    assert_eq!(rt; fault_of(alloc, 4, 2, &[away], &[1, 0])?, Some(misplaced));
-    let right: [&[(u8, u8)]; 2] = [&[(b'a', b'a')], &[(b'b', b'b')]];
-    assert_eq!(rt; fault_of(alloc, 4, 2, &right, &[1, 0])?, None);
+    assert!(rt; has_fault(alloc, &[stray], content)?);
+    assert!(rt; has_fault(alloc, &[away], misplaced)?);
+    assert!(rt; misses(alloc, 4, 2, &[A, &[(b'b', b'b')]], &[1, 0], None)?);
     Ok(())
 }
 

@@ -103,6 +103,27 @@ fn keep<'a>(
     workers.push(worker).is_ok()
 }
 
+/// A hand that may make so many of the calls of another.
+fn part_of(file: &Words, hand: &mut Hand, calls: u64) -> Option<Hand>
+    requires { IsOf file.now hand.old }
+    ensures old { IsOf file.now hand.new }
+    ensures new { IfSome result (IsOf file.now) }
+{
+    file.split_hand(hand, calls).ok()
+}
+
+/// One hand of two, unless the second has the right to split or there is no memory.
+fn joined(file: &Words, first: Hand, second: Hand) -> Option<Hand>
+    requires first { IsOf file.now first }
+    requires second { IsOf file.now second }
+    ensures { IfSome result (IsOf file.now) }
+{
+    if second.has_right() {
+        return None;
+    }
+    file.join_hands(first, second).ok()
+}
+
 /// Joins the hands of all workers into the first.
 fn join_all<R: Threads + Wait>(
     rt: &R,
@@ -115,11 +136,7 @@ fn join_all<R: Threads + Wait>(
     ensures { IfSome result (IsOf file.now) }
 {
     for worker in workers {
-        let part = worker.join(rt);
-        if part.has_right() {
-            return None;
-        }
-        all = file.join_hands(all, part).ok()?;
+        all = joined(file, all, worker.join(rt))?;
     }
     Some(all)
 }
@@ -146,9 +163,7 @@ fn work_in_threads<R: Threads + Wait>(
             let mut all = hand;
             let mut workers = Vec::new(alloc);
             for _i in 0..threads {
-                let Ok(part) = file.split_hand(&mut all, 1 << 40) else {
-                    return None;
-                };
+                let part = part_of(file, &mut all, 1 << 40)?;
                 let Ok(worker) = scope.spawn_with(OfFile(file), move || work(file, part, key, 250))
                 else {
                     return None;

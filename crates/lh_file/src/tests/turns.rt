@@ -1,6 +1,7 @@
 //! Two hands that take turns in one thread, and the file that is settled after it.
 ghost use Rattle.lh_file.specs.FileState.{IsOf};
 
+use super::made::second_of;
 use super::play::closed;
 use super::stage::Progress;
 use super::tasks::{Task, Told, one};
@@ -83,7 +84,7 @@ pub(crate) fn play_in_turn<R: Wait>(
     turns: &[Turn],
 ) -> Option<Ended> {
     let (file, mut hand) = HashFile::open_from(alloc, listing, true, NoGate).ok()?;
-    let other = file.split_hand(&mut hand, 10).ok()?;
+    let other = second_of(&file, &mut hand, 10)?;
     let Turns {
         first,
         second,
