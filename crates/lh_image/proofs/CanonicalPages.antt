@@ -19,7 +19,7 @@ use Rattle.lh_image.specs.Canonical.{canonical, header_in, page_count_in, pages_
 use Rattle.lh_image.specs.Chains.{IsPath, IsCovered, stands_in}
 use Rattle.lh_image.specs.Image.{IsImageBy, Shows}
 use Rattle.lh_image.specs.Layout.{header_of, header_text, page, page_at, view_of}
-use Rattle.lh_image.specs.View.{View, bucket, next}
+use Rattle.lh_image.specs.View.{bucket, next}
 use Rattle.lh_image.proofs.Counting.{overflow_found, overflow_within, page_count_is, page_starts, records_few}
 use Rattle.lh_image.proofs.Fitting.{fits_slot}
 use Rattle.lh_image.proofs.HeaderText.{header_of_text, length-header_text}

@@ -7,11 +7,9 @@ use Rattle.std.proofs.lemmas.List.{take-append-drop, drop_more, length-map}
 use Rattle.std.proofs.lemmas.List.Folds.{list_any-append}
 use Rattle.std.proofs.lemmas.List.FromFn.{get_or-map-range_with_len, length-map-range_with_len}
 use Rattle.lh_addr.specs.Extent.{Extent}
-use Rattle.lh_bucket.specs.Listing.{Lists}
 use Rattle.lh_page.specs.declared.pair.Pair.{Pair}
 use Rattle.lh_page.specs.Records.{keys_of}
 use Rattle.lh_image.specs.declared.fault.ImageFault.TheVariants.{Misfit}
-use Rattle.lh_image.specs.declared.first_page.Header.{Header}
 use Rattle.lh_image.specs.declared.page_checks.PageFaults.{PageFaults}
 use Rattle.lh_image.specs.declared.table.Entry.{Entry}
 use Rattle.lh_image.specs.Chains.{stands_in, IsPath}
@@ -23,7 +21,7 @@ use Rattle.lh_image.specs.Table.{records_in}
 use Rattle.lh_image.specs.View.{View, initial, buckets, page_count, numbers, bucket, next, links, chain_of}
 use Rattle.lh_image.proofs.Judging.{judged_as, misfits_last}
 use Rattle.lh_image.proofs.Last.{AreFine, covered, records_same, flat_same, chain_records_same, least_is, stands_flat}
-use Rattle.lh_image.proofs.LinkFaults.{any_of_items, on_chains}
+use Rattle.lh_image.proofs.LinkFaults.{on_chains}
 use Rattle.lh_image.proofs.Misfits.{not_before, before_is}
 use Rattle.lh_image.proofs.Ranges.{any_of, any_from}
 use Rattle.lh_image.proofs.ShortPaths.{stands_at}

@@ -1,11 +1,10 @@
 -- The fields of a header: their numbers, the ranges that the conditions keep them in, and the first of them that is at fault
-use Rattle.std.proofs.Common.{◌≡◌, ◌≢◌, ℕ, zero, suc, ◌+◌, ◌-◌, ◌*◌, ◌<◌, ◌≤◌, inl, inr, Bool, true, false, cond, not, ◌||◌, ltb, List, [], ◌∷◌, take, drop, Option, Some, None, refl, sym, ap, ◌∙◌, ◌↔◌, arith}
-use Rattle.std.proofs.lemmas.Bool.{cases_lt, not-false, not_from_true}
+use Rattle.std.proofs.Common.{◌≡◌, ◌≢◌, ℕ, ◌+◌, ◌-◌, ◌*◌, ◌<◌, ◌≤◌, inl, inr, Bool, true, false, cond, not, ◌||◌, ltb, List, [], ◌∷◌, take, drop, Option, Some, None, refl, sym, ap, ◌∙◌, ◌↔◌, arith}
+use Rattle.std.proofs.lemmas.Bool.{cases_lt, not-false}
 use Rattle.std.proofs.lemmas.Bool.Decides.{nat_tests}
 use Rattle.byteorder.specs.Numbers.{little_from-take}
 use Rattle.byteorder.specs.Endian.{little_from}
 use Rattle.lh_addr.specs.Limits.{IsInitial, IsCapacity, IsLoad, IsSize}
-use Rattle.lh_image.specs.declared.fault.ImageFault.{ImageFault}
 use Rattle.lh_image.specs.declared.fault.ImageFault.TheVariants.{HeaderField, Counts}
 use Rattle.lh_image.specs.declared.first_page.Header.{Header}
 use Rattle.lh_image.specs.Faults.{is_bad_field, bad_field, bad_counts, field_rows, first_of, where_so, out_of}

@@ -1,5 +1,5 @@
 -- Bytes have no fault exactly where they are an image of a listing, and then of that one alone.
-use Rattle.std.proofs.Common.{◌≡◌, ◌≢◌, ℕ, ◌+◌, ◌-◌, ◌*◌, ◌<◌, ◌≤◌, Bool, true, false, ◌||◌, ltb, leb, List, length, refl, sym, ap, ◌∙◌, ◌↔◌, arith}
+use Rattle.std.proofs.Common.{◌≡◌, ◌≢◌, ℕ, ◌*◌, ◌<◌, ◌≤◌, true, false, ◌||◌, ltb, leb, List, length, refl, ◌↔◌, arith}
 use Rattle.std.proofs.lemmas.Bool.{le-leb, leb-true, ne_eqb}
 use Rattle.std.proofs.lemmas.Bool.Decides.{nat_tests}
 use Rattle.std.proofs.lemmas.List.FromFn.{length-map-range_with_len}

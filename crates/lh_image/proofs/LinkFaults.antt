@@ -1,5 +1,5 @@
 -- The first fault between the pages, by the three that there are
-use Rattle.std.proofs.Common.{◌≡◌, ℕ, ◌+◌, ◌-◌, Bool, not, ◌||◌, List, [], ◌∷◌, map, Vec, Global, Some, None, refl, sym, ap, ◌∙◌}
+use Rattle.std.proofs.Common.{◌≡◌, ℕ, ◌-◌, Bool, not, ◌||◌, List, [], ◌∷◌, map, Vec, Global, Some, None, refl, sym, ap, ◌∙◌}
 use Rattle.std.specs.List.{range_with_len, find, list_any}
 use Rattle.lh_image.specs.declared.fault.ImageFault.TheVariants.{Next, Twice, Never}
 use Rattle.lh_image.specs.Chains.{Links, chain, stands_in}

@@ -1,5 +1,5 @@
 -- Pages without a fault show their listing, and pages that show a listing have no fault.
-use Rattle.std.proofs.Common.{◌≡◌, ◌≢◌, ℕ, zero, suc, ◌+◌, ◌-◌, ◌*◌, ◌<◌, ◌≤◌, Bool, true, false, cond, not, leb, List, [], length, refl, sym, ap, ◌∙◌, ◌↔◌, arith}
+use Rattle.std.proofs.Common.{◌≡◌, ◌≢◌, ℕ, zero, suc, ◌+◌, ◌-◌, ◌*◌, ◌<◌, ◌≤◌, true, false, cond, leb, List, [], length, refl, sym, ap, ◌∙◌, ◌↔◌, arith}
 use Rattle.std.specs.List.{All, IsDistinct, AllByRecursion, range_with_len, sum_by}
 use Rattle.std.specs.Str.{bytes_eq}
 use Rattle.std.proofs.lemmas.Bool.{not-false, not_from_true, eqb-true, eq-eqb}
@@ -7,10 +7,10 @@ use Rattle.std.proofs.lemmas.List.Sums.{sum_by-cons}
 use Rattle.lh_addr.specs.Fnv.{code_of}
 use Rattle.lh_addr.specs.Growth.{address}
 use Rattle.lh_page.specs.Records.{IsRecord, keys_of}
-use Rattle.lh_bucket.specs.Listing.{Lists, IsShape, IsHome, EachPlace, size, list_at, count_of}
+use Rattle.lh_bucket.specs.Listing.{IsShape, IsHome, EachPlace, size, list_at, count_of}
 use Rattle.lh_image.specs.declared.first_page.Header.{Header}
 use Rattle.lh_image.specs.Chains.{stands_in, IsCovered}
-use Rattle.lh_image.specs.Faults.{at_head, bad_kind, bad_level, bad_used, bad_total, has_bad_slot, has_misfit, misfits, is_at_home, keys_before}
+use Rattle.lh_image.specs.Faults.{bad_kind, bad_level, bad_used, bad_total, has_bad_slot, has_misfit, misfits, is_at_home, keys_before}
 use Rattle.lh_image.specs.Header.{AreInRange}
 use Rattle.lh_image.specs.Image.{Shows, listing_of}
 use Rattle.lh_image.specs.View.{View, IsView, initial, capacity, buckets, page_count, record_count, numbers, used, bucket, next, chain_of}

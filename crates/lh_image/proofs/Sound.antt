@@ -1,8 +1,8 @@
 -- No fault is answered exactly where no condition of the table holds.
-use Rattle.std.proofs.Common.{◌≡◌, ◌≢◌, inl, inr, ℕ, ◌-◌, ◌*◌, ◌<◌, ◌≤◌, Bool, true, false, cond, ◌||◌, ltb, List, ◌++◌, length, Option, Some, None, refl, ◌∙◌, ◌↔◌, arith}
+use Rattle.std.proofs.Common.{◌≡◌, ◌≢◌, inl, inr, ℕ, ◌-◌, ◌*◌, Bool, true, false, ltb, List, ◌++◌, length, Option, Some, None, refl, ◌↔◌, arith}
 use Rattle.std.specs.Prelude.{option_map}
 use Rattle.std.specs.List.{find, range_with_len}
-use Rattle.std.proofs.lemmas.Bool.{cases_eq, false≢true, le-leb, ltb-false, ne_eqb, or_parts}
+use Rattle.std.proofs.lemmas.Bool.{cases_eq, le-leb, ltb-false, ne_eqb, or_parts}
 use Rattle.lh_image.specs.declared.fault.ImageFault.{ImageFault}
 use Rattle.lh_image.specs.declared.fault.ImageFault.TheVariants.{Magic, HeaderField, Counts, Short, Trailing, Kind, BucketNumber, Level, Used, Next, Twice, Never, Slot, Misfit}
 use Rattle.lh_image.specs.Faults.{where_so, least, has_header, no_magic, bad_field, bad_counts, is_short, has_trailing, at_head, bad_kind, bad_bucket, bad_level, bad_used, bad_total, bad_used_at, bad_next, named_twice, on_no_chain, has_bad_slot, has_misfit, header_rows, size_rows, page_rows, page_fault, image_fault}

@@ -49,11 +49,11 @@ fn header_fields(
     records: u64,
 ) -> [u8; 36]
     ensures { result ++ replicate 988 0 ≡ header_text (record {
-          config = record { initial = initial; capacity = capacity; load = load; max = max };
-          buckets = buckets;
-          pages = pages;
-          records = records;
-        }) }
+      config = record { initial = initial; capacity = capacity; load = load; max = max };
+      buckets = buckets;
+      pages = pages;
+      records = records;
+    }) }
 {
     let mut bytes = [0; 36];
     bytes[..4].copy_from_slice(b"LHF1");

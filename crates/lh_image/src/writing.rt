@@ -7,9 +7,7 @@ ghost use Rattle.lh_image.specs.Writing.{IsSent, IsWritten};
 
 use crate::fault::WriteImageFault;
 use crate::limits::MAX_PAGES;
-use crate::listing_pages::{
-    following_after, header_bytes, page_bytes, page_count_in, page_total,
-};
+use crate::listing_pages::{following_after, header_bytes, page_bytes, page_count_in, page_total};
 use crate::sending::{WriteFailed, write_page};
 use lh_addr::Root;
 use lh_bucket::Listing;

@@ -1,5 +1,4 @@
-use Rattle.std.proofs.Common.{◌≡◌, Bool, true, false, None, Some, cond, not, sym, ap, ◌∙◌, arith}
-use Rattle.lh_image.specs.Faults.{bad_counts, bad_field}
+use Rattle.std.proofs.Common.{true, false, sym, arith}
 use Rattle.lh_image.specs.Header.{header_with}
 use Rattle.lh_image.specs.Layout.{ends_in_zeros, header_of}
 use Rattle.lh_image.proofs.HeaderTests.{due_field, due_range, due_zeros, due_counts, few_pages}

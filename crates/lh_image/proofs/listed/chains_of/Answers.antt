@@ -1,4 +1,4 @@
-use Rattle.std.proofs.Common.{◌≡◌, ℕ, List, length, map, Vec, Global, Some, None, sym, ◌∙◌}
+use Rattle.std.proofs.Common.{◌≡◌, ℕ, map, Vec, Global, None, sym, ◌∙◌}
 use Rattle.std.specs.List.{range_with_len}
 use Rattle.lh_image.specs.Chains.{Links, chain}
 use Rattle.lh_image.specs.Faults.{bad_next, named_twice, least}

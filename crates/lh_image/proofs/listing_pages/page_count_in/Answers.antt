@@ -1,5 +1,4 @@
-use Rattle.std.proofs.Common.{◌≡◌, ◌≤◌, ◌∙◌, length, sym, ap}
-use Rattle.lh_bucket.specs.Listing.{list_at}
+use Rattle.std.proofs.Common.{◌≡◌, ◌≤◌, ◌∙◌, sym, ap}
 use Rattle.lh_page.specs.PackedList.{pages_needed}
 use Rattle.lh_image.proofs.Counting.{page_count_is}
 use Rattle.lh_image.proofs.listing_pages.page_count_in.Goals as goal
