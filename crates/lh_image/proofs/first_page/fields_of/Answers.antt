@@ -1,6 +1,6 @@
 use Rattle.std.proofs.Common.{◌∙◌}
 use Rattle.lh_image.specs.Layout.{header_of}
-use Rattle.lh_image.proofs.HeaderTests.{number_in_slice}
+use Rattle.lh_image.proofs.bytes.HeaderTests.{number_in_slice}
 use Rattle.lh_image.proofs.first_page.fields_of.Goals as goal
 
 pub returns : goal.returns

@@ -1,7 +1,7 @@
 use Rattle.std.proofs.Common.{true, false, sym, arith}
 use Rattle.lh_image.specs.Header.{header_with}
 use Rattle.lh_image.specs.Layout.{ends_in_zeros, header_of}
-use Rattle.lh_image.proofs.HeaderTests.{due_field, due_range, due_zeros, due_counts, few_pages}
+use Rattle.lh_image.proofs.bytes.HeaderTests.{due_field, due_range, due_zeros, due_counts, few_pages}
 use Rattle.lh_image.proofs.first_page.header_of.Goals as goal
 
 pub returns-in-Err-clause-fault : goal.returns-in-Err-clause-fault

@@ -1,5 +1,5 @@
 use Rattle.std.proofs.Common.{◌≡◌, ◌≤◌, length, sym, rules}
-use Rattle.lh_image.proofs.FirstPage.{not_magic, too_short, reads_first}
+use Rattle.lh_image.proofs.reads.FirstPage.{not_magic, too_short, reads_first}
 use Rattle.lh_image.proofs.first_page.read_header.Goals as goal
 
 pub returns-then-has_no_magic-clause-read : goal.returns-then-has_no_magic-clause-read

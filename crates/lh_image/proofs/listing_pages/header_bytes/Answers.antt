@@ -2,7 +2,7 @@ use Rattle.std.proofs.Common.{◌≡◌, ◌∙◌, ◌++◌, ap, arith}
 use Rattle.std.specs.Prelude.{replicate}
 use Rattle.lh_bucket.specs.Listing.{count_of}
 use Rattle.lh_image.specs.Layout.{header_text}
-use Rattle.lh_image.proofs.Counting.{records_few}
+use Rattle.lh_image.proofs.writes.Counting.{records_few}
 use Rattle.lh_image.proofs.listing_pages.header_bytes.Goals as goal
 
 pub returns : goal.returns

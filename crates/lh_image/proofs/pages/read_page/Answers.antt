@@ -3,7 +3,7 @@ use Rattle.std.specs.Prelude.{min}
 use Rattle.std.proofs.lemmas.List.{take_all, drop-drop}
 use Rattle.lh_image.specs.Filling.{IsFilled}
 use Rattle.lh_image.specs.Layout.{page}
-use Rattle.lh_image.proofs.Steps.{come_more}
+use Rattle.lh_image.proofs.reads.Steps.{come_more}
 use Rattle.lh_image.proofs.pages.read_page.Goals as goal
 
 pub returns-clause-read : goal.returns-clause-read

@@ -1,8 +1,8 @@
 use Rattle.std.proofs.Common.{◌≡◌, arith, refl}
 use Rattle.std.proofs.Common.{◌+◌}
 use Rattle.std.proofs.lemmas.Result.{err_from_is_err_and}
-use Rattle.lh_image.proofs.Finding.{cut_more}
-use Rattle.lh_image.proofs.FirstPages.{within_first, come_first}
+use Rattle.lh_image.proofs.judging.Finding.{cut_more}
+use Rattle.lh_image.proofs.reads.FirstPages.{within_first, come_first}
 use Rattle.lh_image.proofs.pages.read_pages.Goals as goal
 
 pub loop-page-init : goal.loop-page-init

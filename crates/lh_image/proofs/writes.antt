@@ -1,0 +1,5 @@
+-- The pages of a listing, and what is written of it
+pub mod Sends
+pub mod Counting
+pub mod Counted
+pub mod CanonicalPages
