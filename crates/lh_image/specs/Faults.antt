@@ -7,12 +7,13 @@ use Rattle.lh_addr.specs.Fnv.{code_of}
 use Rattle.lh_addr.specs.Growth.{address, level_of}
 use Rattle.lh_page.specs.declared.head.PageHead.{PageHead}
 use Rattle.lh_page.specs.declared.pair.Pair.{Pair}
+use Rattle.lh_page.specs.Format.{version_1}
 use Rattle.lh_page.specs.Records.{keys_of}
 use Rattle.lh_image.specs.declared.fault.ImageFault.{ImageFault}
 use Rattle.lh_image.specs.declared.fault.ImageFault.TheVariants.{Magic, HeaderField, Counts, Short, Trailing, Kind, BucketNumber, Level, Used, Next, Twice, Never, Slot, Misfit}
 use Rattle.lh_image.specs.declared.first_page.Header.{Header}
 use Rattle.lh_image.specs.Chains.{Links, chain, stands_in}
-use Rattle.lh_image.specs.Layout.{magic, header_of, ends_in_zeros, view_of}
+use Rattle.lh_image.specs.Layout.{page_bytes, magic, header_of, ends_in_zeros, view_of}
 use Rattle.lh_image.specs.View.{View, initial, buckets, page_count, record_count, numbers, used, bucket, links, chain_of}
 
 -- ---- the file as a whole
@@ -23,7 +24,7 @@ no_magic bytes = not (bytes_eq (take 4 bytes) magic)
 
 -- whether there are enough bytes for a header
 abbrev pub has_header : List ℕ → Bool
-has_header bytes = nat_le 1024 (length bytes)
+has_header bytes = nat_le page_bytes (length bytes)
 
 -- whether a number is below a range or above it
 abbrev pub out_of : ℕ → ℕ → ℕ → Bool
@@ -33,7 +34,7 @@ out_of low high x = nat_lt x low || nat_lt high x
 unfoldable pub is_bad_field : Header → Bool → ℕ → Bool
 is_bad_field h zeros offset =
     if offset == 4 then out_of 1 256 h.config.initial
-    else if offset == 8 then out_of 1 14 h.config.capacity
+    else if offset == 8 then out_of 1 version_1.slots h.config.capacity
     else if offset == 12 then out_of 10 200 h.config.load
     else if offset == 16 then out_of h.config.initial 65536 h.buckets
     else if offset == 20 then out_of h.config.initial 65536 h.config.max || nat_lt h.config.max h.buckets
@@ -49,11 +50,11 @@ bad_counts h = nat_lt h.pages (1 + h.buckets) || nat_lt 1048576 h.pages || nat_l
 
 -- fewer bytes than a header, or than the header's number of pages (I4)
 unfoldable pub is_short : List ℕ → Bool
-is_short bytes = nat_lt (length bytes) 1024 || nat_lt (length bytes) (1024 * (header_of bytes).pages)
+is_short bytes = nat_lt (length bytes) page_bytes || nat_lt (length bytes) (page_bytes * (header_of bytes).pages)
 
 -- bytes behind the last page (I5)
 unfoldable pub has_trailing : List ℕ → Bool
-has_trailing bytes = nat_lt (1024 * (header_of bytes).pages) (length bytes)
+has_trailing bytes = nat_lt (page_bytes * (header_of bytes).pages) (length bytes)
 
 -- ---- page p by itself, by its head
 

@@ -5,7 +5,7 @@ use Rattle.lh_image.specs.declared.fault.ImageFault.{ImageFault}
 use Rattle.lh_image.specs.declared.first_page.Fields.{Fields}
 use Rattle.lh_image.specs.declared.first_page.Header.{Header}
 use Rattle.lh_image.specs.Faults.{header_rows, first_of}
-use Rattle.lh_image.specs.Layout.{header_of}
+use Rattle.lh_image.specs.Layout.{page_bytes, header_of}
 use Rattle.lh_image.specs.Reading.{IsTold, Leaves, reading_of}
 
 -- the header that some fields are
@@ -29,9 +29,9 @@ pub record AreInRange (header : Header) : Type 0 where
 pub record HasHeader (header : Header) (bytes : List ℕ) (now : Option (List ℕ)) : Type 0 where
   pub fields : header ≡ header_of bytes
   pub faultless : first_of (header_rows bytes) ≡ None
-  pub size : 1024 ≤ length bytes
-  pub rest : now ≡ Some (drop 1024 bytes)
-  pub each_byte : (i : ℕ) → i < 1024 → slice_index bytes i < 256
+  pub size : page_bytes ≤ length bytes
+  pub rest : now ≡ Some (drop page_bytes bytes)
+  pub each_byte : (i : ℕ) → i < page_bytes → slice_index bytes i < 256
 
 -- the header, or the answer that is due
 abbrev pub ReadsHeader : List ℕ → Result Header ImageFault → Option (List ℕ) → Type 0

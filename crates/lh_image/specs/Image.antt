@@ -9,7 +9,7 @@ use Rattle.lh_page.specs.PageTable.{IsPage, IsWritable}
 use Rattle.lh_bucket.specs.Listing.{Lists, IsListing, size, list_at, count_of}
 use Rattle.lh_image.specs.Chains.{IsCovered}
 use Rattle.lh_image.specs.Faults.{image_fault}
-use Rattle.lh_image.specs.Layout.{header_of, header_text, page, page_at, view_of}
+use Rattle.lh_image.specs.Layout.{page_bytes, header_of, header_text, page, page_at, view_of}
 use Rattle.lh_image.specs.View.{View, buckets, bucket, next, chain_of}
 
 -- P pages show a listing, with a path of page numbers for each bucket.
@@ -29,7 +29,7 @@ pub record Shows (v : View) (l : Lists) (P : ℕ) (path : ℕ → List ℕ) : Ty
 
 -- The bytes are P whole pages: page 0 spells the header, the others are pages, and they show the listing.
 pub record IsImageBy (bytes : List ℕ) (l : Lists) (P : ℕ) (path : ℕ → List ℕ) : Type 0 where
-  pub whole : length bytes ≡ 1024 * P
+  pub whole : length bytes ≡ page_bytes * P
   pub spelled : page bytes 0 ≡ header_text (header_of bytes)
   pub pages : (p : ℕ) → 1 ≤ p → p < P → IsPage version_1 (page bytes p) (page_at bytes p) × IsWritable version_1 (page_at bytes p)
   pub shown : Shows (view_of bytes) l P path

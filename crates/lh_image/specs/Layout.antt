@@ -3,7 +3,7 @@ use Rattle.std.specs.Prelude.{ℕ, ◌*◌, Bool, true, List, [], ◌∷◌, ◌
 use Rattle.byteorder.specs.Endian.{little_from, little_bytes}
 use Rattle.lh_page.specs.declared.head.PageHead.{PageHead}
 use Rattle.lh_page.specs.declared.page.Page.{Page}
-use Rattle.lh_page.specs.Format.{version_1}
+use Rattle.lh_page.specs.Format.{version_1, page_size}
 use Rattle.lh_page.specs.PageFields.{all_zero, head_of, pairs_of, bad_slot, page_of}
 use Rattle.lh_image.specs.declared.first_page.Header.{Header}
 use Rattle.lh_image.specs.View.{View}
@@ -11,6 +11,10 @@ use Rattle.lh_image.specs.View.{View}
 -- the first four bytes: LHF1
 abbrev pub magic : List ℕ
 magic = 76 ∷ 72 ∷ 70 ∷ 49 ∷ []
+
+-- the bytes of a page: 1,024
+abbrev pub page_bytes : ℕ
+page_bytes = page_size version_1
 
 -- ---- the header
 
@@ -43,7 +47,7 @@ header_text h =
 
 -- the bytes of page p
 unfoldable pub page : List ℕ → ℕ → List ℕ
-page bytes p = take 1024 (drop (1024 * p) bytes)
+page bytes p = take page_bytes (drop (page_bytes * p) bytes)
 
 -- what page p shows
 abbrev pub page_at : List ℕ → ℕ → Page

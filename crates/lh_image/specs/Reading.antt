@@ -6,7 +6,7 @@ use Rattle.lh_image.specs.declared.fault.ImageFault.{ImageFault}
 use Rattle.lh_image.specs.declared.fault.ImageFault.TheVariants.{Magic, HeaderField, Counts, Trailing, ReadFault, Memory}
 use Rattle.lh_image.specs.Faults.{page_fault, image_fault}
 use Rattle.lh_image.specs.Image.{listing_of}
-use Rattle.lh_image.specs.Layout.{header_of, view_of}
+use Rattle.lh_image.specs.Layout.{page_bytes, header_of, view_of}
 use Rattle.lh_image.specs.View.{View}
 
 -- a fault where there is one, or else the listing that pages show
@@ -36,8 +36,8 @@ IsAnswer Shows (Err f) due = IsTold f due
 -- What is left of the reader's bytes: nothing after an answer that says so, all but the first page after the faults of the header, and after trailing bytes all but one byte past the last page.
 abbrev pub Leaves : {X : Type 0} → Result X ImageFault → List ℕ → Option (List ℕ) → Type 0
 Leaves (Ok x) bytes now = IsAtEnd now
-Leaves (Err Magic) bytes now = Consumes (Some bytes) now (take 1024 bytes)
-Leaves (Err (HeaderField offset)) bytes now = Consumes (Some bytes) now (take 1024 bytes)
-Leaves (Err Counts) bytes now = Consumes (Some bytes) now (take 1024 bytes)
-Leaves (Err Trailing) bytes now = Consumes (Some bytes) now (take (1024 * (header_of bytes).pages + 1) bytes)
+Leaves (Err Magic) bytes now = Consumes (Some bytes) now (take page_bytes bytes)
+Leaves (Err (HeaderField offset)) bytes now = Consumes (Some bytes) now (take page_bytes bytes)
+Leaves (Err Counts) bytes now = Consumes (Some bytes) now (take page_bytes bytes)
+Leaves (Err Trailing) bytes now = Consumes (Some bytes) now (take (page_bytes * (header_of bytes).pages + 1) bytes)
 Leaves (Err f) bytes now = Unit {0}
