@@ -41,7 +41,8 @@ pub(crate) fn lists_of(
 ) -> Result<Vec<Vec<Pair>>, ImageFault>
     requires { AreWithin table.now.entries.items table.now.pairs.items }
     ensures ok { IfOk result (λ v. map (λ list. list.items) v.items
-        ≡ map (λ chain. flat_map (records_in table.now.entries.items table.now.pairs.items) chain.items) chains.now) }
+        ≡ map (λ chain. flat_map (records_in table.now.entries.items table.now.pairs.items) chain.items)
+        chains.now) }
     ensures fault { IfErr result (λ f. f ≡ ImageFault.Memory) }
 {
     let mut lists = Vec::new(alloc);
