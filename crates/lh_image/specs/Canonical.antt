@@ -11,7 +11,7 @@ use Rattle.lh_page.specs.PageTable.{page_text}
 use Rattle.lh_bucket.specs.Listing.{Lists, IsListing, size, list_at, count_of}
 use Rattle.lh_image.specs.declared.first_page.Header.{Header}
 use Rattle.lh_image.specs.Image.{IsImage}
-use Rattle.lh_image.specs.Layout.{header_text}
+use Rattle.lh_image.specs.Layout.{most_pages, header_text}
 
 -- the records of the pages of bucket i
 abbrev pub pages_in : Lists → ℕ → List (List Pair)
@@ -66,4 +66,4 @@ canonical l =
 
 -- What is written is an image of the listing.
 abbrev pub CanonicalLaw : Type 0
-CanonicalLaw = (l : Lists) → IsListing l → page_total l ≤ 1048576 → IsImage (canonical l) l
+CanonicalLaw = (l : Lists) → IsListing l → page_total l ≤ most_pages → IsImage (canonical l) l

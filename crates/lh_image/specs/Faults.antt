@@ -13,7 +13,7 @@ use Rattle.lh_image.specs.declared.fault.ImageFault.{ImageFault}
 use Rattle.lh_image.specs.declared.fault.ImageFault.TheVariants.{Magic, HeaderField, Counts, Short, Trailing, Kind, BucketNumber, Level, Used, Next, Twice, Never, Slot, Misfit}
 use Rattle.lh_image.specs.declared.first_page.Header.{Header}
 use Rattle.lh_image.specs.Chains.{Links, chain, stands_in}
-use Rattle.lh_image.specs.Layout.{page_bytes, magic, header_of, ends_in_zeros, view_of}
+use Rattle.lh_image.specs.Layout.{most_pages, page_bytes, magic, header_of, ends_in_zeros, view_of}
 use Rattle.lh_image.specs.View.{View, initial, buckets, page_count, record_count, numbers, used, bucket, links, chain_of}
 
 -- ---- the file as a whole
@@ -46,7 +46,7 @@ bad_field h zeros = find (is_bad_field h zeros) (4 ∷ 8 ∷ 12 ∷ 16 ∷ 20 �
 
 -- fewer pages than header and buckets, more pages than an image may have, or more records than the pages have slots for (I3)
 unfoldable pub bad_counts : Header → Bool
-bad_counts h = nat_lt h.pages (1 + h.buckets) || nat_lt 1048576 h.pages || nat_lt (h.config.capacity * (h.pages - 1)) h.records
+bad_counts h = nat_lt h.pages (1 + h.buckets) || nat_lt most_pages h.pages || nat_lt (h.config.capacity * (h.pages - 1)) h.records
 
 -- fewer bytes than a header, or than the header's number of pages (I4)
 unfoldable pub is_short : List ℕ → Bool

@@ -5,7 +5,7 @@ use Rattle.lh_image.specs.declared.fault.ImageFault.{ImageFault}
 use Rattle.lh_image.specs.declared.first_page.Fields.{Fields}
 use Rattle.lh_image.specs.declared.first_page.Header.{Header}
 use Rattle.lh_image.specs.Faults.{header_rows, first_of}
-use Rattle.lh_image.specs.Layout.{page_bytes, header_of}
+use Rattle.lh_image.specs.Layout.{most_pages, page_bytes, header_of}
 use Rattle.lh_image.specs.Reading.{IsTold, Leaves, reading_of}
 
 -- the header that some fields are
@@ -23,7 +23,7 @@ pub record AreInRange (header : Header) : Type 0 where
   pub from_initial : header.config.initial ≤ header.buckets
   pub to_max : header.buckets ≤ header.config.max
   pub enough : 1 + header.buckets ≤ header.pages
-  pub few : header.pages ≤ 1048576
+  pub few : header.pages ≤ most_pages
 
 -- the first page was read, and has a header without a fault
 pub record HasHeader (header : Header) (bytes : List ℕ) (now : Option (List ℕ)) : Type 0 where

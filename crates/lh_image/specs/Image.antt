@@ -9,7 +9,7 @@ use Rattle.lh_page.specs.PageTable.{IsPage, IsWritable}
 use Rattle.lh_bucket.specs.Listing.{Lists, IsListing, size, list_at, count_of}
 use Rattle.lh_image.specs.Chains.{IsCovered}
 use Rattle.lh_image.specs.Faults.{image_fault}
-use Rattle.lh_image.specs.Layout.{page_bytes, header_of, header_text, page, page_at, view_of}
+use Rattle.lh_image.specs.Layout.{most_pages, page_bytes, header_of, header_text, page, page_at, view_of}
 use Rattle.lh_image.specs.View.{View, buckets, bucket, next, chain_of}
 
 -- P pages show a listing, with a path of page numbers for each bucket.
@@ -17,7 +17,7 @@ pub record Shows (v : View) (l : Lists) (P : ℕ) (path : ℕ → List ℕ) : Ty
   -- each record stands in the list of its bucket, and no key twice
   pub listing : IsListing l
   -- there are not too many pages, and the header has the listing's numbers
-  pub few : P ≤ 1048576
+  pub few : P ≤ most_pages
   pub header : v.header ≡ record { config = l.config; buckets = size l; pages = P; records = count_of l.lists }
   -- primary pages come first, and each page has its bucket's local level
   pub kinds : (p : ℕ) → 1 ≤ p → p < P → (v.head p).kind ≡ (if nat_le p (size l) then 1 else 2)

@@ -16,6 +16,10 @@ magic = 76 ∷ 72 ∷ 70 ∷ 49 ∷ []
 abbrev pub page_bytes : ℕ
 page_bytes = page_size version_1
 
+-- the most pages that an image may have, the header's among them
+abbrev pub most_pages : ℕ
+most_pages = 1048576
+
 -- ---- the header
 
 -- the header that the bytes show

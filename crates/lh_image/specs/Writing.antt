@@ -2,6 +2,7 @@
 use Rattle.std.specs.Prelude.{◌≡◌, ℕ, ◌<◌, ◌≤◌, List, ◌++◌, Option, Result, Ok, Err}
 use Rattle.std.specs.Io.KnownBytes.{Appends, Keeps}
 use Rattle.lh_bucket.specs.Listing.{Lists}
+use Rattle.lh_image.specs.Layout.{most_pages}
 use Rattle.lh_image.specs.declared.fault.WriteImageFault.{WriteImageFault}
 use Rattle.lh_image.specs.declared.fault.WriteImageFault.TheVariants.{TooLarge, WriteFault, Memory}
 use Rattle.lh_image.specs.Canonical.{canonical, page_total}
@@ -20,7 +21,7 @@ IsSent text (Err e) before now = TakesBeginning before now text
 
 -- A listing that is not too large is written as its canonical image, and a beginning of it where a write failed; of one that is too large nothing is.
 abbrev pub IsWritten : Lists → Result (Unit {0}) WriteImageFault → Option (List ℕ) → Option (List ℕ) → Type 0
-IsWritten l (Ok done) before now = (page_total l ≤ 1048576) × Appends before now (canonical l)
-IsWritten l (Err TooLarge) before now = (1048576 < page_total l) × Keeps before now
-IsWritten l (Err WriteFault) before now = (page_total l ≤ 1048576) × TakesBeginning before now (canonical l)
+IsWritten l (Ok done) before now = (page_total l ≤ most_pages) × Appends before now (canonical l)
+IsWritten l (Err TooLarge) before now = (most_pages < page_total l) × Keeps before now
+IsWritten l (Err WriteFault) before now = (page_total l ≤ most_pages) × TakesBeginning before now (canonical l)
 IsWritten l (Err Memory) before now = ⊥
