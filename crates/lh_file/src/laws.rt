@@ -1,4 +1,4 @@
-//! Laws of the rule, over the definitions of `specs/Rule.antt`: what its sums say of single hands. Each
+//! Laws of the rule, over the definitions of `specs/Words/Rule.antt`: what its sums say of single hands. Each
 //! is the contract of a function that does nothing.
 ghost use Rattle.lh_file.specs.Words.RuleLaws.{OneRight, NoRight, DrawnOnce, NotDrawn};
 
