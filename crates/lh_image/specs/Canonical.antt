@@ -9,7 +9,7 @@ use Rattle.lh_page.specs.declared.pair.Pair.{Pair}
 use Rattle.lh_page.specs.PackedList.{pages_of}
 use Rattle.lh_page.specs.PageTable.{page_text}
 use Rattle.lh_bucket.specs.Listing.{Lists, IsListing, size, list_at, count_of}
-use Rattle.lh_image.specs.declared.first_page.Header.{Header}
+use Rattle.lh_image.specs.declared.reading.first_page.Header.{Header}
 use Rattle.lh_image.specs.Image.{IsImage}
 use Rattle.lh_image.specs.Layout.{most_pages, header_text}
 

@@ -2,8 +2,8 @@
 use Rattle.std.specs.Prelude.{◌≡◌, ℕ, ◌+◌, ◌<◌, ◌≤◌, List, length, drop, Option, Some, None, Result, Ok, Err, slice_index}
 use Rattle.lh_addr.specs.Settings.{IsInRange}
 use Rattle.lh_image.specs.declared.fault.ImageFault.{ImageFault}
-use Rattle.lh_image.specs.declared.first_page.Fields.{Fields}
-use Rattle.lh_image.specs.declared.first_page.Header.{Header}
+use Rattle.lh_image.specs.declared.reading.first_page.Fields.{Fields}
+use Rattle.lh_image.specs.declared.reading.first_page.Header.{Header}
 use Rattle.lh_image.specs.Faults.{header_rows, first_of}
 use Rattle.lh_image.specs.Layout.{most_pages, page_bytes, header_of}
 use Rattle.lh_image.specs.Reading.{IsTold, Leaves, reading_of}

@@ -3,10 +3,10 @@ use Rattle.std.specs.Prelude.{◌≡◌, ℕ, ◌-◌, ◌*◌, ◌<◌, ◌≤�
 use Rattle.lh_page.specs.declared.pair.Pair.{Pair}
 use Rattle.lh_image.specs.declared.fault.ImageFault.{ImageFault}
 use Rattle.lh_image.specs.declared.fault.ImageFault.TheVariants.{Short, Trailing, ReadFault, Memory}
-use Rattle.lh_image.specs.declared.first_page.Header.{Header}
-use Rattle.lh_image.specs.declared.page_checks.PageFaults.{PageFaults}
-use Rattle.lh_image.specs.declared.table.Entry.{Entry}
-use Rattle.lh_image.specs.declared.table.Table.{Table}
+use Rattle.lh_image.specs.declared.reading.first_page.Header.{Header}
+use Rattle.lh_image.specs.declared.judge.page_checks.PageFaults.{PageFaults}
+use Rattle.lh_image.specs.declared.reading.table.Entry.{Entry}
+use Rattle.lh_image.specs.declared.reading.table.Table.{Table}
 use Rattle.lh_image.specs.Layout.{page_bytes, header_of, view_of}
 use Rattle.lh_image.specs.PageChecks.{AreNoted}
 use Rattle.lh_image.specs.Table.{IsTable}

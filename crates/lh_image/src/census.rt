@@ -7,8 +7,8 @@ ghost use Rattle.lh_image.specs.Reading.{IsAnswer, Leaves, reading_of};
 
 use crate::fault::ImageFault;
 use crate::laws::census_counts_pages;
-use crate::listing_pages::{page_count_in, page_total};
 use crate::reading::read_image;
+use crate::writing::listing_pages::{page_count_in, page_total};
 use lh_bucket::Listing;
 use lh_page::laws::pages_are_pieces;
 use std::alloc::Global;

@@ -9,23 +9,11 @@
 #![tactic(auto)]
 
 mod census;
-mod chains;
 mod fault;
-mod filling;
-mod first_page;
+mod judge;
 pub mod laws;
 mod limits;
-mod links;
-mod listed;
-mod listing_pages;
-mod lists;
-mod memory;
-mod misplaced;
-mod page_checks;
-mod pages;
 mod reading;
-mod sending;
-mod table;
 mod writing;
 
 pub use census::{Census, check_image};

@@ -3,11 +3,17 @@ ghost use Rattle.std.specs.Prelude.{◌≡◌, IfSome, IfOk};
 ghost use Rattle.lh_image.specs.Image.{IsImage};
 ghost use Rattle.lh_image.specs.Reading.{IsAnswer, Leaves, reading_of};
 
+mod filling;
+pub(crate) mod first_page;
+pub(crate) mod memory;
+pub(crate) mod pages;
+pub(crate) mod table;
+
 use crate::fault::ImageFault;
-use crate::first_page::read_header;
+use crate::judge::listed::listing_of_pages;
 use crate::laws::faultless_bytes_are_an_image;
-use crate::listed::listing_of_pages;
-use crate::pages::{read_end, read_pages};
+use crate::reading::first_page::read_header;
+use crate::reading::pages::{read_end, read_pages};
 use lh_bucket::Listing;
 use std::alloc::Global;
 use std::io::Read;

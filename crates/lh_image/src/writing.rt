@@ -5,10 +5,15 @@ ghost use Rattle.lh_bucket.specs.Listing.{size};
 ghost use Rattle.lh_image.specs.Canonical.{canonical, page_total, overflow_before, overflow_text, text_in};
 ghost use Rattle.lh_image.specs.Writing.{IsSent, IsWritten};
 
+pub(crate) mod listing_pages;
+mod sending;
+
 use crate::fault::WriteImageFault;
 use crate::limits::MAX_PAGES;
-use crate::listing_pages::{following_after, header_bytes, page_bytes, page_count_in, page_total};
-use crate::sending::{WriteFailed, write_page};
+use crate::writing::listing_pages::{
+    following_after, header_bytes, page_bytes, page_count_in, page_total,
+};
+use crate::writing::sending::{WriteFailed, write_page};
 use lh_addr::Root;
 use lh_bucket::Listing;
 use std::io::Write;

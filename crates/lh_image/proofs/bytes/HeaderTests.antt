@@ -6,7 +6,7 @@ use Rattle.byteorder.specs.Numbers.{little_from-take}
 use Rattle.byteorder.specs.Endian.{little_from}
 use Rattle.lh_addr.specs.Limits.{IsInitial, IsCapacity, IsLoad, IsSize}
 use Rattle.lh_image.specs.declared.fault.ImageFault.TheVariants.{HeaderField, Counts}
-use Rattle.lh_image.specs.declared.first_page.Header.{Header}
+use Rattle.lh_image.specs.declared.reading.first_page.Header.{Header}
 use Rattle.lh_image.specs.Faults.{is_bad_field, bad_field, bad_counts, field_rows, first_of, where_so, out_of}
 use Rattle.lh_image.specs.Header.{AreInRange}
 use Rattle.lh_image.proofs.bytes.Header.{from_drop}

@@ -2,7 +2,7 @@
 use Rattle.std.proofs.Common.{◌≡◌, ℕ, ◌<◌, ◌^◌, List, ◌++◌, length, drop, refl, ap, ◌∙◌}
 use Rattle.byteorder.specs.Numbers.{little_number-reads_back}
 use Rattle.byteorder.specs.Endian.{little_from, little_bytes}
-use Rattle.lh_image.specs.declared.first_page.Header.{Header}
+use Rattle.lh_image.specs.declared.reading.first_page.Header.{Header}
 use Rattle.lh_image.specs.Layout.{header_of, header_text}
 use Rattle.lh_image.proofs.bytes.Header.{from_drop}
 

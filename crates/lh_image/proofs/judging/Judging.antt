@@ -8,8 +8,8 @@ use Rattle.lh_bucket.specs.Listing.{Lists}
 use Rattle.lh_page.specs.declared.pair.Pair.{Pair}
 use Rattle.lh_image.specs.declared.fault.ImageFault.{ImageFault}
 use Rattle.lh_image.specs.declared.fault.ImageFault.TheVariants.{Kind, BucketNumber, Level, Used, Slot, Misfit, ReadFault, Memory}
-use Rattle.lh_image.specs.declared.page_checks.PageFaults.{PageFaults}
-use Rattle.lh_image.specs.declared.table.Entry.{Entry}
+use Rattle.lh_image.specs.declared.judge.page_checks.PageFaults.{PageFaults}
+use Rattle.lh_image.specs.declared.reading.table.Entry.{Entry}
 use Rattle.lh_image.specs.Faults.{at_head, bad_kind, bad_bucket, bad_level, bad_used, bad_total, bad_used_at, has_bad_slot, has_misfit, least, where_so, head_rows, link_rows, record_rows, page_fault, first_of}
 use Rattle.lh_image.specs.Listed.{IsDue, IsKept}
 use Rattle.lh_image.specs.PageChecks.{known_bad_level, known_bad_slot, noted_rows}

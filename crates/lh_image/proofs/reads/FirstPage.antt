@@ -10,7 +10,7 @@ use Rattle.lh_page.specs.PageFields.{all_zero}
 use Rattle.lh_bucket.specs.Listing.{Lists}
 use Rattle.lh_image.specs.declared.fault.ImageFault.{ImageFault}
 use Rattle.lh_image.specs.declared.fault.ImageFault.TheVariants.{Magic, HeaderField, Counts, Short, ReadFault, Memory}
-use Rattle.lh_image.specs.declared.first_page.Header.{Header}
+use Rattle.lh_image.specs.declared.reading.first_page.Header.{Header}
 use Rattle.lh_image.specs.Faults.{bad_field, bad_counts, no_magic, is_short, where_so, field_rows, header_rows, size_rows, page_rows, first_of, image_fault}
 use Rattle.lh_image.specs.Filling.{IsFilled}
 use Rattle.lh_image.specs.Header.{ReadsHeader}

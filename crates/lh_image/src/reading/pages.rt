@@ -1,0 +1,88 @@
+//! The pages behind the header, one after the other.
+ghost use Rattle.std.specs.Prelude.{◌≡◌, ℕ, ◌+◌, ◌*◌, ◌<◌, ◌≤◌, List, length, drop, IfOk, IfSome, OnOk, Some};
+ghost use Rattle.lh_image.specs.Header.{AreInRange, HasHeader};
+ghost use Rattle.lh_image.specs.Pages.{HaveCome, ReadsAll, ReadsTo, ReadsEnd};
+ghost use Rattle.lh_image.specs.Table.{AreWithin};
+
+use crate::fault::ImageFault;
+use crate::judge::page_checks::PageFaults;
+use crate::reading::filling::read_into;
+use crate::reading::first_page::Header;
+use crate::reading::table::Table;
+use lh_addr::Root;
+use lh_page::page_head;
+use std::alloc::Global;
+use std::io::Read;
+
+/// Reads one page more into these bytes, keeps its records, and looks at it by itself.
+fn read_page<R: Read>(
+    reader: &mut R,
+    bytes: &mut [u8; 1024],
+    header: &Header,
+    root: &Root,
+    page: u32,
+    table: &mut Table,
+    faults: &mut PageFaults,
+) -> Result<(), ImageFault>
+    requires page { 1 ≤ page }
+    requires sum { faults.old.sum ≤ 255 * page }
+    requires root { root.now ≡ record { initial = header.now.config.initial; buckets = header.now.buckets } }
+    requires within { AreWithin table.old.entries.items table.old.pairs.items }
+    ensures within { OnOk result (AreWithin table.new.entries.items table.new.pairs.items) }
+    ensures size { OnOk result (length table.new.entries.items ≡ length table.old.entries.items + 1) }
+    ensures sum { OnOk result (faults.new.sum ≤ faults.old.sum + 255) }
+    ensures read { (bytes : List ℕ) → R.remaining reader.old ≡ Some (drop (1024 * page) bytes) →
+        HaveCome bytes header.now page table.old.entries.items table.old.pairs.items faults.old →
+        ReadsTo bytes header.now (page + 1) result table.new.entries.items table.new.pairs.items faults.new
+        (R.remaining reader.new) }
+{
+    if read_into(reader, bytes)? < 1024 {
+        return Err(ImageFault::Short);
+    }
+    let head = page_head(bytes);
+    let has_bad_slot = table.push(&head, bytes, header.config.capacity())?;
+    faults.see(header, root, page, &head, has_bad_slot);
+    Ok(())
+}
+
+/// Reads the pages behind the header.
+pub(crate) fn read_pages<R: Read>(
+    alloc: Global,
+    header: &Header,
+    reader: &mut R,
+) -> Result<(Table, PageFaults), ImageFault>
+    requires { AreInRange header.now }
+    ensures within { IfOk result (λ r. AreWithin r.0.entries.items r.0.pairs.items) }
+    ensures size { IfOk result (λ r. length r.0.entries.items ≡ header.now.pages) }
+    ensures read { (bytes : List ℕ) → HasHeader header.now bytes (R.remaining reader.old) →
+        ReadsAll bytes header.now result (R.remaining reader.new) }
+{
+    let root = header.config.root(header.buckets);
+    let mut table = Table::new(alloc)?;
+    let mut faults = PageFaults::new();
+    let mut bytes = [0; 1024];
+    for page in 1..header.pages {
+        read_page(
+            reader,
+            &mut bytes,
+            header,
+            &root,
+            page,
+            &mut table,
+            &mut faults,
+        )?;
+    }
+    Ok((table, faults))
+}
+
+/// There is no byte behind the last page.
+pub(crate) fn read_end<R: Read>(reader: &mut R) -> Result<(), ImageFault>
+    ensures { IfSome (R.remaining reader.old) (λ rest. ReadsEnd rest result (R.remaining reader.new)) }
+{
+    let mut byte = [0; 1];
+    if read_into(reader, &mut byte)? == 0 {
+        Ok(())
+    } else {
+        Err(ImageFault::Trailing)
+    }
+}
