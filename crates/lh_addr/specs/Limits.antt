@@ -1,18 +1,37 @@
 -- The limits of a file
 use Rattle.std.specs.Prelude.{ℕ, ◌≤◌}
 
--- a file begins with 1 to 256 buckets
+-- the most buckets that a file begins with
+abbrev pub most_initial : ℕ
+most_initial = 256
+
+-- the most records in a page
+abbrev pub most_capacity : ℕ
+most_capacity = 14
+
+-- the load threshold is at least and at most so many percent
+abbrev pub least_load : ℕ
+least_load = 10
+
+abbrev pub most_load : ℕ
+most_load = 200
+
+-- the most buckets of a file
+abbrev pub most_buckets : ℕ
+most_buckets = 65536
+
+-- a file begins with 1 bucket or more
 abbrev pub IsInitial : ℕ → Type 0
-IsInitial initial = (1 ≤ initial) × (initial ≤ 256)
+IsInitial initial = (1 ≤ initial) × (initial ≤ most_initial)
 
--- a page holds 1 to 14 records
+-- a page holds 1 record or more
 abbrev pub IsCapacity : ℕ → Type 0
-IsCapacity capacity = (1 ≤ capacity) × (capacity ≤ 14)
+IsCapacity capacity = (1 ≤ capacity) × (capacity ≤ most_capacity)
 
--- the load threshold is 10 to 200 percent
+-- the load threshold
 abbrev pub IsLoad : ℕ → Type 0
-IsLoad load = (10 ≤ load) × (load ≤ 200)
+IsLoad load = (least_load ≤ load) × (load ≤ most_load)
 
--- a file that began with `initial` buckets has at least so many, and at most 65,536
+-- a file that began with `initial` buckets has at least so many
 abbrev pub IsSize : ℕ → ℕ → Type 0
-IsSize initial buckets = (initial ≤ buckets) × (buckets ≤ 65536)
+IsSize initial buckets = (initial ≤ buckets) × (buckets ≤ most_buckets)

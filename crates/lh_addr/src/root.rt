@@ -1,5 +1,6 @@
 //! The root of a file: how far it has grown, and what follows of addresses and levels.
 ghost use Rattle.std.specs.Prelude.{◌≡◌, ◌+◌, ◌*◌, ◌<◌, ◌≤◌, ◌↔◌, ◌^◌, IsSome, IfSome};
+ghost use Rattle.lh_addr.specs.Limits.{most_buckets};
 
 use crate::aim::Aim;
 use crate::config::Config;
@@ -77,7 +78,7 @@ impl Root {
 
     /// The root of the file with one bucket more.
     pub fn grown(&self) -> Root
-        requires { self.now.buckets < 65536 }
+        requires { self.now.buckets < most_buckets }
         ensures value { result ≡ record { initial = self.now.initial; buckets = self.now.buckets + 1 } }
         ensures extent { IsExtent result }
     {
@@ -104,7 +105,7 @@ impl Root {
     fn full_size(&self) -> u32
         ensures value { result ≡ self.now.initial * 2 ^ level self.now.initial self.now.buckets }
         ensures fits { result ≤ self.now.buckets }
-        ensures room { result < 65536 → level self.now.initial self.now.buckets < 16 }
+        ensures room { result < most_buckets → level self.now.initial self.now.buckets < 16 }
         ensures extent { IsExtent self.now }
     {
         self.initial << self.level
@@ -167,7 +168,7 @@ impl Root {
     /// The next split: the bucket that splits, the new bucket, and the level of both after it.
     #[tactic(auto, unfolding(crate::specs::Growth::pointer))]
     pub fn next_split(&self) -> (u32, u32, u8)
-        requires { self.now.buckets < 65536 }
+        requires { self.now.buckets < most_buckets }
         ensures old { result.0 ≡ pointer self.now.initial self.now.buckets }
         ensures new { result.1 ≡ self.now.buckets }
         ensures level { result.2 ≡ level self.now.initial self.now.buckets + 1 }

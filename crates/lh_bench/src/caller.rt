@@ -2,7 +2,7 @@
 ghost use Rattle.std.specs.Prelude.{◌≡◌};
 ghost use Rattle.lh_file.specs.FileState.{IsOf};
 
-use crate::streams::{Step, Stream, is_value_of, key_of, value_of};
+use crate::streams::{Step, Stream, is_value_of, key_of, other_value_of, value_of};
 use crate::tally::Tally;
 use lh_bucket::Reply;
 use lh_file::{Hand, HashFile, NoGate};
@@ -73,6 +73,18 @@ impl Caller {
         }
     }
 
+    fn replace<R: Wait>(&mut self, rt: &R, file: &HashFile<NoGate>, record: u64, length: u8)
+        requires { IsOf file.now.state self.old.hand }
+        ensures { IsOf file.now.state self.new.hand }
+    {
+        let key = key_of(self.seed, record);
+        let value = other_value_of(self.seed, record, length);
+        match file.replace(rt, &mut self.hand, key, value) {
+            Ok(answer) => self.tally.note(&answer.reply()),
+            Err(_) => self.tally.note_wrong(),
+        }
+    }
+
     /// Makes a call. One that is not answered counts as wrong.
     #[inline]
     fn take<R: Wait>(&mut self, rt: &R, file: &HashFile<NoGate>, step: Step)
@@ -83,6 +95,7 @@ impl Caller {
             Step::Search { record, is_there } => self.search(rt, file, record, is_there),
             Step::Insert { record, is_new } => self.insert(rt, file, record, is_new),
             Step::Delete { record } => self.delete(rt, file, record),
+            Step::Replace { record, length } => self.replace(rt, file, record, length),
         }
     }
 }

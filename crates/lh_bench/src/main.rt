@@ -11,6 +11,7 @@ mod crew;
 mod image;
 mod meter;
 mod order;
+mod replacing;
 mod report;
 mod settling;
 mod starter;
@@ -44,6 +45,7 @@ where
         Workload::MostlySearches => workloads::mostly_searches(rt, order)?,
         Workload::Mixed => workloads::mixed(rt, order)?,
         Workload::Image => image::write_and_read(rt, order)?,
+        Workload::Replaces => replacing::replaces(rt, order)?,
         Workload::Steps => return steps::measure(rt, order),
         Workload::Settling => return settling::measure(rt, order),
         Workload::All => return Ok(()),

@@ -18,21 +18,24 @@ pub enum Workload {
     Mixed,
     /// A file written as an image, read back and searched.
     Image,
+    /// Replaces of records that are there, in no order, by values of other lengths.
+    Replaces,
     /// The single atomic steps of a file's words.
     Steps,
     /// The settling of a file's acts.
     Settling,
-    /// The first five, one after another.
+    /// The first six, one after another.
     All,
 }
 
 impl Workload {
-    pub const MEASURED: [Workload; 5] = [
+    pub const MEASURED: [Workload; 6] = [
         Workload::Inserts,
         Workload::Searches,
         Workload::MostlySearches,
         Workload::Mixed,
         Workload::Image,
+        Workload::Replaces,
     ];
 
     /// The word that asks for it.
@@ -43,6 +46,7 @@ impl Workload {
             Workload::MostlySearches => "W3",
             Workload::Mixed => "W4",
             Workload::Image => "W5",
+            Workload::Replaces => "W6",
             Workload::Steps => "steps",
             Workload::Settling => "settle",
             Workload::All => "all",
@@ -56,6 +60,7 @@ impl Workload {
             "W3" => Workload::MostlySearches,
             "W4" => Workload::Mixed,
             "W5" => Workload::Image,
+            "W6" => Workload::Replaces,
             "steps" => Workload::Steps,
             "settle" => Workload::Settling,
             _ => Workload::All,
@@ -88,7 +93,7 @@ pub enum Asked {
     Told(Error),
 }
 
-const WORDS: [&str; 8] = ["W1", "W2", "W3", "W4", "W5", "steps", "settle", "all"];
+const WORDS: [&str; 9] = ["W1", "W2", "W3", "W4", "W5", "W6", "steps", "settle", "all"];
 
 fn number<'a>(
     alloc: Global,

@@ -77,9 +77,10 @@ impl Outcome {
     fn print_counts(&self, rt: &impl Print) -> io::Result<()> {
         let tally = &self.tally;
         let (found, absent) = (tally.found, tally.absent);
-        let (inserted, exists, deleted) = (tally.inserted, tally.exists, tally.deleted);
+        let (inserted, exists) = (tally.inserted, tally.exists);
+        let (deleted, replaced) = (tally.deleted, tally.replaced);
         print!(rt; ",\"found\":{found},\"absent\":{absent},\"inserted\":{inserted}")?;
-        print!(rt; ",\"exists\":{exists},\"deleted\":{deleted}")
+        print!(rt; ",\"exists\":{exists},\"deleted\":{deleted},\"replaced\":{replaced}")
     }
 
     fn print_times(&self, rt: &impl Print) -> io::Result<()> {

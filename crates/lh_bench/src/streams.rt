@@ -73,6 +73,20 @@ pub fn value_of(seed: u64, number: u64) -> Value {
     }
 }
 
+/// The value that a record is given in place of its own: so many bytes of 40, which go with its number.
+pub fn other_value_of(seed: u64, number: u64, length: u8) -> Value {
+    let seed = seed ^ 0x5a5a_5a5a_5a5a_5a5a;
+    let mut bytes = [0; 48];
+    for (part, place) in bytes.chunks_exact_mut(16).enumerate() {
+        let own = number.wrapping_mul(3).wrapping_add(part as u64);
+        place.copy_from_slice(&bytes_of(seed, own));
+    }
+    match Value::new(&bytes[..(length as usize).min(40)]) {
+        Ok(value) => value,
+        Err(_) => unreachable!(),
+    }
+}
+
 /// A call to be made. Records go by their numbers.
 #[derive(Clone, Copy)]
 pub enum Step {
@@ -81,6 +95,8 @@ pub enum Step {
     /// An insert, and whether its record is known to be absent.
     Insert { record: u64, is_new: bool },
     Delete { record: u64 },
+    /// A replace of a record that is there by a value of this length.
+    Replace { record: u64, length: u8 },
 }
 
 /// A row of calls without an end.
@@ -146,6 +162,35 @@ impl Stream for Picks {
             record: self.numbers.below(self.records),
             is_there: true,
         }
+    }
+}
+
+/// Replaces of records that are there, in no order.
+#[derive(Drop)]
+pub struct Replaces {
+    numbers: Numbers,
+    records: u64,
+}
+
+impl Replaces {
+    pub fn new(order: &Order) -> Replaces {
+        Replaces {
+            numbers: Numbers::new(order.seed, 6 << 32),
+            records: order.records,
+        }
+    }
+
+    /// The record that is replaced next, and the length of its new value.
+    pub fn pick(&mut self) -> (u64, u8) {
+        let record = self.numbers.below(self.records);
+        (record, (self.numbers.next() % 41) as u8)
+    }
+}
+
+impl Stream for Replaces {
+    fn next(&mut self) -> Step {
+        let (record, length) = self.pick();
+        Step::Replace { record, length }
     }
 }
 

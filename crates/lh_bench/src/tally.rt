@@ -14,6 +14,7 @@ pub struct Tally {
     pub inserted: u64,
     pub exists: u64,
     pub deleted: u64,
+    pub replaced: u64,
     pub wrong: u64,
     pub digest: u64,
 }
@@ -30,6 +31,7 @@ impl Tally {
             inserted: 0,
             exists: 0,
             deleted: 0,
+            replaced: 0,
             wrong: 0,
             digest: OFFSET_BASIS,
         }
@@ -58,6 +60,10 @@ impl Tally {
                 count(&mut self.deleted);
                 5
             }
+            Reply::Replaced => {
+                count(&mut self.replaced);
+                6
+            }
         };
         self.digest = (self.digest ^ code).wrapping_mul(PRIME);
     }
@@ -74,6 +80,7 @@ impl Tally {
         self.inserted = self.inserted.wrapping_add(other.inserted);
         self.exists = self.exists.wrapping_add(other.exists);
         self.deleted = self.deleted.wrapping_add(other.deleted);
+        self.replaced = self.replaced.wrapping_add(other.replaced);
         self.wrong = self.wrong.wrapping_add(other.wrong);
         self.digest = other.digest;
     }

@@ -6,11 +6,11 @@ use Rattle.std.proofs.lemmas.Option.{get_or_from_slice_get}
 use Rattle.lh_page.specs.declared.pair.Pair.{Pair}
 use Rattle.lh_page.specs.Records.{place_of, no_pair}
 use Rattle.lh_bucket.specs.declared.call.Call.{Call}
-use Rattle.lh_bucket.specs.declared.call.Call.TheVariants.{Search, Insert, Delete}
+use Rattle.lh_bucket.specs.declared.call.Call.TheVariants.{Search, Insert, Delete, Replace}
 use Rattle.lh_bucket.specs.PlainMap.{after}
 use Rattle.lh_bucket.specs.Records.{map_of}
-use Rattle.lh_bucket.specs.PagedBucket.{removed_at, served}
-use Rattle.lh_bucket.proofs.MapOf.{Distinct, StandsAt, stands, get_or-any, map_of-push, map_of-swap_remove}
+use Rattle.lh_bucket.specs.PagedBucket.{removed_at, replaced_at, served}
+use Rattle.lh_bucket.proofs.MapOf.{Distinct, StandsAt, stands, get_or-any, map_of-push, map_of-swap_remove, map_of-with_value}
 
 -- the record at the place of a key
 pub stands_there : (ps : List Pair) (key : List ℕ) (place : ℕ) → Some place ≡ place_of ps key → (place < length ps) × ((get_or ps place no_pair).key ≡ key) × (get (map_of ps) key ≡ Some (get_or ps place no_pair).value)
@@ -30,11 +30,18 @@ cut ps key (Some place) d h =
     map_of-swap_remove ps place (get_or ps place no_pair) h.0 (get_or-any ps place no_pair h.0) d ∙ ap (remove (map_of ps)) h.1
     ∙ ap (λ (r : Option (List ℕ)). cond (is_some r) (remove (map_of ps) key) (map_of ps)) (sym h.2)
 
+changed : (ps : List Pair) (key value : List ℕ) (o : Option ℕ) → o ≡ place_of ps key → StandsAt ps key o → map_of (replaced_at ps o value) ≡ cond (is_some (get (map_of ps) key)) (insert (map_of ps) key value) (map_of ps)
+changed ps key value None is h = ap (λ (r : Option (List ℕ)). cond (is_some r) (insert (map_of ps) key value) (map_of ps)) (sym h)
+changed ps key value (Some place) is h =
+    map_of-with_value ps place key value is (ap is_some h.2)
+    ∙ ap (λ (r : Option (List ℕ)). cond (is_some r) (insert (map_of ps) key value) (map_of ps)) (sym h.2)
+
 -- the map after a call
 pub map_of-served : (ps : List Pair) (call : Call) → Distinct ps → map_of (served ps call) ≡ after (map_of ps) call
 map_of-served ps (Search key) d = refl
 map_of-served ps (Insert key value) d = pushed ps key value (place_of ps key) (stands ps key)
 map_of-served ps (Delete key) d = cut ps key (place_of ps key) d (stands ps key)
+map_of-served ps (Replace key value) d = changed ps key value (place_of ps key) refl (stands ps key)
 
 -- the value under a key that has a place
 pub found_there : (ps : List Pair) (key : List ℕ) (place : ℕ) (p : Pair) → Some place ≡ place_of ps key → slice_get ps place ≡ Some p → get (map_of ps) key ≡ Some p.value

@@ -15,7 +15,7 @@ use Rattle.lh_addr.specs.Fnv.{code_of}
 use Rattle.lh_addr.specs.Growth.{hash_at, HashRises}
 use Rattle.lh_page.specs.declared.pair.Pair.{Pair}
 use Rattle.lh_bucket.specs.declared.call.Call.{Call}
-use Rattle.lh_bucket.specs.declared.call.Call.TheVariants.{Search, Insert, Delete}
+use Rattle.lh_bucket.specs.declared.call.Call.TheVariants.{Search, Insert, Delete, Replace}
 use Rattle.lh_bucket.specs.declared.verdict.Verdict.{Verdict}
 use Rattle.lh_bucket.specs.declared.verdict.Verdict.TheVariants.{Here, Next, Defect}
 use Rattle.lh_bucket.specs.Call.{key_of}
@@ -80,20 +80,28 @@ less false o h = h
 exact_eq : (x y : List ℕ) → eq_by_cmp (slice_cmp nat_cmp) x y ≡ true → x ≡ y
 exact_eq x y e = equals x y (texts_ties x y ∙ e)
 
+key_inserted : (m : Records) (key value q : List ℕ) → IsTrue (contains_key (insert m key value) q) → (IsTrue (contains_key m q)) ⊎ (q ≡ key)
+key_inserted m key value q h = ⊎_elim
+    (λ (there : is_some (get m q) ≡ true). inl there)
+    (λ (same : eq_by_cmp (slice_cmp nat_cmp) q key ≡ true). inr (exact_eq q key same))
+    (more (eq_by_cmp (slice_cmp nat_cmp) q key) (get m q) value (sym (ap is_some (get-insert nat_list_cmp_total m key value q)) ∙ h))
+
 -- the keys that a call leaves are those that were there, and perhaps its own
 key_after : (m : Records) (call : Call) (q : List ℕ) → IsTrue (contains_key (after m call) q) → (IsTrue (contains_key m q)) ⊎ (q ≡ key_of call)
 key_after m (Search key) q h = inl h
 key_after m (Insert key value) q h =
     elim (contains_key m key) as (λ b. IsTrue (contains_key (cond b m (insert m key value)) q) → (IsTrue (contains_key m q)) ⊎ (q ≡ key)) [
       | true ↦ λ g. inl g
-      | false ↦ λ g. ⊎_elim
-          (λ (there : is_some (get m q) ≡ true). inl there)
-          (λ (same : eq_by_cmp (slice_cmp nat_cmp) q key ≡ true). inr (exact_eq q key same))
-          (more (eq_by_cmp (slice_cmp nat_cmp) q key) (get m q) value (sym (ap is_some (get-insert nat_list_cmp_total m key value q)) ∙ g))
+      | false ↦ key_inserted m key value q
     ] h
 key_after m (Delete key) q h =
     elim (contains_key m key) as (λ b. IsTrue (contains_key (cond b (remove m key) m) q) → (IsTrue (contains_key m q)) ⊎ (q ≡ key)) [
       | true ↦ λ g. inl (less (eq_by_cmp (slice_cmp nat_cmp) q key) (get m q) (sym (ap is_some (get-remove nat_list_cmp_total m key q)) ∙ g))
+      | false ↦ λ g. inl g
+    ] h
+key_after m (Replace key value) q h =
+    elim (contains_key m key) as (λ b. IsTrue (contains_key (cond b (insert m key value) m) q) → (IsTrue (contains_key m q)) ⊎ (q ≡ key)) [
+      | true ↦ key_inserted m key value q
       | false ↦ λ g. inl g
     ] h
 

@@ -1,23 +1,24 @@
 -- What the map of a list of records has at a key, and after a change to the list.
-use Rattle.std.proofs.Common.{◌≡◌, ℕ, suc, nat_lt, one-add, ◌+◌, ◌<◌, Bool, true, false, cond, not, List, [], ◌∷◌, ◌++◌, map, length, get_or, Option, Some, None, refl, sym, ap, subst, ◌∙◌, arith}
+use Rattle.std.proofs.Common.{◌≡◌, ℕ, suc, nat_lt, one-add, ◌+◌, ◌<◌, Bool, true, false, cond, not, List, [], ◌∷◌, ◌++◌, map, length, get_or, set, Option, Some, None, is_some, refl, sym, ap, subst, ◌∙◌, arith}
 use Rattle.std.specs.Ordering.{nat_cmp, eq_by_cmp}
 use Rattle.std.specs.Cmp.Lexicographic.{slice_cmp, nat_list_cmp_total, nat_list_eq_equiv, texts_ties}
 use Rattle.std.specs.Str.{bytes_eq}
-use Rattle.std.specs.Map.{keys_of as entry_keys, lookup}
+use Rattle.std.specs.Map.{keys_of as entry_keys, lookup, set_value}
 use Rattle.std.specs.List.{IsDistinct, AllByRecursion, filter, swap_remove, position_or_len}
 use Rattle.std.specs.List.Sorted.{IsPermutation}
 use Rattle.std.specs.Option.{MatchOption}
-use Rattle.std.specs.FinMap.{get, insert, remove, empty, retain_keys, from_entries, find, get-from_entries, get-remove, get-retain_keys, same_map, from_entries_push, IsAntisymmetric, slice_cmp-IsAntisymmetric, nat_cmp-IsAntisymmetric}
+use Rattle.std.specs.FinMap.{get, insert, remove, empty, retain_keys, from_entries, find, get-from_entries, get-insert, get-remove, get-retain_keys, same_map, from_entries_push, IsAntisymmetric, slice_cmp-IsAntisymmetric, nat_cmp-IsAntisymmetric}
 use Rattle.std.proofs.lemmas.Bool.Decides.{nat_tests}
 use Rattle.std.proofs.lemmas.Grind.{elements}
 use Rattle.std.proofs.lemmas.Slice.Eq.{bytes_eq-Decides}
+use Rattle.std.proofs.lemmas.Map.{lookup-set_value}
 use Rattle.std.proofs.lemmas.Map.Views.{Contains-from_lookup, lookup-from_Contains}
 use Rattle.std.proofs.lemmas.Map.Keys.{IsDistinct-IsPermutation, IsDistinct-head}
 use Rattle.std.proofs.lemmas.List.Sorted.{IsPermutation-map, IsPermutation-sym, IsPermutation-swap_remove, Contains-permutation}
 use Rattle.std.proofs.lemmas.List.Quantifiers.{position-Some}
 use Rattle.std.proofs.lemmas.List.{map-append}
 use Rattle.lh_page.specs.declared.pair.Pair.{Pair}
-use Rattle.lh_page.specs.Records.{keys_of, place_of, no_pair}
+use Rattle.lh_page.specs.Records.{keys_of, place_of, no_pair, key_at, with_value}
 use Rattle.lh_bucket.specs.PlainMap.{Records}
 use Rattle.lh_bucket.specs.Records.{entry_of, map_of}
 
@@ -175,6 +176,37 @@ stands ps k =
     let t : Pair → Bool = λ p. bytes_eq p.key k in
     by_test ps k (position_or_len t ps) (nat_lt (position_or_len t ps) (length ps)) (get-map_of ps k ∙ lookup_at ps k no_pair)
     (λ h. let s = position-Some t ps (position_or_len t ps) no_pair (ap (λ b. cond b (Some (position_or_len t ps)) None) h) in (s.0, equals _ _ s.1))
+
+some_test : (b : Bool) (n i : ℕ) → Some i ≡ cond b (Some n) None → i ≡ n
+some_test true n i e = cc
+some_test false n i e = cc
+
+first_place : (ps : List Pair) (k : List ℕ) (i : ℕ) → Some i ≡ place_of ps k → i ≡ position_or_len (λ p. bytes_eq p.key k) ps
+unfolding place_of
+first_place ps k i e = some_test (nat_lt (position_or_len (λ p. bytes_eq p.key k) ps) (length ps)) (position_or_len (λ p. bytes_eq p.key k) ps) i e
+
+one_set : (b : Bool) (n : ℕ) (p : Pair) (ps : List Pair) (v : List ℕ) (es : Entries) → map entry_of (with_value ps n v) ≡ es → map entry_of (with_value (p ∷ ps) (cond (not b) (1 + n) 0) v) ≡ cond b ((p.key, v) ∷ map entry_of ps) (entry_of p ∷ es)
+one_set true n p ps v es h = refl
+one_set false n p ps v es h = rw one-add (ap (λ fs. entry_of p ∷ fs) h)
+
+set_first : (ps : List Pair) (k v : List ℕ) → map entry_of (with_value ps (position_or_len (λ p. bytes_eq p.key k) ps) v) ≡ set_value (bytes_eq k) (map entry_of ps) v
+set_first [] k v = refl
+set_first (p ∷ ps) k v =
+    one_set (bytes_eq p.key k) (position_or_len (λ p. bytes_eq p.key k) ps) p ps v (set_value (bytes_eq k) (map entry_of ps) v) (set_first ps k v)
+    ∙ ap (λ b. cond b ((p.key, v) ∷ map entry_of ps) (entry_of p ∷ set_value (bytes_eq k) (map entry_of ps) v)) (nat_list_eq_equiv.symm p.key k)
+
+one_key : (k x y : List ℕ) → bytes_eq k x ≡ true → bytes_eq k y ≡ bytes_eq x y
+one_key k x y h = ap (λ z. bytes_eq z y) (equals k x h)
+
+-- another value in the record of a key
+pub map_of-with_value : (ps : List Pair) (i : ℕ) (k v : List ℕ) → Some i ≡ place_of ps k → is_some (get (map_of ps) k) ≡ true → map_of (with_value ps i v) ≡ insert (map_of ps) k v
+map_of-with_value ps i k v first there = same_records _ _ (λ q.
+    get-map_of (with_value ps i v) q
+    ∙ ap (λ n. lookup (bytes_eq q) (map entry_of (with_value ps n v))) (first_place ps k i first)
+    ∙ ap (lookup (bytes_eq q)) (set_first ps k v)
+    ∙ lookup-set_value nat_list_eq_equiv (bytes_eq k) (one_key k) q v (map entry_of ps) (ap is_some (sym (get-map_of ps k)) ∙ there)
+    ∙ ap (λ b. cond b (Some v) (lookup (bytes_eq q) (map entry_of ps))) (nat_list_eq_equiv.symm k q ∙ texts_ties q k)
+    ∙ sym (get-insert nat_list_cmp_total (map_of ps) k v q ∙ ap (cond (eq_by_cmp (slice_cmp nat_cmp) q k) (Some v)) (get-map_of ps q)))
 
 pub get_or-any : (ps : List Pair) (i : ℕ) (d : Pair) → i < length ps → get_or ps i d ≡ get_or ps i (get_or ps i d)
 get_or-any ps i d h = grind (arith, elements)

@@ -1,13 +1,14 @@
 -- What kind of call a call is, and its key
 use Rattle.std.specs.Prelude.{ℕ, Bool, true, false, List, IsTrue}
 use Rattle.lh_bucket.specs.declared.call.Call.{Call}
-use Rattle.lh_bucket.specs.declared.call.Call.TheVariants.{Search, Insert, Delete}
+use Rattle.lh_bucket.specs.declared.call.Call.TheVariants.{Search, Insert, Delete, Replace}
 
 -- the key of a call
 abbrev pub key_of : Call → List ℕ
 key_of (Search key) = key
 key_of (Insert key value) = key
 key_of (Delete key) = key
+key_of (Replace key value) = key
 
 -- whether a call is a search: whatever other call there is may change its bucket
 abbrev pub is_search : Call → Bool

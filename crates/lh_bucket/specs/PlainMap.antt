@@ -4,9 +4,9 @@ use Rattle.std.specs.Ordering.{nat_cmp}
 use Rattle.std.specs.Cmp.Lexicographic.{slice_cmp}
 use Rattle.std.specs.FinMap.{FinMap, get, insert, remove, contains_key}
 use Rattle.lh_bucket.specs.declared.call.Call.{Call}
-use Rattle.lh_bucket.specs.declared.call.Call.TheVariants.{Search, Insert, Delete}
+use Rattle.lh_bucket.specs.declared.call.Call.TheVariants.{Search, Insert, Delete, Replace}
 use Rattle.lh_bucket.specs.declared.call.Reply.{Reply}
-use Rattle.lh_bucket.specs.declared.call.Reply.TheVariants.{Found, Absent, Inserted, Exists, Deleted}
+use Rattle.lh_bucket.specs.declared.call.Reply.TheVariants.{Found, Absent, Inserted, Exists, Deleted, Replaced}
 pub use Rattle.lh_bucket.specs.Call.{key_of, IsSearch, IsInsert}
 
 -- a finite map from keys to values, both lists of bytes
@@ -23,12 +23,14 @@ abbrev pub reply : Records → Call → Reply
 reply m (Search key) = found (get m key)
 reply m (Insert key value) = if contains_key m key then Exists else Inserted
 reply m (Delete key) = if contains_key m key then Deleted else Absent
+reply m (Replace key value) = if contains_key m key then Replaced else Absent
 
 -- the map that a call leaves
 abbrev pub after : Records → Call → Records
 after m (Search key) = m
 after m (Insert key value) = if contains_key m key then m else insert m key value
 after m (Delete key) = if contains_key m key then remove m key else m
+after m (Replace key value) = if contains_key m key then insert m key value else m
 
 -- the replies to a list of calls, one after another
 abbrev pub replies : Records → List Call → List Reply

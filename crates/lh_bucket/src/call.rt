@@ -13,6 +13,8 @@ pub enum Call {
     Insert(Key, Value),
     /// Removes a key with its value.
     Delete(Key),
+    /// Gives a key this value in place of its own, if the key is there.
+    Replace(Key, Value),
 }
 
 /// The reply to a call.
@@ -20,7 +22,7 @@ pub enum Call {
 pub enum Reply {
     /// A search met this value.
     Found(Value),
-    /// A search or a delete met no such key.
+    /// A search, a delete or a replace met no such key.
     Absent,
     /// An insert added its record.
     Inserted,
@@ -28,6 +30,8 @@ pub enum Reply {
     Exists,
     /// A delete removed a record.
     Deleted,
+    /// A replace put its value in the place of the old one.
+    Replaced,
 }
 
 impl Call {
@@ -39,6 +43,7 @@ impl Call {
             Call::Search(key) => key,
             Call::Insert(key, _) => key,
             Call::Delete(key) => key,
+            Call::Replace(key, _) => key,
         }
     }
 

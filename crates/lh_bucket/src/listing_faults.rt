@@ -3,6 +3,7 @@ ghost use Rattle.std.specs.Prelude.{◌≡◌, ℕ, ◌<◌, ◌≤◌, ◌⊎�
 ghost use Rattle.std.specs.Bool.{OnTrue, OnFalse};
 ghost use Rattle.std.specs.List.{All};
 ghost use Rattle.lh_addr.specs.Fnv.{code_of};
+ghost use Rattle.lh_addr.specs.Limits.{most_buckets};
 ghost use Rattle.lh_page.specs.Records.{key_at, IsRecord};
 ghost use Rattle.lh_bucket.specs.Listing.{IsHome, IsAway, IsNew, IsAgain, EachPlace, AreTopsOf, list_at, top_of};
 ghost use Rattle.lh_bucket.specs.ListingFault.{IsFaultAmong, IsTwiceIn};
@@ -155,7 +156,7 @@ fn twice_by(
 /// The first reason why so many lists are no listing. Each list is looked through once, while it is at hand:
 /// a key that stands twice is kept in mind, since a misplaced record behind it is told before it.
 pub(crate) fn first_fault(alloc: Global, root: &Root, lists: &[Vec<Pair>]) -> Option<ListingFault>
-    requires { length lists.now ≤ 65536 }
+    requires { length lists.now ≤ most_buckets }
     ensures home { IfNone result (EachPlace (IsHome root.now.initial root.now.buckets) (map (λ v. v.items) lists.now)) }
     ensures records { IfNone result ((bucket : ℕ) → All IsRecord (list_at (map (λ v. v.items) lists.now) bucket)) }
     ensures new { IfNone result (EachPlace IsNew (map (λ v. v.items) lists.now)) }

@@ -3,8 +3,8 @@ ghost use Rattle.std.specs.Prelude.{not, ◌≡◌, ◌≤◌, if◌then◌else�
 ghost use Rattle.std.specs.List.{filter};
 ghost use Rattle.std.specs.FinMap.{get, retain_keys};
 ghost use Rattle.lh_addr.specs.Fnv.{code_of};
-ghost use Rattle.lh_bucket.specs.declared.call.Call.TheVariants.{Insert, Delete};
-ghost use Rattle.lh_bucket.specs.declared.call.Reply.TheVariants.{Absent, Inserted, Exists, Deleted};
+ghost use Rattle.lh_bucket.specs.declared.call.Call.TheVariants.{Insert, Delete, Replace};
+ghost use Rattle.lh_bucket.specs.declared.call.Reply.TheVariants.{Absent, Inserted, Exists, Deleted, Replaced};
 ghost use Rattle.lh_bucket.specs.declared.verdict.Verdict.TheVariants.{Here};
 ghost use Rattle.lh_bucket.specs.Call.{key_of, IsInsert};
 ghost use Rattle.lh_bucket.specs.PlainMap.{found, reply, after};
@@ -22,8 +22,8 @@ use std::alloc::Global;
 use std::marker::Model;
 
 /// A bucket that is a packed chain of pages: its places are those of the chain. An insert puts its
-/// record last, a delete moves the last record into the hole, and a split keeps the order of the
-/// records that stay and of those that go.
+/// record last, a delete moves the last record into the hole, a replace leaves each record in its place,
+/// and a split keeps the order of the records that stay and of those that go.
 #[derive(Debug, Drop)]
 pub struct PagedBucket {
     number: u32,
@@ -134,6 +134,21 @@ fn delete_from(chain: &mut Chain, key: &Key) -> bool
     }
 }
 
+/// Gives the record with a key another value, in its place: whether it was there.
+fn replace_in(chain: &mut Chain, key: &Key, value: &Value) -> bool
+    ensures reply { (if result then Replaced else Absent)
+        ≡ reply (map_of chain.old.pairs) (Replace key.now value.now) }
+    ensures list { chain.new ≡ record chain.old { pairs = served chain.old.pairs (Replace key.now value.now) } }
+{
+    match chain.find(key) {
+        Some(place) => {
+            chain.replace_at(place, *value);
+            true
+        }
+        None => false,
+    }
+}
+
 /// Serves a call at a chain.
 #[inline(always)]
 fn serve_at(chain: &mut Chain, call: &Call) -> Result<Reply, Memory>
@@ -156,6 +171,14 @@ fn serve_at(chain: &mut Chain, call: &Call) -> Result<Reply, Memory>
             let was_there = delete_from(chain, key);
             Ok(if was_there {
                 Reply::Deleted
+            } else {
+                Reply::Absent
+            })
+        }
+        Call::Replace(key, value) => {
+            let was_there = replace_in(chain, key, value);
+            Ok(if was_there {
+                Reply::Replaced
             } else {
                 Reply::Absent
             })

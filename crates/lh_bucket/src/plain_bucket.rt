@@ -79,6 +79,23 @@ fn take(records: &mut BTreeMap<Key, Value>, key: &Key) -> bool
     records.remove(key).is_some()
 }
 
+/// Gives a key another value, and says whether it was there.
+fn change(records: &mut BTreeMap<Key, Value>, key: &Key, value: Value) -> bool
+    ensures found { result ≡ contains_key (map_of (pairs_of records.old.entries)) key.now }
+    ensures changed { map_of (pairs_of records.new.entries)
+        ≡ (if result then insert (map_of (pairs_of records.old.entries)) key.now value
+        else map_of (pairs_of records.old.entries)) }
+    ensures ordered { IsOrdered (slice_cmp nat_cmp) records.new }
+{
+    match records.get_mut(key) {
+        Some(old) => {
+            *old = value;
+            true
+        }
+        None => false,
+    }
+}
+
 /// Serves a call at a map.
 fn serve_at(records: &mut BTreeMap<Key, Value>, call: &Call) -> Result<Reply, Memory>
     requires { IsOrdered (slice_cmp nat_cmp) records.old }
@@ -104,6 +121,13 @@ fn serve_at(records: &mut BTreeMap<Key, Value>, call: &Call) -> Result<Reply, Me
         Call::Delete(key) => {
             if take(records, key) {
                 Ok(Reply::Deleted)
+            } else {
+                Ok(Reply::Absent)
+            }
+        }
+        Call::Replace(key, value) => {
+            if change(records, key, *value) {
+                Ok(Reply::Replaced)
             } else {
                 Ok(Reply::Absent)
             }

@@ -5,18 +5,18 @@
 //! map stands in the bucket of its address: [`step`](World::step) says so at every moment, and
 //! [`run`] of whole lists of events. [`serial`] is the file with one caller.
 //!
-//! The twelve steps, with the refusal where one isn't allowed; where a row names none, it is C1:
+//! The twelve steps. Where a condition isn't met, the refusal behind it is answered, and C1 where it has none:
 //!
 //! | Event | Allowed where | What it does | Effect |
 //! |---|---|---|---|
 //! | `Call(worker, call)` | the worker is idle | the call comes in | `Called` |
 //! | `Read(worker)` | it has a call | it aims: the bucket of its key by the root, at that bucket's level | `Aim` |
-//! | `Lock(worker)` | it has an aim; else C1, and C2 while the bucket is held by another: a search shares it with searches | it holds the bucket | `Locked` |
-//! | `Rehash(worker)` | it holds a bucket whose level is above its own; else C4 | it lets go, and aims one level up | `Aim` |
-//! | `Act(worker)` | it holds a bucket of its own level; else C3 | the bucket serves the call | `Answered` |
+//! | `Lock(worker)` | it has an aim, and the bucket is free for it (C2): a search shares one with searches | it holds the bucket | `Locked` |
+//! | `Rehash(worker)` | it holds a bucket, of a level above its own (C4) | it lets go, and aims one level up | `Aim` |
+//! | `Act(worker)` | it holds a bucket, of its own level (C3) | the bucket serves the call | `Answered` |
 //! | `Release(worker)` | it holds a bucket | it lets go, and is idle | `Released`, or `GivenUp` before the act |
 //! | `SplitBegin` | no split is under way (C5), and the file isn't full (C6) | the splitter has the right to split | `Begun` |
-//! | `SplitLock` | it has begun; C2 while a worker holds the bucket | it holds the bucket that splits, and the new one | `Both` |
+//! | `SplitLock` | it has begun, and no worker holds the bucket (C2) | it holds the bucket that splits, and the new one | `Both` |
 //! | `SplitMove` | it holds both, with nothing moved | the records are divided, both levels raised | `Moved` |
 //! | `SplitRelease` | it holds both | it lets both go | `Freed` |
 //! | `SplitPoint` | the records are moved, and nothing is held | the root has one bucket more, and the right is free | `Point` |

@@ -1,5 +1,7 @@
-//! Lists of steps, and calls one after another.
+//! Lists of steps, calls one after another, and texts.
 
 mod calls;
+mod refusing;
 mod serial;
 mod steps;
+mod texts;

@@ -1,5 +1,6 @@
 //! How the columns of a drawing lie. All of it follows from the number of buckets, 1 to 65,536.
 ghost use Rattle.std.specs.Prelude.{◌≡◌, ◌+◌, ◌*◌, ◌<◌, ◌≤◌, IsTrue};
+ghost use Rattle.lh_addr.specs.Limits.{most_buckets};
 ghost use Rattle.lh_draw.specs.Columns.{bar_width, centre, column_count, end_bucket, first_bucket, group_size, is_detailed, label_step, left, pitch};
 
 /// Whether a column shows the pages of one bucket.
@@ -11,7 +12,7 @@ pub fn is_detailed(buckets: u32) -> bool
 
 /// How many buckets a column shows: as few as give 512 columns or fewer.
 pub fn group_size(buckets: u32) -> u32
-    requires most { buckets ≤ 65536 }
+    requires most { buckets ≤ most_buckets }
     requires some { 1 ≤ buckets }
     ensures value { result ≡ group_size buckets }
     ensures low { 1 ≤ result }
@@ -22,7 +23,7 @@ pub fn group_size(buckets: u32) -> u32
 
 /// How many columns there are. The last one may show fewer buckets.
 pub fn column_count(buckets: u32) -> u32
-    requires most { buckets ≤ 65536 }
+    requires most { buckets ≤ most_buckets }
     requires some { 1 ≤ buckets }
     ensures value { result ≡ column_count buckets }
     ensures low { 1 ≤ result }
@@ -34,7 +35,7 @@ pub fn column_count(buckets: u32) -> u32
 
 /// The first bucket of a column.
 pub fn first_bucket(buckets: u32, column: u32) -> u32
-    requires most { buckets ≤ 65536 }
+    requires most { buckets ≤ most_buckets }
     requires some { 1 ≤ buckets }
     requires column { column < column_count buckets }
     ensures value { result ≡ first_bucket buckets column }
@@ -45,7 +46,7 @@ pub fn first_bucket(buckets: u32, column: u32) -> u32
 
 /// The bucket behind the last one of a column.
 pub fn end_bucket(buckets: u32, column: u32) -> u32
-    requires most { buckets ≤ 65536 }
+    requires most { buckets ≤ most_buckets }
     requires some { 1 ≤ buckets }
     requires column { column < column_count buckets }
     ensures value { result ≡ end_bucket buckets column }
@@ -57,7 +58,7 @@ pub fn end_bucket(buckets: u32, column: u32) -> u32
 
 /// How far a column's left edge is from that of the next one: 2 to 64.
 pub fn pitch(buckets: u32) -> u32
-    requires most { buckets ≤ 65536 }
+    requires most { buckets ≤ most_buckets }
     requires some { 1 ≤ buckets }
     ensures value { result ≡ pitch buckets }
     ensures low { 2 ≤ result }
@@ -68,7 +69,7 @@ pub fn pitch(buckets: u32) -> u32
 
 /// How broad a bar is.
 pub fn bar_width(buckets: u32) -> u32
-    requires most { buckets ≤ 65536 }
+    requires most { buckets ≤ most_buckets }
     requires some { 1 ≤ buckets }
     ensures value { result ≡ bar_width buckets }
     ensures high { result ≤ 64 }
@@ -79,7 +80,7 @@ pub fn bar_width(buckets: u32) -> u32
 
 /// Where a column's left edge is.
 pub fn left(buckets: u32, column: u32) -> u32
-    requires most { buckets ≤ 65536 }
+    requires most { buckets ≤ most_buckets }
     requires some { 1 ≤ buckets }
     requires column { column ≤ column_count buckets }
     ensures value { result ≡ left buckets column }
@@ -90,7 +91,7 @@ pub fn left(buckets: u32, column: u32) -> u32
 
 /// Where the middle of a column's bars is.
 pub fn centre(buckets: u32, column: u32) -> u32
-    requires most { buckets ≤ 65536 }
+    requires most { buckets ≤ most_buckets }
     requires some { 1 ≤ buckets }
     requires column { column ≤ column_count buckets }
     ensures { result ≡ centre buckets column }
@@ -100,7 +101,7 @@ pub fn centre(buckets: u32, column: u32) -> u32
 
 /// From how many columns one has a label.
 pub fn label_step(buckets: u32) -> u32
-    requires most { buckets ≤ 65536 }
+    requires most { buckets ≤ most_buckets }
     requires some { 1 ≤ buckets }
     ensures value { result ≡ label_step buckets }
     ensures low { 1 ≤ result }

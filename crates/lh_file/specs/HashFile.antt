@@ -18,7 +18,7 @@ pub record Shared : Type 0 where
 abbrev pub shared_of : {G : Type 0} → Inside G → Shared
 shared_of file = record { state = file.words; cells = map cell_name file.segments.cells }
 
--- there is a cell for each segment, and its segments are those of the configuration
+-- the segments are those of the file's configuration
 pub record IsShared {G : Type 0} (file : Inside G) : Type 0 where
   pub config : file.segments.config ≡ file.words.config
   pub in_range : IsInRange file.segments.config

@@ -30,7 +30,8 @@ impl Model for Acts {
 }
 
 impl Acts {
-    pub(crate) fn new(lines: Vec<ActLine>) -> Acts
+    /// The acts of these lines, in any order.
+    pub fn new(lines: Vec<ActLine>) -> Acts
         ensures { result ≡ lines.items }
     {
         Acts { lines }

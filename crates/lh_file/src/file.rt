@@ -12,8 +12,8 @@ use std::marker::Model;
 
 /// A linear hash file that threads share. Each takes part with a [`Hand`] of its own.
 ///
-/// A search takes the lock of its bucket shared, an insert or a delete exclusively. A call holds one
-/// bucket at a time, and a split the two that it divides; the other buckets stay free.
+/// A search takes the lock of its bucket shared; an insert, a delete or a replace takes it exclusively. A
+/// call holds one bucket at a time, and a split the two that it divides; the other buckets stay free.
 #[derive(Drop)]
 pub struct HashFile<G: Gate> {
     pub(crate) words: Words,

@@ -3,7 +3,7 @@
 /// Where a call of a file stands. Buckets go by their numbers.
 #[derive(Clone, Copy, Debug, PartialEq, Eq)]
 pub enum Point {
-    /// A search, an insert or a delete has read the size of the file.
+    /// A call has read the size of the file: a search, an insert, a delete or a replace.
     Read,
     /// It has got the lock of a bucket, and hasn't looked at it yet.
     Holding { bucket: u32 },

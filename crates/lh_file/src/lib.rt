@@ -50,6 +50,3 @@ pub use words::load::Load;
 pub use words::numbers::FileWords;
 pub use words::right::Right;
 pub use words::view::View;
-
-#[cfg(test)]
-mod tests;

@@ -67,7 +67,7 @@ fn judge(
 /// answers the history exactly where the file is settled, and a fault exactly where that one is due.
 ///
 /// ```text
-/// let (closed, acts) = file.close(hand)?;
+/// let (closed, acts) = file.close(&rt, hand)?;
 /// let history = settle(alloc, &opening, &closed, &acts)?;    // history.at(t) has the stamp t
 /// ```
 pub fn settle(

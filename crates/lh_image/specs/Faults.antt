@@ -5,6 +5,7 @@ use Rattle.std.specs.Option.{is_some}
 use Rattle.std.specs.Str.{bytes_eq}
 use Rattle.lh_addr.specs.Fnv.{code_of}
 use Rattle.lh_addr.specs.Growth.{address, level_of}
+use Rattle.lh_addr.specs.Limits.{most_initial, least_load, most_load, most_buckets}
 use Rattle.lh_page.specs.declared.head.PageHead.{PageHead}
 use Rattle.lh_page.specs.declared.pair.Pair.{Pair}
 use Rattle.lh_page.specs.Format.{version_1}
@@ -33,11 +34,11 @@ out_of low high x = nat_lt x low || nat_lt high x
 -- the field of the header at an offset is out of its range; offset 36 stands for the bytes behind the fields, and `zeros` says whether they are zeros
 unfoldable pub is_bad_field : Header → Bool → ℕ → Bool
 is_bad_field h zeros offset =
-    if offset == 4 then out_of 1 256 h.config.initial
+    if offset == 4 then out_of 1 most_initial h.config.initial
     else if offset == 8 then out_of 1 version_1.slots h.config.capacity
-    else if offset == 12 then out_of 10 200 h.config.load
-    else if offset == 16 then out_of h.config.initial 65536 h.buckets
-    else if offset == 20 then out_of h.config.initial 65536 h.config.max || nat_lt h.config.max h.buckets
+    else if offset == 12 then out_of least_load most_load h.config.load
+    else if offset == 16 then out_of h.config.initial most_buckets h.buckets
+    else if offset == 20 then out_of h.config.initial most_buckets h.config.max || nat_lt h.config.max h.buckets
     else not zeros
 
 -- the offset of the first field of the header at fault (I2)

@@ -1,5 +1,5 @@
 -- The bytes of an image, by page, offset and size. An image is a row of pages of 1,024 bytes: page 0 is the header, page 1 + i is the primary page of bucket i, and behind those come overflow pages. Numbers are little-endian.
-use Rattle.std.specs.Prelude.{ℕ, ◌*◌, Bool, true, List, [], ◌∷◌, ◌++◌, take, drop, replicate, ◌==◌, if◌then◌else◌}
+use Rattle.std.specs.Prelude.{ℕ, ◌*◌, ◌-◌, Bool, true, List, [], ◌∷◌, ◌++◌, take, drop, replicate, ◌==◌, if◌then◌else◌}
 use Rattle.byteorder.specs.Endian.{little_from, little_bytes}
 use Rattle.lh_page.specs.declared.head.PageHead.{PageHead}
 use Rattle.lh_page.specs.declared.page.Page.{Page}
@@ -22,6 +22,13 @@ most_pages = 1048576
 
 -- ---- the header
 
+-- the bytes of the header's fields, and those behind them
+abbrev pub field_bytes : ℕ
+field_bytes = 36
+
+abbrev pub padding : ℕ
+padding = page_bytes - field_bytes
+
 -- the header that the bytes show
 unfoldable pub header_of : List ℕ → Header
 header_of bytes = record {
@@ -38,14 +45,14 @@ header_of bytes = record {
 
 -- whether the bytes behind the header's fields are zeros
 abbrev pub ends_in_zeros : List ℕ → Bool
-ends_in_zeros bytes = all_zero (take 988 (drop 36 bytes))
+ends_in_zeros bytes = all_zero (take padding (drop field_bytes bytes))
 
 -- the 1,024 bytes of a header
 abbrev pub header_text : Header → List ℕ
 header_text h =
     magic ++ little_bytes 4 h.config.initial ++ little_bytes 4 h.config.capacity ++ little_bytes 4 h.config.load
     ++ little_bytes 4 h.buckets ++ little_bytes 4 h.config.max ++ little_bytes 4 h.pages ++ little_bytes 8 h.records
-    ++ replicate 988 0
+    ++ replicate padding 0
 
 -- ---- the other pages, by their numbers
 

@@ -4,6 +4,7 @@ ghost use Rattle.lh_bucket.specs.Listing.{size};
 ghost use Rattle.lh_image.specs.Canonical.{page_total};
 ghost use Rattle.lh_image.specs.Census.{census_of, longest_before};
 ghost use Rattle.lh_image.specs.Reading.{IsAnswer, Leaves, reading_of};
+ghost use Rattle.lh_image.specs.Layout.{most_pages};
 
 use crate::fault::ImageFault;
 use crate::laws::census_counts_pages;
@@ -35,7 +36,7 @@ pub struct Census {
 
 /// A number of pages or of overflow pages, which is below 2^32 in an image.
 fn below_2_32(count: u64) -> u32
-    ensures { count ≤ 1048576 → result ≡ count }
+    ensures { count ≤ most_pages → result ≡ count }
 {
     count.min(u64::from(u32::MAX)) as u32
 }
@@ -53,7 +54,7 @@ fn longest_chain(listing: &Listing) -> usize
 
 /// The census of a listing whose image is not too large.
 fn census_of(listing: &Listing) -> Census
-    ensures { page_total listing.now ≤ 1048576 → result ≡ census_of listing.now }
+    ensures { page_total listing.now ≤ most_pages → result ≡ census_of listing.now }
 {
     pages_are_pieces();
     let root = listing.root();

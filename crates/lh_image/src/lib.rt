@@ -20,6 +20,3 @@ pub use census::{Census, check_image};
 pub use fault::{ImageFault, WriteImageFault};
 pub use reading::read_image;
 pub use writing::write_image;
-
-#[cfg(test)]
-mod tests;

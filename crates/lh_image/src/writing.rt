@@ -4,6 +4,7 @@ ghost use Rattle.std.specs.List.{range_with_len, flat_map};
 ghost use Rattle.lh_bucket.specs.Listing.{size};
 ghost use Rattle.lh_image.specs.Canonical.{canonical, page_total, overflow_before, overflow_text, text_in};
 ghost use Rattle.lh_image.specs.Writing.{IsSent, IsWritten};
+ghost use Rattle.lh_image.specs.Layout.{most_pages};
 
 pub(crate) mod listing_pages;
 mod sending;
@@ -25,7 +26,7 @@ fn write_primary_pages<W: Write>(
     writer: &mut W,
 ) -> Result<(), WriteFailed>
     requires root { root.now ≡ record { initial = listing.now.config.initial; buckets = size listing.now } }
-    requires few { page_total listing.now ≤ 1048576 }
+    requires few { page_total listing.now ≤ most_pages }
     ensures { IsSent (flat_map (λ i. text_in listing.now i 0) (range_with_len 0 (size listing.now))) result
         (W.contents writer.old) (W.contents writer.new) }
 {
@@ -48,7 +49,7 @@ fn write_overflow_pages_of<W: Write>(
     writer: &mut W,
 ) -> Result<(), WriteFailed>
     requires root { root.now ≡ record { initial = listing.now.config.initial; buckets = size listing.now } }
-    requires few { page_total listing.now ≤ 1048576 }
+    requires few { page_total listing.now ≤ most_pages }
     requires bucket { bucket < size listing.now }
     requires following { following ≡ 1 + size listing.now + overflow_before listing.now bucket }
     ensures { IsSent (overflow_text listing.now bucket) result (W.contents writer.old) (W.contents writer.new) }
@@ -66,7 +67,7 @@ fn write_overflow_pages<W: Write>(
     writer: &mut W,
 ) -> Result<(), WriteFailed>
     requires root { root.now ≡ record { initial = listing.now.config.initial; buckets = size listing.now } }
-    requires few { page_total listing.now ≤ 1048576 }
+    requires few { page_total listing.now ≤ most_pages }
     ensures { IsSent (flat_map (overflow_text listing.now) (range_with_len 0 (size listing.now))) result
         (W.contents writer.old) (W.contents writer.new) }
 {
@@ -81,7 +82,7 @@ fn write_overflow_pages<W: Write>(
 
 /// Writes the header page, the primary pages and the overflow pages.
 fn write_pages<W: Write>(listing: &Listing, pages: u32, writer: &mut W) -> Result<(), WriteFailed>
-    requires few { page_total listing.now ≤ 1048576 }
+    requires few { page_total listing.now ≤ most_pages }
     requires pages { pages ≡ page_total listing.now }
     ensures { IsSent (canonical listing.now) result (W.contents writer.old) (W.contents writer.new) }
 {

@@ -7,6 +7,7 @@ use Rattle.clap.specs.declared.builder.command.Command.{Command}
 use Rattle.clap.specs.declared.builder.command.Command.TheViews.{out-Command}
 use Rattle.clap.specs.declared.error.kind.ErrorKind.{ErrorKind}
 use Rattle.clap.specs.declared.error.kind.ErrorKind.TheVariants as kind
+use Rattle.lh_addr.specs.Limits.{most_initial, most_capacity, least_load, most_load, most_buckets}
 use Rattle.lh_addr.specs.Settings.{Settings}
 use Rattle.lh_options.specs.Options.{IsShown, asked_by, number_in, settings_from}
 use Rattle.lh_options.specs.declared.options.Request.{Request}
@@ -27,10 +28,10 @@ pub record HasNumber (rows : List Row) (name : Text) (least most : ℕ) : Type 0
 
 -- each of the four settings has a number in its range
 pub record HasSettings (rows : List Row) : Type 0 where
-  pub initial : HasNumber rows (codes "initial") 1 256
-  pub capacity : HasNumber rows (codes "capacity") 1 14
-  pub load : HasNumber rows (codes "load") 10 200
-  pub max : HasNumber rows (codes "max") 1 65536
+  pub initial : HasNumber rows (codes "initial") 1 most_initial
+  pub capacity : HasNumber rows (codes "capacity") 1 most_capacity
+  pub load : HasNumber rows (codes "load") least_load most_load
+  pub max : HasNumber rows (codes "max") 1 most_buckets
 
 -- the number of threads is in its range
 abbrev pub HasThreads : List Row → Type 0

@@ -10,6 +10,7 @@ use Rattle.clap.specs.declared.builder.action.ArgAction.TheVariants.{Set}
 use Rattle.clap.specs.declared.builder.value_parser.ValueParser.TheVariants as parser
 use Rattle.clap.specs.declared.error.kind.ErrorKind.{ErrorKind}
 use Rattle.clap.specs.declared.error.kind.ErrorKind.TheVariants as kind
+use Rattle.lh_addr.specs.Limits.{most_initial, most_capacity, least_load, most_load, most_buckets}
 use Rattle.lh_addr.specs.Settings.{Settings}
 use Rattle.lh_options.specs.declared.options.Request.{Request}
 use Rattle.lh_options.specs.declared.options.Request.TheVariants as request
@@ -27,10 +28,10 @@ option_rule name default least most = record (new_rule name) {
 abbrev pub with_settings : App → App
 with_settings app =
     with_rule (with_rule (with_rule (with_rule app
-    (option_rule (codes "initial") (codes "1") 1 256))
-    (option_rule (codes "capacity") (codes "14") 1 14))
-    (option_rule (codes "load") (codes "100") 10 200))
-    (option_rule (codes "max") (codes "65536") 1 65536)
+    (option_rule (codes "initial") (codes "1") 1 most_initial))
+    (option_rule (codes "capacity") (codes "14") 1 most_capacity))
+    (option_rule (codes "load") (codes "100") least_load most_load))
+    (option_rule (codes "max") (codes "65536") 1 most_buckets)
 
 abbrev pub commands_app : App
 commands_app = with_settings (new_app (codes "commands"))

@@ -3,7 +3,7 @@ use Rattle.std.specs.Prelude.{ℕ, if◌then◌else◌, List, [], ◌∷◌, Res
 use Rattle.lh_script.specs.Lines.{is_word}
 use Rattle.lh_script.specs.Operands.{◌>>=◌, key, value}
 use Rattle.lh_bucket.specs.declared.call.Call.{Call}
-use Rattle.lh_bucket.specs.declared.call.Call.TheVariants.{Search, Insert, Delete}
+use Rattle.lh_bucket.specs.declared.call.Call.TheVariants.{Search, Insert, Delete, Replace}
 use Rattle.lh_script.specs.declared.fault.LineFault.{LineFault}
 use Rattle.lh_script.specs.declared.fault.LineFault.TheVariants.{UnknownWord, WordCount}
 
@@ -39,4 +39,5 @@ call before verb rest =
     if is_word verb (codes "search") then of_key (λ k. Search k) before rest
     else (if is_word verb (codes "insert") then of_pair (λ k v. Insert k v) before rest
     else (if is_word verb (codes "delete") then of_key (λ k. Delete k) before rest
-    else Err UnknownWord))
+    else (if is_word verb (codes "replace") then of_pair (λ k v. Replace k v) before rest
+    else Err UnknownWord)))

@@ -3,7 +3,7 @@ use Rattle.std.specs.Prelude.{ℕ, List, [], ◌∷◌, ◌++◌, flat_map, code
 use Rattle.std.specs.Fmt.{decimal}
 use Rattle.hex.specs.Hex.{encode_lower}
 use Rattle.lh_bucket.specs.declared.call.Reply.{Reply}
-use Rattle.lh_bucket.specs.declared.call.Reply.TheVariants.{Found, Absent, Inserted, Exists, Deleted}
+use Rattle.lh_bucket.specs.declared.call.Reply.TheVariants.{Found, Absent, Inserted, Exists, Deleted, Replaced}
 
 -- bytes as pairs of lower-case hexadecimal digits, or `-` for none
 abbrev pub hexadecimal_text : List ℕ → List ℕ
@@ -16,6 +16,7 @@ reply_text Absent = codes "absent"
 reply_text Inserted = codes "inserted"
 reply_text Exists = codes "exists"
 reply_text Deleted = codes "deleted"
+reply_text Replaced = codes "replaced"
 
 -- a text as a line: an LF, 10, ends it
 abbrev pub line : List ℕ → List ℕ

@@ -75,6 +75,9 @@ pub fn read_call<B: Copy>(
     } else if is_name(verb, b"delete".as_slice()) {
         let (before, key) = key_behind(before, rest)?;
         Ok((before, Call::Delete(key)))
+    } else if is_name(verb, b"replace".as_slice()) {
+        let (before, key, value) = pair_behind(before, rest)?;
+        Ok((before, Call::Replace(key, value)))
     } else {
         Err(LineFault::UnknownWord)
     }

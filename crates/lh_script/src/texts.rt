@@ -71,6 +71,7 @@ impl fmt::Display for ReplyText<'_> {
             Reply::Inserted => write!(f, "inserted"),
             Reply::Exists => write!(f, "exists"),
             Reply::Deleted => write!(f, "deleted"),
+            Reply::Replaced => write!(f, "replaced"),
         }
     }
 }

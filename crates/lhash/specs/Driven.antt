@@ -1,7 +1,7 @@
 -- The totals of a settled run: what they count, and how they read
 use Rattle.std.specs.Prelude.{◌≡◌, ℕ, Bool, true, false, List, ◌++◌, length, count_by, codes}
 use Rattle.lh_bucket.specs.declared.call.Reply.{Reply}
-use Rattle.lh_bucket.specs.declared.call.Reply.TheVariants.{Found, Absent, Inserted, Exists, Deleted}
+use Rattle.lh_bucket.specs.declared.call.Reply.TheVariants.{Found, Absent, Inserted, Exists, Deleted, Replaced}
 use Rattle.lhash.specs.ImageTexts.{number_line}
 use Rattle.lh_script.specs.Texts.{line}
 use Rattle.lhash.specs.declared.driven.Driven.{Driven}
@@ -31,6 +31,11 @@ abbrev pub is_deleted : Reply → Bool
 is_deleted Deleted = true
 is_deleted _ = false
 
+-- whether it says that the value was replaced
+abbrev pub is_replaced : Reply → Bool
+is_replaced Replaced = true
+is_replaced _ = false
+
 -- The totals count these replies: all of them, and those of each kind.
 pub record Counts (replies : List Reply) (d : Driven) : Type 0 where
   pub calls : d.calls ≡ length replies
@@ -39,18 +44,18 @@ pub record Counts (replies : List Reply) (d : Driven) : Type 0 where
   pub inserted : d.inserted ≡ count_by is_inserted replies
   pub exists : d.exists ≡ count_by is_exists replies
   pub deleted : d.deleted ≡ count_by is_deleted replies
+  pub replaced : d.replaced ≡ count_by is_replaced replies
 
--- the totals as seven lines, each a name and a number
-unfoldable pub totals_text : Driven → List ℕ
-totals_text d =
-    number_line (codes "calls ") d.calls
-    ++ number_line (codes "found ") d.found
+-- how many replies of each kind there were, a line each
+unfoldable pub replies_text : Driven → List ℕ
+replies_text d =
+    number_line (codes "found ") d.found
     ++ number_line (codes "absent ") d.absent
     ++ number_line (codes "inserted ") d.inserted
     ++ number_line (codes "exists ") d.exists
     ++ number_line (codes "deleted ") d.deleted
-    ++ number_line (codes "records ") d.records
+    ++ number_line (codes "replaced ") d.replaced
 
 -- what `drive` writes: a line with a word alone, and the totals
 abbrev pub driven_text : Driven → List ℕ
-driven_text d = line (codes "settled") ++ totals_text d
+driven_text d = line (codes "settled") ++ number_line (codes "calls ") d.calls ++ replies_text d ++ number_line (codes "records ") d.records

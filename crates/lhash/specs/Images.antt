@@ -12,6 +12,7 @@ use Rattle.lh_bucket.specs.Records.{map_of}
 use Rattle.lh_core.specs.Serial.{size_of}
 use Rattle.lh_image.specs.declared.fault.ImageFault.{ImageFault}
 use Rattle.lh_image.specs.declared.fault.ImageFault.TheVariants.{ReadFault, Memory}
+use Rattle.lh_image.specs.Layout.{most_pages}
 use Rattle.lh_image.specs.Canonical.{canonical, page_total}
 use Rattle.lh_image.specs.Census.{census_of}
 use Rattle.lh_image.specs.Reading.{reading_of}
@@ -37,14 +38,14 @@ pub record IsLedTo (settings : Settings) (calls : List Call) (l : Lists) : Type 
 pub record IsBuilt (settings : Settings) (calls : List Call) (output : List ℕ) : Type 0 where
   pub listing : Lists
   pub led : IsLedTo settings calls listing
-  pub few : page_total listing ≤ 1048576
+  pub few : page_total listing ≤ most_pages
   pub bytes : output ≡ canonical listing
 
 -- the file that calls lead to is too large for an image
 pub record IsTooLarge (settings : Settings) (calls : List Call) : Type 0 where
   pub listing : Lists
   pub led : IsLedTo settings calls listing
-  pub many : 1048576 < page_total listing
+  pub many : most_pages < page_total listing
 
 -- how `build` ends on an input: too large, and the writer took nothing, where the file that the script leads to is; otherwise with the image of that file, or with the script's first fault
 unfoldable pub EndsBuilding : Settings → List ℕ → Status → Option (List ℕ) → Option (List ℕ) → Type 0

@@ -2,7 +2,7 @@
 ghost use Rattle.std.specs.Prelude.{◌≡◌, ◌-◌, ◌<◌, ◌^◌, ◌++◌, ◌∷◌, [], List, Some, length};
 ghost use Rattle.lh_bucket.specs.declared.call.Reply.{Reply as ReplyOf};
 ghost use Rattle.lh_file.specs.Acts.{replies_of};
-ghost use Rattle.lhash.specs.Driven.{Counts, driven_text, totals_text};
+ghost use Rattle.lhash.specs.Driven.{Counts, driven_text, replies_text};
 
 use lh_bucket::Reply;
 use lh_file::History;
@@ -18,6 +18,7 @@ pub struct Driven {
     pub inserted: u64,
     pub exists: u64,
     pub deleted: u64,
+    pub replaced: u64,
     pub records: u64,
 }
 
@@ -34,6 +35,7 @@ impl Driven {
             inserted: 0,
             exists: 0,
             deleted: 0,
+            replaced: 0,
             records,
         }
     }
@@ -51,6 +53,7 @@ impl Driven {
             Reply::Inserted => self.inserted += 1,
             Reply::Exists => self.exists += 1,
             Reply::Deleted => self.deleted += 1,
+            Reply::Replaced => self.replaced += 1,
         }
     }
 
@@ -67,27 +70,27 @@ impl Driven {
     }
 }
 
-/// The totals as seven lines, each a name and a number.
+/// How many replies of each kind there were, a line each.
 #[derive(Clone, Copy)]
-struct TotalsText<'a>(&'a Driven);
+struct RepliesText<'a>(&'a Driven);
 
-impl fmt::Display for TotalsText<'_> {
-    ghost output = { λ totals. Some (totals_text totals.0.now) };
+impl fmt::Display for RepliesText<'_> {
+    ghost output = { λ text. Some (replies_text text.0.now) };
 
-    #[tactic(auto, unfolding(crate::specs::Driven::totals_text))]
+    #[tactic(auto, unfolding(crate::specs::Driven::replies_text))]
     fn fmt<W: fmt::Write>(&self, f: &mut fmt::Formatter<W>) -> fmt::Result {
         let Driven {
-            calls,
             found,
             absent,
             inserted,
             exists,
             deleted,
-            records,
+            replaced,
+            ..
         } = *self.0;
         write!(
             f,
-            "calls {calls}\nfound {found}\nabsent {absent}\ninserted {inserted}\nexists {exists}\ndeleted {deleted}\nrecords {records}\n"
+            "found {found}\nabsent {absent}\ninserted {inserted}\nexists {exists}\ndeleted {deleted}\nreplaced {replaced}\n"
         )
     }
 }
@@ -96,6 +99,11 @@ impl fmt::Display for Driven {
     ghost output = { λ driven. Some (driven_text driven) };
 
     fn fmt<W: fmt::Write>(&self, f: &mut fmt::Formatter<W>) -> fmt::Result {
-        write!(f, "settled\n{}", TotalsText(self))
+        let (calls, records) = (self.calls, self.records);
+        write!(
+            f,
+            "settled\ncalls {calls}\n{}records {records}\n",
+            RepliesText(self)
+        )
     }
 }

@@ -42,6 +42,7 @@ fn make<G: Gate, R: Wait>(
         Call::Search(key) => file.search(rt, hand, key),
         Call::Insert(key, value) => file.insert(rt, hand, key, value),
         Call::Delete(key) => file.delete(rt, hand, key),
+        Call::Replace(key, value) => file.replace(rt, hand, key, value),
     }
 }
 

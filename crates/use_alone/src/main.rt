@@ -57,6 +57,8 @@ fn main(rt: HostRuntime) -> anyhow::Result<()> {
     fill(&rt, &file, &mut hand)?;
 
     print_number(&rt, &file, &mut hand, "Ada")?;
+    file.replace(&rt, &mut hand, Key::new(b"Ada")?, Value::new(b"0172")?)?;
+    print_number(&rt, &file, &mut hand, "Ada")?;
     file.delete(&rt, &mut hand, Key::new(b"Ada")?)?;
     print_number(&rt, &file, &mut hand, "Ada")?;
 

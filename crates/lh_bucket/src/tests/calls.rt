@@ -75,8 +75,10 @@ fn calls_are_of_kinds(rt: HostRuntime) -> Result<(), Fail> {
     let search = Call::Search(record.key);
     let insert = Call::Insert(record.key, record.value);
     let delete = Call::Delete(record.key);
+    let replace = Call::Replace(record.key, record.value);
     assert_eq!(rt; (search.is_search(), search.is_insert()), (true, false));
     assert_eq!(rt; (insert.is_search(), insert.is_insert()), (false, true));
     assert_eq!(rt; (delete.is_search(), delete.is_insert()), (false, false));
+    assert_eq!(rt; (replace.is_search(), replace.is_insert()), (false, false));
     Ok(())
 }

@@ -30,6 +30,30 @@ fn fault_of(alloc: Global, buckets: u32, keys: &[&[u8]]) -> Result<Option<Listin
 }
 
 #[test]
+fn each_fault_has_its_text(rt: HostRuntime) -> Result<(), Fail> {
+    let (bucket, place) = (3, 5);
+    let texts = [
+        (
+            ListingFault::Shape,
+            "not one list for each bucket of the file",
+        ),
+        (
+            ListingFault::Misplaced { bucket, place },
+            "the record at place 5 of bucket 3 belongs to another bucket",
+        ),
+        (
+            ListingFault::Twice { bucket, place },
+            "the key at place 5 of bucket 3 stands there twice",
+        ),
+        (ListingFault::Memory, "no memory"),
+    ];
+    for (fault, text) in texts {
+        assert_eq!(rt; fault.to_string(rt.alloc())?.as_str(), text);
+    }
+    Ok(())
+}
+
+#[test]
 fn listings_name_their_first_fault(rt: HostRuntime) -> Result<(), Fail> {
     let alloc = rt.alloc();
     let misplaced = Some(ListingFault::Misplaced {

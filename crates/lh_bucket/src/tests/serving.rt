@@ -3,7 +3,7 @@ ghost use Rattle.std.specs.Prelude.{◌≡◌, IfSome};
 ghost use Rattle.lh_bucket.specs.declared.call.Call.TheVariants.{Search};
 ghost use Rattle.lh_bucket.specs.Bucket.{answer};
 
-use super::calls::{fill, pair, reply_of};
+use super::calls::{fill, keys_of, pair, reply_of};
 use crate::{Answer, Bucket, Call, PagedBucket, PlainBucket, Reply, Verdict};
 use lh_addr::fnv1a;
 use lh_page::{Key, Value};
@@ -63,6 +63,42 @@ fn bucket_serves_calls<B: Bucket>(rt: &impl Abort, alloc: Global) -> Result<(), 
 fn buckets_serve_calls(rt: HostRuntime) -> Result<(), Fail> {
     bucket_serves_calls::<PlainBucket>(&rt, rt.alloc())?;
     bucket_serves_calls::<PagedBucket>(&rt, rt.alloc())
+}
+
+fn bucket_replaces_values<B: Bucket>(rt: &impl Abort, alloc: Global) -> Result<(), Fail> {
+    let mut bucket = B::make(alloc, 1, 1, 0, Some(0))?;
+    let b = pair(b"b", b"a longer value")?;
+    let replace = Call::Replace(b.key, b.value);
+    assert_eq!(rt; reply_of(&mut bucket, replace)?, Reply::Absent);
+    assert_eq!(rt; bucket.len(), 0);
+    fill(&mut bucket, b"abc", 0)?;
+    assert_eq!(rt; reply_of(&mut bucket, replace)?, Reply::Replaced);
+    assert_eq!(rt;
+        reply_of(&mut bucket, Call::Search(b.key))?,
+        Reply::Found(b.value)
+    );
+    assert_eq!(rt; keys_of(alloc, &bucket)?.as_slice(), b"abc".as_slice());
+    let empty = Value::new(b"")?;
+    assert_eq!(rt;
+        reply_of(&mut bucket, Call::Replace(b.key, empty))?,
+        Reply::Replaced
+    );
+    assert_eq!(rt;
+        reply_of(&mut bucket, Call::Search(b.key))?,
+        Reply::Found(empty)
+    );
+    let a = pair(b"a", b"a")?;
+    assert_eq!(rt;
+        reply_of(&mut bucket, Call::Search(a.key))?,
+        Reply::Found(a.value)
+    );
+    Ok(())
+}
+
+#[test]
+fn buckets_replace_values(rt: HostRuntime) -> Result<(), Fail> {
+    bucket_replaces_values::<PlainBucket>(&rt, rt.alloc())?;
+    bucket_replaces_values::<PagedBucket>(&rt, rt.alloc())
 }
 
 /// Answers a search at a bucket of level 0, and answers nothing at another bucket.

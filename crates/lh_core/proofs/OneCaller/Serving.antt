@@ -6,9 +6,9 @@ use Rattle.std.specs.Cmp.Lexicographic.{slice_cmp, nat_list_cmp_total}
 use Rattle.lh_addr.specs.Settings.{Settings}
 use Rattle.lh_bucket.specs.Bucket.{Head}
 use Rattle.lh_bucket.specs.declared.call.Call.{Call}
-use Rattle.lh_bucket.specs.declared.call.Call.TheVariants.{Search, Insert, Delete}
+use Rattle.lh_bucket.specs.declared.call.Call.TheVariants.{Search, Insert, Delete, Replace}
 use Rattle.lh_bucket.specs.declared.call.Reply.{Reply}
-use Rattle.lh_bucket.specs.declared.call.Reply.TheVariants.{Absent, Inserted, Exists, Deleted}
+use Rattle.lh_bucket.specs.declared.call.Reply.TheVariants.{Absent, Inserted, Exists, Deleted, Replaced}
 use Rattle.lh_bucket.specs.PlainMap.{Records, reply, after, replies, outcome, found}
 use Rattle.lh_core.specs.State.{State, first}
 use Rattle.lh_core.specs.Kept.{IsWorld}
@@ -29,10 +29,15 @@ delete_counts : (m : Records) (k : List ℕ) (b : Bool) → contains_key m k ≡
 delete_counts m k true e = len-remove nat_list_cmp_total m k ∙ ap (λ b. cond b (len m - 1) (len m)) e
 delete_counts m k false e = refl
 
+replace_counts : (m : Records) (k v : List ℕ) (b : Bool) → contains_key m k ≡ b → len (cond b (insert m k v) m) ≡ count_after (len m) (cond b Replaced Absent)
+replace_counts m k v true e = len-insert nat_list_cmp_total m k v ∙ ap (λ b. cond b (len m) (len m + 1)) e
+replace_counts m k v false e = refl
+
 count_is : (m : Records) (c : Call) → len (after m c) ≡ count_after (len m) (reply m c)
 count_is m (Search k) = found_keeps (len m) (get m k)
 count_is m (Insert k v) = insert_counts m k v (contains_key m k) refl
 count_is m (Delete k) = delete_counts m k (contains_key m k) refl
+count_is m (Replace k v) = replace_counts m k v (contains_key m k) refl
 
 -- a call that was served, without a split and with one
 module _ (v u : WorldSeen) (m : Records) (c : Call) (y : Reply) (j k : ℕ) (b : Bool) (h : IsServedAlone v c y u) (stands : StandsFor v m) (was : j ≡ len m) (count : k ≡ count_after j y) (test : b ≡ grows_after u.config k u.state.buckets y) where

@@ -5,8 +5,8 @@ use Rattle.std.specs.Cmp.Lexicographic.{slice_cmp, nat_list_cmp_total, texts_tie
 use Rattle.std.specs.FinMap.{get, insert, remove, retain_keys, contains_key, get-insert, get-remove, get-retain_keys, same_map, IsAntisymmetric, slice_cmp-IsAntisymmetric, nat_cmp-IsAntisymmetric}
 use Rattle.std.proofs.lemmas.Slice.Eq.{bytes_eq-Decides}
 use Rattle.lh_bucket.specs.declared.call.Call.{Call}
-use Rattle.lh_bucket.specs.declared.call.Call.TheVariants.{Search, Insert, Delete}
-use Rattle.lh_bucket.specs.declared.call.Reply.TheVariants.{Exists, Inserted, Deleted, Absent}
+use Rattle.lh_bucket.specs.declared.call.Call.TheVariants.{Search, Insert, Delete, Replace}
+use Rattle.lh_bucket.specs.declared.call.Reply.TheVariants.{Exists, Inserted, Deleted, Absent, Replaced}
 use Rattle.lh_bucket.specs.Call.{key_of}
 use Rattle.lh_bucket.specs.PlainMap.{Records, reply, after, found}
 
@@ -88,6 +88,7 @@ pub reply_here : (m : Records) (p : List ℕ → Bool) (c : Call) → p (key_of 
 reply_here m p (Search k) h = ap found (here m p k h)
 reply_here m p (Insert k v) h = ap (λ o. cond (is_some o) Exists Inserted) (here m p k h)
 reply_here m p (Delete k) h = ap (λ o. cond (is_some o) Deleted Absent) (here m p k h)
+reply_here m p (Replace k v) h = ap (λ o. cond (is_some o) Replaced Absent) (here m p k h)
 
 pub after_here : (m : Records) (p : List ℕ → Bool) (c : Call) → p (key_of c) ≡ true → after (retain_keys m p) c ≡ retain_keys (after m c) p
 after_here m p (Search k) h = refl
@@ -99,11 +100,16 @@ after_here m p (Delete k) h =
     ap (λ o. cond (is_some o) (remove (retain_keys m p) k) (retain_keys m p)) (here m p k h)
     ∙ ap (λ r. cond (is_some (get m k)) r (retain_keys m p)) (cut_here m p k h)
     ∙ moved_in (contains_key m k) (remove m k) m p
+after_here m p (Replace k v) h =
+    ap (λ o. cond (is_some o) (insert (retain_keys m p) k v) (retain_keys m p)) (here m p k h)
+    ∙ ap (λ r. cond (is_some (get m k)) r (retain_keys m p)) (put_here m p k v h)
+    ∙ moved_in (contains_key m k) (insert m k v) m p
 
 pub after_elsewhere : (m : Records) (p : List ℕ → Bool) (c : Call) → p (key_of c) ≡ false → retain_keys (after m c) p ≡ retain_keys m p
 after_elsewhere m p (Search k) h = refl
 after_elsewhere m p (Insert k v) h = sym (moved_in (contains_key m k) m (insert m k v) p) ∙ ap (cond (contains_key m k) (retain_keys m p)) (put_elsewhere m p k v h) ∙ either_way (contains_key m k) (retain_keys m p)
 after_elsewhere m p (Delete k) h = sym (moved_in (contains_key m k) (remove m k) m p) ∙ ap (λ r. cond (contains_key m k) r (retain_keys m p)) (cut_elsewhere m p k h) ∙ either_way (contains_key m k) (retain_keys m p)
+after_elsewhere m p (Replace k v) h = sym (moved_in (contains_key m k) (insert m k v) m p) ∙ ap (λ r. cond (contains_key m k) r (retain_keys m p)) (put_elsewhere m p k v h) ∙ either_way (contains_key m k) (retain_keys m p)
 
 both_tests : {X : Type 0} (b d : Bool) (o : X) (z : X) → cond d (cond b o z) z ≡ cond (b && d) o z
 both_tests true true o z = refl

@@ -1,6 +1,6 @@
-//! Calls served one after another, and what wants memory.
+//! Calls served one after another.
 use super::calls::{delete, insert, search, small};
-use crate::{Effect, Event, Ran, Refusal, SerialRan, run, serial};
+use crate::{SerialRan, serial};
 use lh_addr::Config;
 use lh_bucket::{Bucket, Call, PagedBucket, PlainBucket, Reply};
 use lh_page::Value;
@@ -102,24 +102,5 @@ fn buckets_hold_their_records_in_order(rt: HostRuntime) -> Result<(), Fail> {
         keys.as_slice(),
         [(0, b'a'), (0, b'c'), (1, b'b')].as_slice()
     );
-    Ok(())
-}
-
-#[test]
-fn an_act_without_memory_may_be_taken_again(rt: HostRuntime) -> Result<(), Fail> {
-    let events = [
-        Event::Call(0, insert(b"a", b"1")?),
-        Event::Read(0),
-        Event::Lock(0),
-        Event::Act(0),
-        Event::Act(0),
-    ];
-    if let Ok(Ran { entries, world: _ }) = run::<PagedBucket>(rt.alloc(), small()?, &events) {
-        let inserted = Ok(Effect::Answered(Reply::Inserted));
-        let plenty = [inserted, Err(Refusal::WrongState)];
-        let refused = [Err(Refusal::Memory), inserted];
-        let acts = &entries.as_slice()[3..];
-        assert!(rt; acts == plenty.as_slice() || acts == refused.as_slice());
-    }
     Ok(())
 }

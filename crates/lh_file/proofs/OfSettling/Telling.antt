@@ -5,7 +5,7 @@ use Rattle.std.specs.Str.{bytes_eq}
 use Rattle.std.proofs.lemmas.Bool.{cases_lt, false≢true}
 use Rattle.std.proofs.lemmas.Option.{none-some, same_Some}
 use Rattle.lh_bucket.specs.declared.call.Reply.{Reply as ReplyOf}
-use Rattle.lh_bucket.specs.declared.call.Reply.TheVariants.{Found, Absent, Inserted, Exists, Deleted}
+use Rattle.lh_bucket.specs.declared.call.Reply.TheVariants.{Found, Absent, Inserted, Exists, Deleted, Replaced}
 use Rattle.lh_file.specs.Acts.{FirstDiffer}
 use Rattle.lh_file.proofs.OfSettling.Values.{equals, itself}
 
@@ -37,6 +37,7 @@ told_reply Absent Absent = inl refl
 told_reply Inserted Inserted = inl refl
 told_reply Exists Exists = inl refl
 told_reply Deleted Deleted = inl refl
+told_reply Replaced Replaced = inl refl
 told_reply _ _ = inr (λ e. cc)
 
 later : {X : Type 0} (x y : X) (xs ys : List X) (t : ℕ) → x ≡ y → FirstDiffer xs ys t → FirstDiffer (x ∷ xs) (y ∷ ys) (suc t)

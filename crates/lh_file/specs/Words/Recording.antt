@@ -2,7 +2,7 @@
 use Rattle.std.specs.Prelude.{◌≡◌, ℕ, ◌+◌, ◌-◌, ◌<◌, Bool, true, false, List, [], ◌∷◌, ◌++◌, length, All}
 use Rattle.lh_bucket.specs.declared.call.Call.{Call}
 use Rattle.lh_bucket.specs.declared.call.Reply.{Reply}
-use Rattle.lh_bucket.specs.declared.call.Reply.TheVariants.{Found, Absent, Inserted, Exists, Deleted}
+use Rattle.lh_bucket.specs.declared.call.Reply.TheVariants.{Found, Absent, Inserted, Exists, Deleted, Replaced}
 use Rattle.lh_file.specs.Words.HandState.{HandState}
 use Rattle.lh_file.specs.declared.act.ActLine.{ActLine}
 
@@ -13,6 +13,7 @@ inserts_of Absent = 0
 inserts_of Inserted = 1
 inserts_of Exists = 0
 inserts_of Deleted = 0
+inserts_of Replaced = 0
 
 -- how many records an act with this reply removed
 abbrev pub deletes_of : Reply → ℕ
@@ -21,6 +22,7 @@ deletes_of Absent = 0
 deletes_of Inserted = 0
 deletes_of Exists = 0
 deletes_of Deleted = 1
+deletes_of Replaced = 0
 
 -- what is kept of an act: its line where the file records, else nothing
 abbrev pub kept_of : Bool → ActLine → List ActLine

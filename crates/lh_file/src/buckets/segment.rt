@@ -1,6 +1,6 @@
 //! Segments: rows of locked buckets that are made when one of theirs is first wanted.
 ghost use Rattle.std.specs.Prelude.{◌≡◌, ◌+◌, ◌*◌, ◌^◌, ◌<◌, ◌≤◌, length};
-ghost use Rattle.lh_addr.specs.Limits.{IsInitial};
+ghost use Rattle.lh_addr.specs.Limits.{IsInitial, most_buckets};
 ghost use Rattle.lh_file.specs.Buckets.Segments.{first_of, end_of, IsIn};
 
 use lh_addr::Config;
@@ -18,7 +18,7 @@ pub struct Segment {
 /// with, and each later one as many as all before it.
 pub(crate) fn segment_of(initial: u32, bucket: u32) -> usize
     requires initial { IsInitial initial }
-    requires bucket { bucket < 65536 }
+    requires bucket { bucket < most_buckets }
     ensures below { result < 17 }
     ensures is_in { IsIn initial result bucket }
 {

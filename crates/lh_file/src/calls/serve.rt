@@ -1,4 +1,4 @@
-//! Searches, inserts and deletes.
+//! Searches, inserts, deletes and replaces.
 ghost use Rattle.std.specs.Prelude.{◌≡◌, ◌≤◌};
 ghost use Rattle.std.specs.Sync.RwLock.{read_guard_value};
 ghost use Rattle.lh_bucket.specs.declared.call.Call.TheVariants as call;
@@ -32,9 +32,9 @@ impl<G: Gate> HashFile<G> {
         Ok(self.look(guard, hand, &call, aim))
     }
 
-    /// Inserts a record, unless the key is there. Where the load of the file asks for it afterwards, the
-    /// call also asks for the right to split, and splits a bucket if it gets it; whether that succeeds
-    /// makes no difference to the answer.
+    /// Inserts a record, unless the key is there. Where the record is new, the load of the file asks for a
+    /// split and the hand hasn't the right to one, the call asks once for it, and splits a bucket if it
+    /// gets it; whether that succeeds makes no difference to the answer.
     pub fn insert<R: Wait>(
         &self,
         rt: &R,
@@ -60,8 +60,24 @@ impl<G: Gate> HashFile<G> {
         self.change(rt, hand, &Call::Delete(key))
     }
 
+    /// Gives a key this value in place of its own: the answer's reply is whether the key was there. The
+    /// record stays where it is, and a key that isn't there is not added. No count changes and no split
+    /// is asked for, since the file has as many records as before.
+    pub fn replace<R: Wait>(
+        &self,
+        rt: &R,
+        hand: &mut Hand,
+        key: Key,
+        value: Value,
+    ) -> Result<Answer, FileFault>
+        requires { IsOf self.now.state hand.old }
+        ensures { Serves self.now.state hand.old (call.Replace key value) result hand.new }
+    {
+        self.change(rt, hand, &Call::Replace(key, value))
+    }
+
     /// Serves a call that may change its bucket.
-    // Inlined in an insert and in a delete, each of which knows its call.
+    // Inlined in an insert, a delete and a replace, each of which knows its call.
     #[inline(always)]
     fn change<R: Wait>(&self, rt: &R, hand: &mut Hand, call: &Call) -> Result<Answer, FileFault>
         requires { IsOf self.now.state hand.old }

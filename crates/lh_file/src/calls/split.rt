@@ -2,6 +2,7 @@
 ghost use Rattle.std.specs.Prelude.{◌≡◌, ◌+◌, ◌*◌, ◌^◌, ◌<◌, ◌≤◌, ◌↔◌, true, false, not, IsTrue, OnOk, IfOk, IfErr, OnErr};
 ghost use Rattle.std.specs.FinMap.{retain_keys};
 ghost use Rattle.lh_addr.specs.Extent.{IsExtent};
+ghost use Rattle.lh_addr.specs.Limits.{most_buckets};
 ghost use Rattle.lh_bucket.specs.Bucket.{content, stays};
 ghost use Rattle.lh_file.specs.FileState.{IsOf};
 ghost use Rattle.lh_file.specs.Words.HandState.{knowing, with_right};
@@ -37,7 +38,7 @@ fn divide(
 ) -> Result<(), FileFault>
     requires extent { IsExtent root.now }
     requires initial { root.now.initial ≡ config.now.initial }
-    requires below { root.now.buckets < 65536 }
+    requires below { root.now.buckets < most_buckets }
     ensures old_content { OnOk result (content old.new ≡ retain_keys (content old.old) (stays old.old.head)) }
     ensures new_content { OnOk result (content new.new ≡
         retain_keys (content old.old) (λ key. not (stays old.old.head key))) }

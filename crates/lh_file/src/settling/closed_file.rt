@@ -1,5 +1,6 @@
 //! Files that are closed.
 ghost use Rattle.std.specs.Prelude.{◌≡◌, ℕ, ◌+◌, ◌-◌, ◌*◌, ◌/◌, ◌%◌, ◌^◌, ◌<◌, ◌≤◌, ◌↔◌, length, map, min, take, IsTrue, IfOk, IfErr};
+ghost use Rattle.lh_addr.specs.Limits.{most_buckets};
 
 use lh_addr::Config;
 use lh_bucket::{Listing, ListingFault, Memory};
@@ -47,7 +48,10 @@ impl Closed {
     ghost use Rattle.lh_bucket.specs.ListingFault.{IsFaultOf};
     ghost use Rattle.lh_file.specs.Settling.ClosedFile.{IsClosed, size_of};
 
-    pub(crate) fn new(config: Config, root: u64, stamps: u64, lists: Vec<Vec<Pair>>) -> Closed
+    /// A closed file of these parts, such as one that is to be settled by hand: its configuration, its root
+    /// word, which is twice its number of buckets, and one more while a hand had the right to split, its
+    /// number of stamps, and the records of each bucket.
+    pub fn new(config: Config, root: u64, stamps: u64, lists: Vec<Vec<Pair>>) -> Closed
         requires from_initial { config.initial ≤ size_of root }
         requires to_max { size_of root ≤ config.max }
         requires few { length lists.items ≤ config.max }
@@ -148,7 +152,7 @@ impl Closed {
 
     pub(crate) fn lists(&self) -> &[Vec<Pair>]
         ensures value { map (λ v. v.items) result.now ≡ self.now.lists }
-        ensures few { length result.now ≤ 65536 }
+        ensures few { length result.now ≤ most_buckets }
     {
         &self.lists
     }

@@ -1,9 +1,9 @@
 //! The plain map that a history is compared with.
-ghost use Rattle.std.specs.Prelude.{◌≡◌, ℕ, List, None, IfOk, OnOk, IfSome, IfNone, is_some, if◌then◌else◌};
+ghost use Rattle.std.specs.Prelude.{◌≡◌, ℕ, List, None, IsOk, IfOk, OnOk, IfSome, IfNone, is_some, if◌then◌else◌};
 ghost use Rattle.std.specs.Option.{IsSome};
-ghost use Rattle.std.specs.FinMap.{get, empty, insert, remove};
+ghost use Rattle.std.specs.FinMap.{get, empty, insert, remove, contains_key};
 ghost use Rattle.lh_bucket.specs.declared.call.Call.TheVariants as call;
-ghost use Rattle.lh_bucket.specs.PlainMap.{reply, after};
+ghost use Rattle.lh_bucket.specs.PlainMap.{reply, after, IsInsert};
 ghost use Rattle.lh_file.specs.Settling.Contents.{IsBefore};
 ghost use Rattle.lh_file.specs.Settling.PlainMap.{records_of};
 
@@ -76,6 +76,21 @@ fn take(records: &mut HashMap<Name, Value>, key: &Key) -> Option<Value>
     records.remove(&Name(*key))
 }
 
+/// Gives a key another value, and says whether it was there.
+fn change(records: &mut HashMap<Name, Value>, key: &Key, value: Value) -> bool
+    ensures found { result ≡ contains_key (records_of records.old.entries) key.now }
+    ensures changed { records_of records.new.entries ≡
+        (if result then insert (records_of records.old.entries) key.now value else records_of records.old.entries) }
+{
+    match records.get_mut(&Name(*key)) {
+        Some(old) => {
+            *old = value;
+            true
+        }
+        None => false,
+    }
+}
+
 /// The least key of a table.
 fn least_of(records: &HashMap<Name, Value>) -> Option<Key>
     ensures none { IfNone result ((key : List ℕ) → get (records_of records.now.entries) key ≡ None) }
@@ -99,10 +114,11 @@ impl PlainMap {
         Ok(PlainMap { records })
     }
 
-    /// Serves a call.
+    /// Serves a call. Only an insert takes memory.
     pub(crate) fn serve(&mut self, call: &Call) -> Result<Reply, Memory>
         ensures reply { IfOk result (λ r. r ≡ reply self.old call.now) }
         ensures after { OnOk result (self.new ≡ after self.old call.now) }
+        ensures no_memory { ¬ (IsInsert call.now) → IsOk result }
     {
         match call {
             Call::Search(key) => match value_at(&self.records, key) {
@@ -120,6 +136,13 @@ impl PlainMap {
                 Some(_) => Ok(Reply::Deleted),
                 None => Ok(Reply::Absent),
             },
+            Call::Replace(key, value) => {
+                if change(&mut self.records, key, *value) {
+                    Ok(Reply::Replaced)
+                } else {
+                    Ok(Reply::Absent)
+                }
+            }
         }
     }
 

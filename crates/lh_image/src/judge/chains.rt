@@ -1,8 +1,10 @@
 //! The chains of all buckets.
 ghost use Rattle.std.specs.Prelude.{◌≡◌, ℕ, ◌+◌, ◌-◌, ◌<◌, ◌≤◌, ◌||◌, not, false, length, map, slice_index_or, IfOk, IfErr};
 ghost use Rattle.std.specs.List.{find, list_any, range_with_len};
+ghost use Rattle.lh_addr.specs.Limits.{most_buckets};
 ghost use Rattle.lh_image.specs.Chains.{chain, pages_from, stands_in};
 ghost use Rattle.lh_image.specs.Table.{next_in};
+ghost use Rattle.lh_image.specs.Layout.{most_pages};
 
 use crate::fault::ImageFault;
 use crate::judge::links::next_of;
@@ -32,7 +34,7 @@ pub(crate) fn all_chains(
     entries: &[Entry],
     buckets: u32,
 ) -> Result<Vec<Vec<u32>>, ImageFault>
-    requires { buckets ≤ 65536 }
+    requires { buckets ≤ most_buckets }
     ensures ok { IfOk result (λ v. map (λ chain. chain.items) v.items
         ≡ map (chain (next_in entries.now) (length entries.now)) (range_with_len 0 buckets)) }
     ensures fault { IfErr result (λ f. f ≡ ImageFault.Memory) }
@@ -74,7 +76,7 @@ fn marks_of(alloc: Global, pages: usize, chains: &[Vec<u32>]) -> Result<Vec<bool
 
 /// The least page but the header's that isn't marked.
 fn least_unmarked(marks: &[bool]) -> Option<u32>
-    requires { length marks.now ≤ 1048576 }
+    requires { length marks.now ≤ most_pages }
     ensures { result ≡ find (λ p. not (slice_index_or marks.now p false)) (range_with_len 1 (length marks.now - 1)) }
 {
     (1..marks.len() as u32).find(|page| !marks[*page as usize])
@@ -86,7 +88,7 @@ pub(crate) fn least_on_no_chain(
     pages: u32,
     chains: &[Vec<u32>],
 ) -> Result<Option<u32>, ImageFault>
-    requires { pages ≤ 1048576 }
+    requires { pages ≤ most_pages }
     ensures least { IfOk result (λ r. r ≡ find (λ p. not (list_any (λ chain. stands_in chain.items p) chains.now))
         (range_with_len 1 (pages - 1))) }
     ensures fault { IfErr result (λ f. f ≡ ImageFault.Memory) }

@@ -3,6 +3,7 @@ ghost use Rattle.std.specs.Prelude.{◌≡◌, ℕ, ◌-◌, ◌<◌, ◌≤◌,
 ghost use Rattle.std.specs.List.{find, range_with_len};
 ghost use Rattle.lh_image.specs.Faults.{bad_next, least, named_twice, names};
 ghost use Rattle.lh_image.specs.Table.{links_in, next_in};
+ghost use Rattle.lh_image.specs.Layout.{most_pages};
 
 use crate::fault::ImageFault;
 use crate::reading::table::Entry;
@@ -26,7 +27,7 @@ fn has_bad_next(entries: &[Entry], buckets: u32, page: u32) -> bool
 /// The least page whose next one is no overflow page of its bucket.
 #[tactic(auto, unfolding(crate::specs::View::numbers))]
 pub(crate) fn least_bad_next(entries: &[Entry], buckets: u32) -> Option<u32>
-    requires { length entries.now ≤ 1048576 }
+    requires { length entries.now ≤ most_pages }
     ensures { result ≡ least (length entries.now) (bad_next (links_in entries.now buckets)) }
 {
     (1..entries.len() as u32).find(|page| has_bad_next(entries, buckets, *page))
@@ -46,7 +47,7 @@ pub(crate) fn next_of(entries: &[Entry], page: usize) -> u32
 
 /// How many pages name each page.
 fn count_names(alloc: Global, entries: &[Entry]) -> Result<Vec<u32>, ImageFault>
-    requires { length entries.now ≤ 1048576 }
+    requires { length entries.now ≤ most_pages }
     ensures size { IfOk result (λ v. length v.items ≡ length entries.now) }
     ensures counts { IfOk result (λ v. (p : ℕ) → p < length entries.now →
         slice_index v.items p ≡ names (next_in entries.now) (length entries.now) p) }
@@ -64,7 +65,7 @@ fn count_names(alloc: Global, entries: &[Entry]) -> Result<Vec<u32>, ImageFault>
 
 /// The least page but the header's that has a count of 2 or more.
 fn least_of_two(counts: &[u32]) -> Option<u32>
-    requires { length counts.now ≤ 1048576 }
+    requires { length counts.now ≤ most_pages }
     ensures { result ≡ find (λ p. nat_le 2 (slice_index counts.now p)) (range_with_len 1 (length counts.now - 1)) }
 {
     (1..counts.len() as u32).find(|page| counts[*page as usize] >= 2)
@@ -72,7 +73,7 @@ fn least_of_two(counts: &[u32]) -> Option<u32>
 
 /// The least page that two pages or more name.
 pub(crate) fn least_named_twice(alloc: Global, entries: &[Entry]) -> Result<Option<u32>, ImageFault>
-    requires { length entries.now ≤ 1048576 }
+    requires { length entries.now ≤ most_pages }
     ensures least { (buckets : ℕ) → IfOk result (λ r.
         r ≡ least (length entries.now) (named_twice (links_in entries.now buckets))) }
     ensures fault { IfErr result (λ f. f ≡ ImageFault.Memory) }

@@ -5,6 +5,7 @@ ghost use Rattle.std.specs.Cmp.Lexicographic.{slice_cmp};
 ghost use Rattle.std.specs.List.{flat_map, list_any};
 ghost use Rattle.std.specs.Ordering.{nat_cmp};
 ghost use Rattle.std.specs.Str.{bytes_eq};
+ghost use Rattle.lh_addr.specs.Limits.{most_buckets};
 ghost use Rattle.lh_page.specs.Records.{keys_of};
 ghost use Rattle.lh_image.specs.Faults.{misfits};
 ghost use Rattle.lh_image.specs.Misplaced.{IsLeast, IsSetOf, IsTestOf, is_home, lesser_of};
@@ -100,7 +101,7 @@ pub(crate) fn least_misfit(
     chains: &[Vec<u32>],
 ) -> Result<Option<u32>, ImageFault>
     requires within { AreWithin table.now.entries.items table.now.pairs.items }
-    requires few { length chains.now ≤ 65536 }
+    requires few { length chains.now ≤ most_buckets }
     ensures least { IfOk result (λ r. (bad : ℕ → Bool) → ((i : ℕ) → i < length chains.now →
         IsTestOf bad (is_home root.now i) (records_in table.now.entries.items table.now.pairs.items)
         (slice_index_or (map (λ chain. chain.items) chains.now) i [])) →

@@ -2,6 +2,7 @@
 ghost use Rattle.std.specs.Prelude.{◌≡◌, ◌≤◌, ◌||◌, true, nat_lt, IfOk, IfSome};
 ghost use Rattle.std.specs.Result.{result_err};
 ghost use Rattle.lh_addr.specs.Settings.{IsInRange};
+ghost use Rattle.lh_addr.specs.Limits.{most_buckets};
 ghost use Rattle.lh_image.specs.Faults.{bad_field, bad_counts, field_rows, first_of, no_magic, out_of};
 ghost use Rattle.lh_image.specs.Header.{AreInRange, ReadsHeader, header_with};
 ghost use Rattle.lh_image.specs.Layout.{ends_in_zeros, header_of};
@@ -53,7 +54,7 @@ fn fields_of(page: &[u8; 1024]) -> Fields
 
 /// Whether the number of buckets is out of its range.
 fn has_bad_buckets(fields: &Fields) -> bool
-    ensures { result ≡ out_of fields.now.initial 65536 fields.now.buckets }
+    ensures { result ≡ out_of fields.now.initial most_buckets fields.now.buckets }
 {
     fields.buckets < fields.initial || fields.buckets > MAX_BUCKETS
 }
@@ -86,7 +87,7 @@ fn config_of(fields: &Fields) -> Result<Config, u32>
 /// Whether the numbers of pages and of records can't be.
 #[tactic(auto, unfolding(crate::specs::Faults::bad_counts))]
 fn has_bad_counts(fields: &Fields) -> bool
-    requires buckets { fields.now.buckets ≤ 65536 }
+    requires buckets { fields.now.buckets ≤ most_buckets }
     requires capacity { fields.now.capacity ≤ 14 }
     ensures { result ≡ bad_counts (header_with fields.now) }
 {

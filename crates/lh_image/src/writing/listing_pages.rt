@@ -6,7 +6,7 @@ ghost use Rattle.lh_page.specs.Format.{version_1};
 ghost use Rattle.lh_page.specs.Records.{FitsPage};
 ghost use Rattle.lh_page.specs.PageTable.{IsWritable};
 ghost use Rattle.lh_page.specs.declared.page.PageKind.TheVariants.{Primary, Overflow};
-ghost use Rattle.lh_image.specs.Layout.{header_text};
+ghost use Rattle.lh_image.specs.Layout.{header_text, most_pages, padding};
 
 use byteorder::{ByteOrder, LittleEndian};
 use lh_addr::Root;
@@ -48,7 +48,7 @@ fn header_fields(
     pages: u32,
     records: u64,
 ) -> [u8; 36]
-    ensures { result ++ replicate 988 0 ≡ header_text (record {
+    ensures { result ++ replicate padding 0 ≡ header_text (record {
       config = record { initial = initial; capacity = capacity; load = load; max = max };
       buckets = buckets;
       pages = pages;
@@ -65,7 +65,7 @@ fn header_fields(
 
 /// The 1,024 bytes of the header page. `pages` is the number of all pages.
 pub(crate) fn header_bytes(listing: &Listing, pages: u32) -> [u8; 1024]
-    requires few { page_total listing.now ≤ 1048576 }
+    requires few { page_total listing.now ≤ most_pages }
     requires pages { pages ≡ page_total listing.now }
     ensures { result ≡ header_text (header_in listing.now) }
 {
@@ -105,11 +105,11 @@ fn pairs_from(listing: &Listing, bucket: u32, start: usize) -> Pairs
 /// The number of the first overflow page of the bucket behind `bucket`, of which it is `following`.
 pub(crate) fn following_after(listing: &Listing, bucket: u32, following: u32) -> u32
     requires bucket { bucket < size listing.now }
-    requires few { page_total listing.now ≤ 1048576 }
+    requires few { page_total listing.now ≤ most_pages }
     requires following { following ≡ 1 + size listing.now + overflow_before listing.now bucket }
     ensures value { result ≡ 1 + size listing.now + overflow_before listing.now (bucket + 1) }
     ensures some { 0 < page_count_in listing.now bucket }
-    ensures within { result ≤ 1048576 }
+    ensures within { result ≤ most_pages }
 {
     following + (page_count_in(listing, bucket) - 1) as u32
 }
@@ -129,7 +129,7 @@ fn kind_of(k: u32) -> PageKind
 fn next_page(listing: &Listing, bucket: u32, k: u32, following: u32) -> u32
     requires bucket { bucket < size listing.now }
     requires page { k < page_count_in listing.now bucket }
-    requires fits { following + k ≤ 1048576 }
+    requires fits { following + k ≤ most_pages }
     ensures { result ≡ (if k + 1 == page_count_in listing.now bucket then 0 else following + k) }
 {
     if k as usize + 1 == page_count_in(listing, bucket) {
@@ -144,7 +144,7 @@ fn page_in(listing: &Listing, root: &Root, bucket: u32, k: u32, following: u32) 
     requires root { root.now ≡ record { initial = listing.now.config.initial; buckets = size listing.now } }
     requires bucket { bucket < size listing.now }
     requires page { k < page_count_in listing.now bucket }
-    requires few { page_total listing.now ≤ 1048576 }
+    requires few { page_total listing.now ≤ most_pages }
     requires following { following ≡ 1 + size listing.now + overflow_before listing.now bucket }
     ensures value { result ≡ page_in listing.now bucket k }
     ensures writable { IsWritable version_1 result }
@@ -176,7 +176,7 @@ pub(crate) fn page_bytes(
     requires root { root.now ≡ record { initial = listing.now.config.initial; buckets = size listing.now } }
     requires bucket { bucket < size listing.now }
     requires page { k < page_count_in listing.now bucket }
-    requires few { page_total listing.now ≤ 1048576 }
+    requires few { page_total listing.now ≤ most_pages }
     requires following { following ≡ 1 + size listing.now + overflow_before listing.now bucket }
     ensures { result ≡ text_in listing.now bucket k }
 {

@@ -46,7 +46,7 @@ fn outcome(alloc: Global, text: &[u8]) -> Result<String, AllocError> {
 
 #[test]
 fn each_verb_is_a_call(rt: HostRuntime) -> Result<(), Fail> {
-    let text = b"search 61\ninsert 62 3132\n\ndelete 63\n".as_slice();
+    let text = b"search 61\ninsert 62 3132\n\ndelete 63\nreplace 64 -\n".as_slice();
     let Ok(calls) = parse::<Call>(rt.alloc(), text) else {
         return Err(Fail::from("no calls"));
     };
@@ -54,6 +54,7 @@ fn each_verb_is_a_call(rt: HostRuntime) -> Result<(), Fail> {
         Call::Search(Key::new(b"a")?),
         Call::Insert(Key::new(b"b")?, Value::new(b"12")?),
         Call::Delete(Key::new(b"c")?),
+        Call::Replace(Key::new(b"d")?, Value::new(b"")?),
     ];
     assert_eq!(rt; calls.as_slice(), expected.as_slice());
     Ok(())
@@ -104,6 +105,10 @@ fn faulty_words(rt: HostRuntime) -> Result<(), Fail> {
     );
     assert_eq!(rt;
         outcome(alloc, b"insert 61 31 # x\n".as_slice())?.as_str(),
+        "line 1: wrong number of words"
+    );
+    assert_eq!(rt;
+        outcome(alloc, b"replace 61\n".as_slice())?.as_str(),
         "line 1: wrong number of words"
     );
     Ok(())

@@ -29,7 +29,7 @@ fn expect(rt: &(impl Abort + AllocGlobal), text: &str, expected: &str) -> Result
 #[test]
 fn each_line_is_an_event(rt: HostRuntime) -> Result<(), Fail> {
     let text =
-        b"call 0 search 61\ncall 07 insert 62 3132\n\n# act\ncall 15 delete 63\nread 1\nlock 2\nrehash 3\nact 4\nrelease 05\nsplit-begin\nsplit-lock\nsplit-move\nsplit-release\nsplit-point\nsplit-drop\n".as_slice();
+        b"call 0 search 61\ncall 07 insert 62 3132\n\n# act\ncall 15 delete 63\ncall 1 replace 62 32\nread 1\nlock 2\nrehash 3\nact 4\nrelease 05\nsplit-begin\nsplit-lock\nsplit-move\nsplit-release\nsplit-point\nsplit-drop\n".as_slice();
     let Ok(events) = parse::<Event>(rt.alloc(), text) else {
         return Err(Fail::from("no events"));
     };
@@ -37,6 +37,7 @@ fn each_line_is_an_event(rt: HostRuntime) -> Result<(), Fail> {
         Event::Call(0, Call::Search(Key::new(b"a")?)),
         Event::Call(7, Call::Insert(Key::new(b"b")?, Value::new(b"12")?)),
         Event::Call(15, Call::Delete(Key::new(b"c")?)),
+        Event::Call(1, Call::Replace(Key::new(b"b")?, Value::new(b"2")?)),
         Event::Read(1),
         Event::Lock(2),
         Event::Rehash(3),

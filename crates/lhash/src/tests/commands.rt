@@ -23,6 +23,29 @@ fn a_delete_ends_a_record(rt: HostRuntime) -> Result<(), Fail> {
 }
 
 #[test]
+fn a_replace_changes_a_value_that_is_there(rt: HostRuntime) -> Result<(), Fail> {
+    let words = ["lhash", "commands"];
+    let script = "replace 61 31\ninsert 61 31\nreplace 61 32\nsearch 61\n";
+    let output = "absent\ninserted\nreplaced\nfound 32\nbuckets 1\n";
+    writes(&rt, words.as_slice(), script, output)?;
+    fails(
+        &rt,
+        words.as_slice(),
+        "replace 61",
+        1,
+        "line 1: wrong number of words",
+    )
+}
+
+#[test]
+fn replaces_grow_no_file(rt: HostRuntime) -> Result<(), Fail> {
+    let words = ["lhash", "commands", "--capacity", "1", "--max", "2"];
+    let script = "insert 61 31\nreplace 61 -\nreplace 62 31\nreplace 61 3132\nsearch 61\n";
+    let output = "inserted\nreplaced\nabsent\nreplaced\nfound 3132\nbuckets 1\n";
+    writes(&rt, words.as_slice(), script, output)
+}
+
+#[test]
 fn records_of_many_buckets_are_found(rt: HostRuntime) -> Result<(), Fail> {
     let words = ["lhash", "commands", "--initial", "3"];
     let script =

@@ -1,7 +1,5 @@
 //! Drawings of images.
-use crate::run;
-use crate::tests::support::{Sink, ran};
-use std::process::Abort;
+use crate::tests::support::ran;
 use std::sync::Wait;
 use std::test::Fail;
 use std::thread::Threads;
@@ -48,18 +46,5 @@ fn a_cut_off_image_is_not_drawn(rt: HostRuntime) -> Result<(), Fail> {
     assert_eq!(rt; text.as_str(), "image I4");
     assert_eq!(rt; code, 1);
     assert!(rt; written.is_empty());
-    Ok(())
-}
-
-#[test]
-fn a_drawing_ends_where_a_write_fails(rt: HostRuntime) -> Result<(), Fail> {
-    let image = empty_file(&rt)?;
-    let mut input = image.as_slice();
-    let mut sink = Sink::new(rt.alloc(), 100, 3);
-    let status = run(&rt, ["lhash", "draw"].as_slice(), &mut input, &mut sink);
-    assert_eq!(rt; status.to_string(rt.alloc())?.as_str(), "write failed");
-    assert_eq!(rt; status.code(), 3);
-    assert_eq!(rt; sink.bytes.len(), 200);
-    assert!(rt; EMPTY_FILE.as_bytes().starts_with(sink.bytes.as_slice()));
     Ok(())
 }

@@ -33,7 +33,7 @@ fn four_threads_find_what_they_inserted(rt: HostRuntime) -> Result<(), Fail> {
     let script = inserts_and_searches(rt.alloc(), 400)?;
     let words = ["lhash", "drive", "--threads", "4"];
     let totals =
-        "settled\ncalls 800\nfound 400\nabsent 0\ninserted 400\nexists 0\ndeleted 0\nrecords 400\n";
+        "settled\ncalls 800\nfound 400\nabsent 0\ninserted 400\nexists 0\ndeleted 0\nreplaced 0\nrecords 400\n";
     writes(&rt, words.as_slice(), script.as_str(), totals)
 }
 
@@ -41,9 +41,9 @@ fn four_threads_find_what_they_inserted(rt: HostRuntime) -> Result<(), Fail> {
 fn each_reply_is_counted(rt: HostRuntime) -> Result<(), Fail> {
     let words = ["lhash", "drive", "--threads", "1", "--initial=3"];
     let script =
-        "insert 61 31\ninsert 61 32\nsearch 61\nsearch 62\ninsert 62 33\ndelete 61\ndelete 61\nsearch 62\ninsert 63 -\n";
+        "insert 61 31\ninsert 61 32\nsearch 61\nsearch 62\ninsert 62 33\ndelete 61\ndelete 61\nsearch 62\ninsert 63 -\nreplace 62 34\nreplace 62 -\nreplace 64 -\nsearch 62\n";
     let totals =
-        "settled\ncalls 9\nfound 2\nabsent 2\ninserted 3\nexists 1\ndeleted 1\nrecords 2\n";
+        "settled\ncalls 13\nfound 3\nabsent 3\ninserted 3\nexists 1\ndeleted 1\nreplaced 2\nrecords 2\n";
     writes(&rt, words.as_slice(), script, totals)
 }
 
@@ -51,7 +51,7 @@ fn each_reply_is_counted(rt: HostRuntime) -> Result<(), Fail> {
 fn an_empty_script_has_totals(rt: HostRuntime) -> Result<(), Fail> {
     let words = ["lhash", "drive"];
     let totals =
-        "settled\ncalls 0\nfound 0\nabsent 0\ninserted 0\nexists 0\ndeleted 0\nrecords 0\n";
+        "settled\ncalls 0\nfound 0\nabsent 0\ninserted 0\nexists 0\ndeleted 0\nreplaced 0\nrecords 0\n";
     writes(&rt, words.as_slice(), "# none\n", totals)
 }
 
@@ -148,6 +148,7 @@ fn nine_calls_hold_nine_buckets(rt: HostRuntime) -> Result<(), Fail> {
         inserted: 9,
         exists: 0,
         deleted: 0,
+        replaced: 0,
         records: 9,
     };
     assert_eq!(rt; driven, Ok(totals));
@@ -205,6 +206,7 @@ fn eight_threads_settle_though_each_waits(rt: HostRuntime) -> Result<(), Fail> {
         inserted: 1000,
         exists: 0,
         deleted: 0,
+        replaced: 0,
         records: 1000,
     };
     assert_eq!(rt; driven, Ok(totals));

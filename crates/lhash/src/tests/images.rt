@@ -5,7 +5,6 @@ use std::sync::Wait;
 use std::test::Fail;
 use std::thread::Threads;
 
-mod devices;
 mod forged;
 mod opened;
 
@@ -171,6 +170,33 @@ fn long_keys_and_empty_values(rt: HostRuntime) -> Result<(), Fail> {
     let image = built(&rt, CHAIN_WORDS, script.as_str())?;
     let records = format!(in rt.alloc(); "0 {key} {value}\n0 00ff -\n")?;
     told(&rt, &["lhash", "dump"], &image, records.as_bytes())
+}
+
+/// A script of so many inserts.
+pub fn inserts(rt: &impl AllocGlobal, count: u32) -> Result<String, Fail> {
+    let mut script = String::new(rt.alloc());
+    for number in 0..count {
+        script.writeln(format_args!("insert {number:06x} -"))?;
+    }
+    Ok(script)
+}
+
+/// So many records, one to a page, leave no page for the header.
+#[test]
+fn an_image_has_a_greatest_number_of_pages(rt: HostRuntime) -> Result<(), Fail> {
+    let script = inserts(&rt, 1_048_576)?;
+    let words = ["lhash", "build", "--capacity", "1"];
+    fails(&rt, words.as_slice(), script.as_str(), 1, "image too large")
+}
+
+/// There is a page for each record.
+#[test]
+fn an_image_of_many_pages_is_read(rt: HostRuntime) -> Result<(), Fail> {
+    let script = inserts(&rt, 110_000)?;
+    let image = built(&rt, &["lhash", "build", "--capacity", "1"], script.as_str())?;
+    let (code, census, _) = ran(&rt, &["lhash", "check"], &image)?;
+    assert!(rt; code == 0 && census.starts_with(b"buckets 65536\n"));
+    Ok(())
 }
 
 #[test]

@@ -1,16 +1,16 @@
 //! Step scripts, from words and bytes to bytes and a status.
-use crate::run;
-use crate::tests::support::{Sink, fails, ran, writes};
+use crate::tests::support::{fails, ran, writes};
 use std::process::Abort;
 use std::sync::Wait;
 use std::test::Fail;
 use std::thread::Threads;
 
-/// The steps of these lines tell these lines.
-fn tells(
+/// The steps of these lines, and then of those, tell these lines.
+fn tells_both(
     rt: &(impl Abort + AllocGlobal + Threads + Wait + Sync),
     options: &[&str],
     lines: &[(&str, &str)],
+    more: &[(&str, &str)],
 ) -> Result<(), Fail> {
     let mut words = Vec::new(rt.alloc());
     words.push("lhash")?;
@@ -20,7 +20,7 @@ fn tells(
     }
     let mut script = String::new(rt.alloc());
     let mut output = String::new(rt.alloc());
-    for (line, told) in lines {
+    for (line, told) in lines.iter().chain(more) {
         script.push_str(line)?;
         script.push_str("\n")?;
         output.push_str(told)?;
@@ -28,6 +28,28 @@ fn tells(
     }
     writes(rt, words.as_slice(), script.as_str(), output.as_str())
 }
+
+/// The steps of these lines tell these lines.
+fn tells(
+    rt: &(impl Abort + AllocGlobal + Threads + Wait + Sync),
+    options: &[&str],
+    lines: &[(&str, &str)],
+) -> Result<(), Fail> {
+    tells_both(rt, options, lines, &[])
+}
+
+/// A record, and a split of its bucket up to its pointer.
+const SPLIT_BUT_NOT_POINTED: [(&str, &str); 9] = [
+    ("call 0 insert 62 31", "called"),
+    ("read 0", "aim 0 0"),
+    ("lock 0", "locked 0 0"),
+    ("act 0", "inserted"),
+    ("release 0", "released"),
+    ("split-begin", "begun 0 1"),
+    ("split-lock", "both 0 1"),
+    ("split-move", "moved 0 1"),
+    ("split-release", "freed"),
+];
 
 #[test]
 fn an_old_root_by_one_split(rt: HostRuntime) -> Result<(), Fail> {
@@ -87,15 +109,6 @@ fn an_old_root_by_four_splits(rt: HostRuntime) -> Result<(), Fail> {
 #[test]
 fn between_move_and_pointer(rt: HostRuntime) -> Result<(), Fail> {
     let lines = [
-        ("call 0 insert 62 31", "called"),
-        ("read 0", "aim 0 0"),
-        ("lock 0", "locked 0 0"),
-        ("act 0", "inserted"),
-        ("release 0", "released"),
-        ("split-begin", "begun 0 1"),
-        ("split-lock", "both 0 1"),
-        ("split-move", "moved 0 1"),
-        ("split-release", "freed"),
         ("call 1 search 62", "called"),
         ("read 1", "aim 0 0"),
         ("lock 1", "locked 0 1"),
@@ -106,6 +119,49 @@ fn between_move_and_pointer(rt: HostRuntime) -> Result<(), Fail> {
         ("release 1", "released"),
         ("split-drop", "refused C1"),
         ("split-point", "point 2"),
+    ];
+    tells_both(
+        &rt,
+        [].as_slice(),
+        SPLIT_BUT_NOT_POINTED.as_slice(),
+        lines.as_slice(),
+    )
+}
+
+#[test]
+fn a_replace_finds_its_way_too(rt: HostRuntime) -> Result<(), Fail> {
+    let lines = [
+        ("call 1 replace 62 32", "called"),
+        ("read 1", "aim 0 0"),
+        ("lock 1", "locked 0 1"),
+        ("act 1", "refused C3"),
+        ("rehash 1", "aim 1 1"),
+        ("lock 1", "locked 1 1"),
+        ("act 1", "replaced"),
+    ];
+    tells_both(
+        &rt,
+        [].as_slice(),
+        SPLIT_BUT_NOT_POINTED.as_slice(),
+        lines.as_slice(),
+    )
+}
+
+#[test]
+fn a_replace_locks_exclusively(rt: HostRuntime) -> Result<(), Fail> {
+    let lines = [
+        ("call 0 search 61", "called"),
+        ("read 0", "aim 0 0"),
+        ("lock 0", "locked 0 0"),
+        ("call 3 replace 61 31", "called"),
+        ("read 3", "aim 0 0"),
+        ("lock 3", "refused C2"),
+        ("release 0", "given up"),
+        ("lock 3", "locked 0 0"),
+        ("call 0 search 61", "called"),
+        ("read 0", "aim 0 0"),
+        ("lock 0", "refused C2"),
+        ("act 3", "absent"),
     ];
     tells(&rt, [].as_slice(), lines.as_slice())
 }
@@ -184,25 +240,5 @@ fn an_empty_script_tells_nothing(rt: HostRuntime) -> Result<(), Fail> {
     let (code, written, _) = ran(&rt, ["lhash", "steps", "--help"].as_slice(), b"frob")?;
     assert_eq!(rt; code, 0);
     assert!(rt; !written.is_empty());
-    Ok(())
-}
-
-#[test]
-fn a_failed_write_ends_the_steps(rt: HostRuntime) -> Result<(), Fail> {
-    let words = ["lhash", "steps"];
-    let whole = b"refused C1\n".as_slice();
-    for failing_write in 1..14 {
-        let mut input = b"read 0\n".as_slice();
-        let mut sink = Sink::new(rt.alloc(), 1, failing_write);
-        let status = run(&rt, words.as_slice(), &mut input, &mut sink);
-        if failing_write < 13 {
-            assert_eq!(rt; status.code(), 3);
-            assert_eq!(rt; status.to_string(rt.alloc())?.as_str(), "write failed");
-            assert!(rt; whole.starts_with(sink.bytes.as_slice()));
-        } else {
-            assert_eq!(rt; status.code(), 0);
-            assert_eq!(rt; sink.bytes.as_slice(), whole);
-        }
-    }
     Ok(())
 }

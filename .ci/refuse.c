@@ -1,0 +1,65 @@
+// Preloaded into a program by .ci/hostile: refuses one of its requests, for memory, to read or to write, or all from
+// one on. REFUSE says which, as in "memory 5" and "memory 5..", and REFUSE_COUNT names a file of eight bytes in which
+// the requests of that kind are counted.
+#include <errno.h>
+#include <fcntl.h>
+#include <stddef.h>
+#include <stdlib.h>
+#include <string.h>
+#include <sys/mman.h>
+#include <sys/syscall.h>
+#include <unistd.h>
+
+void *__libc_malloc(size_t), *__libc_calloc(size_t, size_t), *__libc_realloc(void *, size_t);
+
+static char kind;
+static long at;
+static int from;
+static long *count;
+
+__attribute__((constructor)) static void begin(void) {
+    const char *order = getenv("REFUSE"), *file = getenv("REFUSE_COUNT");
+    int fd = order && file ? open(file, O_RDWR) : -1;
+    if (fd < 0) return;
+    at = atol(strchr(order, ' '));
+    from = strstr(order, "..") != NULL;
+    void *shared = mmap(NULL, sizeof *count, PROT_READ | PROT_WRITE, MAP_SHARED, fd, 0);
+    close(fd);
+    if (shared == MAP_FAILED) _exit(99);
+    count = shared;
+    kind = order[0];
+}
+
+static int refused(char asked) {
+    if (asked != kind) return 0;
+    long number = __atomic_add_fetch(count, 1, __ATOMIC_SEQ_CST);
+    return from ? number >= at : number == at;
+}
+
+static void *no_memory(void) {
+    errno = ENOMEM;
+    return NULL;
+}
+
+void *malloc(size_t size) { return refused('m') ? no_memory() : __libc_malloc(size); }
+
+void *calloc(size_t items, size_t size) { return refused('m') ? no_memory() : __libc_calloc(items, size); }
+
+void *realloc(void *block, size_t size) { return refused('m') ? no_memory() : __libc_realloc(block, size); }
+
+ssize_t read(int fd, void *bytes, size_t most) {
+    if (refused('r')) {
+        errno = EIO;
+        return -1;
+    }
+    return syscall(SYS_read, fd, bytes, most);
+}
+
+ssize_t write(int fd, const void *bytes, size_t most) {
+    // What is told on standard error is not refused.
+    if (fd != 2 && refused('w')) {
+        errno = EIO;
+        return -1;
+    }
+    return syscall(SYS_write, fd, bytes, most);
+}

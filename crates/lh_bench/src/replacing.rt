@@ -1,0 +1,83 @@
+//! Replaces of records by values of other lengths.
+ghost use Rattle.lh_file.specs.FileState.{IsOf};
+
+use crate::caller::{Caller, play};
+use crate::meter::Stopwatch;
+use crate::order::Order;
+use crate::report::Outcome;
+use crate::streams::{Replaces, is_value_of, key_of, other_value_of};
+use crate::workloads::{empty_file, load};
+use anyhow::Result;
+use lh_bucket::Reply;
+use lh_file::{Hand, HashFile, NoGate};
+use std::alloc::Global;
+use std::rt::Clock;
+use std::sync::Wait;
+use std::time::CpuClock;
+
+/// The length of no value.
+const NEVER: u8 = 255;
+
+/// The length of the value that each record was last given, or [`NEVER`].
+fn last_lengths(alloc: Global, order: &Order) -> Result<Vec<u8>> {
+    let mut lengths = Vec::new(alloc);
+    lengths.resize(order.records as usize, NEVER)?;
+    let mut stream = Replaces::new(order);
+    for _ in 0..order.records {
+        let (record, length) = stream.pick();
+        if let Some(last) = lengths.get_mut(record as usize) {
+            *last = length;
+        }
+    }
+    Ok(lengths)
+}
+
+/// Whether a search met the value that its record was last given.
+fn is_last_given(reply: &Reply, seed: u64, record: u64, length: u8) -> bool {
+    match reply {
+        Reply::Found(value) if length == NEVER => is_value_of(value, seed, record),
+        Reply::Found(value) => value.bytes() == other_value_of(seed, record, length).bytes(),
+        _ => false,
+    }
+}
+
+/// Whether each record has the value that it was last given.
+fn are_last_given<R: Wait>(
+    rt: &R,
+    file: &HashFile<NoGate>,
+    mut hand: Hand,
+    seed: u64,
+    lengths: &[u8],
+) -> bool
+    requires { IsOf file.now.state hand }
+{
+    for (place, length) in lengths.iter().enumerate() {
+        let record = place as u64;
+        let is_due = match file.search(rt, &mut hand, key_of(seed, record)) {
+            Ok(answer) => is_last_given(&answer.reply(), seed, record, *length),
+            Err(_) => false,
+        };
+        if !is_due {
+            return false;
+        }
+    }
+    true
+}
+
+/// Replaces of records that are there.
+pub fn replaces<R: Wait + Clock + CpuClock + AllocGlobal>(
+    rt: &R,
+    order: &Order,
+) -> Result<Outcome> {
+    let lengths = last_lengths(rt.alloc(), order)?;
+    let (file, hand) = empty_file(rt.alloc(), false)?;
+    let loaded = load(rt, &file, hand, order, 1);
+    let caller = Caller::new(loaded.hand, order.seed);
+    let watch = Stopwatch::start(rt)?;
+    let caller = play(rt, &file, caller, Replaces::new(order), order.records);
+    let spent = watch.stop(rt)?;
+    let tally = caller.tally;
+    let is_due = tally.replaced == order.records
+        && are_last_given(rt, &file, caller.hand, order.seed, lengths.as_slice());
+    Ok(Outcome::new(order.records, spent, tally, is_due))
+}

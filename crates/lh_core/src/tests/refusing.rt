@@ -1,0 +1,225 @@
+//! A bucket without memory: what steps, runs and calls tell of it, and that they go on.
+use super::calls::{insert, search, small};
+use crate::{Effect, Event, Ran, Refusal, SplitState, WorkerState, World, run, serial};
+use lh_bucket::{Answer, Bucket, Call, Listing, Memory, PagedBucket, Reply, Verdict};
+use lh_page::Pair;
+use std::alloc::Global;
+use std::process::Abort;
+use std::test::Fail;
+
+/// A bucket of pages for which there is no memory at its first insert, nor at its first split.
+#[derive(Drop)]
+struct Refusing {
+    bucket: PagedBucket,
+    refused_insert: bool,
+    refused_split: bool,
+}
+
+impl Bucket for Refusing {
+    ghost seen = { λ b. b.bucket };
+
+    fn make(
+        alloc: Global,
+        initial: u32,
+        capacity: u32,
+        number: u32,
+        level: Option<u8>,
+    ) -> Result<Self, Memory> {
+        Ok(Refusing {
+            bucket: PagedBucket::make(alloc, initial, capacity, number, level)?,
+            refused_insert: false,
+            refused_split: false,
+        })
+    }
+
+    fn number(&self) -> u32 {
+        self.bucket.number()
+    }
+
+    fn initial(&self) -> u32 {
+        self.bucket.initial()
+    }
+
+    fn capacity(&self) -> u32 {
+        self.bucket.capacity()
+    }
+
+    fn level(&self) -> Option<u8> {
+        self.bucket.level()
+    }
+
+    fn len(&self) -> usize {
+        self.bucket.len()
+    }
+
+    fn pair_at(&self, place: usize) -> Pair {
+        self.bucket.pair_at(place)
+    }
+
+    fn compare(&self, c: u64, k: u8) -> Verdict {
+        self.bucket.compare(c, k)
+    }
+
+    fn look(&self, call: &Call, k: u8) -> Answer {
+        self.bucket.look(call, k)
+    }
+
+    fn serve(&mut self, call: &Call, k: u8) -> Result<Answer, Memory> {
+        if call.is_insert() && !self.refused_insert {
+            self.refused_insert = true;
+            return Err(Memory);
+        }
+        self.bucket.serve(call, k)
+    }
+
+    fn split_into(&mut self, new: &mut Self) -> Result<(), Memory> {
+        if !self.refused_split {
+            self.refused_split = true;
+            return Err(Memory);
+        }
+        self.bucket.split_into(&mut new.bucket)
+    }
+}
+
+/// The listing of a world in which no split is under way.
+fn listed<B: Bucket>(world: &World<B>) -> Result<Listing, Fail> {
+    match world.splitter() {
+        SplitState::Idle => Ok(world.listing()?),
+        _ => Err(Fail::from("a split is under way")),
+    }
+}
+
+/// How many records the filled buckets have.
+fn records_in<B: Bucket>(world: &World<B>) -> usize {
+    let mut records: usize = 0;
+    for number in 0..world.filled() {
+        records = records.saturating_add(world.bucket(number).len());
+    }
+    records
+}
+
+/// Takes steps that the rules allow.
+fn take_all<B: Bucket>(world: &mut World<B>, events: &[Event]) -> Result<(), Fail> {
+    for event in events {
+        world.step(*event)?;
+    }
+    Ok(())
+}
+
+#[test]
+fn a_run_tells_of_refused_memory_and_goes_on(rt: HostRuntime) -> Result<(), Fail> {
+    let rows = [
+        (Event::Call(0, insert(b"a", b"1")?), Ok(Effect::Called)),
+        (
+            Event::Read(0),
+            Ok(Effect::Aim {
+                level: 0,
+                bucket: 0,
+            }),
+        ),
+        (
+            Event::Lock(0),
+            Ok(Effect::Locked {
+                bucket: 0,
+                level: 0,
+            }),
+        ),
+        (Event::Act(0), Err(Refusal::Memory)),
+        (Event::Act(0), Ok(Effect::Answered(Reply::Inserted))),
+        (Event::Release(0), Ok(Effect::Released)),
+        (Event::SplitBegin, Ok(Effect::Begun { old: 0, new: 1 })),
+        (Event::SplitLock, Ok(Effect::Both { old: 0, new: 1 })),
+        (Event::SplitMove, Err(Refusal::Memory)),
+        (Event::SplitMove, Ok(Effect::Moved { old: 0, new: 1 })),
+        (Event::SplitRelease, Ok(Effect::Freed)),
+        (Event::SplitPoint, Ok(Effect::Point { buckets: 2 })),
+    ];
+    let mut events = Vec::new(rt.alloc());
+    let mut due = Vec::new(rt.alloc());
+    for (event, entry) in rows {
+        events.push(event)?;
+        due.push(entry)?;
+    }
+    let Ran { entries, world } = run::<Refusing>(rt.alloc(), small()?, events.as_slice())?;
+    assert_eq!(rt; entries.as_slice(), due.as_slice());
+    assert_eq!(rt; world.root().buckets(), 2);
+    assert_eq!(rt; listed(&world)?.len(), 1);
+    Ok(())
+}
+
+#[test]
+fn a_refused_step_leaves_the_world_as_it_was(rt: HostRuntime) -> Result<(), Fail> {
+    let mut world = World::<Refusing>::new(rt.alloc(), small()?)?;
+    let call = insert(b"a", b"1")?;
+    let events = [
+        Event::SplitBegin,
+        Event::Call(3, call),
+        Event::Read(3),
+        Event::Lock(3),
+    ];
+    take_all(&mut world, events.as_slice())?;
+    let holding = WorkerState::Holding(call, 0, 0);
+    assert_eq!(rt; world.worker(3), holding);
+    assert_eq!(rt; world.step(Event::Act(3)), Err(Refusal::Memory));
+    assert_eq!(rt; world.worker(3), holding);
+    assert_eq!(rt; records_in(&world), 0);
+    let events = [Event::Act(3), Event::Release(3), Event::SplitLock];
+    take_all(&mut world, events.as_slice())?;
+    let locked = world.splitter();
+    assert_eq!(rt; world.step(Event::SplitMove), Err(Refusal::Memory));
+    assert!(rt; world.splitter() == locked && locked != SplitState::Idle);
+    assert_eq!(rt; (world.filled(), world.root().buckets()), (1, 1));
+    assert_eq!(rt; records_in(&world), 1);
+    take_all(&mut world, [Event::SplitMove].as_slice())?;
+    assert_eq!(rt; world.filled(), 2);
+    Ok(())
+}
+
+#[test]
+fn calls_one_after_another_end_without_memory(rt: HostRuntime) -> Result<(), Fail> {
+    let key = search(b"a")?;
+    let ran = serial::<Refusing>(rt.alloc(), small()?, &[key, key])?;
+    assert_eq!(rt;
+        ran.replies.as_slice(),
+        [Reply::Absent, Reply::Absent].as_slice()
+    );
+    let calls = [insert(b"a", b"1")?];
+    assert!(rt; serial::<Refusing>(rt.alloc(), small()?, &calls).is_err());
+    Ok(())
+}
+
+fn is_listed_whatever_a_worker_does<B: Bucket>(
+    rt: &impl Abort,
+    world: &mut World<B>,
+    worker: u8,
+) -> Result<(), Fail> {
+    let key = [b'a'.saturating_add(worker)];
+    let records = u64::from(worker);
+    let call = Event::Call(worker, insert(&key, b"1")?);
+    take_all(world, [call, Event::Read(worker)].as_slice())?;
+    assert_eq!(rt; listed(world)?.len(), records);
+    take_all(world, [Event::Lock(worker)].as_slice())?;
+    assert_eq!(rt; listed(world)?.len(), records);
+    let events = [
+        Event::Act(worker),
+        Event::Release(worker),
+        Event::Call(worker, search(&key)?),
+    ];
+    take_all(world, events.as_slice())
+}
+
+fn is_listed_whatever_its_workers_do<B: Bucket>(
+    rt: &impl Abort,
+    mut world: World<B>,
+) -> Result<(), Fail> {
+    for worker in 0..16 {
+        is_listed_whatever_a_worker_does(rt, &mut world, worker)?;
+    }
+    assert_eq!(rt; listed(&world)?.len(), 16);
+    Ok(())
+}
+
+#[test]
+fn a_world_is_listed_whatever_its_workers_do(rt: HostRuntime) -> Result<(), Fail> {
+    is_listed_whatever_its_workers_do(&rt, World::<PagedBucket>::new(rt.alloc(), small()?)?)
+}

@@ -1,0 +1,5 @@
+use Rattle.lh_file.specs.FileState.{IsOf}
+use Rattle.lh_file_tests.proofs.tests.threads.work.Given as goal
+
+abbrev pub invariant-loop : goal.invariant-loop
+invariant-loop l = IsOf l.file l.hand

@@ -1,0 +1,42 @@
+//! What stays of a thread that has ended.
+ghost use Rattle.lh_file.specs.FileState.{IsOf};
+
+use super::made::{made, second_of};
+use super::play::beside;
+use super::stage::Progress;
+use super::tasks::{Task, Told, one};
+use lh_addr::Config;
+use lh_file::{Hand, HashFile, NoGate};
+use std::sync::Wait;
+use std::test::Fail;
+use std::thread::Threads;
+
+/// What the second hand of a file is told of a letter that the first hand has inserted in a thread that
+/// has ended, or what the insert was told. None where a thread was wanted.
+fn told_after<R: Threads + Wait + Sync>(
+    rt: &R,
+    file: &HashFile<NoGate>,
+    first: Hand,
+    second: Hand,
+) -> Option<Told>
+    requires first { IsOf file.now.state first }
+    requires second { IsOf file.now.state second }
+{
+    let progress = Progress::new();
+    let insert = [(Task::Insert(b'a'), Told::Inserted)];
+    let mut both = beside(rt, file, &progress, first, &insert, second, &[])?;
+    if both.wrong.is_some() {
+        return both.wrong;
+    }
+    Some(one(rt, file, &progress, &mut both.second, Task::Search(b'a')))
+}
+
+#[test]
+fn a_record_outlives_the_thread_of_its_writer(rt: HostRuntime) -> Result<(), Fail> {
+    let config = Config::new(1, 14, 100, 65536)?;
+    let (file, mut first) = made(rt.alloc(), config, NoGate)?;
+    let second = second_of(&file, &mut first, 10).ok_or("no second hand")?;
+    let told = told_after(&rt, &file, first, second).ok_or("a thread was refused")?;
+    assert_eq!(rt; told, Told::Found);
+    Ok(())
+}

@@ -1,0 +1,195 @@
+//! Forged images, each with the first of its faults.
+use crate::tests::building::{read_again, three_buckets_image, two_pages_image};
+use crate::tests::pages::{falling_chain, four_pages, set, two_buckets};
+use crate::tests::streams::reader_of;
+use lh_image::*;
+use std::alloc::Global;
+use std::process::Abort;
+use std::test::Fail;
+
+/// The fault of bytes, if they have one.
+fn fault_of(alloc: Global, bytes: &[u8]) -> Option<ImageFault> {
+    read_again(alloc, bytes).err()
+}
+
+/// The bytes with some of them set.
+fn forged(bytes: &Vec<u8>, changes: &[(usize, u8)]) -> Result<Vec<u8>, Fail> {
+    let mut bytes = bytes.clone()?;
+    for (at, byte) in changes {
+        set(&mut bytes, *at, *byte);
+    }
+    Ok(bytes)
+}
+
+/// Each row: the bytes that are set, and the fault that is due, of the listing and of the census.
+fn expect_faults(
+    rt: &impl Abort,
+    alloc: Global,
+    bytes: &Vec<u8>,
+    rows: &[(&[(usize, u8)], ImageFault)],
+) -> Result<(), Fail> {
+    for (changes, want) in rows {
+        let bytes = forged(bytes, changes)?;
+        assert_eq!(rt; fault_of(alloc, &bytes), Some(*want));
+        let counted = check_image(alloc, &mut reader_of(&bytes, usize::MAX)).err();
+        if counted != Some(ImageFault::Memory) {
+            assert_eq!(rt; counted, Some(*want));
+        }
+    }
+    Ok(())
+}
+
+#[test]
+fn beginnings(rt: HostRuntime) -> Result<(), Fail> {
+    let alloc = rt.alloc();
+    let mut bytes = three_buckets_image(alloc)?;
+    for count in 0..4096 {
+        let want = if count < 4 {
+            ImageFault::Magic
+        } else {
+            ImageFault::Short
+        };
+        let found = fault_of(alloc, &bytes[..count.min(bytes.len())]);
+        assert_eq!(rt; found, Some(want), "{count}");
+    }
+    bytes.push(0)?;
+    assert_eq!(rt; fault_of(alloc, &bytes), Some(ImageFault::Trailing));
+    bytes.push(0)?;
+    let mut reader = reader_of(&bytes, 4095);
+    match read_image(alloc, &mut reader) {
+        Ok(_listing) => assert!(rt; false),
+        Err(ImageFault::Memory) => {}
+        Err(fault) => {
+            assert_eq!(rt; fault, ImageFault::Trailing);
+            assert_eq!(rt; reader.bytes.len(), 1);
+        }
+    }
+    Ok(())
+}
+
+#[test]
+fn header_faults(rt: HostRuntime) -> Result<(), Fail> {
+    let bytes = three_buckets_image(rt.alloc())?;
+    expect_faults(
+        &rt,
+        rt.alloc(),
+        &bytes,
+        &[
+            (&[(3, b'3')], ImageFault::Magic),
+            (&[(4, 0)], ImageFault::HeaderField(4)),
+            (&[(4, 254)], ImageFault::HeaderField(16)),
+            (&[(8, 0)], ImageFault::HeaderField(8)),
+            (&[(8, 15)], ImageFault::HeaderField(8)),
+            (&[(12, 9)], ImageFault::HeaderField(12)),
+            (&[(12, 201)], ImageFault::HeaderField(12)),
+            (&[(16, 0)], ImageFault::HeaderField(16)),
+            (&[(18, 1)], ImageFault::HeaderField(16)),
+            (&[(20, 1)], ImageFault::HeaderField(20)),
+            (&[(20, 2), (22, 0)], ImageFault::HeaderField(20)),
+            (&[(36, 1)], ImageFault::HeaderField(36)),
+            (&[(1023, 1)], ImageFault::HeaderField(36)),
+            (&[(24, 3)], ImageFault::Counts),
+            (&[(28, 7)], ImageFault::Counts),
+            (&[(35, 1)], ImageFault::Counts),
+            (
+                &[(24, 255), (25, 255), (26, 255), (27, 255)],
+                ImageFault::Counts,
+            ),
+            (&[(24, 5)], ImageFault::Short),
+        ],
+    )?;
+    let mut alone = Vec::new(rt.alloc());
+    alone.extend_from_slice(&bytes[..1024.min(bytes.len())])?;
+    let changes = [(24, 255), (25, 255), (26, 255), (27, 255)];
+    expect_faults(&rt, rt.alloc(), &alone, &[(&changes, ImageFault::Counts)])
+}
+
+#[test]
+fn page_faults(rt: HostRuntime) -> Result<(), Fail> {
+    let bytes = three_buckets_image(rt.alloc())?;
+    expect_faults(
+        &rt,
+        rt.alloc(),
+        &bytes,
+        &[
+            (&[(1024, 2)], ImageFault::Kind(1)),
+            (&[(2048, 0), (3072, 0)], ImageFault::Kind(2)),
+            (&[(1027, 1)], ImageFault::Kind(1)),
+            (&[(3072 + 15, 1)], ImageFault::Kind(3)),
+            (&[(2052, 0)], ImageFault::BucketNumber(2)),
+            (&[(3076, 3)], ImageFault::BucketNumber(3)),
+            (&[(2050, 2)], ImageFault::Level(2)),
+            (&[(2050, 2), (2056, 1)], ImageFault::Level(2)),
+            (&[(28, 6)], ImageFault::Used(0)),
+            (&[(2049, 3)], ImageFault::Used(0)),
+            (&[(2049, 3), (28, 6)], ImageFault::Used(2)),
+            (&[(3080, 1)], ImageFault::Used(3)),
+            (&[(1032, 1)], ImageFault::Next(1)),
+            (&[(1032, 4)], ImageFault::Next(1)),
+            (&[(1043, 1)], ImageFault::Slot(1)),
+            (&[(1040, 0)], ImageFault::Slot(1)),
+            (&[(1040, 31)], ImageFault::Slot(1)),
+            (&[(1041, 41)], ImageFault::Slot(1)),
+            (&[(3072 + 16 + 72, 1)], ImageFault::Slot(3)),
+            (&[(4095, 1), (1043, 1)], ImageFault::Slot(1)),
+            (&[(1042, b'b')], ImageFault::Misfit(1)),
+            (&[(1042 + 72, b'a')], ImageFault::Misfit(1)),
+        ],
+    )
+}
+
+#[test]
+fn chain_faults(rt: HostRuntime) -> Result<(), Fail> {
+    let bytes = two_pages_image(rt.alloc())?;
+    assert_eq!(rt; bytes.len(), 3072);
+    expect_faults(
+        &rt,
+        rt.alloc(),
+        &bytes,
+        &[
+            (&[(2056, 1)], ImageFault::Next(2)),
+            (&[(2056, 2)], ImageFault::Twice(2)),
+            (&[(1032, 0)], ImageFault::Never(2)),
+            (&[(1032, 0), (2056, 2)], ImageFault::Never(2)),
+            (&[(2049, 0), (28, 2)], ImageFault::Used(2)),
+            (
+                &[(2048 + 18, b'a'), (2048 + 48, b'1')],
+                ImageFault::Misfit(2),
+            ),
+        ],
+    )?;
+    let bytes = four_pages(rt.alloc())?;
+    let apart: [(usize, u8); 2] = [(2056, 0), (4104, 3)];
+    expect_faults(&rt, rt.alloc(), &bytes, &[(&apart, ImageFault::Never(3))])?;
+    let bytes = two_buckets(rt.alloc())?;
+    expect_faults(
+        &rt,
+        rt.alloc(),
+        &bytes,
+        &[
+            (&[(1032, 4)], ImageFault::Next(1)),
+            (
+                &[(1032, 4), (2056, 3), (3076, 1), (4100, 0)],
+                ImageFault::Misfit(3),
+            ),
+        ],
+    )
+}
+
+/// All overflow pages on no chain: as a row that ends, and as a loop.
+#[test]
+fn overflow_pages_apart(rt: HostRuntime) -> Result<(), Fail> {
+    let bytes = falling_chain(rt.alloc(), 300)?;
+    expect_faults(
+        &rt,
+        rt.alloc(),
+        &bytes,
+        &[
+            (&[(1032, 0), (1033, 0)], ImageFault::Never(2)),
+            (
+                &[(1032, 0), (1033, 0), (2056, 44), (2057, 1)],
+                ImageFault::Never(2),
+            ),
+        ],
+    )
+}

@@ -1,0 +1,125 @@
+//! Images read through readers that give little or fail.
+use crate::tests::building::{
+    empty, empty_image, expect_same, read_again, shown, three_buckets, three_buckets_image,
+    two_pages, two_pages_image,
+};
+use crate::tests::pages::{falling_chain, set, two_buckets_exchanged};
+use crate::tests::streams::reader_of;
+use lh_bucket::Listing;
+use lh_image::*;
+use lh_page::Key;
+use std::alloc::Global;
+use std::process::Abort;
+use std::test::Fail;
+
+/// An image is read as a listing, however few bytes a read gives.
+fn reads_as(rt: &impl Abort, alloc: Global, bytes: &[u8], wanted: &Listing) -> Result<(), Fail> {
+    for most in [1, 7, 1024, 4095] {
+        let mut reader = reader_of(bytes, most);
+        match read_image(alloc, &mut reader) {
+            Ok(listing) => {
+                expect_same(rt, &listing, wanted);
+                assert!(rt; reader.bytes.is_empty());
+            }
+            Err(fault) => assert_eq!(rt; fault, ImageFault::Memory),
+        }
+        assert!(rt; reader.longest <= 1024);
+    }
+    Ok(())
+}
+
+#[test]
+fn reads_through_any_reader(rt: HostRuntime) -> Result<(), Fail> {
+    let alloc = rt.alloc();
+    reads_as(
+        &rt,
+        alloc,
+        &three_buckets_image(alloc)?,
+        &three_buckets(alloc)?,
+    )?;
+    reads_as(&rt, alloc, &two_pages_image(alloc)?, &two_pages(alloc)?)?;
+    reads_as(&rt, alloc, &empty_image(alloc)?, &empty(alloc)?)
+}
+
+#[test]
+fn reads_records_by_bucket(rt: HostRuntime) -> Result<(), Fail> {
+    let alloc = rt.alloc();
+    let listing = read_again(alloc, &three_buckets_image(alloc)?)?;
+    assert_eq!(rt; listing.buckets(), 3);
+    assert_eq!(rt; listing.config().capacity(), 2);
+    assert_eq!(rt; listing.config().load(), 100);
+    assert_eq!(rt; listing.config().max(), 65536);
+    assert!(rt; *shown(alloc, &listing, 0)?.as_slice() == *b"a1e5".as_slice());
+    assert!(rt; *shown(alloc, &listing, 1)?.as_slice() == *b"b2d4".as_slice());
+    assert!(rt; *shown(alloc, &listing, 2)?.as_slice() == *b"c3".as_slice());
+    Ok(())
+}
+
+#[test]
+fn a_failed_read_is_never_tried_again(rt: HostRuntime) -> Result<(), Fail> {
+    let mut bytes = three_buckets_image(rt.alloc())?;
+    for fails_at in 0..6 {
+        let mut reader = reader_of(&bytes, 1024);
+        reader.fails_at = fails_at;
+        let fault = match read_image(rt.alloc(), &mut reader) {
+            Ok(_listing) => None,
+            Err(fault) => Some(fault),
+        };
+        if fault != Some(ImageFault::Memory) {
+            assert_eq!(rt;
+                fault,
+                if fails_at < 5 {
+                    Some(ImageFault::ReadFault)
+                } else {
+                    None
+                }
+            );
+            assert_eq!(rt; reader.reads, 5.min(fails_at + 1));
+        }
+    }
+    // the first page decides the faults of the header
+    set(&mut bytes, 16, 0);
+    for fails_at in 0..3 {
+        let mut reader = reader_of(&bytes, 1024);
+        reader.fails_at = fails_at;
+        let fault = match read_image(rt.alloc(), &mut reader) {
+            Ok(_listing) => None,
+            Err(fault) => Some(fault),
+        };
+        assert_eq!(rt;
+            fault,
+            Some(if fails_at == 0 {
+                ImageFault::ReadFault
+            } else {
+                ImageFault::HeaderField(16)
+            })
+        );
+        assert_eq!(rt; reader.reads, 1);
+    }
+    Ok(())
+}
+
+#[test]
+fn overflow_pages_in_any_order(rt: HostRuntime) -> Result<(), Fail> {
+    let alloc = rt.alloc();
+    let listing = read_again(alloc, &two_buckets_exchanged(alloc)?)?;
+    assert!(rt; *shown(alloc, &listing, 0)?.as_slice() == *b"a1c3".as_slice());
+    assert!(rt; *shown(alloc, &listing, 1)?.as_slice() == *b"b2d4".as_slice());
+    Ok(())
+}
+
+#[test]
+fn long_chain(rt: HostRuntime) -> Result<(), Fail> {
+    let listing = read_again(rt.alloc(), &falling_chain(rt.alloc(), 300)?)?;
+    assert!(rt; listing.buckets() == 1);
+    assert!(rt; listing.len_of(0) == 300);
+    assert_eq!(rt;
+        listing.pair_at(0, 1).key,
+        Key::new(&300_u32.to_be_bytes())?
+    );
+    assert_eq!(rt;
+        listing.pair_at(0, 299).key,
+        Key::new(&2_u32.to_be_bytes())?
+    );
+    Ok(())
+}

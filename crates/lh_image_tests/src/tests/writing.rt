@@ -1,0 +1,102 @@
+//! Images byte for byte, and writers that take little or fail.
+use crate::tests::building::{
+    empty, empty_image, six_pages, three_buckets, three_buckets_image, two_pages, two_pages_image,
+};
+use crate::tests::streams::Sink;
+use lh_bucket::Listing;
+use lh_image::*;
+use std::alloc::AllocGlobal;
+use std::process::Abort;
+use std::test::Fail;
+
+/// Writes a listing, to a writer that takes all and to one that takes a byte at a time.
+fn is_written_as(
+    rt: &(impl Abort + AllocGlobal),
+    listing: &Listing,
+    image: &[u8],
+) -> Result<(), Fail> {
+    for at_once in [usize::MAX, 1, 7, 1024] {
+        let mut sink = Sink::new(rt.alloc(), at_once, 0);
+        assert_eq!(rt; write_image(listing, &mut sink), Ok(()));
+        assert_eq!(rt; sink.bytes.as_slice(), image);
+        assert!(rt; sink.longest <= 1024);
+    }
+    Ok(())
+}
+
+#[test]
+fn three_buckets_are_four_pages(rt: HostRuntime) -> Result<(), Fail> {
+    let listing = three_buckets(rt.alloc())?;
+    is_written_as(&rt, &listing, &three_buckets_image(rt.alloc())?)
+}
+
+#[test]
+fn a_chain_of_two_pages_is_three_pages(rt: HostRuntime) -> Result<(), Fail> {
+    let listing = two_pages(rt.alloc())?;
+    is_written_as(&rt, &listing, &two_pages_image(rt.alloc())?)
+}
+
+#[test]
+fn an_empty_file_is_two_pages(rt: HostRuntime) -> Result<(), Fail> {
+    let listing = empty(rt.alloc())?;
+    is_written_as(&rt, &listing, &empty_image(rt.alloc())?)
+}
+
+#[test]
+fn overflow_pages_stand_by_bucket_and_place(rt: HostRuntime) -> Result<(), Fail> {
+    let alloc = rt.alloc();
+    let listing = six_pages(alloc)?;
+    let mut sink = Sink::new(alloc, usize::MAX, 0);
+    assert_eq!(rt; write_image(&listing, &mut sink), Ok(()));
+    let image = sink.bytes.as_slice();
+    assert_eq!(rt; image.len(), 7 * 1024);
+    // kind, used, level, reserved, bucket, next
+    let heads: [&[u8]; 6] = [
+        b"\x01\x01\x02\0\0\0\0\0\x04\0\0\0",
+        b"\x01\x01\x01\0\x01\0\0\0\x06\0\0\0",
+        b"\x01\0\x02\0\x02\0\0\0\0\0\0\0",
+        b"\x02\x01\x02\0\0\0\0\0\x05\0\0\0",
+        b"\x02\x01\x02\0\0\0\0\0\0\0\0\0",
+        b"\x02\x01\x01\0\x01\0\0\0\0\0\0\0",
+    ];
+    for (place, head) in heads.iter().enumerate() {
+        let start = 1024 + 1024 * place;
+        assert_eq!(rt; image.get(start..start + 12), Some(*head));
+    }
+    Ok(())
+}
+
+#[test]
+fn a_write_or_flush_that_fails_is_told(rt: HostRuntime) -> Result<(), Fail> {
+    let alloc = rt.alloc();
+    let listing = two_pages(alloc)?;
+    let image = two_pages_image(alloc)?;
+    // Six writes of 512 bytes, then the flush.
+    for failing in 1..8_usize {
+        let mut sink = Sink::new(alloc, 512, failing);
+        assert_eq!(rt;
+            write_image(&listing, &mut sink),
+            Err(WriteImageFault::WriteFault)
+        );
+        assert_eq!(rt; sink.calls, failing);
+        assert_eq!(rt;
+            image.as_slice().get(..512 * (failing - 1)),
+            Some(sink.bytes.as_slice())
+        );
+    }
+    let mut sink = Sink::new(alloc, 512, 8);
+    assert_eq!(rt; write_image(&listing, &mut sink), Ok(()));
+    Ok(())
+}
+
+#[test]
+fn a_writer_that_takes_nothing_fails(rt: HostRuntime) -> Result<(), Fail> {
+    let listing = two_pages(rt.alloc())?;
+    let mut sink = Sink::new(rt.alloc(), 0, 0);
+    assert_eq!(rt;
+        write_image(&listing, &mut sink),
+        Err(WriteImageFault::WriteFault)
+    );
+    assert_eq!(rt; sink.calls, 1);
+    Ok(())
+}
