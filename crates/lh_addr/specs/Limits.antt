@@ -7,7 +7,7 @@ most_initial = 256
 
 -- the most records in a page
 abbrev pub most_capacity : ℕ
-most_capacity = 14
+most_capacity = 24
 
 -- the load threshold is at least and at most so many percent
 abbrev pub least_load : ℕ

@@ -14,7 +14,7 @@ use std::marker::Model;
 pub enum Range {
     /// The initial number of buckets is not 1 to 256.
     Initial,
-    /// The capacity of a page is not 1 to 14 records.
+    /// The capacity of a page is not 1 to 24 records.
     Capacity,
     /// The load threshold is not 10 to 200 percent.
     Load,
@@ -66,7 +66,7 @@ impl Config {
     ghost use Rattle.lh_addr.specs.Config.{IsFirstOutOfRange};
 
     /// A configuration of these settings, or the first of them that is out of its range:
-    /// `initial` 1 to 256 buckets, `capacity` 1 to 14 records, `load` 10 to 200 percent, `max`
+    /// `initial` 1 to 256 buckets, `capacity` 1 to 24 records, `load` 10 to 200 percent, `max`
     /// from `initial` to 65,536 buckets.
     pub fn new(initial: u32, capacity: u32, load: u32, max: u32) -> Result<Config, Range>
         ensures ok { IfOk result (λ config. config

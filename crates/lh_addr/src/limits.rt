@@ -7,7 +7,7 @@ pub const MAX_INITIAL: u32 = 256;
 
 pub const MIN_CAPACITY: u32 = 1;
 
-pub const MAX_CAPACITY: u32 = 14;
+pub const MAX_CAPACITY: u32 = 24;
 
 pub const MIN_LOAD: u32 = 10;
 

@@ -1,4 +1,4 @@
--- Rows of keys that agree in four words are the same.
+-- Rows of keys that agree in all their words are the same.
 use Rattle.std.proofs.Common.{◌≡◌, ◌≢◌, ℕ, zero, suc, ◌+◌, ◌*◌, ◌<◌, ◌≤◌, Bool, true, false, eqb, List, length, take, sym, ap, ◌∙◌, inl, inr, arith}
 use Rattle.std.specs.Prelude.{slice_index}
 use Rattle.std.proofs.lemmas.Bool.{and_parts, and_from, cases_lt, eqb-true, eq-eqb}
@@ -28,24 +28,35 @@ bytes_from_number (suc n) k xs ys fit small e i low high = elim (cases_lt k i) [
 pub same_from_words : (a b : List ℕ) → length a ≡ key_room → length b ≡ key_room → ((i : ℕ) → slice_index a i < 256) → ((i : ℕ) → slice_index b i < 256) → same_words a b ≡ true → a ≡ b
 unfolding word_at
 same_from_words a b long whole fit small e =
-    let p = and_parts _ _ e in
-    let q = and_parts _ _ p.0 in
-    let r = and_parts _ _ q.0 in
-    ext_get_or 0 a b (long ∙ sym whole) (λ i low. elim (cases_lt i 8) [
-      | inl first ↦ bytes_from_number 8 0 a b fit small (eqb-true _ _ r.0) i (omega arith) first
-      | inr more ↦ elim (cases_lt i 16) [
-        | inl second ↦ bytes_from_number 8 8 a b fit small (eqb-true _ _ r.1) i more second
-        | inr rest ↦ elim (cases_lt i 24) [
-          | inl third ↦ bytes_from_number 8 16 a b fit small (eqb-true _ _ q.1) i rest third
-          | inr last ↦ bytes_from_number 8 22 a b fit small (eqb-true _ _ p.1) i (omega arith) (omega arith)
-        ]
-      ]
-    ])
+    let seventh = and_parts _ _ e in
+    let sixth = and_parts _ _ seventh.0 in
+    let fifth = and_parts _ _ sixth.0 in
+    let fourth = and_parts _ _ fifth.0 in
+    let third = and_parts _ _ fourth.0 in
+    let second = and_parts _ _ third.0 in
+    ext_get_or 0 a b (long ∙ sym whole) (λ i low.
+    in_word i 0 second.0 (omega arith) (λ later.
+    in_word i 8 second.1 later (λ later.
+    in_word i 16 third.1 later (λ later.
+    in_word i 24 fourth.1 later (λ later.
+    in_word i 32 fifth.1 later (λ later.
+    in_word i 40 sixth.1 later (λ later.
+    in_word i 48 seventh.1 later (λ later. absurd (omega (arith, long, low, later))))))))))
+  where
+    -- a byte is the same where it stands in a word that is, or else in one of those behind it
+    in_word : (i place : ℕ) → eqb (word_at a place) (word_at b place) ≡ true → place ≤ i →
+        (place + 8 ≤ i → slice_index a i ≡ slice_index b i) → slice_index a i ≡ slice_index b i
+    in_word i place same from later = elim (cases_lt i (place + 8)) [
+      | inl here ↦ bytes_from_number 8 place a b fit small (eqb-true _ _ same) i from here
+      | inr behind ↦ later behind
+    ]
 
 pub words_from_same : (a b : List ℕ) → a ≡ b → same_words a b ≡ true
-words_from_same a b e = and_from _ _ (and_from _ _ (and_from _ _ (at 0) (at 8)) (at 16)) (at 22) where
-  at : (place : ℕ) → eqb (word_at a place) (word_at b place) ≡ true
-  at place = eq-eqb (word_at a place) (word_at b place) (ap (λ bytes. word_at bytes place) e)
+words_from_same a b e =
+    and_from _ _ (and_from _ _ (and_from _ _ (and_from _ _ (and_from _ _ (and_from _ _ (at 0) (at 8)) (at 16)) (at 24)) (at 32)) (at 40)) (at 48)
+  where
+    at : (place : ℕ) → eqb (word_at a place) (word_at b place) ≡ true
+    at place = eq-eqb (word_at a place) (word_at b place) (ap (λ bytes. word_at bytes place) e)
 
 -- rows with zeros behind their first bytes are the same where these are
 pub eq_told : (r : Bool) (n : ℕ) (a b v w : List ℕ) → OnTrue r (a ≡ b) → OnFalse r (a ≢ b) → take n a ≡ v → take n b ≡ w → padded key_room v ≡ a → padded key_room w ≡ b → r ≡ bytes_eq v w

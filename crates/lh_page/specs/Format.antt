@@ -9,6 +9,10 @@ use Rattle.lh_page.specs.Limits.{longest_key, longest_value, largest_page}
 abbrev pub version_1 : Format
 version_1 = record { slots = 14; key = 30; value = 40 }
 
+-- version 2 of the image
+abbrev pub version_2 : Format
+version_2 = record { slots = 24; key = 56; value = 112 }
+
 -- a slot is the lengths of its record's key and value, a byte each, then their bytes
 abbrev pub slot_size : Format → ℕ
 slot_size f = 2 + f.key + f.value

@@ -3,15 +3,15 @@ use Rattle.std.specs.Prelude.{ℕ, ◌≤◌, List, length}
 
 -- the most bytes of a key
 abbrev pub longest_key : ℕ
-longest_key = 30
+longest_key = 56
 
 -- the most bytes of a value
 abbrev pub longest_value : ℕ
-longest_value = 40
+longest_value = 112
 
 -- the most records of a page
 abbrev pub largest_page : ℕ
-largest_page = 14
+largest_page = 24
 
 -- a key has at least one byte, and at most as many as the longest
 abbrev pub IsKey : List ℕ → Type 0

@@ -7,17 +7,20 @@ use Rattle.lh_page.specs.Rows.{padded, key_room}
 unfoldable pub word_at : List ℕ → ℕ → ℕ
 word_at bytes place = little_from place 8 bytes
 
--- whether two rows of keys agree in their four words, the last of which overlaps the third
+-- whether two rows of keys agree in their seven words
 abbrev pub same_words : List ℕ → List ℕ → Bool
 same_words a b =
-    word_at a 0 == word_at b 0 && word_at a 8 == word_at b 8
-    && word_at a 16 == word_at b 16 && word_at a 22 == word_at b 22
+    word_at a 0 == word_at b 0 && word_at a 8 == word_at b 8 && word_at a 16 == word_at b 16
+    && word_at a 24 == word_at b 24 && word_at a 32 == word_at b 32 && word_at a 40 == word_at b 40
+    && word_at a 48 == word_at b 48
 
 -- the high byte of a sum of odd multiples of those words of a key's row
 unfoldable pub mixed : List ℕ → ℕ
 mixed bytes =
     (word_at bytes 0 * 11400714819323198485 + word_at bytes 8 * 14029467366897019727
-    + word_at bytes 16 * 1609587929392839161 + word_at bytes 22 * 9650029242287828579) % 2 ^ 64 / 2 ^ 56
+    + word_at bytes 16 * 1609587929392839161 + word_at bytes 24 * 9650029242287828579
+    + word_at bytes 32 * 2870177450012600261 + word_at bytes 40 * 15485907386658061715
+    + word_at bytes 48 * 18397679294719823053) % 2 ^ 64 / 2 ^ 56
 
 -- the mark of a key
 abbrev pub mark_of : List ℕ → ℕ

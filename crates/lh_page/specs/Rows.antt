@@ -1,5 +1,6 @@
 -- Rows of bytes: zeros, zeros behind other bytes, fields, and the rows in which a chain keeps keys and values.
 use Rattle.std.specs.Prelude.{◌≡◌, ℕ, ◌-◌, List, ◌++◌, length, take, drop, replicate}
+use Rattle.lh_page.specs.Limits.{longest_key, longest_value}
 
 -- n zeros
 abbrev pub zeros : ℕ → List ℕ
@@ -19,8 +20,8 @@ field bytes offset size = take size (drop offset bytes)
 
 -- the bytes of memory that each record of a chain has for its key
 abbrev pub key_room : ℕ
-key_room = 30
+key_room = longest_key
 
 -- the bytes of memory that each record of a chain has for its value
 abbrev pub value_room : ℕ
-value_room = 40
+value_room = longest_value

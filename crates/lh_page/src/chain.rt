@@ -42,7 +42,7 @@ impl Model for Chain {
 }
 
 impl Chain {
-    /// An empty chain, with pages of 1 to 14 records.
+    /// An empty chain, with pages of 1 to 24 records.
     pub fn new(alloc: Global, capacity: u32) -> Result<Self, Memory>
         requires { IsCapacity capacity }
         ensures succeeds { IsOk result }
@@ -55,7 +55,7 @@ impl Chain {
         })
     }
 
-    /// A chain with pages of 1 to 14 records that has these records in their order. No key stands twice
+    /// A chain with pages of 1 to 24 records that has these records in their order. No key stands twice
     /// among them, so none is looked for.
     pub fn from_pairs(alloc: Global, capacity: u32, pairs: &[Pair]) -> Result<Self, Memory>
         requires capacity { IsCapacity capacity }

@@ -20,6 +20,13 @@ pub const VERSION_1: Format = Format {
     value: 40,
 };
 
+/// Version 2 of the image.
+pub const VERSION_2: Format = Format {
+    slots: 24,
+    key: 56,
+    value: 112,
+};
+
 /// The bytes of a page before its slots.
 pub const HEAD: usize = 16;
 
@@ -28,6 +35,9 @@ pub const LENGTHS: usize = 2;
 
 /// The bytes of a page of version 1.
 pub const PAGE_1: usize = HEAD + VERSION_1.slots * (LENGTHS + VERSION_1.key + VERSION_1.value);
+
+/// The bytes of a page of version 2.
+pub const PAGE_2: usize = HEAD + VERSION_2.slots * (LENGTHS + VERSION_2.key + VERSION_2.value);
 
 impl Format {
     /// The bytes of a slot.

@@ -22,7 +22,7 @@ pub struct PageHead {
     pub next: u32,
 }
 
-/// The head of a page, whatever its bytes are.
+/// The head of a page of version 1, whatever its bytes are.
 pub fn page_head(bytes: &[u8; 1024]) -> PageHead
     ensures kind { result.kind ≡ kind_of bytes.now }
     ensures used { result.used ≡ used_of bytes.now }
@@ -30,6 +30,13 @@ pub fn page_head(bytes: &[u8; 1024]) -> PageHead
     ensures clear { result.clear ≡ is_clear bytes.now }
     ensures bucket { result.bucket ≡ bucket_of bytes.now }
     ensures next { result.next ≡ next_of bytes.now }
+{
+    head_in(bytes)
+}
+
+/// The head of a page of version 2, whatever its bytes are.
+pub fn page2_head(bytes: &[u8; 4096]) -> PageHead
+    ensures { result ≡ head_of bytes.now }
 {
     head_in(bytes)
 }

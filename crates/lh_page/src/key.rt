@@ -14,7 +14,7 @@ use std::cmp::Ordering;
 use std::marker::Model;
 use thiserror::Error;
 
-/// A key of 1 to 30 bytes. Keys are compared and ordered by their bytes, a key before its longer extensions.
+/// A key of 1 to 56 bytes. Keys are compared and ordered by their bytes, a key before its longer extensions.
 #[derive(Clone, Copy, Debug)]
 pub struct Key {
     // Zeros stand behind the key's bytes.
@@ -43,7 +43,7 @@ impl Model for Key {
     } };
 }
 
-/// A length that no key has: 0, or more than 30 bytes.
+/// A length that no key has: 0, or more than 56 bytes.
 #[derive(Clone, Copy, Debug, PartialEq, Eq, Error)]
 #[error("key length {length}")]
 pub struct KeyLength {
@@ -92,7 +92,7 @@ impl Key {
     }
 }
 
-/// The high byte of a sum of odd multiples of the four words.
+/// The high byte of a sum of odd multiples of the seven words.
 #[inline]
 fn mix(bytes: &[u8; KEY_ROOM]) -> u8
     ensures { result ≡ mixed bytes.now }
@@ -100,10 +100,16 @@ fn mix(bytes: &[u8; KEY_ROOM]) -> u8
     let first = word(bytes, 0).wrapping_mul(0x9e37_79b9_7f4a_7c15);
     let second = word(bytes, 8).wrapping_mul(0xc2b2_ae3d_27d4_eb4f);
     let third = word(bytes, 16).wrapping_mul(0x1656_67b1_9e37_79f9);
-    let last = word(bytes, 22).wrapping_mul(0x85eb_ca77_c2b2_ae63);
+    let fourth = word(bytes, 24).wrapping_mul(0x85eb_ca77_c2b2_ae63);
+    let fifth = word(bytes, 32).wrapping_mul(0x27d4_eb2f_1656_67c5);
+    let sixth = word(bytes, 40).wrapping_mul(0xd6e8_feb8_6659_fd93);
+    let last = word(bytes, 48).wrapping_mul(0xff51_afd7_ed55_8ccd);
     let sum = first
         .wrapping_add(second)
         .wrapping_add(third)
+        .wrapping_add(fourth)
+        .wrapping_add(fifth)
+        .wrapping_add(sixth)
         .wrapping_add(last);
     (sum >> 56) as u8
 }
@@ -145,7 +151,10 @@ fn agree(a: &[u8; KEY_ROOM], b: &[u8; KEY_ROOM]) -> bool
     word(a, 0) == word(b, 0)
         && word(a, 8) == word(b, 8)
         && word(a, 16) == word(b, 16)
-        && word(a, 22) == word(b, 22)
+        && word(a, 24) == word(b, 24)
+        && word(a, 32) == word(b, 32)
+        && word(a, 40) == word(b, 40)
+        && word(a, 48) == word(b, 48)
 }
 
 impl Eq for Key {

@@ -1,4 +1,4 @@
-//! Keys, values and records, packed chains of them, and the 1,024 bytes of a page.
+//! Keys, values and records, packed chains of them, and the bytes of a page in either format of images.
 //!
 //! ```
 //! let mut chain = Chain::new(rt.alloc(), 14)?;
@@ -32,7 +32,7 @@ mod writing;
 
 pub use chain::Chain;
 pub use fault::PageFault;
-pub use head::{PageHead, page_head};
+pub use head::{PageHead, page_head, page2_head};
 pub use key::{Key, KeyLength};
 pub use key_set::KeySet;
 pub use memory::Memory;
@@ -40,9 +40,9 @@ pub use packing::pages_needed;
 pub use page::{Page, PageKind};
 pub use pair::Pair;
 pub use pairs::Pairs;
-pub use reading::page_from_bytes;
+pub use reading::{page_from_bytes, page2_from_bytes};
 pub use value::{Value, ValueLength};
-pub use writing::page_to_bytes;
+pub use writing::{page_to_bytes, page2_to_bytes};
 
 #[cfg(test)]
 mod tests;

@@ -1,10 +1,10 @@
 //! The limits on keys, values and pages.
 
 /// The most bytes that a key has. It has at least one.
-pub const LONGEST_KEY: usize = 30;
+pub const LONGEST_KEY: usize = 56;
 
 /// The most bytes that a value has. It may have none.
-pub const LONGEST_VALUE: usize = 40;
+pub const LONGEST_VALUE: usize = 112;
 
 /// The most records that a page has room for. Each page has as many slots.
-pub const LARGEST_PAGE: usize = 14;
+pub const LARGEST_PAGE: usize = 24;

@@ -11,7 +11,7 @@ use crate::pair::Pair;
 use crate::value::Value;
 use std::marker::Model;
 
-/// At most 14 records in their order. They take no memory beside the value itself.
+/// At most 24 records in their order. They take no memory beside the value itself.
 #[derive(Debug, Drop)]
 pub struct Pairs {
     // Any record stands in a place that isn't used.

@@ -1,27 +1,40 @@
 //! Reading a page from bytes.
 ghost use Rattle.std.specs.Prelude.{◌≡◌, ◌<◌, ◌≤◌, [], IfOk, OnOk, IfSome, IfNone, option_map, length};
 ghost use Rattle.std.specs.Result.{result_err};
-ghost use Rattle.lh_page.specs.Format.{version_1, slot_size, page_size, IsWithinLimits};
+ghost use Rattle.lh_page.specs.Format.{version_1, version_2, slot_size, page_size, IsWithinLimits};
 ghost use Rattle.lh_page.specs.Limits.{IsCapacity};
 ghost use Rattle.lh_page.specs.PageFields.{page_of, pairs_of, used_of, bad_slot, fault_of, FirstFilled, UnusedAreZero};
 ghost use Rattle.lh_page.specs.PageTable.{slot};
 
 use crate::fault::PageFault;
-use crate::format::{Format, VERSION_1};
+use crate::format::{Format, VERSION_1, VERSION_2};
 use crate::head::{head_in, is_zero};
 use crate::page::{Page, PageKind};
 use crate::pairs::Pairs;
 use crate::slot::read_slot;
 
-/// The page that 1,024 bytes show, with room for `capacity` records (1 to 14), or the first fault of the bytes.
+/// The page that the 1,024 bytes of version 1 show, with room for `capacity` records (1 to 14), or the first
+/// fault of the bytes.
 ///
 /// All 14 slots are looked at, whatever the capacity is.
 pub fn page_from_bytes(bytes: &[u8; 1024], capacity: u32) -> Result<Page, PageFault>
-    requires { IsCapacity capacity }
+    requires { (1 ≤ capacity) × (capacity ≤ version_1.slots) }
     ensures page { IfOk result (λ page. page ≡ page_of version_1 bytes.now) }
     ensures fault { result_err result ≡ fault_of version_1 bytes.now capacity }
 {
     read_page(bytes, VERSION_1, capacity)
+}
+
+/// The page that the 4,096 bytes of version 2 show, with room for `capacity` records (1 to 24), or the first
+/// fault of the bytes.
+///
+/// All 24 slots are looked at, whatever the capacity is.
+pub fn page2_from_bytes(bytes: &[u8; 4096], capacity: u32) -> Result<Page, PageFault>
+    requires { IsCapacity capacity }
+    ensures page { IfOk result (λ page. page ≡ page_of version_2 bytes.now) }
+    ensures fault { result_err result ≡ fault_of version_2 bytes.now capacity }
+{
+    read_page(bytes, VERSION_2, capacity)
 }
 
 /// The page that bytes of a format show, or their first fault.

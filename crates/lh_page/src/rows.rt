@@ -2,11 +2,13 @@
 ghost use Rattle.std.specs.Prelude.{◌≡◌, ◌≤◌, ◌-◌, length, take, drop};
 ghost use Rattle.lh_page.specs.Rows.{zeros};
 
+use crate::limits::{LONGEST_KEY, LONGEST_VALUE};
+
 /// The bytes of memory that each record of a chain has for its key.
-pub const KEY_ROOM: usize = 30;
+pub const KEY_ROOM: usize = LONGEST_KEY;
 
 /// The bytes of memory that each record of a chain has for its value.
-pub const VALUE_ROOM: usize = 40;
+pub const VALUE_ROOM: usize = LONGEST_VALUE;
 
 /// A row that begins with these bytes and has zeros behind them.
 pub fn row<const N: usize>(bytes: &[u8]) -> [u8; N]

@@ -11,7 +11,7 @@ use std::cmp::Ordering;
 use std::marker::Model;
 use thiserror::Error;
 
-/// A value of 0 to 40 bytes. Values are compared and ordered by their bytes, a value before its longer extensions.
+/// A value of 0 to 112 bytes. Values are compared and ordered by their bytes, a value before its longer extensions.
 #[derive(Clone, Copy, Debug)]
 pub struct Value {
     // Zeros stand behind the value's bytes.
@@ -40,7 +40,7 @@ impl Model for Value {
     } };
 }
 
-/// A length that no value has: more than 40 bytes.
+/// A length that no value has: more than 112 bytes.
 #[derive(Clone, Copy, Debug, PartialEq, Eq, Error)]
 #[error("value length {length}")]
 pub struct ValueLength {

@@ -1,24 +1,37 @@
 //! Writing a page as bytes.
 ghost use Rattle.std.specs.Prelude.{◌≡◌, ◌<◌, length};
-ghost use Rattle.lh_page.specs.Format.{version_1, slot_size, page_size, FitsFormat, FitsSlot, IsWithinLimits};
+ghost use Rattle.lh_page.specs.Format.{version_1, version_2, slot_size, page_size, FitsFormat, FitsSlot, IsWithinLimits};
 ghost use Rattle.lh_page.specs.PageTable.{IsPage, WritesSlot, head_text, slot};
 ghost use Rattle.lh_page.specs.Records.{FitsPage};
 ghost use Rattle.lh_page.specs.Rows.{zeros};
 
-use crate::format::{Format, HEAD, PAGE_1, VERSION_1};
+use crate::format::{Format, HEAD, PAGE_1, PAGE_2, VERSION_1, VERSION_2};
 use crate::page::{Page, PageKind};
 use crate::pair::Pair;
 use crate::slot::write_slot;
 use byteorder::{ByteOrder, LittleEndian};
 
-/// The 1,024 bytes of a page in an image: 16 bytes of fields, then 14 slots of 72 bytes. Numbers are
-/// little-endian. What isn't used is zero.
+/// The 1,024 bytes of a page in an image of version 1: 16 bytes of fields, then 14 slots of 72 bytes. Numbers are
+/// little-endian. What isn't used is zero. The page has at most 14 records, each with a key of at most 30 bytes
+/// and a value of at most 40.
 pub fn page_to_bytes(page: &Page) -> [u8; 1024]
+    requires { FitsFormat version_1 page.now.pairs }
     ensures { IsPage version_1 result page.now }
 {
     let mut bytes = [0; PAGE_1];
     let head = head_bytes(page);
     write_page(&mut bytes, VERSION_1, &head, page);
+    bytes
+}
+
+/// The 4,096 bytes of a page in an image of version 2: 16 bytes of fields, then 24 slots of 170 bytes. Numbers
+/// are little-endian. What isn't used is zero.
+pub fn page2_to_bytes(page: &Page) -> [u8; 4096]
+    ensures { IsPage version_2 result page.now }
+{
+    let mut bytes = [0; PAGE_2];
+    let head = head_bytes(page);
+    write_page(&mut bytes, VERSION_2, &head, page);
     bytes
 }
 
