@@ -9,7 +9,7 @@ mod help;
 pub mod laws;
 mod options;
 
-pub use options::{Request, request_of};
+pub use options::{ImageVersion, Request, request_of};
 
 #[cfg(test)]
 mod tests;

@@ -1,5 +1,5 @@
 //! Requests of words that are written out.
-use crate::options::{Request, request_of};
+use crate::options::{ImageVersion, Request, request_of};
 use lh_addr::Config;
 use std::alloc::AllocError;
 use std::process::Abort;
@@ -9,8 +9,14 @@ use std::process::Abort;
 fn answer(rt: &(impl Abort + AllocGlobal), words: &[&str]) -> Result<String, AllocError> {
     let alloc = rt.alloc();
     match request_of(alloc, words)? {
-        Request::Commands(config) | Request::Steps(config) | Request::Build(config) => {
-            settings(rt, &config)
+        Request::Commands(config) | Request::Steps(config) => settings(rt, &config),
+        Request::Build(config, version) => {
+            let settings = settings(rt, &config)?;
+            let version = match version {
+                ImageVersion::First => "version 1",
+                ImageVersion::Second => "version 2",
+            };
+            format!(in alloc; "{settings}, {version}")
         }
         Request::Drive(config, threads) => {
             let settings = settings(rt, &config)?;
@@ -19,6 +25,7 @@ fn answer(rt: &(impl Abort + AllocGlobal), words: &[&str]) -> Result<String, All
         Request::Check => String::from_str(alloc, "check"),
         Request::Dump => String::from_str(alloc, "dump"),
         Request::Draw => String::from_str(alloc, "draw"),
+        Request::Migrate => String::from_str(alloc, "migrate"),
         Request::Help(text) => {
             assert!(rt;
                 text.as_str().starts_with("Usage: lhash")
@@ -100,8 +107,8 @@ fn ends_of_the_ranges(rt: HostRuntime) -> Result<(), AllocError> {
     )?;
     expect(
         &rt,
-        ["--capacity", "15"].as_slice(),
-        "refused: invalid value '15' for '--capacity <capacity>': 15 is not in 1..=14",
+        ["--capacity", "25"].as_slice(),
+        "refused: invalid value '25' for '--capacity <capacity>': 25 is not in 1..=24",
     )?;
     expect(
         &rt,
@@ -184,6 +191,57 @@ fn threads_are_1_to_64(rt: HostRuntime) -> Result<(), AllocError> {
         &rt,
         "--threads=65",
         "refused: invalid value '65' for '--threads <threads>': 65 is not in 1..=64",
+    )
+}
+
+/// These words give this answer.
+fn gives(
+    rt: &(impl Abort + AllocGlobal),
+    words: &[&str],
+    expected: &str,
+) -> Result<(), AllocError> {
+    let given = answer(rt, words)?;
+    assert_eq!(rt; given.as_str(), expected);
+    Ok(())
+}
+
+#[test]
+fn an_image_is_of_version_1_or_2(rt: HostRuntime) -> Result<(), AllocError> {
+    gives(
+        &rt,
+        ["lhash", "build"].as_slice(),
+        "1 14 100 65536, version 2",
+    )?;
+    gives(
+        &rt,
+        ["lhash", "build", "--image", "1"].as_slice(),
+        "1 14 100 65536, version 1",
+    )?;
+    gives(
+        &rt,
+        ["lhash", "build", "--image=2", "--capacity=24"].as_slice(),
+        "1 24 100 65536, version 2",
+    )?;
+    gives(
+        &rt,
+        ["lhash", "build", "--image=3"].as_slice(),
+        "refused: invalid value '3' for '--image <image>': 3 is not in 1..=2",
+    )?;
+    gives(
+        &rt,
+        ["lhash", "build", "--image=0"].as_slice(),
+        "refused: invalid value '0' for '--image <image>': 0 is not in 1..=2",
+    )?;
+    gives(&rt, ["lhash", "migrate"].as_slice(), "migrate")?;
+    gives(
+        &rt,
+        ["lhash", "migrate", "--image=2"].as_slice(),
+        "refused: unexpected argument '--image' found",
+    )?;
+    gives(
+        &rt,
+        ["lhash", "commands", "--image=2"].as_slice(),
+        "refused: unexpected argument '--image' found",
     )
 }
 

@@ -145,44 +145,44 @@ fn faulty_operands(rt: HostRuntime) -> Result<(), Fail> {
 }
 
 #[test]
-fn keys_have_30_bytes_at_most(rt: HostRuntime) -> Result<(), Fail> {
+fn keys_have_56_bytes_at_most(rt: HostRuntime) -> Result<(), Fail> {
     let alloc = rt.alloc();
-    let text = with_zeros(alloc, b"search ", 60, b"\n")?;
+    let text = with_zeros(alloc, b"search ", 112, b"\n")?;
     assert_eq!(rt; outcome(alloc, text.as_slice())?.as_str(), "1 calls");
-    let text = with_zeros(alloc, b"search ", 62, b"\n")?;
+    let text = with_zeros(alloc, b"search ", 114, b"\n")?;
     assert_eq!(rt;
         outcome(alloc, text.as_slice())?.as_str(),
-        "line 1: key length 31"
+        "line 1: key length 57"
     );
-    let text = with_zeros(alloc, b"search ", 63, b"\n")?;
+    let text = with_zeros(alloc, b"search ", 115, b"\n")?;
     assert_eq!(rt;
         outcome(alloc, text.as_slice())?.as_str(),
         "line 1: bad hexadecimal"
     );
-    let text = with_zeros(alloc, b"search ", 62, b"0g\n")?;
+    let text = with_zeros(alloc, b"search ", 114, b"0g\n")?;
     assert_eq!(rt;
         outcome(alloc, text.as_slice())?.as_str(),
         "line 1: bad hexadecimal"
     );
-    let text = with_zeros(alloc, b"insert ", 62, b" 3\n")?;
+    let text = with_zeros(alloc, b"insert ", 114, b" 3\n")?;
     assert_eq!(rt;
         outcome(alloc, text.as_slice())?.as_str(),
-        "line 1: key length 31"
+        "line 1: key length 57"
     );
     Ok(())
 }
 
 #[test]
-fn values_have_40_bytes_at_most(rt: HostRuntime) -> Result<(), Fail> {
+fn values_have_112_bytes_at_most(rt: HostRuntime) -> Result<(), Fail> {
     let alloc = rt.alloc();
-    let text = with_zeros(alloc, b"insert 61 ", 80, b"\n")?;
+    let text = with_zeros(alloc, b"insert 61 ", 224, b"\n")?;
     assert_eq!(rt; outcome(alloc, text.as_slice())?.as_str(), "1 calls");
-    let text = with_zeros(alloc, b"insert 61 ", 82, b"\n")?;
+    let text = with_zeros(alloc, b"insert 61 ", 226, b"\n")?;
     assert_eq!(rt;
         outcome(alloc, text.as_slice())?.as_str(),
-        "line 1: value length 41"
+        "line 1: value length 113"
     );
-    let text = with_zeros(alloc, b"insert 61 ", 83, b"\n")?;
+    let text = with_zeros(alloc, b"insert 61 ", 227, b"\n")?;
     assert_eq!(rt;
         outcome(alloc, text.as_slice())?.as_str(),
         "line 1: bad hexadecimal"
