@@ -1,7 +1,7 @@
 //! Readers and writers that fail at each of their turns, or that give and take little, of every subcommand.
-use crate::run;
 use crate::tests::images::{FIVE, FIVE_CENSUS, FIVE_RECORDS, FIVE_WORDS, built, inserts};
 use crate::tests::support::{Sink, Source, ran};
+use lhash::run;
 use std::process::Abort;
 use std::sync::Wait;
 use std::test::Fail;

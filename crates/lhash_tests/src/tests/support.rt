@@ -1,5 +1,5 @@
 //! Readers and writers that fail, and what a run did.
-use crate::run;
+use lhash::run;
 use std::io::{self, Error, ErrorKind, Read, Write};
 use std::process::Abort;
 use std::sync::Wait;

@@ -1,13 +1,10 @@
 //! Command scripts in threads.
-use crate::status::Status;
 use crate::tests::support::{fails, writes};
-use crate::unsettled::Unsettled;
-use crate::workers::work_in_threads;
-use crate::{Driven, drive_with};
 use lh_addr::Config;
-use lh_bucket::{Call, Reply};
-use lh_file::{Gate, HashFile, NoGate, Point};
+use lh_bucket::Call;
+use lh_file::{Gate, NoGate, Point};
 use lh_page::{Key, Value};
+use lhash::{Driven, Status, Unsettled, drive_with};
 use std::alloc::{AllocError, Global};
 use std::process::Abort;
 use std::sync::atomic::{AtomicU64, Ordering};
@@ -156,16 +153,23 @@ fn nine_calls_hold_nine_buckets(rt: HostRuntime) -> Result<(), Fail> {
     Ok(())
 }
 
+/// Records are counted, and held against the acts, once their threads have ended.
 #[test]
-fn a_value_outlives_the_thread_that_wrote_it(rt: HostRuntime) -> Result<(), Fail> {
+fn a_record_outlives_the_thread_that_wrote_it(rt: HostRuntime) -> Result<(), Fail> {
     let config = Config::new(1, 14, 100, 65536)?;
-    let (file, mut first) = HashFile::create(rt.alloc(), config, true, NoGate)?;
-    let mut other = file.split_hand(&mut first, 1)?;
     let calls = inserts_of(rt.alloc(), b"a")?;
-    let joined = work_in_threads(&rt, rt.alloc(), &file, first, calls.as_slice(), 1);
-    assert!(rt; joined.is_ok());
-    let answer = file.search(&rt, &mut other, Key::new(b"a")?)?;
-    assert_eq!(rt; answer.reply(), Reply::Found(Value::new(b"1")?));
+    let driven = drive_with(&rt, rt.alloc(), config, calls.as_slice(), 1, NoGate);
+    let totals = Driven {
+        calls: 1,
+        found: 0,
+        absent: 0,
+        inserted: 1,
+        exists: 0,
+        deleted: 0,
+        replaced: 0,
+        records: 1,
+    };
+    assert_eq!(rt; driven, Ok(totals));
     Ok(())
 }
 

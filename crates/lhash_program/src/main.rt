@@ -1,49 +1,37 @@
-//! The program `lhash`: scripts of commands and of steps on a linear hash file, and images of files.
-//!
-//! `lhash commands` reads a command script, answers its calls and writes their replies. `lhash
-//! steps` reads a step script, takes its steps and writes what is told of each. `lhash build` reads a
-//! command script and writes the file that it leads to as an image; `lhash check` reads an image and
-//! writes what is counted of it, `lhash dump` its records, `lhash draw` a drawing. `lhash drive` makes the calls of a command
-//! script in threads that share one file, and writes what they did in all. `run` does it from words
-//! and bytes to bytes and a status; `main` gives it the process's own.
+//! The program `lhash`: [`run`] on the process's own words, input and output.
 #![tactic(auto)]
 
-mod answer;
-mod device;
-mod draw;
-mod drive;
-mod driven;
-mod image_texts;
-mod images;
-pub mod laws;
-mod output;
-mod program;
-mod status;
-mod unsettled;
-mod workers;
+ghost use Rattle.std.specs.Prelude.{codes};
+ghost use Rattle.lhash.specs.Serving.{IsWordsOf};
 
-pub use drive::{DriveFault, drive_with};
-pub use driven::Driven;
-use program::refuse;
-pub use program::run;
-pub use status::{DeviceFault, InputFault, Status};
+use lhash::{Status, run};
+use std::alloc::Global;
 use std::env;
 use std::io::{BufReader, ErrorKind, Read, Write};
 use std::process::ExitCode;
 use std::rt::Runtime;
 use std::sync::Wait;
 use std::thread::Threads;
-pub use unsettled::Unsettled;
 
 /// The most bytes that one read of the process's input is asked for.
 const READ_AHEAD: usize = 65_536;
+
+/// How a run ends of which a word is no text.
+fn no_text(alloc: Global) -> Status
+    ensures { IsWordsOf (codes "an argument is not UTF-8") result }
+{
+    match String::from_str(alloc, "an argument is not UTF-8") {
+        Ok(text) => Status::Words(text),
+        Err(_) => Status::Memory,
+    }
+}
 
 /// The words that the process was started with, or how the run ends without them.
 fn process_words(rt: &(impl Runtime + AllocGlobal)) -> Result<Vec<String>, Status> {
     match env::args(rt) {
         Ok(words) => words.collect(rt.alloc()).map_err(|_| Status::Memory),
         Err(error) if error.kind() == ErrorKind::OutOfMemory => Err(Status::Memory),
-        Err(_) => Err(refuse(rt.alloc(), "an argument is not UTF-8")),
+        Err(_) => Err(no_text(rt.alloc())),
     }
 }
 
@@ -74,6 +62,3 @@ fn main(rt: HostRuntime) -> ExitCode {
     }
     ExitCode::from(code)
 }
-
-#[cfg(test)]
-mod tests;
