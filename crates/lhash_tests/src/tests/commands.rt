@@ -72,10 +72,16 @@ fn a_file_grows_past_its_threshold(rt: HostRuntime) -> Result<(), Fail> {
 #[test]
 fn lengths_have_limits(rt: HostRuntime) -> Result<(), Fail> {
     let commands = ["lhash", "commands"];
-    let key = "616263646566676869606162636465666768696061626364656667686960";
-    let value = "31323334353637383930313233343536373839303132333435363738393031323334353637383930";
-    let longest = format!(in rt.alloc(); "insert {key} {value}\nsearch {key}\ninsert 61 -\n")?;
-    let output = format!(in rt.alloc(); "inserted\nfound {value}\ninserted\nbuckets 1\n")?;
+    let quarter = "6162636465666768696a6b6c6d6e";
+    let key = format!(in rt.alloc(); "{quarter}{quarter}{quarter}{quarter}")?;
+    let value = format!(in rt.alloc(); "{key}{key}")?;
+    let longer = format!(in rt.alloc(); "{quarter}{quarter}616263")?;
+    let longest = format!(in rt.alloc();
+        "insert {key} {value}\nsearch {key}\ninsert {longer} -\ninsert 61 -\n"
+    )?;
+    let output = format!(in rt.alloc();
+        "inserted\nfound {value}\ninserted\ninserted\nbuckets 1\n"
+    )?;
     writes(&rt, commands.as_slice(), longest.as_str(), output.as_str())?;
     let script = format!(in rt.alloc(); "insert {key}61 31")?;
     fails(
@@ -83,7 +89,7 @@ fn lengths_have_limits(rt: HostRuntime) -> Result<(), Fail> {
         commands.as_slice(),
         script.as_str(),
         1,
-        "line 1: key length 31",
+        "line 1: key length 57",
     )?;
     let script = format!(in rt.alloc(); "insert 61 {value}31")?;
     fails(
@@ -91,7 +97,7 @@ fn lengths_have_limits(rt: HostRuntime) -> Result<(), Fail> {
         commands.as_slice(),
         script.as_str(),
         1,
-        "line 1: value length 41",
+        "line 1: value length 113",
     )?;
     fails(
         &rt,

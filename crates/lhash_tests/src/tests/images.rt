@@ -7,6 +7,7 @@ use std::thread::Threads;
 
 mod forged;
 mod opened;
+mod second;
 
 /// The bytes of an image that are not zero: from which place on, and what.
 type Part = (usize, &'static [u8]);
@@ -14,7 +15,7 @@ type Part = (usize, &'static [u8]);
 /// Five records of which the splits after the third and the fifth make three buckets.
 pub const FIVE: &str = "insert 61 31\ninsert 62 32\ninsert 63 33\ninsert 64 34\ninsert 65 35\n";
 
-pub const FIVE_WORDS: &[&str] = &["lhash", "build", "--capacity", "2"];
+pub const FIVE_WORDS: &[&str] = &["lhash", "build", "--capacity", "2", "--image", "1"];
 
 const FIVE_PARTS: &[Part] = &[
     (
@@ -50,7 +51,15 @@ const EMPTY_PARTS: &[Part] = &[
 /// Four records in a chain of two pages.
 pub const CHAIN: &str = "insert 61 31\ninsert 63 32\ninsert 65 33\ninsert 67 34\n";
 
-pub const CHAIN_WORDS: &[&str] = &["lhash", "build", "--capacity", "2", "--max", "1"];
+pub const CHAIN_WORDS: &[&str] = &[
+    "lhash",
+    "build",
+    "--capacity",
+    "2",
+    "--max",
+    "1",
+    "--image=1",
+];
 
 const CHAIN_PARTS: &[Part] = &[
     (
@@ -111,10 +120,10 @@ pub fn put(bytes: &mut [u8], place: usize, part: &[u8]) {
     }
 }
 
-/// So many pages, zeros but for these parts.
-fn pages_of(rt: &impl AllocGlobal, pages: usize, parts: &[Part]) -> Result<Vec<u8>, Fail> {
+/// So many bytes, zeros but for these parts.
+fn bytes_of(rt: &impl AllocGlobal, size: usize, parts: &[Part]) -> Result<Vec<u8>, Fail> {
     let mut bytes = Vec::new(rt.alloc());
-    bytes.resize(pages.saturating_mul(1_024), 0)?;
+    bytes.resize(size, 0)?;
     for (place, part) in parts {
         put(bytes.as_mut_slice(), *place, part);
     }
@@ -126,30 +135,30 @@ fn builds(
     rt: &(impl Abort + AllocGlobal + Threads + Wait + Sync),
     words: &[&str],
     script: &str,
-    pages: usize,
+    size: usize,
     parts: &[Part],
 ) -> Result<Vec<u8>, Fail> {
-    let image = pages_of(rt, pages, parts)?;
+    let image = bytes_of(rt, size, parts)?;
     told(rt, words, script.as_bytes(), &image)?;
     Ok(image)
 }
 
 #[test]
 fn five_records_in_three_buckets(rt: HostRuntime) -> Result<(), Fail> {
-    let image = builds(&rt, FIVE_WORDS, FIVE, 4, FIVE_PARTS)?;
+    let image = builds(&rt, FIVE_WORDS, FIVE, 4_096, FIVE_PARTS)?;
     accepted(&rt, &image, FIVE_CENSUS, FIVE_RECORDS)
 }
 
 #[test]
 fn an_empty_file(rt: HostRuntime) -> Result<(), Fail> {
-    let image = builds(&rt, FIVE_WORDS, "", 2, EMPTY_PARTS)?;
+    let image = builds(&rt, FIVE_WORDS, "", 2_048, EMPTY_PARTS)?;
     let census = "buckets 1\nlevel 0\npointer 0\nrecords 0\npages 2\noverflow 0\nlongest 1\n";
     accepted(&rt, &image, census, "")
 }
 
 #[test]
 fn a_chain_of_two_pages(rt: HostRuntime) -> Result<(), Fail> {
-    let image = builds(&rt, CHAIN_WORDS, CHAIN, 3, CHAIN_PARTS)?;
+    let image = builds(&rt, CHAIN_WORDS, CHAIN, 3_072, CHAIN_PARTS)?;
     let census = "buckets 1\nlevel 0\npointer 0\nrecords 4\npages 3\noverflow 1\nlongest 2\n";
     accepted(&rt, &image, census, "0 61 31\n0 63 32\n0 65 33\n0 67 34\n")
 }
@@ -219,8 +228,8 @@ fn turned_away(
 }
 
 #[test]
-fn check_and_dump_take_no_options(rt: HostRuntime) -> Result<(), Fail> {
-    for subcommand in ["check", "dump"] {
+fn what_reads_an_image_takes_no_options(rt: HostRuntime) -> Result<(), Fail> {
+    for subcommand in ["check", "dump", "draw", "migrate"] {
         for option in ["--max=1", "--initial=1", "extra"] {
             turned_away(&rt, &["lhash", subcommand, option])?;
         }

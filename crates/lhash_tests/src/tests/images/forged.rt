@@ -7,10 +7,10 @@ use std::test::Fail;
 use std::thread::Threads;
 
 /// Bytes that are put into an image: from which place on, and what.
-type Edit = (usize, &'static [u8]);
+pub type Edit = (usize, &'static [u8]);
 
 /// Edits of one image, and the fault that it has then.
-type Row = (&'static [Edit], &'static str);
+pub type Row = (&'static [Edit], &'static str);
 
 /// A subcommand refuses these bytes, and writes nothing.
 fn refused_by(
@@ -26,7 +26,7 @@ fn refused_by(
 }
 
 /// Both `check` and `dump` refuse these bytes.
-fn refused(
+pub fn refused(
     rt: &(impl Abort + AllocGlobal + Threads + Wait + Sync),
     bytes: &[u8],
     fault: &str,
@@ -36,7 +36,7 @@ fn refused(
 }
 
 /// The bytes with others in their place.
-fn edited(rt: &impl AllocGlobal, bytes: &[u8], edits: &[Edit]) -> Result<Vec<u8>, Fail> {
+pub fn edited(rt: &impl AllocGlobal, bytes: &[u8], edits: &[Edit]) -> Result<Vec<u8>, Fail> {
     let mut edited = Vec::new(rt.alloc());
     edited.extend_from_slice(bytes)?;
     for (place, part) in edits {
@@ -46,7 +46,7 @@ fn edited(rt: &impl AllocGlobal, bytes: &[u8], edits: &[Edit]) -> Result<Vec<u8>
 }
 
 /// Each row's edits of an image are refused with the row's fault.
-fn rows(
+pub fn rows(
     rt: &(impl Abort + AllocGlobal + Threads + Wait + Sync),
     image: &[u8],
     rows: &[Row],
@@ -58,12 +58,12 @@ fn rows(
 }
 
 /// The first so many bytes of an image.
-fn beginning(image: &[u8], count: usize) -> &[u8] {
+pub fn beginning(image: &[u8], count: usize) -> &[u8] {
     image.get(..count).unwrap_or(image)
 }
 
 /// Beginnings from one length up to another are refused.
-fn beginnings(
+pub fn beginnings(
     rt: &(impl Abort + AllocGlobal + Threads + Wait + Sync),
     image: &[u8],
     from: usize,
@@ -86,7 +86,7 @@ fn too_few_and_too_many_bytes(rt: HostRuntime) -> Result<(), Fail> {
 }
 
 const FIELDS: &[Row] = &[
-    (&[(0, b"LHF2")], "image I1"),
+    (&[(0, b"LHF3")], "image I1"),
     (&[(4, b"\0")], "image I2 at offset 4"),
     (&[(4, b"\xfe")], "image I2 at offset 16"),
     (&[(8, b"\x0f")], "image I2 at offset 8"),
@@ -143,7 +143,7 @@ const APART: &[Row] = &[(&[(2_056, b"\0"), (4_104, b"\x03")], "image I12 at page
 
 #[test]
 fn a_loop_apart(rt: HostRuntime) -> Result<(), Fail> {
-    let words = ["lhash", "build", "--capacity", "1", "--max", "1"];
+    let words = ["lhash", "build", "--capacity=1", "--max=1", "--image=1"];
     let script = "insert 61 31\ninsert 63 33\ninsert 65 35\ninsert 67 37\n";
     let image = built(&rt, words.as_slice(), script)?;
     rows(&rt, &image, APART)
@@ -154,12 +154,10 @@ fn two_buckets(rt: &(impl Abort + AllocGlobal + Threads + Wait + Sync)) -> Resul
     let words = [
         "lhash",
         "build",
-        "--initial",
-        "2",
-        "--capacity",
-        "1",
-        "--max",
-        "2",
+        "--initial=2",
+        "--capacity=1",
+        "--max=2",
+        "--image=1",
     ];
     let script = "insert 61 31\ninsert 62 32\ninsert 63 33\ninsert 64 34\n";
     built(rt, words.as_slice(), script)
