@@ -61,10 +61,19 @@ impl Key {
         if length < 1 || length > LONGEST_KEY {
             return Err(KeyLength { length });
         }
-        Ok(Key {
+        Ok(Key::of(bytes))
+    }
+
+    /// The key with these bytes, of which there are as many as keys have.
+    #[inline]
+    pub(crate) fn of(bytes: &[u8]) -> Self
+        requires { IsKey bytes.now }
+        ensures { result ≡ bytes.now }
+    {
+        Key {
             bytes: row(bytes),
-            len: length as u8,
-        })
+            len: bytes.len() as u8,
+        }
     }
 
     pub fn bytes(&self) -> &[u8]

@@ -18,6 +18,7 @@ mod key;
 mod key_set;
 pub mod laws;
 pub mod limits;
+mod line;
 mod marks;
 mod memory;
 mod packing;
@@ -25,8 +26,10 @@ mod page;
 mod pair;
 mod pairs;
 mod reading;
+mod record_list;
 mod rows;
 mod slot;
+mod unit;
 mod value;
 mod writing;
 
