@@ -1,8 +1,6 @@
 -- Records in rows: what a write of a line and its cold row leaves.
-use Rattle.std.proofs.Common.{◌≡◌, ℕ, zero, suc, ◌+◌, ◌-◌, ◌<◌, ◌≤◌, Bool, true, false, cond, leb, List, [], ◌∷◌, ◌++◌, length, take, drop, get_or, set, refl, sym, ap, ◌∙◌, arith, length-append, length-take-le}
-use Rattle.std.specs.List.{All}
-use Rattle.std.proofs.lemmas.Bool.{le-leb}
-use Rattle.std.proofs.lemmas.List.{set-get_or, length-set, take_at, drop_at, take-append-le, append_assoc}
+use Rattle.std.proofs.Common.{◌≡◌, ℕ, zero, suc, ◌<◌, ◌≤◌, true, false, List, [], ◌∷◌, ◌++◌, length, take, drop, get_or, set, refl, sym, ap, ◌∙◌, arith, length-take-le}
+use Rattle.std.proofs.lemmas.List.{set-get_or, length-set, take_at, drop_at}
 use Rattle.std.proofs.lemmas.List.Elements.{All-set}
 use borrow.Rule.Slice.PartMut.{put_mid, post_of}
 use Rattle.lh_page.specs.declared.line.Line.{Line}

@@ -1,5 +1,5 @@
 -- How records lie in memory: each in a row of a unit, which is a line and a cold row.
-use Rattle.std.specs.Prelude.{◌≡◌, ℕ, ◌+◌, ◌*◌, ◌≤◌, Bool, List, [], ◌∷◌, length, take, nat_le, if◌then◌else◌}
+use Rattle.std.specs.Prelude.{◌≡◌, ℕ, ◌+◌, ◌≤◌, Bool, List, [], ◌∷◌, length, take, nat_le, if◌then◌else◌}
 use Rattle.std.specs.List.{All}
 use Rattle.lh_page.specs.declared.line.Line.{Line}
 use Rattle.lh_page.specs.declared.pair.Pair.{Pair}

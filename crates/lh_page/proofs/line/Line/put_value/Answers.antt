@@ -1,8 +1,4 @@
-use Rattle.std.proofs.Common.{◌≡◌, ℕ, ◌+◌, ◌-◌, ◌++◌, List, length, sym, ap, ◌∙◌, refl, arith}
-use borrow.Rule.Slice.PartMut.{put_mid, post_of}
-use Rattle.lh_page.specs.declared.line.Line.{Line}
-use Rattle.lh_page.specs.declared.pair.Pair.{Pair}
-use Rattle.lh_page.specs.Lines.{key_in, record_in}
+use Rattle.std.proofs.Common.{◌≡◌, length, sym, ap, ◌∙◌, refl, arith}
 use Rattle.lh_page.proofs.Lines.{put_near, put_far}
 use Rattle.lh_page.proofs.line.Line.put_value.Goals as goal
 

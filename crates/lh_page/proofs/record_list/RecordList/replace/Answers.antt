@@ -1,4 +1,4 @@
-use Rattle.std.proofs.Common.{◌%◌, get_or, set, ap, ◌∙◌}
+use Rattle.std.proofs.Common.{◌%◌, set, ap, ◌∙◌}
 use Rattle.lh_page.specs.declared.pair.Pair.{Pair}
 use Rattle.lh_page.specs.Records.{no_pair}
 use Rattle.lh_page.proofs.Units.{within-first, get_or-first, set-first}

@@ -1,4 +1,4 @@
-use Rattle.std.proofs.Common.{◌≡◌, false, true, [], get_or, set, sym, ap, ◌∙◌, arith}
+use Rattle.std.proofs.Common.{◌≡◌, true, [], get_or, set, sym, ap, ◌∙◌, arith}
 use Rattle.lh_page.specs.Records.{no_pair}
 use Rattle.lh_page.specs.Lines.{fits_line, records_in}
 use Rattle.lh_page.proofs.Lines.{get_or-records_in, records_in-set, set_line}

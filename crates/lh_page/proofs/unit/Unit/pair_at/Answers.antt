@@ -1,5 +1,4 @@
-use Rattle.std.proofs.Common.{[], sym, ap, ◌∙◌, arith}
-use Rattle.lh_page.specs.declared.pair.Pair.{Pair}
+use Rattle.std.proofs.Common.{[], sym, arith}
 use Rattle.lh_page.specs.Records.{no_pair}
 use Rattle.lh_page.proofs.Lines.{get_or-records_in}
 use Rattle.lh_page.proofs.unit.Unit.pair_at.Goals as goal

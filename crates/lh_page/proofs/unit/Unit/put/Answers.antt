@@ -1,5 +1,4 @@
-use Rattle.std.proofs.Common.{[], set, sym, ap, ◌∙◌, arith}
-use Rattle.lh_page.specs.Records.{no_pair}
+use Rattle.std.proofs.Common.{set, ap, ◌∙◌}
 use Rattle.lh_page.specs.Lines.{records_in}
 use Rattle.lh_page.proofs.Lines.{records_in-set, unit_set}
 use Rattle.lh_page.proofs.unit.Unit.put.Goals as goal
