@@ -10,6 +10,7 @@
 #![tactic(auto)]
 
 mod chain;
+mod comparing;
 mod division;
 mod fault;
 mod format;

@@ -46,7 +46,7 @@ impl Line {
         requires { IsLine self.now }
         ensures { result ≡ bytes_eq (key_in self.now) key.now }
     {
-        &self.bytes[..self.key_len as usize] == key.bytes()
+        key.is_front(&self.bytes, self.key_len)
     }
 
     /// The key.
