@@ -58,10 +58,19 @@ impl Value {
         if length > LONGEST_VALUE {
             return Err(ValueLength { length });
         }
-        Ok(Value {
+        Ok(Value::of(bytes))
+    }
+
+    /// The value with these bytes, of which there are as many as values have.
+    #[inline]
+    pub(crate) fn of(bytes: &[u8]) -> Self
+        requires { IsValue bytes.now }
+        ensures { result ≡ bytes.now }
+    {
+        Value {
             bytes: row(bytes),
-            len: length as u8,
-        })
+            len: bytes.len() as u8,
+        }
     }
 
     /// The value without bytes.
