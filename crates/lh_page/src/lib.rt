@@ -12,7 +12,7 @@
 mod chain;
 mod division;
 mod fault;
-mod format;
+pub mod format;
 mod head;
 mod key;
 mod key_set;
