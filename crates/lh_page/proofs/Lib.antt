@@ -1,5 +1,6 @@
 pub mod Places
 pub mod Distinct
+pub mod Parts
 pub mod Marking
 pub mod Masks
 pub mod Lines

@@ -33,10 +33,10 @@ put_near line bytes v cold m within long is near =
     (value_in-near line cold near ∙ (ap (take line.value_len) behind ∙ take_at v (post_of line.key_len m bytes) line.value_len (sym long)))
     refl
 
-pub put_far : (line : Line) (v rest : List ℕ) → line.value_len ≡ length v → fits_line line ≡ false →
-    record_in line (v ++ rest) ≡ record { key = key_in line; value = v }
-put_far line v rest long far =
-    same_pair (key_in line) (key_in line) (value_in line (v ++ rest)) v _ _ refl refl (value_in-far line (v ++ rest) far ∙ take_at v rest line.value_len (sym long)) refl
+pub put_far : (line : Line) (v cold : List ℕ) → line.value_len ≡ length v → take (length v) cold ≡ v → fits_line line ≡ false →
+    record_in line cold ≡ record { key = key_in line; value = v }
+put_far line v cold long front far =
+    same_pair (key_in line) (key_in line) (value_in line cold) v _ _ refl refl (value_in-far line cold far ∙ (ap (λ n. take n cold) long ∙ front)) refl
 
 -- ---- the records of rows
 

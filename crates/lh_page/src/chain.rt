@@ -6,7 +6,7 @@ ghost use Rattle.lh_page.specs.Limits.{IsCapacity};
 ghost use Rattle.lh_page.specs.PackedList.{IsPackedList, pages_of};
 ghost use Rattle.lh_page.specs.Records.{keys_of, place_of, value_at, with_value, AbsentBelow, StandsFirst};
 
-use crate::division::{copied, divided};
+use crate::division::{Division, Part, copied, divided};
 use crate::key::Key;
 use crate::key_set::KeySet;
 use crate::marks::{MARKED, find_marked, mark_at, marks_of, put_mark};
@@ -143,13 +143,15 @@ impl Chain {
             (self.new ≡ record self.old { pairs = filter (λ p. not (S.member keys.now p.key)) self.old.pairs }) }
         ensures err { OnErr result (self.new ≡ self.old) }
     {
-        let parts = divided(self.pairs.allocator(), &self.pairs, keys)?;
-        self.marks = marks_of(&parts.kept);
-        self.pairs = parts.kept;
+        let Division { gone, kept } = divided(self.pairs.allocator(), &self.pairs, keys)?;
+        let Part { pairs, marks } = kept;
+        self.pairs = pairs;
+        self.marks = marks;
+        let Part { pairs, marks } = gone;
         Ok(Chain {
             capacity: self.capacity,
-            marks: marks_of(&parts.gone),
-            pairs: parts.gone,
+            marks,
+            pairs,
         })
     }
 

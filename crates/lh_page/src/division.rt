@@ -1,18 +1,66 @@
 //! Dividing a list of records in two, each part in the order of the whole.
-ghost use Rattle.std.specs.Prelude.{not, ◌≡◌, IfOk};
+ghost use Rattle.std.specs.Prelude.{not, ◌≡◌, ◌<◌, [], ◌∷◌, ◌++◌, length, slice_index_or, IfOk, OnOk};
 ghost use Rattle.std.specs.List.{filter};
+ghost use Rattle.lh_page.specs.Records.{key_at, no_pair};
 
+use crate::key::Key;
 use crate::key_set::KeySet;
+use crate::marks::{MARKED, put_mark};
 use crate::memory::Memory;
 use crate::pair::Pair;
 use crate::record_list::RecordList;
 use std::alloc::Global;
+use std::marker::Model;
 
 /// The two parts of a list of records.
 #[derive(Drop)]
 pub struct Division {
-    pub gone: RecordList,
-    pub kept: RecordList,
+    pub gone: Part,
+    pub kept: Part,
+}
+
+/// Records and their marks.
+#[derive(Drop)]
+pub struct Part {
+    pub pairs: RecordList,
+    pub marks: [u8; MARKED],
+}
+
+impl Model for Part {
+    ghost use Rattle.std.specs.Prelude.{◌≡◌, List, length};
+    ghost use Rattle.lh_page.specs.declared.pair.Pair.{Pair};
+    ghost use Rattle.lh_page.specs.Marks.{marked_room, IsMarked};
+
+    ghost Value = { List Pair };
+
+    ghost view = { λ p. p.pairs };
+
+    ghost invariant = { λ p. (length p.marks ≡ marked_room) × IsMarked p.marks p.pairs };
+}
+
+impl Part {
+    /// No records, with memory for as many as are to come.
+    fn with_room(alloc: Global, records: usize) -> Result<Self, Memory>
+        ensures { IfOk result (λ part. part ≡ []) }
+    {
+        Ok(Part {
+            pairs: RecordList::with_room(alloc, records)?,
+            marks: [0; MARKED],
+        })
+    }
+
+    /// Appends the record at a place of a list, whose key is at hand. After an error nothing has changed.
+    #[inline]
+    fn push_from(&mut self, pairs: &RecordList, place: usize, key: &Key) -> Result<(), Memory>
+        requires within { place < length pairs.now }
+        requires key { key.now ≡ key_at pairs.now place }
+        ensures { OnOk result (self.new ≡ self.old ++ slice_index_or pairs.now place no_pair ∷ []) }
+    {
+        let last = self.pairs.len();
+        self.pairs.push_from(pairs, place)?;
+        put_mark(&mut self.marks, last, key);
+        Ok(())
+    }
 }
 
 /// A copy of records, in the memory of as many units as they fill.
@@ -33,13 +81,14 @@ pub fn divided<S: KeySet>(alloc: Global, pairs: &RecordList, keys: &S) -> Result
     ensures kept { IfOk result (λ parts. parts.kept ≡ filter (λ p. not (S.member keys.now p.key)) pairs.now) }
 {
     let room = pairs.len().div_ceil(2);
-    let mut gone = RecordList::with_room(alloc, room)?;
-    let mut kept = RecordList::with_room(alloc, room)?;
+    let mut gone = Part::with_room(alloc, room)?;
+    let mut kept = Part::with_room(alloc, room)?;
     for place in 0..pairs.len() {
-        if keys.contains(&pairs.key_at(place)) {
-            gone.push_from(pairs, place)?;
+        let key = pairs.key_at(place);
+        if keys.contains(&key) {
+            gone.push_from(pairs, place, &key)?;
         } else {
-            kept.push_from(pairs, place)?;
+            kept.push_from(pairs, place, &key)?;
         }
     }
     Ok(Division { gone, kept })

@@ -79,11 +79,28 @@ impl Key {
         }
     }
 
+    /// The number of bytes.
+    #[inline]
+    pub(crate) fn len(&self) -> u8
+        ensures { result ≡ length self.now }
+    {
+        self.len
+    }
+
     pub fn bytes(&self) -> &[u8]
         ensures value { result.now ≡ self.now }
         ensures kept { IsKey self.now }
     {
         &self.bytes[..self.len as usize]
+    }
+
+    /// The key, with zeros behind it.
+    #[inline]
+    pub(crate) fn row(&self) -> &[u8; KEY_ROOM]
+        ensures front { take (length self.now) result.now ≡ self.now }
+        ensures kept { IsKey self.now }
+    {
+        &self.bytes
     }
 
     /// Whether this key is the first `len` of some bytes.

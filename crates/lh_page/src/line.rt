@@ -5,7 +5,7 @@ ghost use Rattle.lh_page.specs.Lines.{fits_line, key_in, record_in, value_in, Is
 
 use crate::key::Key;
 use crate::pair::Pair;
-use crate::rows::VALUE_ROOM;
+use crate::rows::{KEY_ROOM, VALUE_ROOM};
 use crate::value::Value;
 
 /// The bytes of a line behind its two lengths: with them it is one line of a processor's cache.
@@ -80,9 +80,8 @@ impl Line {
         ensures sound { IsLine self.new }
         ensures record { record_in self.new cold.new ≡ pair.now }
     {
-        let key = pair.key.bytes();
-        self.key_len = key.len() as u8;
-        self.bytes[..key.len()].copy_from_slice(key);
+        self.key_len = pair.key.len();
+        self.bytes[..KEY_ROOM].copy_from_slice(pair.key.row());
         self.put_value(cold, &pair.value);
     }
 
@@ -112,7 +111,7 @@ impl Line {
             let key_len = self.key_len as usize;
             self.bytes[key_len..key_len + bytes.len()].copy_from_slice(bytes);
         } else {
-            cold[..bytes.len()].copy_from_slice(bytes);
+            *cold = *value.row();
         }
     }
 }

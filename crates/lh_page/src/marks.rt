@@ -38,7 +38,7 @@ pub fn marks_of(pairs: &RecordList) -> [u8; MARKED]
     ensures room { length result ≡ MARKED }
 {
     let mut marks = [0; MARKED];
-    for place in 0..MARKED {
+    for place in 0..pairs.len().min(MARKED) {
         mark_at(&mut marks, pairs, place);
     }
     marks

@@ -30,7 +30,15 @@ pub trait Layout: Drop {
 
 /// A row of records with their values, which is also divided in two.
 pub trait Store: Layout {
+    /// A record as this layout takes it.
+    type Item: Drop;
+
     type Value: Drop;
+
+    fn item(record: &Record) -> Option<Self::Item>;
+
+    /// Adds a record, if its key is not there.
+    fn insert(&mut self, item: &Self::Item) -> Result<(), AllocError>;
 
     /// The value under a key.
     fn value(&self, key: &Self::Sought) -> Option<Self::Value>;

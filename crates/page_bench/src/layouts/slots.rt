@@ -92,7 +92,21 @@ impl Layout for Slots {
 }
 
 impl Store for Slots {
+    type Item = Record;
+
     type Value = Value;
+
+    fn item(record: &Record) -> Option<Record> {
+        Some(*record)
+    }
+
+    #[inline(never)]
+    fn insert(&mut self, item: &Record) -> Result<(), AllocError> {
+        if self.find(&item.key).is_none() {
+            self.append(item)?;
+        }
+        Ok(())
+    }
 
     #[inline(never)]
     fn value(&self, key: &Key) -> Option<Value> {

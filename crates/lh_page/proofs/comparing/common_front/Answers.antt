@@ -1,4 +1,4 @@
-use Rattle.std.proofs.Common.{length, take, subst, sym, refl, ◌∙◌, length-take-le}
+use Rattle.std.proofs.Common.{take, subst, sym, refl, length-take-le}
 use Rattle.lh_page.proofs.Masks.{IsCommon, bitmask_alike, common_from_mask}
 use Rattle.lh_page.proofs.comparing.common_front.Goals as goal
 

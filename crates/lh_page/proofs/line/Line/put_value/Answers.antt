@@ -11,7 +11,5 @@ returns-then-fits-clause-record c =
 
 pub returns-else-fits-clause-record : goal.returns-else-fits-clause-record
 returns-else-fits-clause-record c =
-    let v = c.args.value.now in
-    let long : length c.bytes-bytes.result.now ≡ length v = ap length c.bytes-bytes.ensures.value in
-    let same = c.copy_from_slice-else-fits.ensures.after ∙ c.bytes-bytes.ensures.value in
-    rw same (put_far _ v _ long (sym c.fits.ensures ∙ c.if-fits.false))
+    let long : length c.bytes-bytes.result.now ≡ length c.args.value.now = ap length c.bytes-bytes.ensures.value in
+    put_far _ c.args.value.now c.row.result.now long c.row.ensures (sym c.fits.ensures ∙ c.if-fits.false)
