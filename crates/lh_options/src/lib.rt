@@ -10,6 +10,3 @@ pub mod laws;
 mod options;
 
 pub use options::{ImageVersion, Request, request_of};
-
-#[cfg(test)]
-mod tests;

@@ -69,9 +69,6 @@ unfolding EndsSteps
 steps_begun settings input events entries world before now headline given memory written =
     (events, steps_text entries, given, record { entries = entries; world = world; headline = headline; memory = memory; lines = refl }, written)
 
-pub keeps : (a : Option (List ℕ)) → Keeps a a
-keeps a = Keeps-refl a
-
 pub same_script : {A : Type 0} (read : Reading A) (input bytes : List ℕ) → IsReadOf 16777216 input bytes → script read bytes ≡ script read input
 same_script read input bytes (inl e) = ap (script read) e
 same_script read input bytes (inr h) = grind (arith, nat_tests, h.0, h.1)

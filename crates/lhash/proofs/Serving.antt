@@ -16,6 +16,11 @@ use Rattle.lhash.specs.declared.status.InputFault.{InputFault}
 use Rattle.lhash.specs.declared.status.Status.{Status}
 use Rattle.lhash.specs.declared.status.Status.TheVariants.{Done, Input, Words, Device, Memory, NotSettled}
 
+-- a request is served as what it is
+pub served_as : {r asked : Request} → r ≡ asked → (status : Status) (left rest before now : Option (List ℕ)) →
+    Serves asked status left rest before now → Serves r status left rest before now
+served_as is status left rest before now = subst (λ (r : Request). Serves r status left rest before now) (sym is)
+
 -- what ended for want of memory, with nothing written, ended in a way that allows it
 unwritten : (EndsWith : Ending) (status : Status) (left before now : Option (List ℕ)) →
     ((input : List ℕ) → Keeps before now → EndsWith input Memory before now) → status ≡ Memory → Keeps before now →

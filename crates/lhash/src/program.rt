@@ -36,7 +36,6 @@ fn refuse(alloc: Global, reason: &str) -> Status
 }
 
 /// Does what is asked for.
-#[tactic(auto, using(crate::proofs::Ending::keeps))]
 fn serve<A: Threads + Wait + Sync, R: Read, W: Write>(
     rt: &A,
     alloc: Global,

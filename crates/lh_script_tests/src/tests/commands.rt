@@ -1,10 +1,9 @@
 //! Command scripts from end to end: calls, and the texts of faults.
 ghost use Rattle.std.specs.Prelude.{◌≡◌, IfOk, vec_len};
 
-use crate::fault::ParseError;
-use crate::script::parse;
 use lh_bucket::Call;
 use lh_page::{Key, Value};
+use lh_script::{ParseError, parse};
 use std::alloc::{AllocError, Global};
 use std::test::Fail;
 

@@ -1,6 +1,6 @@
 //! Requests of words that are written out.
-use crate::options::{ImageVersion, Request, request_of};
 use lh_addr::Config;
+use lh_options::{ImageVersion, Request, request_of};
 use std::alloc::AllocError;
 use std::process::Abort;
 

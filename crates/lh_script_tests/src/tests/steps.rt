@@ -1,9 +1,8 @@
 //! Step scripts from end to end: events, and the texts of faults.
-use crate::fault::ParseError;
-use crate::script::parse;
 use lh_bucket::Call;
 use lh_core::Event;
 use lh_page::{Key, Value};
+use lh_script::{ParseError, parse};
 use std::alloc::{AllocError, Global};
 use std::process::Abort;
 use std::test::Fail;
