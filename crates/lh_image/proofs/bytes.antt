@@ -1,4 +1,5 @@
 -- The bytes of an image: its header, its pages, and where a part stands
+pub mod Versions
 pub mod Header
 pub mod HeaderText
 pub mod HeaderTests

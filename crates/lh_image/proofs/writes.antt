@@ -2,4 +2,6 @@
 pub mod Sends
 pub mod Counting
 pub mod Counted
+pub mod Writable
+pub mod Lengths
 pub mod CanonicalPages

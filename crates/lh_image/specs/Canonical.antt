@@ -2,16 +2,17 @@
 use Rattle.std.specs.Prelude.{ℕ, zero, suc, ◌+◌, ◌-◌, ◌≤◌, List, [], ◌++◌, length, slice_index_or, ◌==◌, if◌then◌else◌}
 use Rattle.std.specs.List.{range_with_len, flat_map}
 use Rattle.lh_addr.specs.Growth.{level_of}
-use Rattle.lh_page.specs.Format.{version_1}
 use Rattle.lh_page.specs.declared.page.Page.{Page}
 use Rattle.lh_page.specs.declared.page.PageKind.TheVariants.{Primary, Overflow}
 use Rattle.lh_page.specs.declared.pair.Pair.{Pair}
 use Rattle.lh_page.specs.PackedList.{pages_of}
 use Rattle.lh_page.specs.PageTable.{page_text}
-use Rattle.lh_bucket.specs.Listing.{Lists, IsListing, size, list_at, count_of}
-use Rattle.lh_image.specs.declared.reading.first_page.Header.{Header}
-use Rattle.lh_image.specs.Image.{IsImage}
+use Rattle.lh_bucket.specs.Listing.{Lists, IsListing, size, list_at}
+use Rattle.lh_image.specs.declared.version.Version.{Version}
+use Rattle.lh_image.specs.Fitting.{FitsVersion}
+use Rattle.lh_image.specs.Image.{IsImage, header_for}
 use Rattle.lh_image.specs.Layout.{most_pages, header_text}
+use Rattle.lh_image.specs.Version.{format_of}
 
 -- the records of the pages of bucket i
 abbrev pub pages_in : Lists → ℕ → List (List Pair)
@@ -46,24 +47,19 @@ page_in l i k = record {
 }
 
 -- the bytes of page k of bucket i
-unfoldable pub text_in : Lists → ℕ → ℕ → List ℕ
-text_in l i k = page_text version_1 (page_in l i k)
+unfoldable pub text_in : Version → Lists → ℕ → ℕ → List ℕ
+text_in version l i k = page_text (format_of version) (page_in l i k)
 
 -- the bytes of the overflow pages of bucket i
-unfoldable pub overflow_text : Lists → ℕ → List ℕ
-overflow_text l i = flat_map (text_in l i) (range_with_len 1 (page_count_in l i - 1))
+unfoldable pub overflow_text : Version → Lists → ℕ → List ℕ
+overflow_text version l i = flat_map (text_in version l i) (range_with_len 1 (page_count_in l i - 1))
 
--- what the header says of a listing
-abbrev pub header_in : Lists → Header
-header_in l = record { config = l.config; buckets = size l; pages = page_total l; records = count_of l.lists }
+-- the image that is written in a version: the header, the primary pages, and the overflow pages in the order of bucket and place
+unfoldable pub canonical : Version → Lists → List ℕ
+canonical version l =
+    header_text (header_for version l (page_total l))
+    ++ (flat_map (λ i. text_in version l i 0) (range_with_len 0 (size l)) ++ flat_map (overflow_text version l) (range_with_len 0 (size l)))
 
--- the image that is written: the header, the primary pages, and the overflow pages in the order of bucket and place
-unfoldable pub canonical : Lists → List ℕ
-canonical l =
-    header_text (header_in l)
-    ++ flat_map (λ i. text_in l i 0) (range_with_len 0 (size l))
-    ++ flat_map (overflow_text l) (range_with_len 0 (size l))
-
--- What is written is an image of the listing.
+-- What is written in a version for which the listing is fit is an image of the listing.
 abbrev pub CanonicalLaw : Type 0
-CanonicalLaw = (l : Lists) → IsListing l → page_total l ≤ most_pages → IsImage (canonical l) l
+CanonicalLaw = (version : Version) (l : Lists) → IsListing l → FitsVersion version l → page_total l ≤ most_pages → IsImage (canonical version l) l

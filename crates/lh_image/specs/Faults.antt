@@ -1,5 +1,5 @@
 -- The faults of an image: the condition of each, the table of them, and the fault that is answered
-use Rattle.std.specs.Prelude.{ℕ, ◌+◌, ◌-◌, ◌*◌, Bool, false, not, ◌&&◌, ◌||◌, List, [], ◌∷◌, ◌++◌, length, map, take, option_map, Option, Some, None, nat_lt, nat_le, ◌==◌, if◌then◌else◌}
+use Rattle.std.specs.Prelude.{ℕ, ◌+◌, ◌-◌, ◌*◌, Bool, false, not, ◌&&◌, ◌||◌, List, [], ◌∷◌, ◌++◌, length, map, option_map, Option, Some, None, nat_lt, nat_le, ◌==◌, if◌then◌else◌}
 use Rattle.std.specs.List.{range_with_len, list_any, count_by, sum_by, find, before_first, flat_map}
 use Rattle.std.specs.Option.{is_some}
 use Rattle.std.specs.Str.{bytes_eq}
@@ -8,24 +8,25 @@ use Rattle.lh_addr.specs.Growth.{address, level_of}
 use Rattle.lh_addr.specs.Limits.{most_initial, least_load, most_load, most_buckets}
 use Rattle.lh_page.specs.declared.head.PageHead.{PageHead}
 use Rattle.lh_page.specs.declared.pair.Pair.{Pair}
-use Rattle.lh_page.specs.Format.{version_1}
 use Rattle.lh_page.specs.Records.{keys_of}
 use Rattle.lh_image.specs.declared.fault.ImageFault.{ImageFault}
 use Rattle.lh_image.specs.declared.fault.ImageFault.TheVariants.{Magic, HeaderField, Counts, Short, Trailing, Kind, BucketNumber, Level, Used, Next, Twice, Never, Slot, Misfit}
 use Rattle.lh_image.specs.declared.reading.first_page.Header.{Header}
 use Rattle.lh_image.specs.Chains.{Links, chain, stands_in}
-use Rattle.lh_image.specs.Layout.{most_pages, page_bytes, magic, header_of, ends_in_zeros, view_of}
+use Rattle.lh_image.specs.Layout.{most_pages, header_of, ends_in_zeros, image_bytes, view_of}
+use Rattle.lh_image.specs.Version.{begins, page_bytes, slots, version_of}
+use Rattle.lh_image.specs.declared.version.Version.TheVariants.{One, Two}
 use Rattle.lh_image.specs.View.{View, initial, buckets, page_count, record_count, numbers, used, bucket, links, chain_of}
 
 -- ---- the file as a whole
 
--- the input doesn't begin with LHF1 (I1)
+-- the input begins neither with LHF1 nor with LHF2 (I1)
 unfoldable pub no_magic : List ℕ → Bool
-no_magic bytes = not (bytes_eq (take 4 bytes) magic)
+no_magic bytes = not (begins bytes One || begins bytes Two)
 
 -- whether there are enough bytes for a header
 abbrev pub has_header : List ℕ → Bool
-has_header bytes = nat_le page_bytes (length bytes)
+has_header bytes = nat_le (page_bytes (version_of bytes)) (length bytes)
 
 -- whether a number is below a range or above it
 abbrev pub out_of : ℕ → ℕ → ℕ → Bool
@@ -35,7 +36,7 @@ out_of low high x = nat_lt x low || nat_lt high x
 unfoldable pub is_bad_field : Header → Bool → ℕ → Bool
 is_bad_field h zeros offset =
     if offset == 4 then out_of 1 most_initial h.config.initial
-    else if offset == 8 then out_of 1 version_1.slots h.config.capacity
+    else if offset == 8 then out_of 1 (slots h.version) h.config.capacity
     else if offset == 12 then out_of least_load most_load h.config.load
     else if offset == 16 then out_of h.config.initial most_buckets h.buckets
     else if offset == 20 then out_of h.config.initial most_buckets h.config.max || nat_lt h.config.max h.buckets
@@ -51,11 +52,11 @@ bad_counts h = nat_lt h.pages (1 + h.buckets) || nat_lt most_pages h.pages || na
 
 -- fewer bytes than a header, or than the header's number of pages (I4)
 unfoldable pub is_short : List ℕ → Bool
-is_short bytes = nat_lt (length bytes) page_bytes || nat_lt (length bytes) (page_bytes * (header_of bytes).pages)
+is_short bytes = nat_lt (length bytes) (page_bytes (version_of bytes)) || nat_lt (length bytes) (image_bytes bytes)
 
 -- bytes behind the last page (I5)
 unfoldable pub has_trailing : List ℕ → Bool
-has_trailing bytes = nat_lt (page_bytes * (header_of bytes).pages) (length bytes)
+has_trailing bytes = nat_lt (image_bytes bytes) (length bytes)
 
 -- ---- page p by itself, by its head
 
@@ -146,7 +147,7 @@ least pages test = find test (numbers pages)
 abbrev pub field_rows : Header → Bool → List (Option ImageFault)
 field_rows h zeros = option_map HeaderField (bad_field h zeros) ∷ where_so (bad_counts h) Counts ∷ []
 
--- what the first 1,024 bytes show: I1, and I2 and I3 where there is a header
+-- what the first page shows: I1, and I2 and I3 where there is a header
 abbrev pub header_rows : List ℕ → List (Option ImageFault)
 header_rows bytes =
     where_so (no_magic bytes) Magic

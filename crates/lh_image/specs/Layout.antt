@@ -1,20 +1,13 @@
--- The bytes of an image, by page, offset and size. An image is a row of pages of 1,024 bytes: page 0 is the header, page 1 + i is the primary page of bucket i, and behind those come overflow pages. Numbers are little-endian.
-use Rattle.std.specs.Prelude.{ℕ, ◌*◌, ◌-◌, Bool, true, List, [], ◌∷◌, ◌++◌, take, drop, replicate, ◌==◌, if◌then◌else◌}
+-- The bytes of an image, by page, offset and size. An image is a row of pages of 1,024 bytes, or of 4,096 in version 2: page 0 is the header, page 1 + i is the primary page of bucket i, and behind those come overflow pages. Numbers are little-endian.
+use Rattle.std.specs.Prelude.{ℕ, ◌*◌, ◌-◌, Bool, true, List, ◌++◌, take, drop, replicate, ◌==◌, if◌then◌else◌}
 use Rattle.byteorder.specs.Endian.{little_from, little_bytes}
 use Rattle.lh_page.specs.declared.head.PageHead.{PageHead}
 use Rattle.lh_page.specs.declared.page.Page.{Page}
-use Rattle.lh_page.specs.Format.{version_1, page_size}
 use Rattle.lh_page.specs.PageFields.{all_zero, head_of, pairs_of, bad_slot, page_of}
 use Rattle.lh_image.specs.declared.reading.first_page.Header.{Header}
+use Rattle.lh_image.specs.declared.version.Version.{Version}
+use Rattle.lh_image.specs.Version.{magic, format_of, page_bytes, version_of}
 use Rattle.lh_image.specs.View.{View}
-
--- the first four bytes: LHF1
-abbrev pub magic : List ℕ
-magic = 76 ∷ 72 ∷ 70 ∷ 49 ∷ []
-
--- the bytes of a page: 1,024
-abbrev pub page_bytes : ℕ
-page_bytes = page_size version_1
 
 -- the most pages that an image may have, the header's among them
 abbrev pub most_pages : ℕ
@@ -26,12 +19,13 @@ most_pages = 1048576
 abbrev pub field_bytes : ℕ
 field_bytes = 36
 
-abbrev pub padding : ℕ
-padding = page_bytes - field_bytes
+abbrev pub padding : Version → ℕ
+padding version = page_bytes version - field_bytes
 
 -- the header that the bytes show
 unfoldable pub header_of : List ℕ → Header
 header_of bytes = record {
+  version = version_of bytes;
   config = record {
     initial = little_from 4 4 bytes;
     capacity = little_from 8 4 bytes;
@@ -45,24 +39,31 @@ header_of bytes = record {
 
 -- whether the bytes behind the header's fields are zeros
 abbrev pub ends_in_zeros : List ℕ → Bool
-ends_in_zeros bytes = all_zero (take padding (drop field_bytes bytes))
+ends_in_zeros bytes = all_zero (take (padding (version_of bytes)) (drop field_bytes bytes))
 
--- the 1,024 bytes of a header
-abbrev pub header_text : Header → List ℕ
-header_text h =
-    magic ++ little_bytes 4 h.config.initial ++ little_bytes 4 h.config.capacity ++ little_bytes 4 h.config.load
+-- the bytes of the numbers of a header
+abbrev pub number_text : Header → List ℕ
+number_text h =
+    little_bytes 4 h.config.initial ++ little_bytes 4 h.config.capacity ++ little_bytes 4 h.config.load
     ++ little_bytes 4 h.buckets ++ little_bytes 4 h.config.max ++ little_bytes 4 h.pages ++ little_bytes 8 h.records
-    ++ replicate padding 0
+
+-- the bytes of a header's page
+abbrev pub header_text : Header → List ℕ
+header_text h = magic h.version ++ number_text h ++ replicate (padding h.version) 0
 
 -- ---- the other pages, by their numbers
 
 -- the bytes of page p
 unfoldable pub page : List ℕ → ℕ → List ℕ
-page bytes p = take page_bytes (drop (page_bytes * p) bytes)
+page bytes p = let size = page_bytes (version_of bytes) in take size (drop (size * p) bytes)
 
 -- what page p shows
 abbrev pub page_at : List ℕ → ℕ → Page
-page_at bytes p = page_of version_1 (page bytes p)
+page_at bytes p = page_of (format_of (version_of bytes)) (page bytes p)
+
+-- the bytes of as many pages as the header says
+abbrev pub image_bytes : List ℕ → ℕ
+image_bytes bytes = page_bytes (version_of bytes) * (header_of bytes).pages
 
 -- what stands for the head of page 0
 abbrev pub no_head : PageHead
@@ -73,6 +74,6 @@ unfoldable pub view_of : List ℕ → View
 view_of bytes = record {
   header = header_of bytes;
   head = λ p. if p == 0 then no_head else head_of (page bytes p);
-  records = λ p. pairs_of version_1 (page bytes p);
-  bad_slot = λ p. bad_slot version_1 (page bytes p);
+  records = λ p. pairs_of (format_of (version_of bytes)) (page bytes p);
+  bad_slot = λ p. bad_slot (format_of (version_of bytes)) (page bytes p);
 }

@@ -1,4 +1,6 @@
 pub mod Chains
+pub mod Version
+pub mod Fitting
 pub mod View
 pub mod Layout
 pub mod Faults

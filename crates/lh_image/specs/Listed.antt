@@ -1,7 +1,6 @@
 -- From all pages to the answer
 use Rattle.std.specs.Prelude.{◌≡◌, ℕ, ◌-◌, ◌*◌, ◌<◌, ◌≤◌, true, List, length, Option, Some, None}
 use Rattle.lh_page.specs.declared.pair.Pair.{Pair}
-use Rattle.lh_image.specs.Layout.{page_bytes}
 use Rattle.lh_image.specs.declared.fault.ImageFault.{ImageFault}
 use Rattle.lh_image.specs.declared.fault.ImageFault.TheVariants.{Magic, HeaderField, Counts, Trailing, ReadFault, Memory}
 use Rattle.lh_image.specs.declared.reading.first_page.Header.{Header}
@@ -11,13 +10,14 @@ use Rattle.lh_image.specs.Faults.{header_rows, first_of}
 use Rattle.lh_image.specs.PageChecks.{AreNoted}
 use Rattle.lh_image.specs.Pages.{HaveCome}
 use Rattle.lh_image.specs.Table.{records_in, links_in, has_plain_head}
+use Rattle.lh_image.specs.Version.{page_bytes, version_of}
 use Rattle.lh_image.specs.View.{View, IsView, buckets, page_count, links}
 
 -- the bytes were read to their end, and are as many pages as their header says
 pub record IsRead (bytes : List ℕ) (header : Header) (entries : List Entry) (pairs : List Pair) (faults : PageFaults) : Type 0 where
   pub come : HaveCome bytes header header.pages entries pairs faults
   pub faultless : first_of (header_rows bytes) ≡ None
-  pub size : length bytes ≡ page_bytes * header.pages
+  pub size : length bytes ≡ page_bytes (version_of bytes) * header.pages
 
 -- all pages of a View were kept and looked at
 pub record IsKept (v : View) (entries : List Entry) (pairs : List Pair) (faults : PageFaults) : Type 0 where

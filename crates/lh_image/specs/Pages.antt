@@ -2,39 +2,34 @@
 use Rattle.std.specs.Prelude.{◌≡◌, ℕ, ◌-◌, ◌*◌, ◌<◌, ◌≤◌, List, [], length, drop, slice_index, Option, Some, Result, Ok, Err}
 use Rattle.lh_page.specs.declared.pair.Pair.{Pair}
 use Rattle.lh_image.specs.declared.fault.ImageFault.{ImageFault}
-use Rattle.lh_image.specs.declared.fault.ImageFault.TheVariants.{Short, Trailing, ReadFault, Memory}
+use Rattle.lh_image.specs.declared.fault.ImageFault.TheVariants.{Trailing, ReadFault}
 use Rattle.lh_image.specs.declared.reading.first_page.Header.{Header}
 use Rattle.lh_image.specs.declared.judge.page_checks.PageFaults.{PageFaults}
 use Rattle.lh_image.specs.declared.reading.table.Entry.{Entry}
 use Rattle.lh_image.specs.declared.reading.table.Table.{Table}
-use Rattle.lh_image.specs.Layout.{page_bytes, header_of, view_of}
+use Rattle.lh_image.specs.Filling.{IsCut}
+use Rattle.lh_image.specs.Layout.{header_of, view_of}
 use Rattle.lh_image.specs.PageChecks.{AreNoted}
 use Rattle.lh_image.specs.Table.{IsTable}
+use Rattle.lh_image.specs.Version.{page_bytes, version_of}
 
 -- the first n pages of these bytes came, the header's page among them
 pub record HaveCome (bytes : List ℕ) (header : Header) (n : ℕ) (entries : List Entry) (pairs : List Pair) (faults : PageFaults) : Type 0 where
   pub fields : header ≡ header_of bytes
   pub kept : IsTable (view_of bytes) n entries pairs
   pub noted : AreNoted (view_of bytes) (n - 1) faults
-  pub enough : page_bytes * n ≤ length bytes
-  pub each_byte : (i : ℕ) → i < page_bytes * n → slice_index bytes i < 256
-
--- why fewer than n pages came
-abbrev pub IsCut : List ℕ → ℕ → ImageFault → Type 0
-IsCut bytes n Short = length bytes < page_bytes * n
-IsCut bytes n ReadFault = Unit {0}
-IsCut bytes n Memory = Unit {0}
-IsCut bytes n f = ⊥
+  pub enough : page_bytes (version_of bytes) * n ≤ length bytes
+  pub each_byte : (i : ℕ) → i < page_bytes (version_of bytes) * n → slice_index bytes i < 256
 
 -- the first n pages came, and nothing behind them was read, or why they didn't come
 abbrev pub ReadsTo : {X : Type 0} → List ℕ → Header → ℕ → Result X ImageFault → List Entry → List Pair → PageFaults → Option (List ℕ) → Type 0
-ReadsTo bytes header n (Ok x) entries pairs faults now = HaveCome bytes header n entries pairs faults × (now ≡ Some (drop (page_bytes * n) bytes))
-ReadsTo bytes header n (Err f) entries pairs faults now = IsCut bytes n f
+ReadsTo bytes header n (Ok x) entries pairs faults now = HaveCome bytes header n entries pairs faults × (now ≡ Some (drop (page_bytes (version_of bytes) * n) bytes))
+ReadsTo bytes header n (Err f) entries pairs faults now = IsCut bytes (page_bytes (version_of bytes) * n) f
 
 -- all pages came, or why they didn't
 abbrev pub ReadsAll : List ℕ → Header → Result (Table × PageFaults) ImageFault → Option (List ℕ) → Type 0
-ReadsAll bytes header (Ok r) now = HaveCome bytes header header.pages r.0.entries.items r.0.pairs.items r.1 × (now ≡ Some (drop (page_bytes * header.pages) bytes))
-ReadsAll bytes header (Err f) now = IsCut bytes header.pages f
+ReadsAll bytes header (Ok r) now = HaveCome bytes header header.pages r.0.entries.items r.0.pairs.items r.1 × (now ≡ Some (drop (page_bytes (version_of bytes) * header.pages) bytes))
+ReadsAll bytes header (Err f) now = IsCut bytes (page_bytes (version_of bytes) * header.pages) f
 
 -- why the last page isn't the end of the bytes
 abbrev pub IsNoEnd : List ℕ → ImageFault → Option (List ℕ) → Type 0

@@ -1,12 +1,13 @@
 -- What a reader of images answers
-use Rattle.std.specs.Prelude.{◌≡◌, ℕ, ◌+◌, ◌*◌, List, Option, Some, None, Result, Ok, Err, take}
+use Rattle.std.specs.Prelude.{◌≡◌, ℕ, ◌+◌, List, Option, Some, None, Result, Ok, Err, take}
 use Rattle.std.specs.Io.KnownBytes.{Consumes, IsAtEnd}
 use Rattle.lh_bucket.specs.Listing.{Lists}
 use Rattle.lh_image.specs.declared.fault.ImageFault.{ImageFault}
 use Rattle.lh_image.specs.declared.fault.ImageFault.TheVariants.{Magic, HeaderField, Counts, Trailing, ReadFault, Memory}
 use Rattle.lh_image.specs.Faults.{page_fault, image_fault}
 use Rattle.lh_image.specs.Image.{listing_of}
-use Rattle.lh_image.specs.Layout.{page_bytes, header_of, view_of}
+use Rattle.lh_image.specs.Layout.{image_bytes, view_of}
+use Rattle.lh_image.specs.Version.{page_bytes, version_of}
 use Rattle.lh_image.specs.View.{View}
 
 -- a fault where there is one, or else the listing that pages show
@@ -36,8 +37,8 @@ IsAnswer Shows (Err f) due = IsTold f due
 -- What is left of the reader's bytes: nothing after an answer that says so, all but the first page after the faults of the header, and after trailing bytes all but one byte past the last page.
 abbrev pub Leaves : {X : Type 0} → Result X ImageFault → List ℕ → Option (List ℕ) → Type 0
 Leaves (Ok x) bytes now = IsAtEnd now
-Leaves (Err Magic) bytes now = Consumes (Some bytes) now (take page_bytes bytes)
-Leaves (Err (HeaderField offset)) bytes now = Consumes (Some bytes) now (take page_bytes bytes)
-Leaves (Err Counts) bytes now = Consumes (Some bytes) now (take page_bytes bytes)
-Leaves (Err Trailing) bytes now = Consumes (Some bytes) now (take (page_bytes * (header_of bytes).pages + 1) bytes)
+Leaves (Err Magic) bytes now = Consumes (Some bytes) now (take (page_bytes (version_of bytes)) bytes)
+Leaves (Err (HeaderField offset)) bytes now = Consumes (Some bytes) now (take (page_bytes (version_of bytes)) bytes)
+Leaves (Err Counts) bytes now = Consumes (Some bytes) now (take (page_bytes (version_of bytes)) bytes)
+Leaves (Err Trailing) bytes now = Consumes (Some bytes) now (take (image_bytes bytes + 1) bytes)
 Leaves (Err f) bytes now = Unit {0}

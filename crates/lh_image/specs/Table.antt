@@ -3,10 +3,11 @@ use Rattle.std.specs.Prelude.{◌≡◌, ℕ, ◌+◌, ◌<◌, ◌≤◌, Bool,
 use Rattle.lh_page.specs.declared.pair.Pair.{Pair}
 use Rattle.lh_page.specs.declared.fault.PageFault.{PageFault}
 use Rattle.lh_page.specs.declared.fault.PageFault.TheVariants.{Kind, Used, Slot}
-use Rattle.lh_page.specs.Format.{version_1}
 use Rattle.lh_page.specs.PageFields.{fault_of, pairs_of}
 use Rattle.lh_image.specs.declared.reading.table.Entry.{Entry}
 use Rattle.lh_image.specs.Chains.{Links}
+use Rattle.lh_image.specs.declared.version.Version.{Version}
+use Rattle.lh_image.specs.Version.{format_of}
 use Rattle.lh_image.specs.View.{View, bucket, next}
 
 -- the header's place, and what stands past the end
@@ -44,11 +45,11 @@ is_of_slot (Some Used) = false
 is_of_slot (Some (Slot i)) = true
 
 -- one page more: its records behind the others, unless the page has a fault
-pub record IsPushed (entries : List Entry) (pairs : List Pair) (new_entries : List Entry) (new_pairs : List Pair) (own_bucket following : ℕ) (bytes : List ℕ) (room : ℕ) : Type 0 where
+pub record IsPushed (entries : List Entry) (pairs : List Pair) (new_entries : List Entry) (new_pairs : List Pair) (own_bucket following : ℕ) (version : Version) (bytes : List ℕ) (room : ℕ) : Type 0 where
   pub added : List Pair
   pub appended : new_pairs ≡ pairs ++ added
   pub entered : new_entries ≡ entries ++ record { bucket = own_bucket; next = following; start = length pairs; used = length added } ∷ []
-  pub records : fault_of version_1 bytes room ≡ None → added ≡ pairs_of version_1 bytes
+  pub records : fault_of (format_of version) bytes room ≡ None → added ≡ pairs_of (format_of version) bytes
 
 -- a page's kind is known, its reserved bytes are zeros, and its records have room
 abbrev pub has_plain_head : View → ℕ → Bool

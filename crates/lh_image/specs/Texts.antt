@@ -4,7 +4,7 @@ use Rattle.std.specs.Fmt.{decimal}
 use Rattle.lh_image.specs.declared.fault.ImageFault.{ImageFault}
 use Rattle.lh_image.specs.declared.fault.ImageFault.TheVariants.{Magic, HeaderField, Counts, Short, Trailing, Kind, BucketNumber, Level, Used, Next, Twice, Never, Slot, Misfit, ReadFault, Memory}
 use Rattle.lh_image.specs.declared.fault.WriteImageFault.{WriteImageFault}
-use Rattle.lh_image.specs.declared.fault.WriteImageFault.TheVariants.{TooLarge, WriteFault, Memory as NoMemory}
+use Rattle.lh_image.specs.declared.fault.WriteImageFault.TheVariants.{OldCapacity, OldRecord, TooLarge, WriteFault, Memory as NoMemory}
 
 -- the text of a fault of an image
 abbrev pub image_fault_text : ImageFault → List ℕ
@@ -27,6 +27,8 @@ image_fault_text Memory = codes "no memory"
 
 -- the text of a fault of writing an image
 abbrev pub write_image_fault_text : WriteImageFault → List ℕ
+write_image_fault_text OldCapacity = codes "image V1"
+write_image_fault_text (OldRecord bucket place) = codes "image V2 at bucket " ++ decimal bucket ++ codes " place " ++ decimal place
 write_image_fault_text TooLarge = codes "image too large"
 write_image_fault_text WriteFault = codes "write failed"
 write_image_fault_text NoMemory = codes "no memory"

@@ -8,7 +8,7 @@ use std::fmt;
 /// one at the least page. Pages count from 0, which is the header.
 #[derive(Clone, Copy, Debug, PartialEq, Eq)]
 pub enum ImageFault {
-    /// The input doesn't begin with `LHF1` (I1).
+    /// The input begins neither with `LHF1` nor with `LHF2` (I1).
     Magic,
     /// The field of the header at this offset, in bytes, is out of its range; offset 36 stands for the
     /// bytes behind the fields, which are to be zeros (I2).
@@ -73,9 +73,15 @@ impl fmt::Display for ImageFault {
 
 impl Error for ImageFault {}
 
-/// Why a listing was not written as an image.
+/// Why a listing was not written as an image: the first of these that applies, in this order. A record that is
+/// named is the one in the least bucket, and there at the least place.
 #[derive(Clone, Copy, Debug, PartialEq, Eq)]
 pub enum WriteImageFault {
+    /// A page of the listing has room for more than 14 records, as no page of version 1 has; nothing was written.
+    OldCapacity,
+    /// The record has a key of more than 30 or a value of more than 40 bytes, for which no slot of version 1 has
+    /// room; nothing was written.
+    OldRecord { bucket: u32, place: usize },
     /// The image would have more than 1,048,576 pages; nothing was written.
     TooLarge,
     /// A write or the flush failed, or a write took no byte. A beginning of the image may have gone out.
@@ -91,6 +97,10 @@ impl fmt::Display for WriteImageFault {
 
     fn fmt<W: fmt::Write>(&self, f: &mut fmt::Formatter<W>) -> fmt::Result {
         match self {
+            WriteImageFault::OldCapacity => write!(f, "image V1"),
+            WriteImageFault::OldRecord { bucket, place } => {
+                write!(f, "image V2 at bucket {bucket} place {place}")
+            }
             WriteImageFault::TooLarge => write!(f, "image too large"),
             WriteImageFault::WriteFault => write!(f, "write failed"),
             WriteImageFault::Memory => write!(f, "no memory"),

@@ -1,8 +1,9 @@
-//! Images: whole files as bytes. An image is a row of pages of 1,024 bytes, which is written whole,
-//! read whole and checked.
+//! Images: whole files as bytes. An image is a row of pages, which is written whole, read whole and checked.
+//! There are two versions of it: with pages of 1,024 bytes for short records, and with pages of 4,096 for all.
 //!
 //! ```text
-//! write_image(&listing, &mut writer)?;              // the listing as bytes
+//! write_image(&listing, &mut writer)?;              // the listing as bytes of version 2
+//! write_image_v1(&listing, &mut writer)?;           // or of version 1, if its records are short enough
 //! let listing = read_image(alloc, &mut reader)?;    // exactly the images, and each fault by its place
 //! check_image(alloc, &mut reader)?.longest          // pages of the longest chain
 //! ```
@@ -14,9 +15,10 @@ mod judge;
 pub mod laws;
 mod limits;
 mod reading;
+mod version;
 mod writing;
 
 pub use census::{Census, check_image};
 pub use fault::{ImageFault, WriteImageFault};
 pub use reading::read_image;
-pub use writing::write_image;
+pub use writing::{write_image, write_image_v1};

@@ -6,6 +6,7 @@ ghost use Rattle.lh_image.specs.Reading.{IsAnswer, Leaves, reading_of};
 mod filling;
 pub(crate) mod first_page;
 pub(crate) mod memory;
+mod page;
 pub(crate) mod pages;
 pub(crate) mod table;
 
@@ -20,9 +21,9 @@ use std::io::Read;
 
 /// The listing that the reader's bytes are an image of, or why they are none.
 ///
-/// Reads are taken as they come, each of at most 1,024 bytes; one that fails is never tried again. The
-/// first page is read first and decides the faults of the header; then the rest is read, up to one byte
-/// past the last page.
+/// Reads are taken as they come, each of at most a page; one that fails is never tried again. The first page
+/// is read first and decides the faults of the header; then the rest is read, up to one byte past the last
+/// page. Its first 1,024 bytes tell the version, and so whether more of it is read.
 pub fn read_image<R: Read>(alloc: Global, reader: &mut R) -> Result<Listing, ImageFault>
     ensures exact { IfSome (R.remaining reader.old) (λ bytes.
         IsAnswer (λ listing l. listing ≡ l) result (reading_of bytes)) }

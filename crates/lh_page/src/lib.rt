@@ -13,7 +13,7 @@ mod chain;
 mod comparing;
 mod division;
 mod fault;
-mod format;
+pub mod format;
 mod head;
 mod key;
 mod key_set;

@@ -1,17 +1,20 @@
--- The header page is spelled by its fields exactly where it begins with the magic bytes and ends with zeros.
-use Rattle.std.proofs.Common.{◌≡◌, inl, inr, ℕ, zero, suc, ◌+◌, ◌*◌, ◌≤◌, true, false, eqb, List, [], ◌∷◌, ◌++◌, length, take, drop, replicate, refl, sym, ap, ◌∙◌, arith, rules}
+-- The header page is spelled by its fields exactly where it begins with the magic bytes of a version and ends with zeros.
+use Rattle.std.proofs.Common.{◌≡◌, inl, inr, ℕ, zero, suc, ◌+◌, ◌-◌, ◌*◌, ◌≤◌, true, false, eqb, List, [], ◌∷◌, ◌++◌, length, take, drop, replicate, refl, sym, ap, ◌∙◌, append_assoc, length-append, arith, rules}
 use Rattle.std.specs.List.{list_all}
-use Rattle.std.proofs.lemmas.Bool.{and_parts, not-false, not_from_true, eqb-true, cases_lt}
-use Rattle.std.proofs.lemmas.Slice.Eq.{bytes_eq-Decides}
-use Rattle.std.proofs.lemmas.List.{places, same_lists, drop-drop, length-take, length-drop, get_or-take, get_or-drop, get_or_past, take-take, drop-take}
+use Rattle.std.proofs.lemmas.Bool.{and_parts, eqb-true, cases_lt}
+use Rattle.std.proofs.Math.Seq.{drop-append_seam, take-append_seam}
+use Rattle.std.proofs.lemmas.List.{places, same_lists, drop-drop, length-take, length-drop, get_or-take, get_or-drop, get_or_append_left, get_or-append_right, get_or_past, take-take, drop-take}
 use Rattle.std.proofs.lemmas.Nat.{le_bytes_4, le_bytes_8}
 use Rattle.byteorder.specs.Numbers.{little_from-take, little_from-cons}
 use Rattle.std.specs.Int.{w32, w64, from_le_bytes}
 use Rattle.byteorder.specs.Endian.{little_from, little_bytes}
 use Rattle.lh_page.specs.PageFields.{all_zero}
 use Rattle.lh_page.specs.PageLaws.{AreBytes}
-use Rattle.lh_image.specs.Layout.{magic, ends_in_zeros, header_of, header_text, page}
+use Rattle.lh_image.specs.declared.version.Version.{Version}
+use Rattle.lh_image.specs.Layout.{ends_in_zeros, header_of, header_text, number_text, padding, page}
 use Rattle.lh_image.specs.Faults.{no_magic}
+use Rattle.lh_image.specs.Version.{magic, page_bytes, version_of}
+use Rattle.lh_image.proofs.bytes.Versions.{least_page, length-magic, magic_of, no_magic_from_magic, page_cut}
 
 -- no bytes give zeros from any offset
 pub from_none : (k j n : ℕ) → little_from k n [] ≡ little_from j n []
@@ -33,6 +36,12 @@ part_bytes xs k n b i = elim (cases_lt i n) [
   | inr high ↦ rw (get_or_past (take n (drop k xs)) i 0 (omega (arith, length-take n (drop k xs)))) (omega arith)
 ]
 
+pub bytes_joined : (xs ys : List ℕ) → AreBytes xs → AreBytes ys → AreBytes (xs ++ ys)
+bytes_joined xs ys a b i = elim (cases_lt i (length xs)) [
+  | inl low ↦ rw (get_or_append_left xs ys 0 i low) (a i)
+  | inr high ↦ rw (get_or-append_right xs ys (length xs) i 0 refl high) (b (i - length xs))
+]
+
 length-part : (xs : List ℕ) (k n : ℕ) → k + n ≤ length xs → length (take n (drop k xs)) ≡ n
 length-part xs k n l = omega (arith, length-take n (drop k xs), length-drop k xs)
 
@@ -52,7 +61,7 @@ field8 xs k b l =
 stretch : (m n : ℕ) (xs : List ℕ) → take (m + n) xs ≡ take m xs ++ take n (drop m xs)
 stretch m n xs = same_lists _ _ (search (rules, places)) (λ k d h. grind (arith, places))
 
-cut : (m n k : ℕ) (xs : List ℕ) → take (m + n) (drop k xs) ≡ take m (drop k xs) ++ take n (drop (k + m) xs)
+pub cut : (m n k : ℕ) (xs : List ℕ) → take (m + n) (drop k xs) ≡ take m (drop k xs) ++ take n (drop (k + m) xs)
 cut m n k xs = rw (← drop-drop m k xs) (stretch m n (drop k xs))
 
 -- ---- zeros
@@ -71,35 +80,65 @@ zeros_all (suc n) = zeros_all n
 
 -- ---- the header
 
-module _ (bytes : List ℕ) (fit : AreBytes bytes) (long : 1024 ≤ length bytes) where
-  header_parts : page bytes 0 ≡ take 4 bytes ++ (take 4 (drop 4 bytes) ++ (take 4 (drop 8 bytes) ++ (take 4 (drop 12 bytes) ++ (take 4 (drop 16 bytes) ++ (take 4 (drop 20 bytes) ++ (take 4 (drop 24 bytes) ++ (take 8 (drop 28 bytes) ++ take 988 (drop 36 bytes))))))))
-  unfolding page
-  header_parts =
-      cut 4 1020 0 bytes ∙ ap (λ x. take 4 bytes ++ x) (cut 4 1016 4 bytes ∙ ap (λ x. take 4 (drop 4 bytes) ++ x) (cut 4 1012 8 bytes ∙ ap (λ x. take 4 (drop 8 bytes) ++ x)
-      (cut 4 1008 12 bytes ∙ ap (λ x. take 4 (drop 12 bytes) ++ x) (cut 4 1004 16 bytes ∙ ap (λ x. take 4 (drop 16 bytes) ++ x) (cut 4 1000 20 bytes ∙ ap (λ x. take 4 (drop 20 bytes) ++ x)
-      (cut 4 996 24 bytes ∙ ap (λ x. take 4 (drop 24 bytes) ++ x) (cut 8 988 28 bytes)))))))
+-- a header is of the version of its bytes
+pub version_shown : (bytes : List ℕ) → (header_of bytes).version ≡ version_of bytes
+unfolding header_of
+version_shown bytes = refl
+
+-- the first page is the first bytes
+pub page_first : (bytes : List ℕ) → page bytes 0 ≡ take (page_bytes (version_of bytes)) bytes
+unfolding page
+page_first bytes = let none : page_bytes (version_of bytes) * 0 ≡ 0 = omega arith in ap (λ k. take (page_bytes (version_of bytes)) (drop k bytes)) none
+
+module _ (bytes : List ℕ) (fit : AreBytes bytes) (long : page_bytes (version_of bytes) ≤ length bytes) where
+  -- the first four bytes, the numbers, and what stands behind them
+  header_parts : (n : ℕ) → take (36 + n) bytes ≡ take 4 bytes ++ (take 4 (drop 4 bytes) ++ (take 4 (drop 8 bytes) ++ (take 4 (drop 12 bytes) ++ (take 4 (drop 16 bytes) ++ (take 4 (drop 20 bytes) ++ (take 4 (drop 24 bytes) ++ (take 8 (drop 28 bytes) ++ take n (drop 36 bytes))))))))
+  header_parts n =
+      let all : 36 + n ≡ 4 + (4 + (4 + (4 + (4 + (4 + (4 + (8 + n))))))) = omega arith in
+      ap (λ k. take k bytes) all
+      ∙ cut 4 (4 + (4 + (4 + (4 + (4 + (4 + (8 + n))))))) 0 bytes ∙ ap (λ x. take 4 bytes ++ x) (cut 4 (4 + (4 + (4 + (4 + (4 + (8 + n)))))) 4 bytes ∙ ap (λ x. take 4 (drop 4 bytes) ++ x) (cut 4 (4 + (4 + (4 + (4 + (8 + n))))) 8 bytes ∙ ap (λ x. take 4 (drop 8 bytes) ++ x)
+      (cut 4 (4 + (4 + (4 + (8 + n)))) 12 bytes ∙ ap (λ x. take 4 (drop 12 bytes) ++ x) (cut 4 (4 + (4 + (8 + n))) 16 bytes ∙ ap (λ x. take 4 (drop 16 bytes) ++ x) (cut 4 (4 + (8 + n)) 20 bytes ∙ ap (λ x. take 4 (drop 20 bytes) ++ x)
+      (cut 4 (8 + n) 24 bytes ∙ ap (λ x. take 4 (drop 24 bytes) ++ x) (cut 8 n 28 bytes)))))))
 
   -- bytes that pass the header's own tests begin with a header
   pub header_spelled : no_magic bytes ≡ false → ends_in_zeros bytes ≡ true → page bytes 0 ≡ header_text (header_of bytes)
-  unfolding no_magic header_of
+  unfolding header_of
   header_spelled m z =
-      let a : take 4 bytes ≡ magic = (bytes_eq-Decides (take 4 bytes) magic).0 (not-false _ m) in
-      let e : take 988 (drop 36 bytes) ≡ replicate 988 0 = zeros_are (take 988 (drop 36 bytes)) z ∙ ap (λ n. replicate n 0) (length-part bytes 36 988 (omega arith)) in
-      header_parts ∙ rw (a, e, field4 bytes 4 fit (omega arith), field4 bytes 8 fit (omega arith), field4 bytes 12 fit (omega arith), field4 bytes 16 fit (omega arith), field4 bytes 20 fit (omega arith), field4 bytes 24 fit (omega arith), field8 bytes 28 fit (omega arith)) refl
+      let v : Version = version_of bytes in
+      let size : page_bytes v ≡ 36 + padding v = page_cut v in
+      let low = least_page v in
+      let e : take (padding v) (drop 36 bytes) ≡ replicate (padding v) 0 = zeros_are (take (padding v) (drop 36 bytes)) z ∙ ap (λ n. replicate n 0) (length-part bytes 36 (padding v) (omega arith)) in
+      page_first bytes ∙ ap (λ n. take n bytes) size ∙ header_parts (padding v)
+      ∙ rw (magic_of bytes m, e, field4 bytes 4 fit (omega arith), field4 bytes 8 fit (omega arith), field4 bytes 12 fit (omega arith), field4 bytes 16 fit (omega arith), field4 bytes 20 fit (omega arith), field4 bytes 24 fit (omega arith), field8 bytes 28 fit (omega arith))
+      (sym (append_assoc (magic v) (number_text (header_of bytes)) (replicate (padding v) 0)))
 
-header_magic : (bytes : List ℕ) → page bytes 0 ≡ header_text (header_of bytes) → no_magic bytes ≡ false
-unfolding no_magic page
-header_magic bytes e =
-    let a : take 4 bytes ≡ magic = sym (take-take 4 1024 bytes (omega arith)) ∙ ap (take 4) e in
-    not_from_true _ ((bytes_eq-Decides (take 4 bytes) magic).1 a)
+-- a page that is spelled as a header begins with its version's magic
+header_begins : (bytes : List ℕ) → page bytes 0 ≡ header_text (header_of bytes) → take 4 bytes ≡ magic (version_of bytes)
+unfolding header_of
+header_begins bytes e =
+    let v : Version = version_of bytes in
+    let low = least_page v in
+    let rest : List ℕ = number_text (header_of bytes) ++ replicate (padding v) 0 in
+    let text : header_text (header_of bytes) ≡ magic v ++ rest = append_assoc (magic v) (number_text (header_of bytes)) (replicate (padding v) 0) in
+    sym (take-take 4 (page_bytes v) bytes (omega arith)) ∙ ap (take 4) (sym (page_first bytes) ∙ e ∙ text) ∙ ap (λ n. take n (magic v ++ rest)) (sym (length-magic v)) ∙ take-append_seam (magic v) rest
 
 header_zeros : (bytes : List ℕ) → page bytes 0 ≡ header_text (header_of bytes) → ends_in_zeros bytes ≡ true
-unfolding page
+unfolding header_of
 header_zeros bytes e =
-    let a : take 988 (drop 36 bytes) ≡ drop 36 (take 1024 bytes) = sym (drop-take 36 988 bytes) in
-    let b : drop 36 (take 1024 bytes) ≡ replicate 988 0 = ap (drop 36) e in
-    rw (a ∙ b) (zeros_all 988)
+    let v : Version = version_of bytes in
+    let low = least_page v in
+    let front : List ℕ = magic v ++ number_text (header_of bytes) in
+    let size : length front ≡ 36 = length-append (magic v) (number_text (header_of bytes)) ∙ ap (λ n. n + 32) (length-magic v) in
+    let a : take (padding v) (drop 36 bytes) ≡ drop 36 (take (page_bytes v) bytes) = sym (drop-take 36 (padding v) bytes) ∙ ap (λ n. drop 36 (take n bytes)) (sym (page_cut v)) in
+    let b : drop 36 (take (page_bytes v) bytes) ≡ replicate (padding v) 0 = ap (drop 36) (sym (page_first bytes) ∙ e) ∙ ap (λ n. drop n (front ++ replicate (padding v) 0)) (sym size) ∙ drop-append_seam front (replicate (padding v) 0) in
+    rw (a ∙ b) (zeros_all (padding v))
+
+-- the bytes behind the fields of a page are those to its end
+pub zeros_behind : (v : Version) (bytes : List ℕ) → v ≡ version_of bytes → length bytes ≡ page_bytes v → ends_in_zeros bytes ≡ all_zero (take (length bytes - 36) (drop 36 bytes))
+zeros_behind v bytes told size =
+    let same : padding (version_of bytes) ≡ length bytes - 36 = ap padding (sym told) ∙ ap (λ n. n - 36) (sym size) in
+    ap (λ n. all_zero (take n (drop 36 bytes))) same
 
 -- a header passes its own tests
 pub header_tests : (bytes : List ℕ) → page bytes 0 ≡ header_text (header_of bytes) → (no_magic bytes ≡ false) × (ends_in_zeros bytes ≡ true)
-header_tests bytes e = (header_magic bytes e, header_zeros bytes e)
+header_tests bytes e = (no_magic_from_magic (version_of bytes) bytes (header_begins bytes e), header_zeros bytes e)

@@ -8,8 +8,10 @@ use Rattle.lh_addr.specs.Limits.{IsInitial, IsCapacity, IsLoad, IsSize}
 use Rattle.lh_image.specs.declared.fault.ImageFault.TheVariants.{HeaderField, Counts}
 use Rattle.lh_image.specs.declared.reading.first_page.Header.{Header}
 use Rattle.lh_image.specs.Faults.{is_bad_field, bad_field, bad_counts, field_rows, first_of, where_so, out_of}
-use Rattle.lh_image.specs.Header.{AreInRange}
+use Rattle.lh_image.specs.Header.{AreInRange, HasRoom}
+use Rattle.lh_image.specs.Version.{slots}
 use Rattle.lh_image.proofs.bytes.Header.{from_drop}
+use Rattle.lh_image.proofs.bytes.Versions.{few_slots}
 
 -- a number in a slice of its own
 pub number_in_slice : (k n : ℕ) (xs : List ℕ) → little_from 0 n (take n (drop k xs)) ≡ little_from k n xs
@@ -36,24 +38,28 @@ pub bad_initial : (h : Header) → ¬ IsInitial h.config.initial → Some 4 ≡ 
 unfolding bad_field is_bad_field
 bad_initial h not_so = rw (outside 1 256 h.config.initial not_so) refl
 
-pub bad_capacity : (h : Header) → IsInitial h.config.initial → ¬ IsCapacity h.config.capacity → Some 8 ≡ bad_field h true
+pub bad_capacity : (h : Header) → IsInitial h.config.initial → ¬ HasRoom h → Some 8 ≡ bad_field h true
 unfolding bad_field is_bad_field
-bad_capacity h i not_so = rw (inside 1 256 h.config.initial i.0 i.1, outside 1 14 h.config.capacity not_so) refl
+bad_capacity h i not_so = rw (inside 1 256 h.config.initial i.0 i.1, outside 1 (slots h.version) h.config.capacity not_so) refl
 
-pub bad_load : (h : Header) → IsInitial h.config.initial → IsCapacity h.config.capacity → ¬ IsLoad h.config.load → Some 12 ≡ bad_field h true
+-- no version has more slots than a file's pages may have
+pub capacity_of : (h : Header) → HasRoom h → IsCapacity h.config.capacity
+capacity_of h room = (room.0, omega (arith, room.1, few_slots h.version))
+
+pub bad_load : (h : Header) → IsInitial h.config.initial → HasRoom h → ¬ IsLoad h.config.load → Some 12 ≡ bad_field h true
 unfolding bad_field is_bad_field
-bad_load h i c not_so = rw (inside 1 256 h.config.initial i.0 i.1, inside 1 14 h.config.capacity c.0 c.1, outside 10 200 h.config.load not_so) refl
+bad_load h i c not_so = rw (inside 1 256 h.config.initial i.0 i.1, inside 1 (slots h.version) h.config.capacity c.0 c.1, outside 10 200 h.config.load not_so) refl
 
-module _ (h : Header) (i : IsInitial h.config.initial) (c : IsCapacity h.config.capacity) (l : IsLoad h.config.load) where
+module _ (h : Header) (i : IsInitial h.config.initial) (c : HasRoom h) (l : IsLoad h.config.load) where
   pub bad_buckets : out_of h.config.initial 65536 h.buckets ≡ true → Some 16 ≡ bad_field h true
   unfolding bad_field is_bad_field
-  bad_buckets bad = rw (inside 1 256 h.config.initial i.0 i.1, inside 1 14 h.config.capacity c.0 c.1, inside 10 200 h.config.load l.0 l.1, bad) refl
+  bad_buckets bad = rw (inside 1 256 h.config.initial i.0 i.1, inside 1 (slots h.version) h.config.capacity c.0 c.1, inside 10 200 h.config.load l.0 l.1, bad) refl
 
   -- the last field, behind a good number of buckets
   last_field : (zeros bad : Bool) → out_of h.config.initial 65536 h.buckets ≡ false → (out_of h.config.initial 65536 h.config.max || ltb h.config.max h.buckets) ≡ bad →
       cond bad (Some 20) (cond (not zeros) (Some 36) None) ≡ bad_field h zeros
   unfolding bad_field is_bad_field
-  last_field zeros bad good last = rw (inside 1 256 h.config.initial i.0 i.1, inside 1 14 h.config.capacity c.0 c.1, inside 10 200 h.config.load l.0 l.1, good, last) refl
+  last_field zeros bad good last = rw (inside 1 256 h.config.initial i.0 i.1, inside 1 (slots h.version) h.config.capacity c.0 c.1, inside 10 200 h.config.load l.0 l.1, good, last) refl
 
   pub bad_size : out_of h.config.initial 65536 h.buckets ≡ false → ¬ IsSize h.config.initial h.config.max → Some 20 ≡ bad_field h true
   bad_size good not_so = last_field true true good (ap (λ b. b || ltb h.config.max h.buckets) (outside h.config.initial 65536 h.config.max not_so))
@@ -92,7 +98,7 @@ counts_fit h r most = (counts_rule h.pages h.buckets h.config.capacity h.records
 
 pub no_bad_field : (h : Header) (zeros : Bool) → AreInRange h → zeros ≡ true → bad_field h zeros ≡ None
 no_bad_field h zeros r z =
-    sym (fields_fit h r.settings.initial r.settings.capacity r.settings.load zeros (inside h.config.initial 65536 h.buckets r.from_initial (omega (arith, r.to_max, r.settings.max.1))) r.settings.max r.to_max)
+    sym (fields_fit h r.settings.initial (r.settings.capacity.0, r.room) r.settings.load zeros (inside h.config.initial 65536 h.buckets r.from_initial (omega (arith, r.to_max, r.settings.max.1))) r.settings.max r.to_max)
     ∙ ap (λ (b : Bool). cond (not b) (Some 36) None) z
 
 pub none_if : {A : Type 0} (b : Bool) (f : A) (r : Option A) → (cond b (Some f) r ≡ None) ↔ ((b ≡ false) × (r ≡ None))
@@ -106,7 +112,8 @@ pub are_in_range : (h : Header) (zeros : Bool) → bad_field h zeros ≡ None �
 unfolding bad_field is_bad_field
 are_in_range h zeros e few =
     let a1 = (none_if (out_of 1 256 h.config.initial) 4 _).0 e in
-    let a2 = (none_if (out_of 1 14 h.config.capacity) 8 _).0 a1.1 in
+    let a2 = (none_if (out_of 1 (slots h.version) h.config.capacity) 8 _).0 a1.1 in
+    let capacity : HasRoom h = within 1 (slots h.version) h.config.capacity a2.0 in
     let a3 = (none_if (out_of 10 200 h.config.load) 12 _).0 a2.1 in
     let a4 = (none_if (out_of h.config.initial 65536 h.buckets) 16 _).0 a3.1 in
     let a5 = (none_if (out_of h.config.initial 65536 h.config.max || ltb h.config.max h.buckets) 20 _).0 a4.1 in
@@ -116,10 +123,11 @@ are_in_range h zeros e few =
       record {
         settings = record {
           initial = within 1 256 h.config.initial a1.0;
-          capacity = within 1 14 h.config.capacity a2.0;
+          capacity = capacity_of h capacity;
           load = within 10 200 h.config.load a3.0;
           max = (size.0, size.1);
         };
+        room = capacity.1;
         from_initial = (within h.config.initial 65536 h.buckets a4.0).0;
         to_max = size.2;
         enough = pages.0;
@@ -137,7 +145,7 @@ due_field h zeros o e = rw (← e) refl
 -- a field out of its range is so whether the bytes behind the fields are zeros or not
 pub due_range : (h : Header) (zeros : Bool) (o : ℕ) → Some o ≡ bad_field h true → Some o ≡ bad_field h zeros
 unfolding bad_field is_bad_field
-due_range h zeros o e = later (out_of 1 256 h.config.initial) (out_of 1 14 h.config.capacity) (out_of 10 200 h.config.load) (out_of h.config.initial 65536 h.buckets) (out_of h.config.initial 65536 h.config.max || ltb h.config.max h.buckets) e
+due_range h zeros o e = later (out_of 1 256 h.config.initial) (out_of 1 (slots h.version) h.config.capacity) (out_of 10 200 h.config.load) (out_of h.config.initial 65536 h.buckets) (out_of h.config.initial 65536 h.config.max || ltb h.config.max h.buckets) e
   where
     later : (a b c d e : Bool) → Some o ≡ cond a (Some 4) (cond b (Some 8) (cond c (Some 12) (cond d (Some 16) (cond e (Some 20) None)))) →
         Some o ≡ cond a (Some 4) (cond b (Some 8) (cond c (Some 12) (cond d (Some 16) (cond e (Some 20) (cond (not zeros) (Some 36) None)))))
@@ -150,7 +158,7 @@ due_range h zeros o e = later (out_of 1 256 h.config.initial) (out_of 1 14 h.con
 
 last_zeros : (h : Header) (zeros : Bool) → None ≡ bad_field h true → bad_field h zeros ≡ cond (not zeros) (Some 36) None
 unfolding bad_field is_bad_field
-last_zeros h zeros e = later (out_of 1 256 h.config.initial) (out_of 1 14 h.config.capacity) (out_of 10 200 h.config.load) (out_of h.config.initial 65536 h.buckets) (out_of h.config.initial 65536 h.config.max || ltb h.config.max h.buckets) (cond (not zeros) (Some 36) None) e
+last_zeros h zeros e = later (out_of 1 256 h.config.initial) (out_of 1 (slots h.version) h.config.capacity) (out_of 10 200 h.config.load) (out_of h.config.initial 65536 h.buckets) (out_of h.config.initial 65536 h.config.max || ltb h.config.max h.buckets) (cond (not zeros) (Some 36) None) e
   where
     later : (a b c d e : Bool) (o : Option ℕ) → ◌≡◌ {A = Option ℕ} None (cond a (Some 4) (cond b (Some 8) (cond c (Some 12) (cond d (Some 16) (cond e (Some 20) None))))) →
         ◌≡◌ {A = Option ℕ} (cond a (Some 4) (cond b (Some 8) (cond c (Some 12) (cond d (Some 16) (cond e (Some 20) o))))) o

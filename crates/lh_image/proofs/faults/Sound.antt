@@ -1,12 +1,13 @@
 -- No fault is answered exactly where no condition of the table holds.
-use Rattle.std.proofs.Common.{◌≡◌, ◌≢◌, inl, inr, ℕ, ◌-◌, ◌*◌, Bool, true, false, ltb, List, ◌++◌, length, Option, Some, None, refl, ◌↔◌, arith}
+use Rattle.std.proofs.Common.{◌≡◌, ◌≢◌, inl, inr, ℕ, ◌-◌, Bool, true, false, ltb, List, ◌++◌, length, Option, Some, None, refl, ◌↔◌, arith}
 use Rattle.std.specs.Prelude.{option_map}
 use Rattle.std.specs.List.{find, range_with_len}
 use Rattle.std.proofs.lemmas.Bool.{cases_eq, le-leb, ltb-false, ne_eqb, or_parts}
 use Rattle.lh_image.specs.declared.fault.ImageFault.{ImageFault}
 use Rattle.lh_image.specs.declared.fault.ImageFault.TheVariants.{Magic, HeaderField, Counts, Short, Trailing, Kind, BucketNumber, Level, Used, Next, Twice, Never, Slot, Misfit}
 use Rattle.lh_image.specs.Faults.{where_so, least, has_header, no_magic, bad_field, bad_counts, is_short, has_trailing, at_head, bad_kind, bad_bucket, bad_level, bad_used, bad_total, bad_used_at, bad_next, named_twice, on_no_chain, has_bad_slot, has_misfit, header_rows, size_rows, page_rows, page_fault, image_fault}
-use Rattle.lh_image.specs.Layout.{header_of, ends_in_zeros, view_of}
+use Rattle.lh_image.specs.Layout.{header_of, ends_in_zeros, image_bytes, view_of}
+use Rattle.lh_image.specs.Version.{page_bytes, version_of}
 use Rattle.lh_image.specs.View.{View, page_count, links, numbers}
 use Rattle.lh_image.proofs.faults.FirstAnswers.{AreNone, none_first}
 use Rattle.lh_image.proofs.bytes.HeaderTests.{some_page}
@@ -123,7 +124,8 @@ sound_from_rows : (bytes : List ℕ) → AreNone (header_rows bytes ++ size_rows
 unfolding is_short view_of
 sound_from_rows bytes (magic, (field, (counts, (short, (trailing, pages))))) =
     let long = (so_none (is_short bytes) Short).0 short in
-    let header : has_header bytes ≡ true = le-leb 1024 (length bytes) (ltb-false (length bytes) 1024 (or_parts (ltb (length bytes) 1024) (ltb (length bytes) (1024 * (header_of bytes).pages)) long).0) in
+    let size : ℕ = page_bytes (version_of bytes) in
+    let header : has_header bytes ≡ true = le-leb size (length bytes) (ltb-false (length bytes) size (or_parts (ltb (length bytes) size) (ltb (length bytes) (image_bytes bytes)) long).0) in
     let few : bad_counts (header_of bytes) ≡ false = (so_none (bad_counts (header_of bytes)) Counts).0 (rw header at counts) in
     record {
       magic = (so_none (no_magic bytes) Magic).0 magic;

@@ -11,6 +11,6 @@ use Rattle.lh_image.specs.RoundTrip.{RoundTripLaw}
 
 pub round_trip : CanonicalLaw → OneListingLaw → RoundTripLaw
 unfolding reading_of
-round_trip written one l listing few =
-    let r = one (canonical l) l (written l listing few) in
-    ap (λ (o : Option ImageFault). judged_by o (view_of (canonical l))) r.0 ∙ ap (λ (x : Lists). let a : Result Lists ImageFault = Ok x in a) (sym r.1)
+round_trip written one version l listing fits few =
+    let r = one (canonical version l) l (written version l listing fits few) in
+    ap (λ (o : Option ImageFault). judged_by o (view_of (canonical version l))) r.0 ∙ ap (λ (x : Lists). let a : Result Lists ImageFault = Ok x in a) (sym r.1)

@@ -82,6 +82,7 @@ module _ (v : View) (view : IsView v) (r : AreInRange v.header) (clean : IsClean
           distinct = distinct_from v (fitting_from v covered clean.fitting);
         };
         few = r.few;
+        room = r.room;
         header = rw (size_is, total) refl;
         kinds = λ p low high. rw size_is (kinds p low high).0;
         levels = λ p low high. rw size_is (eqb-true _ _ (not-false _ (clean.levels p low high)));
@@ -122,7 +123,7 @@ module _ (v : View) (view : IsView v) (path : ℕ → List ℕ) (i : Shows v (li
       let low_size : initial v ≤ S = rw (size-listing_of v) at i.listing.shape.from_initial in
       let first : S - 1 < S = omega (arith, i.listing.config.initial.0) in
       let last : 1 + (S - 1) < page_count v = (c.own (S - 1) (1 + (S - 1)) first (begins (next v) (path (S - 1)) (1 + (S - 1)) (c.follows (S - 1) first) (λ e. omega arith))).1 in
-      record { settings = i.listing.config; from_initial = low_size; to_max = rw (size-listing_of v) at i.listing.shape.to_max; enough = omega arith; few = i.few }
+      record { settings = i.listing.config; room = i.room; from_initial = low_size; to_max = rw (size-listing_of v) at i.listing.shape.to_max; enough = omega arith; few = i.few }
 
   fills : (p : ℕ) → 1 ≤ p → p < page_count v → IsFilled (next v) (λ r. length (v.records r)) (capacity v) (buckets v) p
   unfolding listing_of

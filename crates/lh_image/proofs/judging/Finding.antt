@@ -4,9 +4,6 @@ use Rattle.std.specs.List.{range_with_len, find, flat_map}
 use Rattle.std.proofs.lemmas.List.{take_more, append-nil, map-append}
 use Rattle.std.proofs.lemmas.List.Concat.{flat_map-append}
 use Rattle.std.proofs.lemmas.List.FromFn.{map-range_with_len_more}
-use Rattle.lh_image.specs.declared.fault.ImageFault.{ImageFault}
-use Rattle.lh_image.specs.declared.fault.ImageFault.TheVariants.{Short}
-use Rattle.lh_image.specs.Pages.{IsCut}
 
 pub find_same : (f g : ℕ → Bool) (a n : ℕ) → ((p : ℕ) → a ≤ p → p < a + n → f p ≡ g p) → find f (range_with_len a n) ≡ find g (range_with_len a n)
 find_same f g a zero same = refl
@@ -20,10 +17,6 @@ flat_more f xs i d less = rw (take_more xs i d less) (flat_map-append f (take i 
 
 pub map_more : {X : Type 0} {Y : Type 0} (f : X → Y) (xs : List X) (i : ℕ) (d : X) → i < length xs → map f (take (i + 1) xs) ≡ map f (take i xs) ++ f (get_or xs i d) ∷ []
 map_more f xs i d less = rw (take_more xs i d less) (map-append f (take i xs) (get_or xs i d ∷ []))
-
-pub cut_more : (bytes : List ℕ) (m n : ℕ) (f : ImageFault) → m ≤ n → IsCut bytes m f → IsCut bytes n f
-cut_more bytes m n Short le cut = omega arith
-cut_more bytes m n f le cut = cut
 
 -- one number more of a list that is made by a function
 pub made_more : {V : Type 0} {Y : Type 0} (items : V → Y) (vs ws : List V) (v : V) (f : ℕ → Y) (n : ℕ) → ws ≡ vs ++ v ∷ [] → items v ≡ f n → map items vs ≡ map f (range_with_len 0 n) →

@@ -2,8 +2,11 @@
 use Rattle.std.proofs.Common.{◌≡◌, ℕ, ◌+◌, ◌<◌, ◌≤◌, inl, inr, List, [], ◌++◌, length, take, drop, Option, Some, None, sym, ap, ◌∙◌, arith, length-append}
 use Rattle.std.specs.Prelude.{IfSome}
 use Rattle.std.proofs.lemmas.Bool.{cases_lt}
-use Rattle.std.proofs.lemmas.List.{take_at, drop_at, length-take-le, append-nil, take_all, drop_all}
-use Rattle.lh_image.specs.Filling.{Fills, IsFilled}
+use Rattle.std.proofs.lemmas.List.{take_at, drop_at, length-drop, length-take-le, append-nil, take_all, drop_all}
+use Rattle.lh_page.specs.PageLaws.{AreBytes}
+use Rattle.lh_image.specs.declared.fault.ImageFault.{ImageFault}
+use Rattle.lh_image.specs.declared.fault.ImageFault.TheVariants.{Short, ReadFault, Memory}
+use Rattle.lh_image.specs.Filling.{Fills, FillsWhole, IsCut, IsFilled}
 
 whole : (xs ys buffer : List ℕ) (n : ℕ) → n ≤ length buffer → xs ≡ take n buffer ++ ys → length xs ≡ n + length ys
 whole xs ys buffer n within e = omega (arith, ap length e, length-append (take n buffer) ys, length-take-le n buffer within)
@@ -34,3 +37,35 @@ filled (Some xs) (Some ys) n buffer fills = elim (cases_lt n (length buffer)) [
   | inl less ↦ ended xs ys buffer n less (fills.end less) fills.bytes
   | inr all ↦ full xs ys buffer n (omega (arith, fills.within)) fills.within fills.bytes
 ]
+
+-- a buffer that is full has the front of the bytes
+pub fills_whole : (bytes : List ℕ) (now : Option (List ℕ)) (n : ℕ) (buffer : List ℕ) → IsFilled bytes n buffer now → length buffer ≤ n → AreBytes buffer → FillsWhole bytes buffer now
+fills_whole bytes now n buffer filled all each = record {
+  enough = omega (arith, filled.count);
+  front = sym (take_all n buffer all) ∙ filled.front;
+  rest = filled.rest;
+  each_byte = each;
+}
+
+-- the buffer was filled, or there were too few bytes
+pub whole_read : (old new : Option (List ℕ)) (n : ℕ) (buffer : List ℕ) → IfSome old (λ bytes. IsFilled bytes n buffer new) → length buffer ≤ n → AreBytes buffer → IfSome old (λ bytes. FillsWhole bytes buffer new)
+whole_read None new n buffer filled all each = tt
+whole_read (Some bytes) new n buffer filled all each = fills_whole bytes new n buffer filled all each
+
+pub cut_short : (old new : Option (List ℕ)) (n : ℕ) (buffer : List ℕ) → IfSome old (λ bytes. IsFilled bytes n buffer new) → n < length buffer → IfSome old (λ bytes. length bytes < length buffer)
+cut_short None new n buffer filled less = tt
+cut_short (Some bytes) new n buffer filled less = omega (arith, filled.count)
+
+-- ---- fewer bytes than so many
+
+-- too few bytes are fewer than more bytes, too
+pub cut_more : (bytes : List ℕ) (m n : ℕ) (f : ImageFault) → m ≤ n → IsCut bytes m f → IsCut bytes n f
+cut_more bytes m n Short le cut = omega arith
+cut_more bytes m n f le cut = cut
+
+-- too few bytes behind a part are too few in all
+pub cut_behind : (bytes : List ℕ) (k m n : ℕ) (f : ImageFault) → k ≤ length bytes → k + m ≡ n → IsCut (drop k bytes) m f → IsCut bytes n f
+cut_behind bytes k m n Short within sum cut = omega (arith, cut, length-drop k bytes)
+cut_behind bytes k m n ReadFault within sum cut = tt
+cut_behind bytes k m n Memory within sum cut = tt
+cut_behind bytes k m n f within sum cut = absurd cut

@@ -28,6 +28,6 @@ come_first bytes header entries pairs faults now first none has = record {
     records = λ p from less plain none. absurd (omega arith);
   };
   noted = rw none (record { sum = refl; kind = refl; bucket = refl; level = refl; used = refl; slot = refl });
-  enough = has.size;
-  each_byte = has.each_byte;
+  enough = omega (arith, has.size);
+  each_byte = λ i low. has.each_byte i (omega arith);
 }

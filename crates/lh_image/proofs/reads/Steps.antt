@@ -9,17 +9,19 @@ use Rattle.std.proofs.lemmas.List.Sums.{sum_by-cons}
 use Rattle.lh_page.specs.declared.fault.PageFault.TheVariants.{Kind as OwnKind, Used as OwnUsed, Slot as OwnSlot}
 use Rattle.lh_page.specs.declared.head.PageHead.{PageHead}
 use Rattle.lh_page.specs.declared.pair.Pair.{Pair}
-use Rattle.lh_page.specs.Format.{version_1}
 use Rattle.lh_page.specs.PageFields.{bad_slot, fault_of, has_bad_kind, head_of, is_clear, kind_of, pairs_of, used_of}
 use Rattle.lh_image.specs.declared.reading.first_page.Header.{Header}
 use Rattle.lh_image.specs.declared.judge.page_checks.PageFaults.{PageFaults}
+use Rattle.lh_image.specs.declared.version.Version.{Version}
 use Rattle.lh_image.specs.declared.reading.table.Entry.{Entry}
 use Rattle.lh_image.specs.Faults.{at_head, bad_kind, bad_bucket, bad_used}
 use Rattle.lh_image.specs.Layout.{header_of, page, view_of}
 use Rattle.lh_image.specs.PageChecks.{AreNoted, known_bad_level, known_bad_slot, noted, seen}
 use Rattle.lh_image.specs.Pages.{HaveCome}
 use Rattle.lh_image.specs.Table.{no_entry, entry_at, next_in, bucket_in, records_in, has_plain_head, AreWithin, IsPushed, IsTable, is_of_slot}
+use Rattle.lh_image.specs.Version.{format_of, page_bytes, version_of}
 use Rattle.lh_image.specs.View.{View, capacity, used}
+use Rattle.lh_image.proofs.bytes.Header.{version_shown}
 
 -- ---- one number more
 
@@ -76,9 +78,9 @@ entry_before entries e p within = get_or_append_left entries (e ∷ []) no_entry
 entry_last : (entries : List Entry) (e : Entry) (n : ℕ) → length entries ≡ n → entry_at (entries ++ e ∷ []) n ≡ e
 entry_last entries e n size = get_or_at entries e [] no_entry n size
 
-pub within_more : (entries new_entries : List Entry) (pairs new_pairs : List Pair) (own following : ℕ) (bytes : List ℕ) (room : ℕ) → AreWithin entries pairs →
-    IsPushed entries pairs new_entries new_pairs own following bytes room → AreWithin new_entries new_pairs
-within_more entries new_entries pairs new_pairs own following bytes room within pushed p =
+pub within_more : (entries new_entries : List Entry) (pairs new_pairs : List Pair) (own following : ℕ) (version : Version) (bytes : List ℕ) (room : ℕ) → AreWithin entries pairs →
+    IsPushed entries pairs new_entries new_pairs own following version bytes room → AreWithin new_entries new_pairs
+within_more entries new_entries pairs new_pairs own following version bytes room within pushed p =
     let added : List Pair = pushed.added in
     let last : Entry = record { bucket = own; next = following; start = length pairs; used = length added } in
     let size : length new_pairs ≡ length pairs + length added = ap length pushed.appended ∙ length-append pairs added in
@@ -137,41 +139,43 @@ head_at : (bytes : List ℕ) (n : ℕ) → 1 ≤ n → (view_of bytes).head n �
 unfolding view_of
 head_at bytes n low = rw (ne_eqb n 0 (λ z. omega arith)) refl
 
-slot_same : (bytes : List ℕ) (n : ℕ) → 1 ≤ n → is_of_slot (fault_of version_1 (page bytes n) (capacity (view_of bytes))) ≡ known_bad_slot (view_of bytes) n
+slot_same : (bytes : List ℕ) (n : ℕ) → 1 ≤ n → is_of_slot (fault_of (format_of (version_of bytes)) (page bytes n) (capacity (view_of bytes))) ≡ known_bad_slot (view_of bytes) n
 unfolding view_of fault_of has_bad_kind
 slot_same bytes n low =
     let g : List ℕ = page bytes n in
-    rw (ne_eqb n 0 (λ z. omega arith)) (own_slot (eqb (kind_of g) 1 || eqb (kind_of g) 2) (is_clear g) (ltb (header_of bytes).config.capacity (used_of g)) (bad_slot version_1 g))
+    rw (ne_eqb n 0 (λ z. omega arith)) (own_slot (eqb (kind_of g) 1 || eqb (kind_of g) 2) (is_clear g) (ltb (header_of bytes).config.capacity (used_of g)) (bad_slot (format_of (version_of bytes)) g))
 
-own_sound : (bytes : List ℕ) (n : ℕ) → 1 ≤ n → has_plain_head (view_of bytes) n ≡ true → (view_of bytes).bad_slot n ≡ None → fault_of version_1 (page bytes n) (capacity (view_of bytes)) ≡ None
+own_sound : (bytes : List ℕ) (n : ℕ) → 1 ≤ n → has_plain_head (view_of bytes) n ≡ true → (view_of bytes).bad_slot n ≡ None → fault_of (format_of (version_of bytes)) (page bytes n) (capacity (view_of bytes)) ≡ None
 unfolding view_of fault_of has_bad_kind
 own_sound bytes n low plain none =
     let g : List ℕ = page bytes n in
-    own_none (eqb (kind_of g) 1 || eqb (kind_of g) 2) (is_clear g) (ltb (header_of bytes).config.capacity (used_of g)) (bad_slot version_1 g) (rw (ne_eqb n 0 (λ z. omega arith)) at plain) none
+    own_none (eqb (kind_of g) 1 || eqb (kind_of g) 2) (is_clear g) (ltb (header_of bytes).config.capacity (used_of g)) (bad_slot (format_of (version_of bytes)) g) (rw (ne_eqb n 0 (λ z. omega arith)) at plain) none
 
 -- ---- all of it
 
 pub come_more : (bytes : List ℕ) (header : Header) (n : ℕ) (entries new_entries : List Entry) (pairs new_pairs : List Pair) (faults : PageFaults) (head : PageHead) (bad : Bool) (buffer : List ℕ) →
-    1 ≤ n → buffer ≡ page bytes n → head ≡ head_of buffer → bad ≡ is_of_slot (fault_of version_1 buffer header.config.capacity) →
-    AreWithin entries pairs → IsPushed entries pairs new_entries new_pairs head.bucket head.next buffer header.config.capacity → 1024 * (n + 1) ≤ length bytes → ((i : ℕ) → get_or buffer i 0 < 256) →
+    1 ≤ n → buffer ≡ page bytes n → head ≡ head_of buffer → bad ≡ is_of_slot (fault_of (format_of header.version) buffer header.config.capacity) →
+    AreWithin entries pairs → IsPushed entries pairs new_entries new_pairs head.bucket head.next header.version buffer header.config.capacity → page_bytes (version_of bytes) * (n + 1) ≤ length bytes → ((i : ℕ) → get_or buffer i 0 < 256) →
     HaveCome bytes header n entries pairs faults → HaveCome bytes header (n + 1) new_entries new_pairs (seen faults header n head bad)
 unfolding page view_of
 come_more bytes header n entries new_entries pairs new_pairs faults head bad buffer low is shows slot within pushed enough each come =
     let room : header.config.capacity ≡ capacity (view_of bytes) = ap (λ (h : Header). h.config.capacity) come.fields in
     let at_page : head ≡ (view_of bytes).head n = shows ∙ ap head_of is ∙ sym (head_at bytes n low) in
-    let fault_same : fault_of version_1 buffer header.config.capacity ≡ fault_of version_1 (page bytes n) (capacity (view_of bytes)) = rw (is, room) refl in
+    let size : ℕ = page_bytes (version_of bytes) in
+    let format_same : format_of header.version ≡ format_of (version_of bytes) = ap (λ (h : Header). format_of h.version) come.fields ∙ ap format_of (version_shown bytes) in
+    let fault_same : fault_of (format_of header.version) buffer header.config.capacity ≡ fault_of (format_of (version_of bytes)) (page bytes n) (capacity (view_of bytes)) = rw (is, room, format_same) refl in
     record {
       fields = come.fields;
       kept = rw pushed.appended (table_more (view_of bytes) n entries new_entries pairs pushed.added head low at_page within pushed.entered
-          (λ plain none. pushed.records (fault_same ∙ own_sound bytes n low plain none) ∙ ap (pairs_of version_1) is) come.kept);
+          (λ plain none. pushed.records (fault_same ∙ own_sound bytes n low plain none) ∙ ap (λ f. pairs_of f buffer) format_same ∙ ap (pairs_of (format_of (version_of bytes))) is) come.kept);
       noted = noted_more (view_of bytes) header n head faults bad low come.fields at_page (slot ∙ ap is_of_slot fault_same ∙ slot_same bytes n low) come.noted;
       enough = enough;
-      each_byte = λ i less. elim (cases_lt i (1024 * n)) [
+      each_byte = λ i less. elim (cases_lt i (size * n)) [
         | inl old ↦ come.each_byte i old
         | inr new ↦
-            let place : 1024 * n + (i - 1024 * n) ≡ i = omega arith in
-            let at : get_or (take 1024 (drop (1024 * n) bytes)) (i - 1024 * n) 0 ≡ get_or bytes (1024 * n + (i - 1024 * n)) 0 = get_or-take 1024 (drop (1024 * n) bytes) (i - 1024 * n) 0 (omega arith) ∙ get_or-drop (1024 * n) bytes (i - 1024 * n) 0 in
-            let here : get_or bytes i 0 ≡ get_or buffer (i - 1024 * n) 0 = ap (λ (k : ℕ). get_or bytes k 0) (sym place) ∙ sym at ∙ ap (λ (b : List ℕ). get_or b (i - 1024 * n) 0) (sym is) in
-            omega (arith, here, each (i - 1024 * n))
+            let place : size * n + (i - size * n) ≡ i = omega arith in
+            let at : get_or (take size (drop (size * n) bytes)) (i - size * n) 0 ≡ get_or bytes (size * n + (i - size * n)) 0 = get_or-take size (drop (size * n) bytes) (i - size * n) 0 (omega arith) ∙ get_or-drop (size * n) bytes (i - size * n) 0 in
+            let here : get_or bytes i 0 ≡ get_or buffer (i - size * n) 0 = ap (λ (k : ℕ). get_or bytes k 0) (sym place) ∙ sym at ∙ ap (λ (b : List ℕ). get_or b (i - size * n) 0) (sym is) in
+            omega (arith, here, each (i - size * n))
       ];
     }

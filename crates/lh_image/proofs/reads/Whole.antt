@@ -1,9 +1,10 @@
 -- The answer of the whole, by how far the bytes were read
-use Rattle.std.proofs.Common.{◌≡◌, ℕ, ◌+◌, ◌*◌, ◌<◌, ◌≤◌, true, false, ◌||◌, ltb, List, [], ◌++◌, length, drop, get_or, inl, inr, Option, Some, None, Result, Ok, Err, refl, sym, ap, ◌∙◌, arith, length-drop}
+use Rattle.std.proofs.Common.{◌≡◌, ℕ, ◌+◌, ◌*◌, ◌<◌, ◌≤◌, true, false, ◌||◌, ltb, List, [], ◌++◌, length, take, drop, get_or, inl, inr, Option, Some, None, Result, Ok, Err, refl, sym, ap, ◌∙◌, arith, length-drop}
 use Rattle.std.specs.Prelude.{IfSome, IfOk}
 use Rattle.std.proofs.lemmas.Bool.Decides.{nat_tests}
-use Rattle.std.proofs.lemmas.Bool.{cases_eq, cases_lt, eq-eqb, ne_eqb}
-use Rattle.std.proofs.lemmas.List.{take-append-drop, drop-drop, drop_all, get_or_past}
+use Rattle.std.proofs.lemmas.Bool.{cases_eq, cases_lt, eq-eqb, lt-ltb, ne_eqb}
+use Rattle.std.proofs.Math.Nat.{mul-le-mul_left}
+use Rattle.std.proofs.lemmas.List.{take-append-drop, take_all, drop-drop, drop_all, get_or_past}
 use Rattle.lh_page.specs.PageFields.{bucket_of, next_of}
 use Rattle.lh_page.specs.PageLaws.{AreBytes}
 use Rattle.lh_image.specs.Image.{ImageLaw, IsImage, listing_of}
@@ -16,58 +17,71 @@ use Rattle.lh_image.specs.declared.judge.page_checks.PageFaults.{PageFaults}
 use Rattle.lh_image.specs.declared.reading.table.Entry.{Entry}
 use Rattle.lh_image.specs.Faults.{header_rows, size_rows, page_rows, first_of, page_fault, image_fault, is_short, has_trailing}
 use Rattle.lh_image.specs.Header.{HasHeader}
-use Rattle.lh_image.specs.Layout.{header_of, page, view_of}
+use Rattle.lh_image.specs.Layout.{header_of, image_bytes, page, view_of}
 use Rattle.lh_image.specs.Listed.{IsKept, IsRead}
-use Rattle.lh_image.specs.Pages.{HaveCome, IsCut, IsNoEnd}
+use Rattle.lh_image.specs.Filling.{IsCut}
+use Rattle.lh_image.specs.Pages.{HaveCome, IsNoEnd}
 use Rattle.lh_image.specs.Reading.{IsAnswer, IsTold, Leaves, judged, judged_by, reading_of}
 use Rattle.lh_image.specs.Table.{next_in, bucket_in, entry_at, no_entry}
+use Rattle.lh_image.specs.Version.{page_bytes, version_of}
 use Rattle.lh_image.specs.View.{View, buckets, bucket, next, page_count}
 use Rattle.lh_image.proofs.faults.FirstAnswers.{first_behind}
 use Rattle.lh_image.proofs.reads.FirstPage.{read_as}
-use Rattle.lh_image.proofs.images.ImageLaws.{is_view}
+use Rattle.lh_image.proofs.images.ImageLaws.{is_view, some_pages, whole_rule}
 
 -- ---- fewer pages
 
-short_is : (bytes : List ℕ) (header : Header) (now : Option (List ℕ)) → HasHeader header bytes now → length bytes < 1024 * header.pages → reading_of bytes ≡ Err Short
+-- the bytes of a header's pages are those that the header of the bytes says
+bytes_same : (bytes : List ℕ) (header : Header) → header ≡ header_of bytes → page_bytes (version_of bytes) * header.pages ≡ image_bytes bytes
+bytes_same bytes header same = ap (λ (h : Header). page_bytes (version_of bytes) * h.pages) same
+
+-- over plain numbers: of so many bytes there are to be at least `least`, and in all `all`
+short_test : (n least all : ℕ) → n < all → (ltb n least || ltb n all) ≡ true
+short_test n least all less = grind (arith, nat_tests)
+
+enough_test : (n least all : ℕ) → least ≤ n → all ≤ n → (ltb n least || ltb n all) ≡ false
+enough_test n least all low enough = grind (arith, nat_tests)
+
+short_is : (bytes : List ℕ) (header : Header) (now : Option (List ℕ)) → HasHeader header bytes now → length bytes < page_bytes (version_of bytes) * header.pages → reading_of bytes ≡ Err Short
 unfolding is_short image_fault first_of
 short_is bytes header now has less =
-    let counted : header.pages ≡ (header_of bytes).pages = ap (λ (h : Header). h.pages) has.fields in
-    let test : (ltb (length bytes) 1024 || ltb (length bytes) (1024 * (header_of bytes).pages)) ≡ true = grind (arith, nat_tests) in
+    let size : ℕ = page_bytes (version_of bytes) in
+    let test : (ltb (length bytes) size || ltb (length bytes) (image_bytes bytes)) ≡ true = short_test (length bytes) size (image_bytes bytes) (rw (bytes_same bytes header has.fields) at less) in
     read_as bytes Short (first_behind (header_rows bytes) (size_rows bytes ++ page_rows (view_of bytes)) has.faultless ∙ rw test refl)
 
-cut_is : (bytes : List ℕ) (header : Header) (now : Option (List ℕ)) (f : ImageFault) → HasHeader header bytes now → IsCut bytes header.pages f → IsTold f (reading_of bytes)
+cut_is : (bytes : List ℕ) (header : Header) (now : Option (List ℕ)) (f : ImageFault) → HasHeader header bytes now → IsCut bytes (page_bytes (version_of bytes) * header.pages) f → IsTold f (reading_of bytes)
 cut_is bytes header now Short has cut = short_is bytes header now has cut
 cut_is bytes header now ReadFault has cut = tt
 cut_is bytes header now Memory has cut = tt
 cut_is bytes header now f has cut = absurd cut
 
-pub cut_told : (old mid : Option (List ℕ)) (header : Header) (f : ImageFault) → IfSome old (λ bytes. HasHeader header bytes mid) → ((bytes : List ℕ) → HasHeader header bytes mid → IsCut bytes header.pages f) →
+pub cut_told : (old mid : Option (List ℕ)) (header : Header) (f : ImageFault) → IfSome old (λ bytes. HasHeader header bytes mid) → ((bytes : List ℕ) → HasHeader header bytes mid → IsCut bytes (page_bytes (version_of bytes) * header.pages) f) →
     IfSome old (λ bytes. IsTold f (reading_of bytes))
 cut_told None mid header f has cut = tt
 cut_told (Some bytes) mid header f has cut = cut_is bytes header mid f has (cut bytes has)
 
 -- ---- more bytes
 
-long_is : (bytes : List ℕ) (header : Header) (now : Option (List ℕ)) → HasHeader header bytes now → 1024 * header.pages < length bytes → reading_of bytes ≡ Err Trailing
+long_is : (bytes : List ℕ) (header : Header) (now : Option (List ℕ)) → HasHeader header bytes now → page_bytes (version_of bytes) * header.pages < length bytes → reading_of bytes ≡ Err Trailing
 unfolding is_short has_trailing image_fault first_of
 long_is bytes header now has more =
-    let counted : header.pages ≡ (header_of bytes).pages = ap (λ (h : Header). h.pages) has.fields in
-    let enough : 1024 ≤ length bytes = has.size in
-    let test : (ltb (length bytes) 1024 || ltb (length bytes) (1024 * (header_of bytes).pages)) ≡ false = grind (arith, nat_tests) in
-    let long : ltb (1024 * (header_of bytes).pages) (length bytes) ≡ true = grind (arith, nat_tests) in
+    let size : ℕ = page_bytes (version_of bytes) in
+    let over : image_bytes bytes < length bytes = rw (bytes_same bytes header has.fields) at more in
+    let test : (ltb (length bytes) size || ltb (length bytes) (image_bytes bytes)) ≡ false = enough_test (length bytes) size (image_bytes bytes) has.size (omega (arith, over)) in
+    let long : ltb (image_bytes bytes) (length bytes) ≡ true = lt-ltb (image_bytes bytes) (length bytes) over in
     read_as bytes Trailing (first_behind (header_rows bytes) (size_rows bytes ++ page_rows (view_of bytes)) has.faultless ∙ rw (test, long) refl)
 
 -- where pages came and what is behind them was read
 abbrev pub HaveAll : List ℕ → Header → Option (List ℕ) → Option (List ℕ) → Type 0
-HaveAll bytes header mid last = HasHeader header bytes mid × (1024 * header.pages ≤ length bytes) × (last ≡ Some (drop (1024 * header.pages) bytes))
+HaveAll bytes header mid last = HasHeader header bytes mid × (page_bytes (version_of bytes) * header.pages ≤ length bytes) × (last ≡ Some (drop (page_bytes (version_of bytes) * header.pages) bytes))
 
-end_is : (bytes : List ℕ) (header : Header) (mid now : Option (List ℕ)) (f : ImageFault) → HasHeader header bytes mid → 1024 * header.pages ≤ length bytes → IsNoEnd (drop (1024 * header.pages) bytes) f now →
+end_is : (bytes : List ℕ) (header : Header) (mid now : Option (List ℕ)) (f : ImageFault) → HasHeader header bytes mid → page_bytes (version_of bytes) * header.pages ≤ length bytes → IsNoEnd (drop (page_bytes (version_of bytes) * header.pages) bytes) f now →
     IsTold f (reading_of bytes) × Leaves {X = Lists} (Err f) bytes now
 end_is bytes header mid now Trailing has enough no_end =
-    let counted : header.pages ≡ (header_of bytes).pages = ap (λ (h : Header). h.pages) has.fields in
-    let more : 1024 * header.pages < length bytes = omega (arith, no_end.0, length-drop (1024 * header.pages) bytes) in
-    let left : now ≡ Some (drop (1024 * (header_of bytes).pages + 1) bytes) = rw counted at (no_end.1 ∙ ap Some (drop-drop 1 (1024 * header.pages) bytes)) in
-    (long_is bytes header mid has more, rw left (sym (take-append-drop (1024 * (header_of bytes).pages + 1) bytes)))
+    let all : ℕ = page_bytes (version_of bytes) * header.pages in
+    let more : all < length bytes = omega (arith, no_end.0, length-drop all bytes) in
+    let left : now ≡ Some (drop (image_bytes bytes + 1) bytes) = no_end.1 ∙ ap Some (drop-drop 1 all bytes) ∙ ap (λ n. Some (drop (n + 1) bytes)) (bytes_same bytes header has.fields) in
+    (long_is bytes header mid has more, rw left (sym (take-append-drop (image_bytes bytes + 1) bytes)))
 end_is bytes header mid now ReadFault has enough no_end = (tt, tt)
 end_is bytes header mid now f has enough no_end = absurd no_end
 
@@ -83,17 +97,18 @@ end_left (Some bytes) mid last now header f all no_end = (end_is bytes header mi
 -- ---- as many as there are
 
 pub all_read : (bytes : List ℕ) (mid last now : Option (List ℕ)) (header : Header) (entries : List Entry) (pairs : List Pair) (faults : PageFaults) → HasHeader header bytes mid →
-    HaveCome bytes header header.pages entries pairs faults → last ≡ Some (drop (1024 * header.pages) bytes) → IfSome last (λ rest. (rest ≡ []) × (now ≡ Some [])) → IsRead bytes header entries pairs faults
+    HaveCome bytes header header.pages entries pairs faults → last ≡ Some (drop (page_bytes (version_of bytes) * header.pages) bytes) → IfSome last (λ rest. (rest ≡ []) × (now ≡ Some [])) → IsRead bytes header entries pairs faults
 all_read bytes mid last now header entries pairs faults has come left ended =
-    let none : drop (1024 * header.pages) bytes ≡ [] = (rw left at ended).0 in
+    let all : ℕ = page_bytes (version_of bytes) * header.pages in
+    let none : drop all bytes ≡ [] = (rw left at ended).0 in
     record {
       come = come;
       faultless = has.faultless;
-      size = omega (arith, come.enough, ap length none, length-drop (1024 * header.pages) bytes);
+      size = omega (arith, come.enough, ap length none, length-drop all bytes);
     }
 
 pub have_all : (old mid last : Option (List ℕ)) (header : Header) (entries : List Entry) (pairs : List Pair) (faults : PageFaults) → IfSome old (λ bytes. HasHeader header bytes mid) →
-    ((bytes : List ℕ) → HasHeader header bytes mid → HaveCome bytes header header.pages entries pairs faults × (last ≡ Some (drop (1024 * header.pages) bytes))) → IfSome old (λ bytes. HaveAll bytes header mid last)
+    ((bytes : List ℕ) → HasHeader header bytes mid → HaveCome bytes header header.pages entries pairs faults × (last ≡ Some (drop (page_bytes (version_of bytes) * header.pages) bytes))) → IfSome old (λ bytes. HaveAll bytes header mid last)
 have_all None mid last header entries pairs faults has read = tt
 have_all (Some bytes) mid last header entries pairs faults has read = let all = read bytes has in (has, all.0.enough, all.1)
 
@@ -101,20 +116,21 @@ have_all (Some bytes) mid last header entries pairs faults has read = let all = 
 judged_is : (bytes : List ℕ) (header : Header) (entries : List Entry) (pairs : List Pair) (faults : PageFaults) → 1 ≤ header.pages → IsRead bytes header entries pairs faults → reading_of bytes ≡ judged (view_of bytes)
 unfolding is_short has_trailing image_fault page_fault first_of reading_of
 judged_is bytes header entries pairs faults some read =
-    let counted : header.pages ≡ (header_of bytes).pages = ap (λ (h : Header). h.pages) read.come.fields in
-    let size : length bytes ≡ 1024 * header.pages = read.size in
-    let short : (ltb (length bytes) 1024 || ltb (length bytes) (1024 * (header_of bytes).pages)) ≡ false = grind (arith, nat_tests) in
-    let long : ltb (1024 * (header_of bytes).pages) (length bytes) ≡ false = grind (arith, nat_tests) in
-    ap (λ (o : Option ImageFault). judged_by o (view_of bytes)) (first_behind (header_rows bytes) (size_rows bytes ++ page_rows (view_of bytes)) read.faultless ∙ rw (short, long) refl)
+    let size : ℕ = page_bytes (version_of bytes) in
+    let whole : length bytes ≡ image_bytes bytes = read.size ∙ bytes_same bytes header read.come.fields in
+    let low : size ≤ image_bytes bytes = rw (bytes_same bytes header read.come.fields) at (some_pages size header.pages some) in
+    let tests = (whole_rule (length bytes) size (image_bytes bytes) low).1 whole in
+    ap (λ (o : Option ImageFault). judged_by o (view_of bytes)) (first_behind (header_rows bytes) (size_rows bytes ++ page_rows (view_of bytes)) read.faultless ∙ rw (tests.0, tests.1) refl)
 
 header_same : (bytes : List ℕ) → (view_of bytes).header ≡ header_of bytes
 unfolding view_of
 header_same bytes = refl
 
-past_end : (bytes : List ℕ) (p : ℕ) → length bytes ≤ 1024 * p → (next (view_of bytes) p ≡ 0) × (bucket (view_of bytes) p ≡ 0)
+past_end : (bytes : List ℕ) (p : ℕ) → length bytes ≤ page_bytes (version_of bytes) * p → (next (view_of bytes) p ≡ 0) × (bucket (view_of bytes) p ≡ 0)
 unfolding view_of page next_of bucket_of
 past_end bytes p past =
-    let empty : drop (1024 * p) bytes ≡ [] = drop_all (1024 * p) bytes past in
+    let w : ℕ = page_bytes (version_of bytes) in
+    let empty : take w (drop (w * p) bytes) ≡ [] = ap (take w) (drop_all (w * p) bytes past) ∙ take_all w [] (omega arith) in
     elim (cases_eq p 0) [ inl first ↦ rw (next, bucket, eq-eqb p 0 first) (refl, refl) | inr other ↦ rw (next, bucket, ne_eqb p 0 other, empty) (refl, refl) ]
 
 kept_is : (bytes : List ℕ) (header : Header) (entries : List Entry) (pairs : List Pair) (faults : PageFaults) → IsRead bytes header entries pairs faults → IsKept (view_of bytes) entries pairs faults
@@ -125,13 +141,14 @@ kept_is bytes header entries pairs faults read =
     let counted : header.pages ≡ page_count v = ap (λ (h : Header). h.pages) same in
     let kept = read.come.kept in
     let none : (p : ℕ) → header.pages ≤ p → entry_at entries p ≡ no_entry = λ p past. get_or_past entries p no_entry (omega (arith, kept.size)) in
+    let beyond : (p : ℕ) → header.pages ≤ p → length bytes ≤ page_bytes (version_of bytes) * p = λ p past. omega (arith, read.size, mul-le-mul_left (page_bytes (version_of bytes)) past) in
     let nexts : (p : ℕ) → next_in entries p ≡ next v p = λ p. elim (cases_lt p header.pages) [
       | inl within ↦ kept.next p within
-      | inr past ↦ ap (λ e. e.next) (none p past) ∙ sym (past_end bytes p (omega (arith, read.size))).0
+      | inr past ↦ ap (λ e. e.next) (none p past) ∙ sym (past_end bytes p (beyond p past)).0
     ] in
     let buckets_are : (p : ℕ) → bucket_in entries p ≡ bucket v p = λ p. elim (cases_lt p header.pages) [
       | inl within ↦ kept.bucket p within
-      | inr past ↦ ap (λ e. e.bucket) (none p past) ∙ sym (past_end bytes p (omega (arith, read.size))).1
+      | inr past ↦ ap (λ e. e.bucket) (none p past) ∙ sym (past_end bytes p (beyond p past)).1
     ] in
     let size : length entries ≡ page_count v = kept.size ∙ counted in
     record {
@@ -151,7 +168,7 @@ exact_is bytes header entries pairs faults result some read exact =
     rw (judged_is bytes header entries pairs faults some read) (exact (view_of bytes) (header_same bytes ∙ sym read.come.fields) (kept_is bytes header entries pairs faults read))
 
 pub answered : (old mid last now : Option (List ℕ)) (header : Header) (entries : List Entry) (pairs : List Pair) (faults : PageFaults) (result : Result Lists ImageFault) → 1 ≤ header.pages → IfSome old (λ bytes. HasHeader header bytes mid) →
-    ((bytes : List ℕ) → HasHeader header bytes mid → HaveCome bytes header header.pages entries pairs faults × (last ≡ Some (drop (1024 * header.pages) bytes))) →
+    ((bytes : List ℕ) → HasHeader header bytes mid → HaveCome bytes header header.pages entries pairs faults × (last ≡ Some (drop (page_bytes (version_of bytes) * header.pages) bytes))) →
     IfSome last (λ rest. (rest ≡ []) × (now ≡ Some [])) →
     AnswersView header entries pairs faults result →
     IfSome old (λ bytes. IsAnswer (λ listing l. listing ≡ l) result (reading_of bytes))
@@ -171,13 +188,13 @@ unfolding reading_of
 whole_from bytes l e = no_fault_from (image_fault bytes) (view_of bytes) l e
 
 each_byte_of : (bytes : List ℕ) (header : Header) (entries : List Entry) (pairs : List Pair) (faults : PageFaults) → IsRead bytes header entries pairs faults → AreBytes bytes
-each_byte_of bytes header entries pairs faults read i = elim (cases_lt i (1024 * header.pages)) [
+each_byte_of bytes header entries pairs faults read i = elim (cases_lt i (page_bytes (version_of bytes) * header.pages)) [
   | inl within ↦ read.come.each_byte i within
   | inr past ↦ let none : get_or bytes i 0 ≡ 0 = get_or_past bytes i 0 (omega (arith, read.size)) in omega (arith, none)
 ]
 
 pub image_read : (old mid last now : Option (List ℕ)) (header : Header) (entries : List Entry) (pairs : List Pair) (faults : PageFaults) (result : Result Lists ImageFault) → ImageLaw → 1 ≤ header.pages → IfSome old (λ bytes. HasHeader header bytes mid) →
-    ((bytes : List ℕ) → HasHeader header bytes mid → HaveCome bytes header header.pages entries pairs faults × (last ≡ Some (drop (1024 * header.pages) bytes))) →
+    ((bytes : List ℕ) → HasHeader header bytes mid → HaveCome bytes header header.pages entries pairs faults × (last ≡ Some (drop (page_bytes (version_of bytes) * header.pages) bytes))) →
     IfSome last (λ rest. (rest ≡ []) × (now ≡ Some [])) →
     AnswersView header entries pairs faults result →
     IfSome old (λ bytes. IfOk result (λ listing. IsImage bytes listing))

@@ -5,19 +5,21 @@ use Rattle.lh_page.specs.PackedList.{pieces}
 use Rattle.lh_page.specs.PageTable.{page_text}
 use Rattle.lh_image.specs.declared.census.Census.{Census}
 use Rattle.lh_image.specs.Canonical.{canonical, overflow_before, overflow_text, page_count_in, text_in}
+use Rattle.lh_image.specs.declared.version.Version.TheVariants.{One}
+use Rattle.lh_image.specs.Version.{page_bytes}
 use Rattle.lh_image.specs.Census.{census_of, longest_before}
 use Rattle.lh_image.proofs.samples.Samples.{empty, empty_listing, five, five_listing, two_pages, two_pages_listing, four_pages, four_pages_listing, two_chains, two_chains_listing}
 
 written :
-    (canonical empty_listing ≡ empty)
-    × (canonical five_listing ≡ five)
-    × (canonical two_pages_listing ≡ two_pages)
-    × (canonical four_pages_listing ≡ four_pages)
-    × (canonical two_chains_listing ≡ two_chains)
-unfolding canonical overflow_before overflow_text page_count_in text_in page_text pieces greatest level_of level pointer empty five two_pages four_pages two_chains
+    (canonical One empty_listing ≡ empty One)
+    × (canonical One five_listing ≡ five One)
+    × (canonical One two_pages_listing ≡ two_pages One)
+    × (canonical One four_pages_listing ≡ four_pages One)
+    × (canonical One two_chains_listing ≡ two_chains One)
+unfolding canonical overflow_before overflow_text page_count_in text_in page_text pieces greatest level_of level pointer empty five two_pages four_pages two_chains page_bytes
 written = (refl, refl, refl, refl, refl)
 
-lengths : (length empty ≡ 2048) × (length five ≡ 4096) × (length two_pages ≡ 3072) × (length four_pages ≡ 5120) × (length two_chains ≡ 5120)
+lengths : (length (empty One) ≡ 2048) × (length (five One) ≡ 4096) × (length (two_pages One) ≡ 3072) × (length (four_pages One) ≡ 5120) × (length (two_chains One) ≡ 5120)
 unfolding empty five two_pages four_pages two_chains
 lengths = (refl, refl, refl, refl, refl)
 

@@ -6,11 +6,12 @@ use Rattle.std.proofs.Math.Nat.{div-add-mod, mod-lt, mul-le-mul_left}
 use Rattle.std.proofs.Math.Seq.{take-length}
 use Rattle.std.proofs.lemmas.List.{take_more}
 use Rattle.std.proofs.lemmas.List.Sums.{sum_by_push}
-use Rattle.lh_addr.specs.Limits.{IsCapacity}
+use Rattle.lh_addr.specs.Limits.{IsCapacity, most_capacity}
 use Rattle.lh_page.specs.declared.pair.Pair.{Pair}
 use Rattle.lh_page.specs.PackedList.{PiecesLaw}
 use Rattle.lh_bucket.specs.Listing.{Lists, size, list_at, count_of}
 use Rattle.lh_image.specs.Canonical.{page_count_in, pages_in, overflow_before, page_total}
+use Rattle.lh_image.specs.Layout.{most_pages}
 
 pub overflow-more : (l : Lists) (n : ℕ) → overflow_before l (n + 1) ≡ overflow_before l n + (page_count_in l n - 1)
 unfolding overflow_before
@@ -42,17 +43,17 @@ page_starts l i k pieces some low = (pieces l.config.capacity (list_at l.lists i
 -- ---- records
 
 -- a bucket's pages have slots for its records
-records_within : (l : Lists) (i : ℕ) → PiecesLaw → IsCapacity l.config.capacity → length (list_at l.lists i) ≤ 14 * page_count_in l i
+records_within : (l : Lists) (i : ℕ) → PiecesLaw → IsCapacity l.config.capacity → length (list_at l.lists i) ≤ most_capacity * page_count_in l i
 records_within l i pieces b =
     let n : ℕ = length (list_at l.lists i) in
     let q : ℕ = (n - 1) / l.config.capacity in
     let rest : (n - 1) % l.config.capacity < l.config.capacity = mod-lt (n - 1) b.0 in
     let all : l.config.capacity * q + (n - 1) % l.config.capacity ≡ n - 1 = div-add-mod (n - 1) l.config.capacity in
-    let slots : (q + 1) * l.config.capacity ≤ (q + 1) * 14 = mul-le-mul_left (q + 1) b.1 in
+    let slots : (q + 1) * l.config.capacity ≤ (q + 1) * most_capacity = mul-le-mul_left (q + 1) b.1 in
     omega (arith, rest, all, slots, page_count_is l i pieces b.0)
 
--- the first n buckets have at most 14 records for each of their pages
-records_before : (l : Lists) → PiecesLaw → IsCapacity l.config.capacity → (n : ℕ) → n ≤ size l → count_of (take n l.lists) ≤ 14 * (n + overflow_before l n)
+-- the first n buckets have at most as many records as their pages may have slots
+records_before : (l : Lists) → PiecesLaw → IsCapacity l.config.capacity → (n : ℕ) → n ≤ size l → count_of (take n l.lists) ≤ most_capacity * (n + overflow_before l n)
 records_before l pieces b zero low = omega arith
 records_before l pieces b (suc n) low =
     let list : List (List Pair) = l.lists in
@@ -61,7 +62,7 @@ records_before l pieces b (suc n) low =
     let pages : overflow_before l (suc n) ≡ overflow_before l n + (page_count_in l n - 1) = ap (overflow_before l) (sym (add-one n)) ∙ overflow-more l n in
     omega (arith, more, pages, records_within l n pieces b, page_count_is l n pieces b.0, records_before l pieces b n (omega arith))
 
-pub records_few : (l : Lists) → PiecesLaw → IsCapacity l.config.capacity → page_total l ≤ 1048576 → count_of l.lists ≤ 14680064
+pub records_few : (l : Lists) → PiecesLaw → IsCapacity l.config.capacity → page_total l ≤ most_pages → count_of l.lists ≤ most_capacity * most_pages
 records_few l pieces b few = omega (arith, few, ap count_of (take-length l.lists), records_before l pieces b (size l) (omega arith))
 
 -- an overflow page's bucket and place, by how many overflow pages stand before it

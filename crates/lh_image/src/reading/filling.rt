@@ -1,6 +1,6 @@
 //! Filling a buffer from a reader.
 ghost use Rattle.std.specs.Prelude.{◌≡◌, ℕ, ◌≤◌, length, IfOk, IfErr, IfSome, slice_index, ◌<◌};
-ghost use Rattle.lh_image.specs.Filling.{Fills, IsFilled};
+ghost use Rattle.lh_image.specs.Filling.{Fills, IsFilled, ReadsWhole};
 
 use crate::fault::ImageFault;
 use std::io;
@@ -36,4 +36,16 @@ pub(crate) fn read_into<R: Read>(reader: &mut R, buffer: &mut [u8]) -> Result<us
         Ok(count) => Ok(count),
         Err(_) => Err(ImageFault::ReadFault),
     }
+}
+
+/// Fills the buffer, unless too few bytes are left.
+pub(crate) fn read_whole<R: Read>(reader: &mut R, buffer: &mut [u8]) -> Result<(), ImageFault>
+    ensures size { length buffer.new ≡ length buffer.old }
+    ensures read { IfSome (R.remaining reader.old) (λ bytes.
+        ReadsWhole bytes result buffer.new (R.remaining reader.new)) }
+{
+    if read_into(reader, buffer)? < buffer.len() {
+        return Err(ImageFault::Short);
+    }
+    Ok(())
 }

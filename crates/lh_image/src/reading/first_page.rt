@@ -1,18 +1,23 @@
 //! The first page: the header's fields, and the faults that it decides alone.
-ghost use Rattle.std.specs.Prelude.{◌≡◌, ◌≤◌, ◌||◌, true, nat_lt, IfOk, IfSome};
+ghost use Rattle.std.specs.Prelude.{◌≡◌, ◌≤◌, ◌||◌, true, take, length, nat_lt, IfErr, IfOk, IfSome};
 ghost use Rattle.std.specs.Result.{result_err};
 ghost use Rattle.lh_addr.specs.Settings.{IsInRange};
-ghost use Rattle.lh_addr.specs.Limits.{most_buckets};
-ghost use Rattle.lh_image.specs.Faults.{bad_field, bad_counts, field_rows, first_of, no_magic, out_of};
-ghost use Rattle.lh_image.specs.Header.{AreInRange, ReadsHeader, header_with};
-ghost use Rattle.lh_image.specs.Layout.{ends_in_zeros, header_of};
+ghost use Rattle.lh_addr.specs.Limits.{most_buckets, most_capacity};
+ghost use Rattle.lh_page.specs.PageFields.{all_zero};
+ghost use Rattle.lh_image.specs.Faults.{bad_field, bad_counts, field_rows, first_of, out_of};
+ghost use Rattle.lh_image.specs.Header.{AreInRange, IsFirstOutOfRange, ReadsFront, ReadsHeader, header_with};
+ghost use Rattle.lh_image.specs.Layout.{ends_in_zeros, field_bytes, header_of};
+ghost use Rattle.lh_image.specs.Version.{page_bytes, slots, version_of};
+ghost use Rattle.lh_image.specs.declared.version.Version.{Version};
 
 use crate::fault::ImageFault;
 use crate::limits::MAX_PAGES;
-use crate::reading::filling::read_into;
+use crate::reading::filling::{read_into, read_whole};
+use crate::version::Version;
 use byteorder::{ByteOrder, LittleEndian};
 use lh_addr::limits::MAX_BUCKETS;
 use lh_addr::{Config, Range};
+use lh_page::format::{PAGE_1, PAGE_2};
 use std::io::Read;
 
 /// The numbers of a header, as they stand there.
@@ -30,6 +35,7 @@ pub(crate) struct Fields {
 /// A header whose fields are in their ranges.
 #[derive(Clone, Copy)]
 pub(crate) struct Header {
+    pub version: Version,
     pub config: Config,
     pub buckets: u32,
     /// The number of pages, this one among them.
@@ -38,8 +44,9 @@ pub(crate) struct Header {
 }
 
 /// The numbers that stand in a page's bytes.
-fn fields_of(page: &[u8; 1024]) -> Fields
-    ensures { header_with result ≡ header_of page.now }
+fn fields_of(page: &[u8]) -> Fields
+    requires { field_bytes ≤ length page.now }
+    ensures { header_with (version_of page.now) result ≡ header_of page.now }
 {
     Fields {
         initial: LittleEndian::read_u32(&page[4..8]),
@@ -59,15 +66,31 @@ fn has_bad_buckets(fields: &Fields) -> bool
     fields.buckets < fields.initial || fields.buckets > MAX_BUCKETS
 }
 
-/// The configuration that the fields say, or the offset of the first that is out of its range.
-fn config_of(fields: &Fields) -> Result<Config, u32>
-    ensures ok { IfOk result (λ config. config ≡ (header_with fields.now).config) }
+/// The configuration that the fields say, or the first of its ranges that they are out of. A page has room for
+/// no more records than a page of the version has slots.
+fn ranged(version: Version, fields: &Fields) -> Result<Config, Range>
+    ensures ok { IfOk result (λ config. config ≡ (header_with version fields.now).config) }
     ensures in_range { IfOk result (λ config. IsInRange config) }
-    ensures buckets { IfOk result (λ config. (config.initial ≤ fields.now.buckets)
-        × (fields.now.buckets ≤ config.max)) }
-    ensures fault { result_err result ≡ bad_field (header_with fields.now) true }
+    ensures room { IfOk result (λ config. config.capacity ≤ slots version) }
+    ensures err { IfErr result (IsFirstOutOfRange (header_with version fields.now)) }
 {
     match Config::new(fields.initial, fields.capacity, fields.load, fields.max) {
+        Err(Range::Initial) => Err(Range::Initial),
+        _ if fields.capacity > version.slots() => Err(Range::Capacity),
+        answer => answer,
+    }
+}
+
+/// The configuration that the fields say, or the offset of the first that is out of its range.
+fn config_of(version: Version, fields: &Fields) -> Result<Config, u32>
+    ensures ok { IfOk result (λ config. config ≡ (header_with version fields.now).config) }
+    ensures in_range { IfOk result (λ config. IsInRange config) }
+    ensures room { IfOk result (λ config. config.capacity ≤ slots version) }
+    ensures buckets { IfOk result (λ config. (config.initial ≤ fields.now.buckets)
+        × (fields.now.buckets ≤ config.max)) }
+    ensures fault { result_err result ≡ bad_field (header_with version fields.now) true }
+{
+    match ranged(version, fields) {
         Err(Range::Initial) => Err(4),
         Err(Range::Capacity) => Err(8),
         Err(Range::Load) => Err(12),
@@ -88,8 +111,8 @@ fn config_of(fields: &Fields) -> Result<Config, u32>
 #[tactic(auto, unfolding(crate::specs::Faults::bad_counts))]
 fn has_bad_counts(fields: &Fields) -> bool
     requires buckets { fields.now.buckets ≤ most_buckets }
-    requires capacity { fields.now.capacity ≤ 14 }
-    ensures { result ≡ bad_counts (header_with fields.now) }
+    requires capacity { fields.now.capacity ≤ most_capacity }
+    ensures { (version : Version) → result ≡ bad_counts (header_with version fields.now) }
 {
     let pages = fields.pages;
     if pages < 1 + fields.buckets || pages > MAX_PAGES {
@@ -98,31 +121,34 @@ fn has_bad_counts(fields: &Fields) -> bool
     fields.records > fields.capacity as u64 * (pages as u64 - 1)
 }
 
-/// Whether the bytes behind the fields are zero.
-fn has_zeros(page: &[u8; 1024]) -> bool
-    ensures { result ≡ ends_in_zeros page.now }
+/// Whether bytes are zero.
+fn are_zeros(bytes: &[u8]) -> bool
+    ensures { result ≡ all_zero bytes.now }
 {
-    page[36..].iter().all(|byte| *byte == 0)
+    bytes.iter().all(|byte| *byte == 0)
 }
 
 /// The header that a page is, or the fault of its fields.
-fn header_of(page: &[u8; 1024]) -> Result<Header, ImageFault>
+fn header_of(version: Version, page: &[u8]) -> Result<Header, ImageFault>
+    requires version { version ≡ version_of page.now }
+    requires size { length page.now ≡ page_bytes version }
     ensures header { IfOk result (λ header. header ≡ header_of page.now) }
     ensures in_range { IfOk result (λ header. AreInRange header) }
     ensures fault { result_err result ≡ first_of (field_rows (header_of page.now) (ends_in_zeros page.now)) }
 {
     let fields = fields_of(page);
-    let config = match config_of(&fields) {
+    let config = match config_of(version, &fields) {
         Ok(config) => config,
         Err(offset) => return Err(ImageFault::HeaderField(offset)),
     };
-    if !has_zeros(page) {
+    if !are_zeros(&page[36..]) {
         return Err(ImageFault::HeaderField(36));
     }
     if has_bad_counts(&fields) {
         return Err(ImageFault::Counts);
     }
     Ok(Header {
+        version,
         config,
         buckets: fields.buckets,
         pages: fields.pages,
@@ -130,12 +156,34 @@ fn header_of(page: &[u8; 1024]) -> Result<Header, ImageFault>
     })
 }
 
-/// Whether bytes don't begin as an image does.
-#[tactic(auto, unfolding(crate::specs::Faults::no_magic))]
-fn has_no_magic(bytes: &[u8]) -> bool
-    ensures { result ≡ no_magic bytes.now }
+/// Reads as many bytes as a page of version 1 has, by which each first page begins, and tells its version.
+fn read_front<R: Read>(reader: &mut R, front: &mut [u8]) -> Result<Version, ImageFault>
+    requires { length front.old ≡ PAGE_1 }
+    ensures size { length front.new ≡ length front.old }
+    ensures told { IfOk result (λ version. version ≡ version_of front.new) }
+    ensures read { IfSome (R.remaining reader.old) (λ bytes.
+        ReadsFront bytes result (λ _. front.new) (R.remaining reader.new)) }
 {
-    bytes.len() < 4 || &bytes[..4] != b"LHF1".as_slice()
+    let count = read_into(reader, front)?;
+    let Some(version) = Version::of(&front[..count]) else {
+        return Err(ImageFault::Magic);
+    };
+    if count < PAGE_1 {
+        return Err(ImageFault::Short);
+    }
+    Ok(version)
+}
+
+/// Reads the first page to the front of a buffer, and tells its version. What a longer page has more is read
+/// only where the bytes before it tell that it is one.
+fn read_first_page<R: Read>(reader: &mut R, page: &mut [u8; PAGE_2]) -> Result<Version, ImageFault>
+    ensures told { IfOk result (λ version. version ≡ version_of (take (page_bytes version) page.new)) }
+    ensures read { IfSome (R.remaining reader.old) (λ bytes. ReadsFront bytes result
+        (λ version. take (page_bytes version) page.new) (R.remaining reader.new)) }
+{
+    let version = read_front(reader, &mut page[..PAGE_1])?;
+    read_whole(reader, &mut page[PAGE_1..version.page_bytes()])?;
+    Ok(version)
 }
 
 /// Reads the first page, and decides the faults that it shows alone.
@@ -143,13 +191,7 @@ pub(crate) fn read_header<R: Read>(reader: &mut R) -> Result<Header, ImageFault>
     ensures in_range { IfOk result (λ header. AreInRange header) }
     ensures read { IfSome (R.remaining reader.old) (λ bytes. ReadsHeader bytes result (R.remaining reader.new)) }
 {
-    let mut page = [0; 1024];
-    let count = read_into(reader, &mut page)?;
-    if has_no_magic(&page[..count]) {
-        return Err(ImageFault::Magic);
-    }
-    if count < 1024 {
-        return Err(ImageFault::Short);
-    }
-    header_of(&page)
+    let mut page = [0; PAGE_2];
+    let version = read_first_page(reader, &mut page)?;
+    header_of(version, &page[..version.page_bytes()])
 }

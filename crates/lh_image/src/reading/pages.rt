@@ -3,27 +3,31 @@ ghost use Rattle.std.specs.Prelude.{◌≡◌, ℕ, ◌+◌, ◌*◌, ◌<◌, �
 ghost use Rattle.lh_image.specs.Header.{AreInRange, HasHeader};
 ghost use Rattle.lh_image.specs.Pages.{HaveCome, ReadsAll, ReadsTo, ReadsEnd};
 ghost use Rattle.lh_image.specs.Table.{AreWithin};
+ghost use Rattle.lh_image.specs.Version.{page_bytes, slots, version_of};
 
 use crate::fault::ImageFault;
 use crate::judge::page_checks::PageFaults;
-use crate::reading::filling::read_into;
+use crate::reading::filling::{read_into, read_whole};
 use crate::reading::first_page::Header;
+use crate::reading::page::head_of;
 use crate::reading::table::Table;
 use lh_addr::Root;
-use lh_page::page_head;
+use lh_page::format::PAGE_2;
 use std::alloc::Global;
 use std::io::Read;
 
 /// Reads one page more into these bytes, keeps its records, and looks at it by itself.
 fn read_page<R: Read>(
     reader: &mut R,
-    bytes: &mut [u8; 1024],
+    bytes: &mut [u8],
     header: &Header,
     root: &Root,
     page: u32,
     table: &mut Table,
     faults: &mut PageFaults,
 ) -> Result<(), ImageFault>
+    requires size { length bytes.old ≡ page_bytes header.now.version }
+    requires room { header.now.config.capacity ≤ slots header.now.version }
     requires page { 1 ≤ page }
     requires sum { faults.old.sum ≤ 255 * page }
     requires root { root.now ≡ record { initial = header.now.config.initial; buckets = header.now.buckets } }
@@ -31,16 +35,14 @@ fn read_page<R: Read>(
     ensures within { OnOk result (AreWithin table.new.entries.items table.new.pairs.items) }
     ensures size { OnOk result (length table.new.entries.items ≡ length table.old.entries.items + 1) }
     ensures sum { OnOk result (faults.new.sum ≤ faults.old.sum + 255) }
-    ensures read { (bytes : List ℕ) → R.remaining reader.old ≡ Some (drop (1024 * page) bytes) →
+    ensures read { (bytes : List ℕ) → R.remaining reader.old ≡ Some (drop (page_bytes (version_of bytes) * page) bytes) →
         HaveCome bytes header.now page table.old.entries.items table.old.pairs.items faults.old →
         ReadsTo bytes header.now (page + 1) result table.new.entries.items table.new.pairs.items faults.new
         (R.remaining reader.new) }
 {
-    if read_into(reader, bytes)? < 1024 {
-        return Err(ImageFault::Short);
-    }
-    let head = page_head(bytes);
-    let has_bad_slot = table.push(&head, bytes, header.config.capacity())?;
+    read_whole(reader, bytes)?;
+    let head = head_of(header.version, bytes);
+    let has_bad_slot = table.push(header, &head, bytes)?;
     faults.see(header, root, page, &head, has_bad_slot);
     Ok(())
 }
@@ -60,17 +62,10 @@ pub(crate) fn read_pages<R: Read>(
     let root = header.config.root(header.buckets);
     let mut table = Table::new(alloc)?;
     let mut faults = PageFaults::new();
-    let mut bytes = [0; 1024];
+    let mut room = [0; PAGE_2];
+    let bytes = &mut room[..header.version.page_bytes()];
     for page in 1..header.pages {
-        read_page(
-            reader,
-            &mut bytes,
-            header,
-            &root,
-            page,
-            &mut table,
-            &mut faults,
-        )?;
+        read_page(reader, bytes, header, &root, page, &mut table, &mut faults)?;
     }
     Ok((table, faults))
 }

@@ -1,12 +1,13 @@
 //! What is kept of the pages that came: where each leads, and its records.
-ghost use Rattle.std.specs.Prelude.{◌≡◌, ◌++◌, ◌∷◌, [], IfOk, IfErr, OnOk};
-ghost use Rattle.lh_page.specs.Format.{version_1};
-ghost use Rattle.lh_page.specs.Limits.{IsCapacity};
+ghost use Rattle.std.specs.Prelude.{◌≡◌, ◌++◌, ◌∷◌, ◌≤◌, [], length, IfOk, IfErr, OnOk};
 ghost use Rattle.lh_page.specs.PageFields.{fault_of};
 ghost use Rattle.lh_image.specs.Table.{AreWithin, IsPushed, is_of_slot, no_entry, records_in};
+ghost use Rattle.lh_image.specs.Version.{format_of, page_bytes, slots};
 
 use crate::fault::ImageFault;
-use lh_page::{PageFault, PageHead, Pair, Pairs, page_from_bytes};
+use crate::reading::first_page::Header;
+use crate::reading::page::page_of;
+use lh_page::{PageFault, PageHead, Pair, Pairs};
 use std::alloc::Global;
 
 /// Where a page leads, and where its records stand among those of all pages.
@@ -60,18 +61,21 @@ impl Table {
     /// Takes one page more: whether a slot of it is at fault. Of a page at fault the records aren't kept.
     pub(crate) fn push(
         &mut self,
+        header: &Header,
         head: &PageHead,
-        bytes: &[u8; 1024],
-        capacity: u32,
+        bytes: &[u8],
     ) -> Result<bool, ImageFault>
-        requires { IsCapacity capacity }
+        requires size { length bytes.now ≡ page_bytes header.now.version }
+        requires room { header.now.config.capacity ≤ slots header.now.version }
         ensures pushed { OnOk result (IsPushed self.old.entries.items self.old.pairs.items self.new.entries.items
-            self.new.pairs.items head.now.bucket head.now.next bytes.now capacity) }
-        ensures slot { IfOk result (λ bad. bad ≡ is_of_slot (fault_of version_1 bytes.now capacity)) }
+            self.new.pairs.items head.now.bucket head.now.next header.now.version bytes.now
+            header.now.config.capacity) }
+        ensures slot { IfOk result (λ bad. bad
+            ≡ is_of_slot (fault_of (format_of header.now.version) bytes.now header.now.config.capacity)) }
         ensures fault { IfErr result (λ f. f ≡ ImageFault.Memory) }
     {
         let start = self.pairs.len();
-        let has_bad_slot = match page_from_bytes(bytes, capacity) {
+        let has_bad_slot = match page_of(header.version, bytes, header.config.capacity()) {
             Ok(page) => {
                 append(&mut self.pairs, &page.pairs)?;
                 false

@@ -1,18 +1,22 @@
 //! The pages of a listing, as they are written: how many there are, and the bytes of each.
-ghost use Rattle.std.specs.Prelude.{◌≡◌, ◌==◌, if◌then◌else◌, ◌+◌, ◌-◌, ◌*◌, ◌^◌, ◌<◌, ◌≤◌, ◌++◌, length, min, replicate, take, drop};
+ghost use Rattle.std.specs.Prelude.{◌≡◌, ◌==◌, if◌then◌else◌, ◌+◌, ◌-◌, ◌*◌, ◌^◌, ◌<◌, ◌≤◌, length, min, take, drop};
 ghost use Rattle.lh_bucket.specs.Listing.{IsListing, size, list_at, count_of};
-ghost use Rattle.lh_image.specs.Canonical.{page_count_in, overflow_before, page_in, page_total, header_in, text_in};
-ghost use Rattle.lh_page.specs.Format.{version_1};
-ghost use Rattle.lh_page.specs.Records.{FitsPage};
+ghost use Rattle.lh_image.specs.Canonical.{page_count_in, overflow_before, page_in, page_total};
 ghost use Rattle.lh_page.specs.PageTable.{IsWritable};
 ghost use Rattle.lh_page.specs.declared.page.PageKind.TheVariants.{Primary, Overflow};
-ghost use Rattle.lh_image.specs.Layout.{header_text, most_pages, padding};
+ghost use Rattle.lh_image.specs.Fitting.{FitsVersion};
+ghost use Rattle.lh_image.specs.Image.{header_for};
+ghost use Rattle.lh_image.specs.Layout.{header_text, most_pages, number_text};
+ghost use Rattle.lh_image.specs.Version.{format_of, page_bytes};
+ghost use Rattle.lh_image.specs.declared.version.Version.{Version};
 
+use crate::version::Version;
 use byteorder::{ByteOrder, LittleEndian};
 use lh_addr::Root;
 use lh_bucket::Listing;
-use lh_page::laws::{a_page_is_its_bytes, pages_are_pieces};
-use lh_page::{Page, PageKind, Pairs, page_to_bytes, pages_needed};
+use lh_page::format::PAGE_2;
+use lh_page::laws::pages_are_pieces;
+use lh_page::{Page, PageKind, Pairs, pages_needed};
 
 /// The number of pages of a bucket, the primary page counted.
 pub(crate) fn page_count_in(listing: &Listing, bucket: u32) -> usize
@@ -28,7 +32,8 @@ pub(crate) fn page_count_in(listing: &Listing, bucket: u32) -> usize
 /// The number of pages of an image, the header counted, where it is below 2^64; a memory that held more
 /// records would answer 2^64 - 1.
 pub(crate) fn page_total(listing: &Listing) -> u64
-    ensures { result ≡ min (page_total listing.now) (2 ^ 64 - 1) }
+    ensures value { result ≡ min (page_total listing.now) (2 ^ 64 - 1) }
+    ensures kept { IsListing listing.now }
 {
     let buckets = listing.buckets();
     let mut pages = 1 + u64::from(buckets);
@@ -38,8 +43,8 @@ pub(crate) fn page_total(listing: &Listing) -> u64
     pages
 }
 
-/// The fields of the header, in its first 36 bytes.
-fn header_fields(
+/// The numbers of the header, as they stand behind its first four bytes.
+fn number_bytes(
     initial: u32,
     capacity: u32,
     load: u32,
@@ -47,31 +52,31 @@ fn header_fields(
     max: u32,
     pages: u32,
     records: u64,
-) -> [u8; 36]
-    ensures { result ++ replicate padding 0 ≡ header_text (record {
+) -> [u8; 32]
+    ensures { (version : Version) → result ≡ number_text (record {
+      version = version;
       config = record { initial = initial; capacity = capacity; load = load; max = max };
       buckets = buckets;
       pages = pages;
       records = records;
     }) }
 {
-    let mut bytes = [0; 36];
-    bytes[..4].copy_from_slice(b"LHF1");
+    let mut bytes = [0; 32];
     let numbers = [initial, capacity, load, buckets, max, pages];
-    LittleEndian::write_u32_into(&numbers, &mut bytes[4..28]);
-    LittleEndian::write_u64(&mut bytes[28..36], records);
+    LittleEndian::write_u32_into(&numbers, &mut bytes[..24]);
+    LittleEndian::write_u64(&mut bytes[24..], records);
     bytes
 }
 
-/// The 1,024 bytes of the header page. `pages` is the number of all pages.
-pub(crate) fn header_bytes(listing: &Listing, pages: u32) -> [u8; 1024]
+/// The header page, in the first bytes of the array: as many as a page has. `pages` is the number of all pages.
+pub(crate) fn header_bytes(listing: &Listing, version: Version, pages: u32) -> [u8; PAGE_2]
     requires few { page_total listing.now ≤ most_pages }
     requires pages { pages ≡ page_total listing.now }
-    ensures { result ≡ header_text (header_in listing.now) }
+    ensures { take (page_bytes version) result ≡ header_text (header_for version listing.now pages) }
 {
     pages_are_pieces();
     let config = listing.config();
-    let fields = header_fields(
+    let numbers = number_bytes(
         config.initial(),
         config.capacity(),
         config.load(),
@@ -80,8 +85,9 @@ pub(crate) fn header_bytes(listing: &Listing, pages: u32) -> [u8; 1024]
         pages,
         listing.len(),
     );
-    let mut bytes = [0; 1024];
-    bytes[..36].copy_from_slice(&fields);
+    let mut bytes = [0; PAGE_2];
+    bytes[..4].copy_from_slice(version.magic());
+    bytes[4..36].copy_from_slice(&numbers);
     bytes
 }
 
@@ -89,16 +95,13 @@ pub(crate) fn header_bytes(listing: &Listing, pages: u32) -> [u8; 1024]
 fn pairs_from(listing: &Listing, bucket: u32, start: usize) -> Pairs
     requires bucket { bucket < size listing.now }
     requires start { start ≤ length (list_at listing.now.lists bucket) }
-    ensures value { result ≡ take listing.now.config.capacity (drop start (list_at listing.now.lists bucket)) }
-    ensures fits { FitsPage result }
+    ensures { result ≡ take listing.now.config.capacity (drop start (list_at listing.now.lists bucket)) }
 {
     let count = (listing.len_of(bucket) - start).min(listing.config().capacity() as usize);
     let mut pairs = Pairs::new();
     for place in 0..count {
         pairs.push(listing.pair_at(bucket, start + place));
     }
-    // Pairs that tell their length are known to fit a page.
-    let _ = pairs.len();
     pairs
 }
 
@@ -140,14 +143,15 @@ fn next_page(listing: &Listing, bucket: u32, k: u32, following: u32) -> u32
 }
 
 /// Page `k` of a bucket. `following` is the number of the bucket's first overflow page, if it has any.
-fn page_in(listing: &Listing, root: &Root, bucket: u32, k: u32, following: u32) -> Page
+pub(crate) fn page_in(listing: &Listing, root: &Root, bucket: u32, k: u32, following: u32) -> Page
     requires root { root.now ≡ record { initial = listing.now.config.initial; buckets = size listing.now } }
     requires bucket { bucket < size listing.now }
     requires page { k < page_count_in listing.now bucket }
     requires few { page_total listing.now ≤ most_pages }
     requires following { following ≡ 1 + size listing.now + overflow_before listing.now bucket }
     ensures value { result ≡ page_in listing.now bucket k }
-    ensures writable { IsWritable version_1 result }
+    ensures writable { (version : Version) → FitsVersion version listing.now →
+        IsWritable (format_of version) result }
 {
     pages_are_pieces();
     let kind = kind_of(k);
@@ -162,24 +166,4 @@ fn page_in(listing: &Listing, root: &Root, bucket: u32, k: u32, following: u32) 
         next,
         pairs,
     }
-}
-
-/// The 1,024 bytes of page `k` of a bucket. `following` is the number of the bucket's first overflow page, if
-/// it has any.
-pub(crate) fn page_bytes(
-    listing: &Listing,
-    root: &Root,
-    bucket: u32,
-    k: u32,
-    following: u32,
-) -> [u8; 1024]
-    requires root { root.now ≡ record { initial = listing.now.config.initial; buckets = size listing.now } }
-    requires bucket { bucket < size listing.now }
-    requires page { k < page_count_in listing.now bucket }
-    requires few { page_total listing.now ≤ most_pages }
-    requires following { following ≡ 1 + size listing.now + overflow_before listing.now bucket }
-    ensures { result ≡ text_in listing.now bucket k }
-{
-    a_page_is_its_bytes();
-    page_to_bytes(&page_in(listing, root, bucket, k, following))
 }

@@ -27,7 +27,7 @@ fn write_some<W: Write>(writer: &mut W, bytes: &[u8]) -> Result<usize, WriteFail
 
 /// Writes the bytes of a page. Writes are taken as they come.
 #[tactic(auto, using(crate::proofs::writes::Sends::writes_more, crate::proofs::writes::Sends::takes_beginning))]
-pub(crate) fn write_page<W: Write>(writer: &mut W, page: &[u8; 1024]) -> Result<(), WriteFailed>
+pub(crate) fn write_page<W: Write>(writer: &mut W, page: &[u8]) -> Result<(), WriteFailed>
     ensures { IsSent page.now result (W.contents writer.old) (W.contents writer.new) }
 {
     let mut done = 0;

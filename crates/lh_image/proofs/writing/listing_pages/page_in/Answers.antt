@@ -3,6 +3,7 @@ use Rattle.lh_addr.specs.Growth.{level_of}
 use Rattle.lh_bucket.specs.Listing.{size, list_at}
 use Rattle.lh_image.specs.Canonical.{page_count_in, pages_in}
 use Rattle.lh_image.proofs.writes.Counting.{overflow_within, page_starts}
+use Rattle.lh_image.proofs.writes.Writable.{writable_page}
 use Rattle.lh_image.proofs.writing.listing_pages.page_in.Goals as goal
 
 pub next_page-next-requires-clause-fits : goal.next_page-next-requires-clause-fits
@@ -21,6 +22,10 @@ returns-clause-value c =
     let level = c.level_of-level.ensures.value ∙ ap (λ r. level_of r.initial r.buckets c.args.bucket) c.requires.root in
     let next = c.next_page-next.ensures ∙ ap (λ n. cond (eqb (c.args.k + 1) (page_count_in c.args.listing.now c.args.bucket)) 0 (n + c.args.k)) c.requires.following in
     let pairs : c.pairs_from-pairs.result ≡ get_or (pages_in c.args.listing.now c.args.bucket) c.args.k [] =
-    c.pairs_from-pairs.ensures.value ∙ ap (λ n. take c.args.listing.now.config.capacity (drop (c.args.k * n) (list_at c.args.listing.now.lists c.args.bucket))) b
+    c.pairs_from-pairs.ensures ∙ ap (λ n. take c.args.listing.now.config.capacity (drop (c.args.k * n) (list_at c.args.listing.now.lists c.args.bucket))) b
     ∙ sym (page_starts c.args.listing.now c.args.bucket c.args.k c.pages_are_pieces.ensures c.config.ensures.kept.config.capacity.0 c.requires.page).1 in
     λ i. record { kind = c.kind_of-kind.ensures i; level = level i; bucket = c.args.bucket; next = next i; pairs = pairs i }
+
+pub returns-clause-writable : goal.returns-clause-writable
+returns-clause-writable c version fits =
+    rw (returns-clause-value c) (writable_page c.pages_are_pieces.ensures version c.args.listing.now c.config.ensures.kept fits c.requires.few c.args.bucket c.args.k c.requires.bucket c.requires.page)
