@@ -201,6 +201,7 @@ fn a_value_crosses_from_the_line_and_back(rt: HostRuntime) -> Result<(), Fail> {
             assert_eq!(rt; chain.pair_at(place), Pair { key, value });
             before = value;
         }
+        assert!(rt; 0 < chain.len());
         assert_eq!(rt; chain.remove(0).key.bytes().first(), Some(&b'a'));
         assert_eq!(rt; chain.find(&key), Some(0));
         assert!(rt; 0 < chain.len());
@@ -280,6 +281,7 @@ fn a_split_takes_long_values_along(rt: HostRuntime) -> Result<(), Fail> {
         }
     };
     // Of 52 letters 32 are below `g`: the second part is the smaller one.
+    assert_eq!(rt; pairs.len(), 52);
     let (early, late) = pairs.split_at(32);
     expect_pairs(&rt, &gone, early);
     expect_pairs(&rt, &chain, late);
