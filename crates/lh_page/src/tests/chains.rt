@@ -1,6 +1,6 @@
 //! Chains of records.
 use crate::tests::records::pair_of;
-use crate::{Chain, Key, KeySet, Memory, Pair, Value, pages_needed};
+use crate::{Chain, Key, KeyLength, KeySet, Memory, Pair, Value, ValueLength, pages_needed};
 use std::process::Abort;
 use std::test::Fail;
 
@@ -38,56 +38,44 @@ fn expect_keys(rt: &impl Abort, chain: &Chain, keys: &[u8]) {
     }
 }
 
-/// A number of bytes that tell two values apart.
-fn bytes_of(rt: &HostRuntime, seed: u8, len: usize) -> Result<Vec<u8>, Fail> {
-    let mut bytes = Vec::new(rt.alloc());
-    for i in 0..len {
-        bytes.push(seed ^ (i % 256) as u8)?;
-    }
-    Ok(bytes)
-}
-
 /// A key of a length that begins with a letter.
-fn key_of(rt: &HostRuntime, letter: u8, len: usize) -> Result<Key, Fail> {
-    let mut bytes = bytes_of(rt, 1, len)?;
-    if let Some(first) = bytes.first_mut() {
-        *first = letter;
-    }
-    Ok(Key::new(&bytes)?)
+fn key_of(letter: u8, len: usize) -> Result<Key, KeyLength> {
+    let mut bytes = [b'-'; 56];
+    bytes[0] = letter;
+    Key::new(&bytes[..len.min(56)])
 }
 
-/// A value of a length that is known by its seed.
-fn value_of(rt: &HostRuntime, seed: u8, len: usize) -> Result<Value, Fail> {
-    Ok(Value::new(&bytes_of(rt, seed, len)?)?)
+/// A value of a length, with its number in each of its bytes.
+fn value_of(number: u8, len: usize) -> Result<Value, ValueLength> {
+    Value::new(&[number; 112][..len.min(112)])
 }
 
-/// Records of some letters, with keys and values of lengths that go round, some in their lines and some not.
-fn mixed(rt: &HostRuntime, letters: &[u8]) -> Result<Vec<Pair>, Fail> {
+/// The record of a letter. Some of these values are behind their keys, and some are not.
+fn record_of(letter: u8) -> Result<Pair, Fail> {
     let keys = [56, 1, 16, 50, 55];
     let values = [6, 112, 46, 12, 0, 7, 62];
-    let mut pairs = Vec::new(rt.alloc());
-    for (i, letter) in letters.iter().enumerate() {
-        pairs.push(Pair {
-            key: key_of(rt, *letter, keys[i % 5])?,
-            value: value_of(rt, *letter, values[i % 7])?,
-        })?;
-    }
-    Ok(pairs)
+    Ok(Pair {
+        key: key_of(letter, keys[letter as usize % 5])?,
+        value: value_of(letter, values[letter as usize % 7])?,
+    })
 }
 
-/// The chain has these records in their order.
-fn expect_pairs(rt: &impl Abort, chain: &Chain, pairs: &[Pair]) {
-    assert_eq!(rt; chain.len(), pairs.len());
-    for (place, pair) in pairs.iter().enumerate() {
+/// The chain has the records of these letters in their order.
+fn expect_records(rt: &impl Abort, chain: &Chain, letters: &[u8]) -> Result<(), Fail> {
+    assert_eq!(rt; chain.len(), letters.len());
+    for (place, letter) in letters.iter().enumerate() {
+        let pair = record_of(*letter)?;
         assert!(rt; place < chain.len());
-        assert_eq!(rt; chain.pair_at(place), *pair);
+        assert_eq!(rt; chain.pair_at(place), pair);
         assert_eq!(rt; chain.find(&pair.key), Some(place));
     }
+    Ok(())
 }
 
-/// Pushes records, each once more where memory was refused.
-fn add_all(rt: &impl Abort, chain: &mut Chain, pairs: &[Pair]) -> Result<(), Fail> {
-    for pair in pairs {
+/// Pushes the records of letters, each once more where memory was refused.
+fn add_records(rt: &impl Abort, chain: &mut Chain, letters: &[u8]) -> Result<(), Fail> {
+    for letter in letters {
+        let pair = record_of(*letter)?;
         add(rt, chain, pair.key.bytes(), pair.value.bytes())?;
     }
     Ok(())
@@ -186,23 +174,25 @@ fn counts_the_pages_of_records(rt: HostRuntime) {
 fn a_value_crosses_from_the_line_and_back(rt: HostRuntime) -> Result<(), Fail> {
     for len in [1, 16, 55, 56] {
         let mut chain = Chain::new(rt.alloc(), 24)?;
-        add_all(&rt, &mut chain, &mixed(&rt, b"abcde")?)?;
-        let key = key_of(&rt, b'x', len)?;
-        let mut before = value_of(&rt, 0, 3)?;
+        add_records(&rt, &mut chain, b"abcde")?;
+        let key = key_of(b'x', len)?;
+        let mut before = value_of(0, 3)?;
         add(&rt, &mut chain, key.bytes(), before.bytes())?;
-        for (seed, value) in [7, 112, 6, 47, 61, 0, 111, 46, 62, 5].iter().enumerate() {
+        for length in [7, 112, 6, 47, 61, 0, 111, 46, 62, 5] {
             let Some(place) = chain.find(&key) else {
                 return Err(Fail::from("no record has the key"));
             };
-            let value = value_of(&rt, (seed % 256) as u8, *value)?;
+            let value = value_of(length as u8, length)?;
             assert_eq!(rt; chain.replace_at(place, value), before);
             assert_eq!(rt; chain.find(&key), Some(5));
             assert!(rt; place < chain.len());
             assert_eq!(rt; chain.pair_at(place), Pair { key, value });
             before = value;
         }
-        assert!(rt; 0 < chain.len());
-        assert_eq!(rt; chain.remove(0).key.bytes().first(), Some(&b'a'));
+        assert_eq!(rt;
+            delete(&rt, &mut chain, record_of(b'a')?.key.bytes())?,
+            record_of(b'a')?
+        );
         assert_eq!(rt; chain.find(&key), Some(0));
         assert!(rt; 0 < chain.len());
         assert_eq!(rt; chain.pair_at(0), Pair { key, value: before });
@@ -213,7 +203,6 @@ fn a_value_crosses_from_the_line_and_back(rt: HostRuntime) -> Result<(), Fail> {
 #[test]
 fn the_longest_keys_have_six_bytes_behind_them(rt: HostRuntime) -> Result<(), Fail> {
     let mut chain = Chain::new(rt.alloc(), 2)?;
-    let mut pairs = Vec::new(rt.alloc());
     for (letter, len) in [
         (b'a', 6),
         (b'b', 7),
@@ -222,68 +211,73 @@ fn the_longest_keys_have_six_bytes_behind_them(rt: HostRuntime) -> Result<(), Fa
         (b'e', 0),
         (b'f', 112),
     ] {
-        pairs.push(Pair {
-            key: key_of(&rt, letter, 56)?,
-            value: value_of(&rt, letter, len)?,
-        })?;
+        let value = value_of(letter, len)?;
+        add(&rt, &mut chain, key_of(letter, 56)?.bytes(), value.bytes())?;
     }
-    add_all(&rt, &mut chain, &pairs)?;
-    expect_pairs(&rt, &chain, &pairs);
-    // A key that differs in its last byte alone, and one that is a byte shorter.
-    let mut bytes = key_of(&rt, b'a', 56)?.bytes().to_vec(rt.alloc())?;
-    if let Some(last) = bytes.last_mut() {
-        *last ^= 1;
+    for (place, (letter, len)) in [
+        (b'a', 6),
+        (b'b', 7),
+        (b'c', 6),
+        (b'd', 7),
+        (b'e', 0),
+        (b'f', 112),
+    ]
+    .iter()
+    .enumerate()
+    {
+        let pair = Pair {
+            key: key_of(*letter, 56)?,
+            value: value_of(*letter, *len)?,
+        };
+        assert!(rt; place < chain.len());
+        assert_eq!(rt; chain.pair_at(place), pair);
     }
+    // A key that differs in its last byte alone, one that differs at the end of its first half, and a shorter one.
+    let mut bytes = [b'-'; 56];
+    bytes[0] = b'a';
+    assert_eq!(rt; chain.find(&Key::new(&bytes)?), Some(0));
+    bytes[55] = b'+';
     assert_eq!(rt; chain.find(&Key::new(&bytes)?), None);
-    assert_eq!(rt; chain.find(&key_of(&rt, b'a', 55)?), None);
+    bytes[55] = b'-';
+    bytes[31] = b'+';
+    assert_eq!(rt; chain.find(&Key::new(&bytes)?), None);
+    assert_eq!(rt; chain.find(&key_of(b'a', 55)?), None);
     Ok(())
 }
 
 #[test]
 fn a_delete_moves_a_record_to_another_unit(rt: HostRuntime) -> Result<(), Fail> {
     let mut chain = Chain::new(rt.alloc(), 24)?;
-    let mut pairs = mixed(&rt, b"abcdefghijklm")?;
-    add_all(&rt, &mut chain, &pairs)?;
-    for place in [0, 11, 3, 4, 7, 1, 5, 0, 4, 2, 0, 1, 0] {
-        assert!(rt; place < chain.len() && place < pairs.len());
-        let removed = pairs.swap_remove(place);
-        assert_eq!(rt; chain.find(&removed.key), Some(place));
-        assert_eq!(rt; chain.remove(place), removed);
-        assert_eq!(rt; chain.find(&removed.key), None);
-        expect_pairs(&rt, &chain, &pairs);
+    let mut letters = *b"abcdefghijklm";
+    add_records(&rt, &mut chain, &letters)?;
+    for (removed, place) in [0, 11, 3, 4, 7, 1, 5, 0, 4, 2, 0, 1, 0].iter().enumerate() {
+        assert!(rt; removed < 13 && *place < 13);
+        let pair = record_of(letters[*place])?;
+        assert_eq!(rt; chain.find(&pair.key), Some(*place));
+        assert_eq!(rt; delete(&rt, &mut chain, pair.key.bytes())?, pair);
+        letters[*place] = letters[12 - removed];
+        expect_records(&rt, &chain, &letters[..12 - removed])?;
     }
     assert_eq!(rt; chain.len(), 0);
-    let again = mixed(&rt, b"nop")?;
-    add_all(&rt, &mut chain, &again)?;
-    expect_pairs(&rt, &chain, &again);
-    Ok(())
+    add_records(&rt, &mut chain, b"nop")?;
+    expect_records(&rt, &chain, b"nop")
 }
 
 #[test]
 fn a_split_takes_long_values_along(rt: HostRuntime) -> Result<(), Fail> {
-    let mut letters = Vec::new(rt.alloc());
-    for letter in b'A'..=b'Z' {
-        letters.push(letter)?;
-    }
-    for letter in b'a'..=b'z' {
-        letters.push(letter)?;
-    }
-    let pairs = mixed(&rt, &letters)?;
+    let letters = b"ABCDEFGHIJKLMNOPQRSTUVWXYZabcdefghijklmnopqrstuvwxyz";
     let mut chain = Chain::new(rt.alloc(), 24)?;
-    add_all(&rt, &mut chain, &pairs)?;
+    add_records(&rt, &mut chain, letters)?;
     assert_eq!(rt; chain.pages(), 3);
-    expect_pairs(&rt, &chain, &pairs);
+    expect_records(&rt, &chain, letters)?;
     let gone = match chain.split_off(&Early) {
         Ok(gone) => gone,
         Err(Memory) => {
-            expect_pairs(&rt, &chain, &pairs);
+            expect_records(&rt, &chain, letters)?;
             chain.split_off(&Early)?
         }
     };
-    // Of 52 letters 32 are below `g`: the second part is the smaller one.
-    assert_eq!(rt; pairs.len(), 52);
-    let (early, late) = pairs.split_at(32);
-    expect_pairs(&rt, &gone, early);
-    expect_pairs(&rt, &chain, late);
-    Ok(())
+    // Those below `g` are more than half.
+    expect_records(&rt, &gone, b"ABCDEFGHIJKLMNOPQRSTUVWXYZabcdef")?;
+    expect_records(&rt, &chain, b"ghijklmnopqrstuvwxyz")
 }
