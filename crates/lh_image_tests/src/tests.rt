@@ -2,9 +2,12 @@
 mod building;
 mod census;
 mod faults;
+mod faults_2;
 mod memory;
+mod old_limits;
 mod pages;
 mod reading;
 mod round_trip;
 mod streams;
+mod version_2;
 mod writing;

@@ -9,7 +9,6 @@ use Rattle.lh_image.specs.declared.fault.ImageFault.{ImageFault}
 use Rattle.lh_image.specs.declared.fault.ImageFault.TheVariants.{ReadFault, Memory}
 use Rattle.lh_image.specs.declared.fault.WriteImageFault.{WriteImageFault}
 use Rattle.lh_image.specs.declared.fault.WriteImageFault.TheVariants.{OldCapacity, OldRecord, TooLarge, WriteFault, Memory as MemoryToWrite}
-use Rattle.lh_image.specs.declared.reading.first_page.Header.{Header}
 use Rattle.lh_image.specs.declared.version.Version.TheVariants.{Two}
 use Rattle.lh_image.specs.Canonical.{canonical, page_total}
 use Rattle.lh_image.specs.Census.{census_of}
@@ -138,7 +137,7 @@ migrated listing (Some input) before now shows h = (canonical Two listing, image
 few_pages : CensusLaw → (input : List ℕ) (l : Lists) → IsImage input l → page_total l ≤ most_pages
 few_pages census input l image =
     let pages : page_total l ≡ page_count (view_of input) = ap (λ (c : Census). c.pages) (census input l image) in
-    let count : page_count (view_of input) ≡ image.0 = ap (λ (h : Header). h.pages) image.2.shown.header in
+    let count : page_count (view_of input) ≡ image.0 = ap (λ h. h.pages) image.2.shown.header in
     omega (arith, pages, count, image.2.shown.few)
 
 -- a write of it failed: it is neither too large nor too wide

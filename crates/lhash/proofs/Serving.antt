@@ -81,8 +81,10 @@ driven words status left rest before now settings (Some n) counted asks given wi
     served words status left rest before now (codes "drive") (request.Drive settings n) (EndsDriving settings)
     (λ h. h) (λ input keeps. keeps) asks (drive (codes "drive") _ _ _ settings n refl given counted within) run
 driven words status left rest before now settings None counted asks given within (inl run) =
-    let none = undriven (codes "drive") _ _ _ settings refl given counted within in
+    let none : asked_by (codes "drive") (settings_given words) (number_given words (codes "threads")) (number_given words (codes "image")) ≡ None =
+    undriven (codes "drive") _ _ _ settings refl given counted within in
     let some = asked_named words (codes "drive") run.0 asks run.1 in
+    let apart : Some run.0 ≡ None = sym some ∙ none in
     absurd cc
 driven words status left rest before now settings None counted asks given within (inr run) =
     unwritten (EndsDriving settings) status left before now (λ input keeps. keeps) run.0 run.2

@@ -3,7 +3,7 @@ use crate::tests::streams::reader_of;
 use lh_addr::{Config, Root, fnv1a};
 use lh_bucket::Listing;
 use lh_image::*;
-use lh_page::{Key, Page, PageKind, Pair, Pairs, Value, page_to_bytes};
+use lh_page::{Key, Pair, Value};
 use std::alloc::Global;
 use std::process::Abort;
 use std::test::Fail;
@@ -102,15 +102,15 @@ pub(crate) fn put_all(bytes: &mut [u8], parts: &[Part]) {
     }
 }
 
-/// So many pages, zero but for these parts.
-pub(crate) fn image_of(alloc: Global, pages: usize, parts: &[Part]) -> Result<Vec<u8>, Fail> {
+/// So many bytes, zero but for these parts.
+pub(crate) fn image_of(alloc: Global, size: usize, parts: &[Part]) -> Result<Vec<u8>, Fail> {
     let mut bytes = Vec::new(alloc);
-    bytes.resize(pages.saturating_mul(1024), 0)?;
+    bytes.resize(size, 0)?;
     put_all(bytes.as_mut_slice(), parts);
     Ok(bytes)
 }
 
-/// The bytes of the image of [`empty`].
+/// The bytes of the image of version 1 of [`empty`].
 pub(crate) fn empty_image(alloc: Global) -> Result<Vec<u8>, Fail> {
     let parts: [Part; 2] = [
         (
@@ -119,7 +119,7 @@ pub(crate) fn empty_image(alloc: Global) -> Result<Vec<u8>, Fail> {
         ),
         (1024, b"\x01"),
     ];
-    image_of(alloc, 2, &parts)
+    image_of(alloc, 2048, &parts)
 }
 
 /// What is not zero in the image of [`three_buckets`].
@@ -146,9 +146,9 @@ pub(crate) const THREE_BUCKETS: &[Part] = &[
     (3120, b"\x33"),
 ];
 
-/// The bytes of the image of [`three_buckets`].
+/// The bytes of the image of version 1 of [`three_buckets`].
 pub(crate) fn three_buckets_image(alloc: Global) -> Result<Vec<u8>, Fail> {
-    image_of(alloc, 4, THREE_BUCKETS)
+    image_of(alloc, 4096, THREE_BUCKETS)
 }
 
 /// What is not zero in the image of [`two_pages`].
@@ -167,9 +167,9 @@ pub(crate) const TWO_PAGES: &[Part] = &[
     (2168, b"\x34"),
 ];
 
-/// The bytes of the image of [`two_pages`].
+/// The bytes of the image of version 1 of [`two_pages`].
 pub(crate) fn two_pages_image(alloc: Global) -> Result<Vec<u8>, Fail> {
-    image_of(alloc, 3, TWO_PAGES)
+    image_of(alloc, 3072, TWO_PAGES)
 }
 
 /// The bytes of keys and values of a bucket, in their order.

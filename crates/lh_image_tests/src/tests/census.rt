@@ -1,6 +1,6 @@
 //! Censuses of worked images.
 use crate::tests::building::{empty_image, three_buckets_image, two_pages_image};
-use crate::tests::pages::falling_chain;
+use crate::tests::pages::{VERSION_1, falling_chain};
 use crate::tests::streams::reader_of;
 use lh_image::*;
 use std::alloc::Global;
@@ -8,7 +8,7 @@ use std::process::Abort;
 use std::test::Fail;
 
 /// The census of an image, which is asked for once more where memory was refused.
-fn expect_census(rt: &impl Abort, alloc: Global, bytes: &[u8], wanted: Census) {
+pub(crate) fn expect_census(rt: &impl Abort, alloc: Global, bytes: &[u8], wanted: Census) {
     let mut found = check_image(alloc, &mut reader_of(bytes, 1024));
     if found == Err(ImageFault::Memory) {
         found = check_image(alloc, &mut reader_of(bytes, 1024));
@@ -72,6 +72,11 @@ fn a_chain_of_300_pages(rt: HostRuntime) -> Result<(), Fail> {
         overflow: 299,
         longest: 300,
     };
-    expect_census(&rt, rt.alloc(), &falling_chain(rt.alloc(), 300)?, census);
+    expect_census(
+        &rt,
+        rt.alloc(),
+        &falling_chain(rt.alloc(), &VERSION_1, 300)?,
+        census,
+    );
     Ok(())
 }

@@ -1,6 +1,6 @@
-//! Forged images, each with the first of its faults.
+//! Forged images of version 1, each with the first of its faults.
 use crate::tests::building::{read_again, three_buckets_image, two_pages_image};
-use crate::tests::pages::{falling_chain, four_pages, set, two_buckets};
+use crate::tests::pages::{VERSION_1, falling_chain, four_pages, set, two_buckets};
 use crate::tests::streams::reader_of;
 use lh_image::*;
 use std::alloc::Global;
@@ -8,7 +8,7 @@ use std::process::Abort;
 use std::test::Fail;
 
 /// The fault of bytes, if they have one.
-fn fault_of(alloc: Global, bytes: &[u8]) -> Option<ImageFault> {
+pub(crate) fn fault_of(alloc: Global, bytes: &[u8]) -> Option<ImageFault> {
     read_again(alloc, bytes).err()
 }
 
@@ -22,7 +22,7 @@ fn forged(bytes: &Vec<u8>, changes: &[(usize, u8)]) -> Result<Vec<u8>, Fail> {
 }
 
 /// Each row: the bytes that are set, and the fault that is due, of the listing and of the census.
-fn expect_faults(
+pub(crate) fn expect_faults(
     rt: &impl Abort,
     alloc: Global,
     bytes: &Vec<u8>,
@@ -158,10 +158,10 @@ fn chain_faults(rt: HostRuntime) -> Result<(), Fail> {
             ),
         ],
     )?;
-    let bytes = four_pages(rt.alloc())?;
+    let bytes = four_pages(rt.alloc(), &VERSION_1)?;
     let apart: [(usize, u8); 2] = [(2056, 0), (4104, 3)];
     expect_faults(&rt, rt.alloc(), &bytes, &[(&apart, ImageFault::Never(3))])?;
-    let bytes = two_buckets(rt.alloc())?;
+    let bytes = two_buckets(rt.alloc(), &VERSION_1)?;
     expect_faults(
         &rt,
         rt.alloc(),
@@ -179,7 +179,7 @@ fn chain_faults(rt: HostRuntime) -> Result<(), Fail> {
 /// All overflow pages on no chain: as a row that ends, and as a loop.
 #[test]
 fn overflow_pages_apart(rt: HostRuntime) -> Result<(), Fail> {
-    let bytes = falling_chain(rt.alloc(), 300)?;
+    let bytes = falling_chain(rt.alloc(), &VERSION_1, 300)?;
     expect_faults(
         &rt,
         rt.alloc(),

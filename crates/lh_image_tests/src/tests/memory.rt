@@ -2,6 +2,7 @@
 //! themselves take no memory.
 use crate::tests::building::{THREE_BUCKETS, TWO_PAGES, put_all};
 use crate::tests::streams::reader_of;
+use crate::tests::version_2::THREE_BUCKETS_2;
 use lh_image::*;
 use std::alloc::Global;
 use std::process::Abort;
@@ -23,6 +24,16 @@ fn refused_growth_is_told(rt: HostRuntime) {
     put_all(&mut bytes, THREE_BUCKETS);
     expect(&rt, rt.alloc(), &bytes, None);
     bytes[1042] = b'b';
+    expect(&rt, rt.alloc(), &bytes, Some(ImageFault::Misfit(1)));
+}
+
+/// The same of version 2.
+#[test]
+fn refused_growth_is_told_of_version_2(rt: HostRuntime) {
+    let mut bytes = [0; 16_384];
+    put_all(&mut bytes, THREE_BUCKETS_2);
+    expect(&rt, rt.alloc(), &bytes, None);
+    bytes[4114] = b'b';
     expect(&rt, rt.alloc(), &bytes, Some(ImageFault::Misfit(1)));
 }
 

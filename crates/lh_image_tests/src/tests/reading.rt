@@ -3,7 +3,7 @@ use crate::tests::building::{
     empty, empty_image, expect_same, read_again, shown, three_buckets, three_buckets_image,
     two_pages, two_pages_image,
 };
-use crate::tests::pages::{falling_chain, set, two_buckets_exchanged};
+use crate::tests::pages::{VERSION_1, falling_chain, set, two_buckets_exchanged};
 use crate::tests::streams::reader_of;
 use lh_bucket::Listing;
 use lh_image::*;
@@ -102,7 +102,7 @@ fn a_failed_read_is_never_tried_again(rt: HostRuntime) -> Result<(), Fail> {
 #[test]
 fn overflow_pages_in_any_order(rt: HostRuntime) -> Result<(), Fail> {
     let alloc = rt.alloc();
-    let listing = read_again(alloc, &two_buckets_exchanged(alloc)?)?;
+    let listing = read_again(alloc, &two_buckets_exchanged(alloc, &VERSION_1)?)?;
     assert!(rt; *shown(alloc, &listing, 0)?.as_slice() == *b"a1c3".as_slice());
     assert!(rt; *shown(alloc, &listing, 1)?.as_slice() == *b"b2d4".as_slice());
     Ok(())
@@ -110,7 +110,7 @@ fn overflow_pages_in_any_order(rt: HostRuntime) -> Result<(), Fail> {
 
 #[test]
 fn long_chain(rt: HostRuntime) -> Result<(), Fail> {
-    let listing = read_again(rt.alloc(), &falling_chain(rt.alloc(), 300)?)?;
+    let listing = read_again(rt.alloc(), &falling_chain(rt.alloc(), &VERSION_1, 300)?)?;
     assert!(rt; listing.buckets() == 1);
     assert!(rt; listing.len_of(0) == 300);
     assert_eq!(rt;

@@ -2,7 +2,7 @@
 use crate::tests::building::{
     empty, expect_same, listing_of, numbered, read_again, six_pages, three_buckets, two_pages,
 };
-use crate::tests::pages::{two_buckets, two_buckets_exchanged};
+use crate::tests::pages::{VERSION_1, VERSION_2, two_buckets, two_buckets_exchanged};
 use crate::tests::streams::Sink;
 use lh_bucket::Listing;
 use lh_image::*;
@@ -10,20 +10,31 @@ use std::alloc::Global;
 use std::process::Abort;
 use std::test::Fail;
 
+/// Writes a listing as an image of version 1 or 2.
+fn send(version: u32, listing: &Listing, sink: &mut Sink) -> Result<(), WriteImageFault> {
+    if version == 1 {
+        write_image_v1(listing, sink)
+    } else {
+        write_image(listing, sink)
+    }
+}
+
 /// The image of a listing.
-fn written(rt: &impl Abort, alloc: Global, listing: &Listing) -> Vec<u8> {
+fn written(rt: &impl Abort, alloc: Global, version: u32, listing: &Listing) -> Vec<u8> {
     let mut sink = Sink::new(alloc, usize::MAX, 0);
-    if write_image(listing, &mut sink).is_err() {
+    if send(version, listing, &mut sink).is_err() {
         sink = Sink::new(alloc, usize::MAX, 0);
-        assert_eq!(rt; write_image(listing, &mut sink), Ok(()));
+        assert_eq!(rt; send(version, listing, &mut sink), Ok(()));
     }
     sink.bytes
 }
 
-/// A listing is written and read back, where each allocation may be refused once.
+/// A listing is written and read back in either version, where each allocation may be refused once.
 fn reads_back(rt: &impl Abort, alloc: Global, listing: &Listing) -> Result<(), Fail> {
-    let image = written(rt, alloc, listing);
-    expect_same(rt, &read_again(alloc, &image)?, listing);
+    for version in 1..=2 {
+        let image = written(rt, alloc, version, listing);
+        expect_same(rt, &read_again(alloc, &image)?, listing);
+    }
     Ok(())
 }
 
@@ -57,8 +68,23 @@ fn large_files_read_back(rt: HostRuntime) -> Result<(), Fail> {
 #[test]
 fn exchanged_pages_are_written_in_order(rt: HostRuntime) -> Result<(), Fail> {
     let alloc = rt.alloc();
-    let listing = read_again(alloc, &two_buckets_exchanged(alloc)?)?;
-    let image = written(&rt, alloc, &listing);
-    assert_eq!(rt; image.as_slice(), two_buckets(alloc)?.as_slice());
+    for (version, shape) in [(1, VERSION_1), (2, VERSION_2)] {
+        let listing = read_again(alloc, &two_buckets_exchanged(alloc, &shape)?)?;
+        let image = written(&rt, alloc, version, &listing);
+        assert_eq!(rt; image.as_slice(), two_buckets(alloc, &shape)?.as_slice());
+    }
+    Ok(())
+}
+
+/// An image of one version is written in the other.
+#[test]
+fn versions_are_exchanged(rt: HostRuntime) -> Result<(), Fail> {
+    let alloc = rt.alloc();
+    let old = two_buckets(alloc, &VERSION_1)?;
+    let new = two_buckets(alloc, &VERSION_2)?;
+    let from_old = written(&rt, alloc, 2, &read_again(alloc, &old)?);
+    assert_eq!(rt; from_old.as_slice(), new.as_slice());
+    let from_new = written(&rt, alloc, 1, &read_again(alloc, &new)?);
+    assert_eq!(rt; from_new.as_slice(), old.as_slice());
     Ok(())
 }

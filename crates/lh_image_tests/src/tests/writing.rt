@@ -17,7 +17,7 @@ fn is_written_as(
 ) -> Result<(), Fail> {
     for at_once in [usize::MAX, 1, 7, 1024] {
         let mut sink = Sink::new(rt.alloc(), at_once, 0);
-        assert_eq!(rt; write_image(listing, &mut sink), Ok(()));
+        assert_eq!(rt; write_image_v1(listing, &mut sink), Ok(()));
         assert_eq!(rt; sink.bytes.as_slice(), image);
         assert!(rt; sink.longest <= 1024);
     }
@@ -47,7 +47,7 @@ fn overflow_pages_stand_by_bucket_and_place(rt: HostRuntime) -> Result<(), Fail>
     let alloc = rt.alloc();
     let listing = six_pages(alloc)?;
     let mut sink = Sink::new(alloc, usize::MAX, 0);
-    assert_eq!(rt; write_image(&listing, &mut sink), Ok(()));
+    assert_eq!(rt; write_image_v1(&listing, &mut sink), Ok(()));
     let image = sink.bytes.as_slice();
     assert_eq!(rt; image.len(), 7 * 1024);
     // kind, used, level, reserved, bucket, next
@@ -75,7 +75,7 @@ fn a_write_or_flush_that_fails_is_told(rt: HostRuntime) -> Result<(), Fail> {
     for failing in 1..8_usize {
         let mut sink = Sink::new(alloc, 512, failing);
         assert_eq!(rt;
-            write_image(&listing, &mut sink),
+            write_image_v1(&listing, &mut sink),
             Err(WriteImageFault::WriteFault)
         );
         assert_eq!(rt; sink.calls, failing);
@@ -85,7 +85,7 @@ fn a_write_or_flush_that_fails_is_told(rt: HostRuntime) -> Result<(), Fail> {
         );
     }
     let mut sink = Sink::new(alloc, 512, 8);
-    assert_eq!(rt; write_image(&listing, &mut sink), Ok(()));
+    assert_eq!(rt; write_image_v1(&listing, &mut sink), Ok(()));
     Ok(())
 }
 
@@ -94,7 +94,7 @@ fn a_writer_that_takes_nothing_fails(rt: HostRuntime) -> Result<(), Fail> {
     let listing = two_pages(rt.alloc())?;
     let mut sink = Sink::new(rt.alloc(), 0, 0);
     assert_eq!(rt;
-        write_image(&listing, &mut sink),
+        write_image_v1(&listing, &mut sink),
         Err(WriteImageFault::WriteFault)
     );
     assert_eq!(rt; sink.calls, 1);

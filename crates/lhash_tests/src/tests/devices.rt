@@ -215,7 +215,7 @@ fn faults_of_the_first_page_come_before_a_failed_read(rt: HostRuntime) -> Result
     let image = built(&rt, FIVE_WORDS, FIVE)?;
     // The magic, the initial number of buckets, and the number of records.
     let faults = [
-        (3, b'2', "image I1"),
+        (3, b'3', "image I1"),
         (4, 0, "image I2 at offset 4"),
         (28, 7, "image I3"),
     ];

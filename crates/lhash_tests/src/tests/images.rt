@@ -202,7 +202,8 @@ fn an_image_has_a_greatest_number_of_pages(rt: HostRuntime) -> Result<(), Fail> 
 #[test]
 fn an_image_of_many_pages_is_read(rt: HostRuntime) -> Result<(), Fail> {
     let script = inserts(&rt, 110_000)?;
-    let image = built(&rt, &["lhash", "build", "--capacity", "1"], script.as_str())?;
+    let words = ["lhash", "build", "--capacity", "1", "--image", "1"];
+    let image = built(&rt, words.as_slice(), script.as_str())?;
     let (code, census, _) = ran(&rt, &["lhash", "check"], &image)?;
     assert!(rt; code == 0 && census.starts_with(b"buckets 65536\n"));
     Ok(())
