@@ -1,13 +1,19 @@
 //! Pages and their bytes.
+ghost use Rattle.std.specs.Prelude.{IfOk};
+ghost use Rattle.lh_page.specs.Format.{version_1, FitsFormat};
+
 use crate::tests::records::pair_of;
 use crate::{
     Page, PageFault, PageHead, PageKind, Pairs, page_from_bytes, page_head, page_to_bytes,
     page2_from_bytes, page2_head, page2_to_bytes,
 };
+use std::process::Abort;
 use std::test::Fail;
 
 /// The primary page of bucket 0 at level 2, with a and e.
-fn worked_page() -> Result<Page, Fail> {
+fn worked_page() -> Result<Page, Fail>
+    ensures { IfOk result (λ page. FitsFormat version_1 page.pairs) }
+{
     let mut pairs = Pairs::new();
     pairs.push(pair_of(b"a", b"1")?);
     pairs.push(pair_of(b"e", b"5")?);
@@ -43,9 +49,10 @@ fn worked_bytes_2() -> [u8; 4096] {
 }
 
 /// A page of 24 records of the longest keys and values.
-fn full_page() -> Result<Page, Fail> {
+fn full_page(rt: &impl Abort) -> Result<Page, Fail> {
     let mut pairs = Pairs::new();
     for record in 0..24 {
+        assert!(rt; pairs.len() < 24);
         pairs.push(pair_of(&[record + 1; 56], &[record; 112])?);
     }
     Ok(Page {
@@ -62,7 +69,7 @@ fn writes_and_reads_the_worked_bytes_of_version_2(rt: HostRuntime) -> Result<(),
     let page = worked_page()?;
     assert_eq!(rt; page2_to_bytes(&page), worked_bytes_2());
     assert_eq!(rt; page2_from_bytes(&worked_bytes_2(), 2), Ok(page));
-    let full = full_page()?;
+    let full = full_page(&rt)?;
     let bytes = page2_to_bytes(&full);
     assert_eq!(rt;
         &bytes[..18],
