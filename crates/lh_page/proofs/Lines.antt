@@ -62,11 +62,6 @@ set_line hot cold i line row near =
     ap (records_in (set hot i line)) (sym (set-get_or cold i [])) ∙ (records_in-set hot cold i line (get_or cold i [])
     ∙ ap (λ v. set (records_in hot cold) i (record { key = key_in line; value = v })) (value_in-near line (get_or cold i []) near ∙ sym (value_in-near line row near)))
 
-pub length-records_in : (hot : List Line) (cold : List (List ℕ)) → length hot ≡ length cold → length (records_in hot cold) ≡ length hot
-length-records_in [] cold e = refl
-length-records_in (x ∷ xs) [] e = absurd (omega arith)
-length-records_in (x ∷ xs) (y ∷ ys) e = ap suc (length-records_in xs ys (omega arith))
-
 pub unit_set : (hot : List Line) (cold : List (List ℕ)) (i : ℕ) (line : Line) (row : List ℕ) → IsUnit hot cold → IsLine line → IsUnit (set hot i line) (set cold i row)
 unit_set hot cold i line row h sound = record {
   lines = length-set hot i line ∙ h.lines;

@@ -1,14 +1,13 @@
 -- The place of a key in a list of records.
-use Rattle.std.proofs.Common.{◌≡◌, ◌≢◌, ℕ, ◌<◌, ◌≤◌, Bool, true, false, cond, List, length, get_or, Option, Some, None, sym, ap, ◌∙◌, arith}
+use Rattle.std.proofs.Common.{◌≡◌, ◌≢◌, ℕ, ◌≤◌, Bool, true, false, cond, List, length, Option, Some, None, sym, arith}
 use Rattle.std.specs.List.{position_or_len}
 use Rattle.std.specs.Str.{bytes_eq}
 use Rattle.std.specs.Option.{IfSome, IfNone}
 use Rattle.std.proofs.lemmas.Bool.{false_from_ne_true, lt-ltb, le-ltb, ltb-false, both_ways}
-use Rattle.std.proofs.lemmas.List.{get_or_default}
 use Rattle.std.proofs.lemmas.List.Sums.{position_or_len_is, fails_before_first}
 use Rattle.std.proofs.lemmas.Slice.Eq.{bytes_eq-Decides}
 use Rattle.lh_page.specs.declared.pair.Pair.{Pair}
-use Rattle.lh_page.specs.Records.{place_of, no_pair, key_at, AbsentBelow, StandsFirst}
+use Rattle.lh_page.specs.Records.{place_of, no_pair, AbsentBelow, StandsFirst}
 
 has_key : List ℕ → Pair → Bool
 has_key key p = bytes_eq p.key key
@@ -48,13 +47,3 @@ absent_from_None pairs key e k below _ same =
 pub place_of-told : (pairs : List Pair) (key : List ℕ) (r : Option ℕ) → IfSome r (λ i. StandsFirst pairs i key) → IfNone r (AbsentBelow pairs (length pairs) key) → r ≡ place_of pairs key
 place_of-told pairs key (Some i) found absent = sym (place_of-found pairs key i found)
 place_of-told pairs key None found absent = sym (place_of-absent pairs key absent)
-
--- the record that a loop read has another key
-pub other_key : (pairs : List Pair) (i : ℕ) (p : Pair) (key : List ℕ) → i < length pairs → bytes_eq (get_or pairs i p).key key ≡ false → key_at pairs i ≢ key
-other_key pairs i p key within differ same =
-    both_ways _ differ (bytes_eq-same _ _ (ap (λ (q : Pair). q.key) (get_or_default pairs i p no_pair within) ∙ same))
-
--- the record that a loop read has the key
-pub same_key : (pairs : List Pair) (i : ℕ) (p : Pair) (key : List ℕ) → i < length pairs → bytes_eq (get_or pairs i p).key key ≡ true → key_at pairs i ≡ key
-same_key pairs i p key within same =
-    ap (λ (q : Pair). q.key) (get_or_default pairs i no_pair p within) ∙ (bytes_eq-Decides (get_or pairs i p).key key).0 same

@@ -1,10 +1,10 @@
 -- Full units one after another: the place of a row, a write of a row, a unit more.
 use Rattle.std.proofs.Common.{◌≡◌, ℕ, zero, suc, ◌+◌, ◌-◌, ◌*◌, ◌/◌, ◌%◌, ◌<◌, ◌≤◌, List, [], ◌∷◌, ◌++◌, length, take, get_or, set, refl, sym, ap, ◌∙◌, arith, length-append, length-take-le}
 use Rattle.std.specs.List.{swap_remove}
-use Rattle.std.proofs.lemmas.List.{get_or_append_left, get_or-append_right, set-append_left, set-append_right, take-append-le, get_or-take, take-take, take_more_set, length-set}
+use Rattle.std.proofs.lemmas.List.{get_or_append_left, get_or-append_right, set-append_left, set-append_right, take-append-le, get_or-take, take-take, take_more_set}
 use Rattle.std.proofs.Math.Seq.{take-set-lt}
 use Rattle.std.proofs.lemmas.List.Concat.{flat_map-append}
-use Rattle.std.proofs.lemmas.List.Elements.{All-head, All-tail, All-set, All-get_or}
+use Rattle.std.proofs.lemmas.List.Elements.{All-head, All-tail}
 use Rattle.lh_page.specs.declared.pair.Pair.{Pair}
 use Rattle.lh_page.specs.Lines.{AreUnits}
 use Rattle.lh_page.specs.PackedList.{joined}
@@ -86,11 +86,6 @@ push-first n units was unit p h within at is =
 pub more-first : (n : ℕ) (units : List (List Pair)) (unit : List Pair) → AreUnits units → n ≤ 4 * length units → take n (joined (units ++ unit ∷ [])) ≡ take n (joined units)
 more-first n units unit h within =
     ap (take n) (flat_map-append (λ (page : List Pair). page) units (unit ∷ [])) ∙ take-append-le n (joined units) (joined (unit ∷ [])) (omega (arith, length-joined units h))
-
--- a unit that was written is full
-pub units-set : (units : List (List Pair)) (i r : ℕ) (was unit : List Pair) (p : Pair) → AreUnits units → i < length units → was ≡ get_or units i was → unit ≡ set was r p → AreUnits (set units i unit)
-units-set units i r was unit p h within at is =
-    All-set IsFull units i unit (ap length is ∙ (length-set was r p ∙ (ap length at ∙ All-get_or IsFull units i was within h))) h
 
 -- the last record moved into a hole
 pub remove-first : (n : ℕ) (units : List (List Pair)) (i : ℕ) (was unit : List Pair) (p q : Pair) → AreUnits units → n ≤ 4 * length units → i < n → was ≡ get_or units (i / 4) was → unit ≡ set was (i % 4) q →

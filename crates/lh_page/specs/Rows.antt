@@ -1,4 +1,4 @@
--- Rows of bytes: zeros, zeros behind other bytes, fields, and the rows in which a chain keeps keys and values.
+-- Rows of bytes: zeros, zeros behind other bytes, fields, and the rows in which keys and values are kept.
 use Rattle.std.specs.Prelude.{◌≡◌, ℕ, ◌-◌, List, ◌++◌, length, take, drop, replicate}
 use Rattle.lh_page.specs.Limits.{longest_key, longest_value}
 
@@ -18,10 +18,10 @@ IsRow n k row = (length row ≡ n) × (drop k row ≡ zeros (n - k))
 abbrev pub field : List ℕ → ℕ → ℕ → List ℕ
 field bytes offset size = take size (drop offset bytes)
 
--- the bytes of memory that each record of a chain has for its key
+-- the bytes of memory of a key
 abbrev pub key_room : ℕ
 key_room = longest_key
 
--- the bytes of memory that each record of a chain has for its value
+-- the bytes of memory of a value
 abbrev pub value_room : ℕ
 value_room = longest_value

@@ -76,6 +76,7 @@ pub fn copied(alloc: Global, pairs: &[Pair]) -> Result<RecordList, Memory>
 
 /// Divides records into those whose keys are in a set and the others. Each part gets the memory of as many units
 /// as half of the records fill, and more where it has more of them.
+#[tactic(auto, using(crate::proofs::Parts::filter_taken, crate::proofs::Parts::filter_left))]
 pub fn divided<S: KeySet>(alloc: Global, pairs: &RecordList, keys: &S) -> Result<Division, Memory>
     ensures gone { IfOk result (λ parts. parts.gone ≡ filter (λ p. S.member keys.now p.key) pairs.now) }
     ensures kept { IfOk result (λ parts. parts.kept ≡ filter (λ p. not (S.member keys.now p.key)) pairs.now) }

@@ -1,13 +1,13 @@
-//! Rows of bytes in which a chain keeps keys and values.
+//! Rows of bytes in which keys and values are kept.
 ghost use Rattle.std.specs.Prelude.{◌≡◌, ◌≤◌, ◌-◌, length, take, drop};
 ghost use Rattle.lh_page.specs.Rows.{zeros};
 
 use crate::limits::{LONGEST_KEY, LONGEST_VALUE};
 
-/// The bytes of memory that each record of a chain has for its key.
+/// The bytes of memory of a key.
 pub const KEY_ROOM: usize = LONGEST_KEY;
 
-/// The bytes of memory that each record of a chain has for its value.
+/// The bytes of memory of a value.
 pub const VALUE_ROOM: usize = LONGEST_VALUE;
 
 /// A row that begins with these bytes and has zeros behind them.
