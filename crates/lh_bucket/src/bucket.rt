@@ -27,7 +27,7 @@ pub trait Bucket: Drop {
     ghost seen: { Self → Seen };
 
     /// An empty bucket of a file that began with `initial` buckets (1 to 256) and has pages of
-    /// `capacity` records (1 to 14). A bucket with a level is filled: it may hold records.
+    /// `capacity` records (1 to 24). A bucket with a level is filled: it may hold records.
     fn make(
         alloc: Global,
         initial: u32,

@@ -57,7 +57,7 @@ impl PagedBucket {
     ghost use Rattle.lh_page.specs.Records.{keys_of, key_at};
 
     /// A bucket of a file that began with `initial` buckets (1 to 256) and has pages of `capacity` records
-    /// (1 to 14). It is filled at a level of at most 16, with these records in their order. No key stands
+    /// (1 to 24). It is filled at a level of at most 16, with these records in their order. No key stands
     /// twice among them, so none is looked for.
     pub fn filled(
         alloc: Global,

@@ -35,7 +35,7 @@ fn part_of(height: u32, used: u128, slots: u128) -> u32
 /// How high the records of some slots stand, of which a page's are 40 high: to a given height at most.
 fn load_of(records: u128, slots: u128, most: u32) -> u32
     requires some { 1 ≤ slots }
-    requires records { records < 2 ^ 100 }
+    requires records { records < 2 ^ 101 }
     ensures { result ≡ load_of records slots most }
 {
     (40 * records / slots).min(u128::from(most)) as u32

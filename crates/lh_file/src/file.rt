@@ -54,7 +54,8 @@ impl<G: Gate> HashFile<G> {
         self.words.load(hand)
     }
 
-    /// Asks once for the right to split, which one hand at a time may have.
+    /// Asks once for the right to split, which one hand at a time may have. A hand that has got it is to give it back,
+    /// by [`split`](Self::split) or [`drop_right`](Self::drop_right); dropped with the right, it takes that with it.
     pub fn try_split_right(&self, hand: &mut Hand) -> Right
         requires { IsOf self.now.state hand.old }
         ensures { IsAnswer self.now.state result hand.old hand.new }
@@ -86,7 +87,8 @@ impl<G: Gate> HashFile<G> {
 
     /// Makes one hand of two: what they may do and what they did is added. The second may not have the
     /// right to split; the joined hand has it where the first had it. Where there is no memory for the
-    /// second's acts, both come back as they were.
+    /// second's acts, both come back as they were. A hand that was dropped can't be joined: its acts are missing when
+    /// the history is settled, and a right that it had is lost.
     pub fn join_hands(&self, first: Hand, second: Hand) -> Result<Hand, JoinFault>
         requires first { IsOf self.now.state first }
         requires second { IsOf self.now.state second }

@@ -21,4 +21,5 @@ mod writing;
 pub use census::{Census, check_image};
 pub use fault::{ImageFault, WriteImageFault};
 pub use reading::read_image;
+pub use version::Version;
 pub use writing::{write_image, write_image_v1};

@@ -6,9 +6,11 @@ ghost use Rattle.lh_image.specs.Version.{begins, format_of, magic, page_bytes, s
 use lh_page::format::{Format, PAGE_1, PAGE_2, VERSION_1, VERSION_2};
 
 /// A version of the image: what it begins with, and what its pages have room for.
-#[derive(Clone, Copy)]
-pub(crate) enum Version {
+#[derive(Clone, Copy, Debug, PartialEq, Eq)]
+pub enum Version {
+    /// Pages of 1,024 bytes.
     One,
+    /// Pages of 4,096 bytes.
     Two,
 }
 

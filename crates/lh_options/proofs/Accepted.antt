@@ -2,12 +2,14 @@
 use Rattle.std.proofs.Common.{◌≡◌, ◌∙◌, ◌⊎◌, ◌||◌, ℕ, zero, suc, inl, inr, Bool, true, false, refl, sym, ap, List, [], ◌∷◌, Option, Some, None, codes, arith}
 use Rattle.std.specs.Prelude.{find, option_and_then, slice_get}
 use Rattle.std.specs.Str.{bytes_eq}
+use Rattle.std.proofs.lemmas.Bool.{false≢true}
 use Rattle.std.proofs.lemmas.Slice.Eq.{bytes_eq-Decides}
 use Rattle.clap.specs.Walk.{Row, Text, nothing_held, rows_after}
 use Rattle.clap.specs.Simple.{Shape, argument_words, built, subcommand_of}
 use Rattle.clap.specs.Faults.{level_fault}
+use Rattle.lh_addr.specs.Limits.{most_initial, most_capacity, least_load, most_load, most_buckets}
 use Rattle.lh_options.specs.Options.{Accepts, commands_app, number_in, number_of, program_app, settings_from}
-use Rattle.lh_options.specs.OptionSteps.{HasSettings, HasThreads, IsFileCommand, IsImageCommand, settings_in}
+use Rattle.lh_options.specs.OptionSteps.{HasImage, HasSettings, HasThreads, IsFileCommand, IsImageCommand, settings_in}
 use Rattle.lh_options.proofs.Levels.{entered-some, find-passes}
 use Rattle.lh_options.proofs.RowLemmas.{Every, FitsHere, HasTarget, IsTarget, find-every, level-every, level-row}
 use Rattle.lh_options.proofs.NumberLemmas.{number-fits}
@@ -15,22 +17,22 @@ use Rattle.lh_options.proofs.Unlike.{unlike}
 
 -- the four options are among the rules of the subcommand, each alone with its name
 pub record HasOptions (s : Shape) : Type 0 where
-  pub initial : Every (IsTarget (codes "initial") (codes "1") 1 256) s.rules × HasTarget (codes "initial") (codes "1") 1 256 s.rules
-  pub capacity : Every (IsTarget (codes "capacity") (codes "14") 1 14) s.rules × HasTarget (codes "capacity") (codes "14") 1 14 s.rules
-  pub load : Every (IsTarget (codes "load") (codes "100") 10 200) s.rules × HasTarget (codes "load") (codes "100") 10 200 s.rules
-  pub max : Every (IsTarget (codes "max") (codes "65536") 1 65536) s.rules × HasTarget (codes "max") (codes "65536") 1 65536 s.rules
+  pub initial : Every (IsTarget (codes "initial") (codes "1") 1 most_initial) s.rules × HasTarget (codes "initial") (codes "1") 1 most_initial s.rules
+  pub capacity : Every (IsTarget (codes "capacity") (codes "14") 1 most_capacity) s.rules × HasTarget (codes "capacity") (codes "14") 1 most_capacity s.rules
+  pub load : Every (IsTarget (codes "load") (codes "100") least_load most_load) s.rules × HasTarget (codes "load") (codes "100") least_load most_load s.rules
+  pub max : Every (IsTarget (codes "max") (codes "65536") 1 most_buckets) s.rules × HasTarget (codes "max") (codes "65536") 1 most_buckets s.rules
 
 settings-after : (s : Shape) → HasOptions s → (words : List Text) → level_fault s [] nothing_held words false [] ≡ [] → HasSettings (rows_after s.rules [] words)
 settings-after s h words e =
-    let initial = level-row (codes "initial") (codes "1") 1 256 s h.initial.0 h.initial.1 [] words false [] e in
-    let capacity = level-row (codes "capacity") (codes "14") 1 14 s h.capacity.0 h.capacity.1 [] words false [] e in
-    let load = level-row (codes "load") (codes "100") 10 200 s h.load.0 h.load.1 [] words false [] e in
-    let max = level-row (codes "max") (codes "65536") 1 65536 s h.max.0 h.max.1 [] words false [] e in
+    let initial = level-row (codes "initial") (codes "1") 1 most_initial s h.initial.0 h.initial.1 [] words false [] e in
+    let capacity = level-row (codes "capacity") (codes "14") 1 most_capacity s h.capacity.0 h.capacity.1 [] words false [] e in
+    let load = level-row (codes "load") (codes "100") least_load most_load s h.load.0 h.load.1 [] words false [] e in
+    let max = level-row (codes "max") (codes "65536") 1 most_buckets s h.max.0 h.max.1 [] words false [] e in
     record {
-      initial = number-fits (codes "initial") (codes "1") 1 256 (omega arith) _ initial.0 initial.1 initial.2;
-      capacity = number-fits (codes "capacity") (codes "14") 1 14 (omega arith) _ capacity.0 capacity.1 capacity.2;
-      load = number-fits (codes "load") (codes "100") 10 200 (omega arith) _ load.0 load.1 load.2;
-      max = number-fits (codes "max") (codes "65536") 1 65536 (omega arith) _ max.0 max.1 max.2;
+      initial = number-fits (codes "initial") (codes "1") 1 most_initial (omega arith) _ initial.0 initial.1 initial.2;
+      capacity = number-fits (codes "capacity") (codes "14") 1 most_capacity (omega arith) _ capacity.0 capacity.1 capacity.2;
+      load = number-fits (codes "load") (codes "100") least_load most_load (omega arith) _ load.0 load.1 load.2;
+      max = number-fits (codes "max") (codes "65536") 1 most_buckets (omega arith) _ max.0 max.1 max.2;
     }
 
 -- an option that is none of the rules has no row, and so no number
@@ -93,14 +95,17 @@ steps-options = record {
 
 build-options : HasOptions build_built
 build-options = record {
-  initial = (((λ _. refl), ((λ h. cc), ((λ h. cc), ((λ h. cc), ((λ h. cc), tt))))), inl refl);
-  capacity = (((λ h. cc), ((λ _. refl), ((λ h. cc), ((λ h. cc), ((λ h. cc), tt))))), inr (inl refl));
-  load = (((λ h. cc), ((λ h. cc), ((λ _. refl), ((λ h. cc), ((λ h. cc), tt))))), inr (inr (inl refl)));
-  max = (((λ h. cc), ((λ h. cc), ((λ h. cc), ((λ _. refl), ((λ h. cc), tt))))), inr (inr (inr (inl refl))));
+  initial = (((λ _. refl), ((λ h. cc), ((λ h. cc), ((λ h. cc), ((λ h. cc), ((λ h. cc), tt)))))), inl refl);
+  capacity = (((λ h. cc), ((λ _. refl), ((λ h. cc), ((λ h. cc), ((λ h. cc), ((λ h. cc), tt)))))), inr (inl refl));
+  load = (((λ h. cc), ((λ h. cc), ((λ _. refl), ((λ h. cc), ((λ h. cc), ((λ h. cc), tt)))))), inr (inr (inl refl)));
+  max = (((λ h. cc), ((λ h. cc), ((λ h. cc), ((λ _. refl), ((λ h. cc), ((λ h. cc), tt)))))), inr (inr (inr (inl refl))));
 }
 
 abbrev draw_built : Shape
 draw_built = shape_at 6 (built program_app).subs
+
+abbrev migrate_built : Shape
+migrate_built = shape_at 7 (built program_app).subs
 
 abbrev drive_built : Shape
 drive_built = shape_at 5 (built program_app).subs
@@ -121,6 +126,14 @@ threads-after words e =
     let row = level-row (codes "threads") (codes "4") 1 64 drive_built own has [] words false [] e in
     number-fits (codes "threads") (codes "4") 1 64 (omega arith) _ row.0 row.1 row.2
 
+-- the version of the image
+image-after : (words : List Text) → level_fault build_built [] nothing_held words false [] ≡ [] → HasImage (rows_after build_built.rules [] words)
+image-after words e =
+    let own : Every (IsTarget (codes "image") (codes "2") 1 2) build_built.rules = ((λ h. cc), ((λ h. cc), ((λ h. cc), ((λ h. cc), ((λ _. refl), ((λ h. cc), tt)))))) in
+    let has : HasTarget (codes "image") (codes "2") 1 2 build_built.rules = inr (inr (inr (inr (inl refl)))) in
+    let row = level-row (codes "image") (codes "2") 1 2 build_built own has [] words false [] e in
+    number-fits (codes "image") (codes "2") 1 2 (omega arith) _ row.0 row.1 row.2
+
 is_help : (t : Text) → (bytes_eq (codes "help") t || false) ≡ true → bytes_eq t (codes "help") ≡ true
 is_help t e = (bytes_eq-Decides t (codes "help")).1 (sym ((bytes_eq-Decides (codes "help") t).0 (go (bytes_eq (codes "help") t) e)))
   where
@@ -130,30 +143,35 @@ is_help t e = (bytes_eq-Decides t (codes "help")).1 (sym ((bytes_eq-Decides (cod
 
 -- the subcommands that the words may name, and what holds of their rows
 abbrev pub IsEntered : Text → List Row → Type 0
-IsEntered name rows = (IsFileCommand name × HasSettings rows × (name ≡ codes "drive" → HasThreads rows)) ⊎ (IsImageCommand name × (settings_in rows ≡ None))
+IsEntered name rows =
+    (IsFileCommand name × HasSettings rows × (name ≡ codes "drive" → HasThreads rows) × (name ≡ codes "build" → HasImage rows))
+    ⊎ (IsImageCommand name × (settings_in rows ≡ None))
 
--- a subcommand of another name has no such number
-no-drive : (name : Text) (rows : List Row) → bytes_eq name (codes "drive") ≡ false → name ≡ codes "drive" → HasThreads rows
-no-drive name rows other is = absurd (unlike name (codes "drive") other is)
+-- of a subcommand of another name nothing is said
+other-name : {P : Type 0} (name given : Text) → bytes_eq name given ≡ false → name ≡ given → P
+other-name name given other is = absurd (unlike name given other is)
 
 -- accepted words name such a subcommand
 pub accepted-rows : (words : List Text) → Accepts words → (e : Text × List Row) × (subcommand_of program_app words ≡ Some e) × IsEntered e.0 e.1
 unfolding Accepts
 accepted-rows words e = entered-some (built program_app) IsEntered (
-  (λ t is other ws f. inl (inl refl, settings-after commands_built commands-options ws f, no-drive (codes "commands") _ refl)),
+  (λ t is other ws f. inl (inl refl, settings-after commands_built commands-options ws f, other-name (codes "commands") _ refl, other-name (codes "commands") _ refl)),
   (
-    (λ t is other ws f. inl (inr (inl refl), settings-after steps_built steps-options ws f, no-drive (codes "steps") _ refl)),
+    (λ t is other ws f. inl (inr (inl refl), settings-after steps_built steps-options ws f, other-name (codes "steps") _ refl, other-name (codes "steps") _ refl)),
     (
-      (λ t is other ws f. inl (inr (inr (inl refl)), settings-after build_built build-options ws f, no-drive (codes "build") _ refl)),
+      (λ t is other ws f. inl (inr (inr (inl refl)), settings-after build_built build-options ws f, other-name (codes "build") _ refl, λ _. image-after ws f)),
       (
         (λ t is other ws f. inr (inl refl, no-settings check_built ((λ h. cc), tt) ws f)),
         (
           (λ t is other ws f. inr (inr (inl refl), no-settings dump_built ((λ h. cc), tt) ws f)),
           (
-            (λ t is other ws f. inl (inr (inr (inr refl)), settings-after drive_built drive-options ws f, λ _. threads-after ws f)),
+            (λ t is other ws f. inl (inr (inr (inr refl)), settings-after drive_built drive-options ws f, (λ _. threads-after ws f), other-name (codes "drive") _ refl)),
             (
-              (λ t is other ws f. inr (inr (inr refl), no-settings draw_built ((λ h. cc), tt) ws f)),
-              ((λ t is other ws f. let same = is_help t is in cc), tt),
+              (λ t is other ws f. inr (inr (inr (inl refl)), no-settings draw_built ((λ h. cc), tt) ws f)),
+              (
+                (λ t is other ws f. inr (inr (inr (inr refl)), no-settings migrate_built ((λ h. cc), tt) ws f)),
+                ((λ t is other ws f. let same = is_help t is in cc), tt),
+              ),
             ),
           ),
         ),
@@ -163,20 +181,26 @@ accepted-rows words e = entered-some (built program_app) IsEntered (
 )
     refl refl (argument_words (built program_app) words) e
 
+-- whether a name is that of a subcommand which reads an image
+abbrev reads_image : Text → Bool
+reads_image name =
+    bytes_eq name (codes "check") || (bytes_eq name (codes "dump") || (bytes_eq name (codes "draw") || bytes_eq name (codes "migrate")))
+
+file-reads : (name : Text) → IsFileCommand name → reads_image name ≡ false
+file-reads name (inl is) = ap reads_image is
+file-reads name (inr (inl is)) = ap reads_image is
+file-reads name (inr (inr (inl is))) = ap reads_image is
+file-reads name (inr (inr (inr is))) = ap reads_image is
+
+image-reads : (name : Text) → IsImageCommand name → reads_image name ≡ true
+image-reads name (inl is) = ap reads_image is
+image-reads name (inr (inl is)) = ap reads_image is
+image-reads name (inr (inr (inl is))) = ap reads_image is
+image-reads name (inr (inr (inr is))) = ap reads_image is
+
 -- no subcommand has settings and reads an image
 apart : (name : Text) → IsFileCommand name → IsImageCommand name → ⊥
-apart name (inl a) (inl b) = unlike (codes "commands") (codes "check") refl (sym a ∙ b)
-apart name (inl a) (inr (inl b)) = unlike (codes "commands") (codes "dump") refl (sym a ∙ b)
-apart name (inl a) (inr (inr b)) = unlike (codes "commands") (codes "draw") refl (sym a ∙ b)
-apart name (inr (inl a)) (inl b) = unlike (codes "steps") (codes "check") refl (sym a ∙ b)
-apart name (inr (inl a)) (inr (inl b)) = unlike (codes "steps") (codes "dump") refl (sym a ∙ b)
-apart name (inr (inl a)) (inr (inr b)) = unlike (codes "steps") (codes "draw") refl (sym a ∙ b)
-apart name (inr (inr (inl a))) (inl b) = unlike (codes "build") (codes "check") refl (sym a ∙ b)
-apart name (inr (inr (inl a))) (inr (inl b)) = unlike (codes "build") (codes "dump") refl (sym a ∙ b)
-apart name (inr (inr (inl a))) (inr (inr b)) = unlike (codes "build") (codes "draw") refl (sym a ∙ b)
-apart name (inr (inr (inr a))) (inl b) = unlike (codes "drive") (codes "check") refl (sym a ∙ b)
-apart name (inr (inr (inr a))) (inr (inl b)) = unlike (codes "drive") (codes "dump") refl (sym a ∙ b)
-apart name (inr (inr (inr a))) (inr (inr b)) = unlike (codes "drive") (codes "draw") refl (sym a ∙ b)
+apart name file image = false≢true (sym (file-reads name file) ∙ image-reads name image)
 
 pub entered-named : (name : Text) (rows : List Row) → IsEntered name rows → IsFileCommand name ⊎ IsImageCommand name
 entered-named name rows (inl h) = inl h.0
@@ -189,6 +213,10 @@ entered-settings name rows (inr h) is = absurd (apart name is h.0)
 pub entered-threads : (name : Text) (rows : List Row) → IsEntered name rows → name ≡ codes "drive" → HasThreads rows
 entered-threads name rows (inl h) is = h.2 is
 entered-threads name rows (inr h) is = absurd (apart name (inr (inr (inr is))) h.0)
+
+pub entered-image : (name : Text) (rows : List Row) → IsEntered name rows → name ≡ codes "build" → HasImage rows
+entered-image name rows (inl h) is = h.3 is
+entered-image name rows (inr h) is = absurd (apart name (inr (inr (inl is))) h.0)
 
 pub entered-none : (name : Text) (rows : List Row) → IsEntered name rows → IsImageCommand name → settings_in rows ≡ None
 entered-none name rows (inl h) is = absurd (apart name h.0 is)

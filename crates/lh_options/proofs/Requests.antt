@@ -104,7 +104,8 @@ unfolding subcommand_named
 asked-is words name rows is =
     let named : subcommand_named words ≡ Some name = ap (option_map (λ s. s.0)) is in
     let threads : number_given words (codes "threads") ≡ number_in rows (codes "threads") = ap (option_and_then (λ s. number_in s.1 (codes "threads"))) is in
-    λ i. option_and_then (λ n. asked_by n (settings-at words name rows is i) (threads i)) (named i)
+    let image : number_given words (codes "image") ≡ number_in rows (codes "image") = ap (option_and_then (λ s. number_in s.1 (codes "image"))) is in
+    λ i. option_and_then (λ n. asked_by n (settings-at words name rows is i) (threads i) (image i)) (named i)
 
 -- one of some kinds, where there is none
 none-among : (k : ErrorKind) (kinds : Kinds) → IsAmong k kinds → kinds ≡ [] → ⊥
@@ -120,11 +121,12 @@ refusal-answers words e (request.Refused text) (inl memory) h = absurd (h.1 memo
 refusal-answers words e (request.Refused text) (inr among) h = inr (none-among (kind_of e) _ among, (kind_of e, among, h.0))
 refusal-answers words e (request.Commands config) among h = absurd h
 refusal-answers words e (request.Steps config) among h = absurd h
-refusal-answers words e (request.Build config) among h = absurd h
+refusal-answers words e (request.Build config version) among h = absurd h
 refusal-answers words e (request.Drive config threads) among h = absurd h
 refusal-answers words e request.Check among h = absurd h
 refusal-answers words e request.Dump among h = absurd h
 refusal-answers words e request.Draw among h = absurd h
+refusal-answers words e request.Migrate among h = absurd h
 refusal-answers words e request.MaxBelowInitial among h = absurd h
 
 -- a request that turns words away runs nothing

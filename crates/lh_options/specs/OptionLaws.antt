@@ -1,8 +1,9 @@
 -- Words that are written out, and what they give
-use Rattle.std.specs.Prelude.{◌≡◌, ℕ, List, [], ◌∷◌, Some, codes}
+use Rattle.std.specs.Prelude.{◌≡◌, ℕ, List, [], ◌∷◌, Some, codes, option_map}
 use Rattle.clap.specs.Walk.{Text}
 use Rattle.lh_addr.specs.Settings.{Settings}
-use Rattle.lh_options.specs.Options.{Accepts, Asks, number_given, settings_given}
+use Rattle.lh_options.specs.declared.options.ImageVersion.{ImageVersion}
+use Rattle.lh_options.specs.Options.{Accepts, Asks, number_given, settings_given, version_of}
 
 abbrev pub no_options : List Text
 no_options = codes "lhash" ∷ codes "commands" ∷ []
@@ -40,6 +41,15 @@ version_asked = codes "lhash" ∷ codes "--version" ∷ []
 abbrev pub build_given : List Text
 build_given = codes "lhash" ∷ codes "build" ∷ codes "--max" ∷ codes "1" ∷ []
 
+abbrev pub first_image_given : List Text
+first_image_given = codes "lhash" ∷ codes "build" ∷ codes "--image=1" ∷ []
+
+abbrev pub third_image : List Text
+third_image = codes "lhash" ∷ codes "build" ∷ codes "--image" ∷ codes "3" ∷ []
+
+abbrev pub migrate_alone : List Text
+migrate_alone = codes "lhash" ∷ codes "migrate" ∷ []
+
 abbrev pub check_alone : List Text
 check_alone = codes "lhash" ∷ codes "check" ∷ []
 
@@ -72,9 +82,11 @@ Gives words s = Asks words (codes "commands") × (settings_given words ≡ Some 
 abbrev pub GivesSteps : List Text → Settings → Type 0
 GivesSteps words s = Asks words (codes "steps") × (settings_given words ≡ Some s)
 
--- the words are accepted, name `build`, and give these settings
-abbrev pub GivesBuild : List Text → Settings → Type 0
-GivesBuild words s = Asks words (codes "build") × (settings_given words ≡ Some s)
+-- the words are accepted, name `build`, and give these settings and this version of the image
+abbrev pub GivesBuild : List Text → Settings → ImageVersion → Type 0
+GivesBuild words s version =
+    Asks words (codes "build") × (settings_given words ≡ Some s)
+    × (option_map version_of (number_given words (codes "image")) ≡ Some version)
 
 -- the words are accepted, name `drive`, and give these settings and this number of threads
 abbrev pub GivesDrive : List Text → Settings → ℕ → Type 0

@@ -37,6 +37,10 @@ pub record HasSettings (rows : List Row) : Type 0 where
 abbrev pub HasThreads : List Row → Type 0
 HasThreads rows = HasNumber rows (codes "threads") 1 64
 
+-- the version of the image is one of the two
+abbrev pub HasImage : List Row → Type 0
+HasImage rows = HasNumber rows (codes "image") 1 2
+
 -- the four settings in the rows of a subcommand
 unfoldable pub settings_in : List Row → Option Settings
 settings_in rows = settings_from
@@ -49,11 +53,12 @@ IsFileCommand name = (name ≡ codes "commands") ⊎ ((name ≡ codes "steps") �
 
 -- the name of a subcommand that reads an image, without options
 abbrev pub IsImageCommand : Text → Type 0
-IsImageCommand name = (name ≡ codes "check") ⊎ ((name ≡ codes "dump") ⊎ (name ≡ codes "draw"))
+IsImageCommand name =
+    (name ≡ codes "check") ⊎ ((name ≡ codes "dump") ⊎ ((name ≡ codes "draw") ⊎ (name ≡ codes "migrate")))
 
 -- what a subcommand asks for by its rows
 abbrev pub asked_in : Text → List Row → Option Request
-asked_in name rows = asked_by name (settings_in rows) (number_in rows (codes "threads"))
+asked_in name rows = asked_by name (settings_in rows) (number_in rows (codes "threads")) (number_in rows (codes "image"))
 
 -- what a request says of the kind of clap's error
 abbrev pub IsRefusal : ErrorKind → Request → Type 0

@@ -1,5 +1,5 @@
 -- The command line: the program's command, the numbers that the words give its options, and what a request says of the words
-use Rattle.std.specs.Prelude.{◌≡◌, ◌⊎◌, ◌<◌, ◌≤◌, ℕ, List, [], ◌∷◌, Option, Some, None, codes, pos, true, nat_lt, option_map, option_and_then, if◌then◌else◌}
+use Rattle.std.specs.Prelude.{◌≡◌, ◌⊎◌, ◌<◌, ◌≤◌, ℕ, List, [], ◌∷◌, Option, Some, None, codes, pos, true, nat_lt, ◌==◌, option_map, option_and_then, if◌then◌else◌}
 use Rattle.std.specs.Str.{bytes_eq}
 use Rattle.std.specs.Str.Parse.{digits_value, without_leading_plus}
 use Rattle.clap.specs.ValueTests.{is_numeral}
@@ -12,6 +12,8 @@ use Rattle.clap.specs.declared.error.kind.ErrorKind.{ErrorKind}
 use Rattle.clap.specs.declared.error.kind.ErrorKind.TheVariants as kind
 use Rattle.lh_addr.specs.Limits.{most_initial, most_capacity, least_load, most_load, most_buckets}
 use Rattle.lh_addr.specs.Settings.{Settings}
+use Rattle.lh_options.specs.declared.options.ImageVersion.{ImageVersion}
+use Rattle.lh_options.specs.declared.options.ImageVersion.TheVariants.{First, Second}
 use Rattle.lh_options.specs.declared.options.Request.{Request}
 use Rattle.lh_options.specs.declared.options.Request.TheVariants as request
 
@@ -39,8 +41,13 @@ commands_app = with_settings (new_app (codes "commands"))
 abbrev pub steps_app : App
 steps_app = with_settings (new_app (codes "steps"))
 
+-- a command with an option for the version of an image
+abbrev pub with_image : App → App
+with_image app = with_rule app (option_rule (codes "image") (codes "2") 1 2)
+
+-- the subcommand that writes an image
 abbrev pub build_app : App
-build_app = with_settings (new_app (codes "build"))
+build_app = with_image (with_settings (new_app (codes "build")))
 
 -- the subcommands that read an image have no options
 abbrev pub check_app : App
@@ -51,6 +58,9 @@ dump_app = new_app (codes "dump")
 
 abbrev pub draw_app : App
 draw_app = new_app (codes "draw")
+
+abbrev pub migrate_app : App
+migrate_app = new_app (codes "migrate")
 
 -- a command with an option for a number of threads
 abbrev pub with_threads : App → App
@@ -71,9 +81,10 @@ with_version app = record app { top = record app.top { has_version = true } }
 -- the program's command
 abbrev pub program_app : App
 program_app =
-    with_subcommand (with_subcommand (with_subcommand (with_subcommand (with_subcommand (with_subcommand (with_subcommand
+    with_subcommand (with_subcommand (with_subcommand (with_subcommand
+    (with_subcommand (with_subcommand (with_subcommand (with_subcommand
     (with_subcommand_required (with_version (new_app (codes "lhash"))))
-    commands_app.top) steps_app.top) build_app.top) check_app.top) dump_app.top) drive_app.top) draw_app.top
+    commands_app.top) steps_app.top) build_app.top) check_app.top) dump_app.top) drive_app.top) draw_app.top) migrate_app.top
 
 -- the whole number that a text writes in decimal digits, where it is such a text; a plus may stand first
 abbrev pub number_of : Text → Option ℕ
@@ -141,22 +152,29 @@ abbrev pub alone : Option Settings → Request → Option Request
 alone None r = Some r
 alone (Some s) r = None
 
--- what a subcommand asks for, with the settings and the number of threads that the words give
-unfoldable pub asked_by : Text → Option Settings → Option ℕ → Option Request
-asked_by name settings threads =
+-- the version of an image that a number says
+abbrev pub version_of : ℕ → ImageVersion
+version_of n = if n == 1 then First else Second
+
+-- what a subcommand asks for, with the settings, the number of threads and the version of an image that the words give
+unfoldable pub asked_by : Text → Option Settings → Option ℕ → Option ℕ → Option Request
+asked_by name settings threads image =
     if bytes_eq name (codes "commands") then in_order settings (λ s. Some (request.Commands s))
     else if bytes_eq name (codes "steps") then in_order settings (λ s. Some (request.Steps s))
-    else if bytes_eq name (codes "build") then in_order settings (λ s. Some (request.Build s))
+    else if bytes_eq name (codes "build") then in_order settings (λ s. option_map (λ n. request.Build s (version_of n)) image)
     else if bytes_eq name (codes "drive") then in_order settings (λ s. option_map (λ n. request.Drive s n) threads)
     else if bytes_eq name (codes "check") then alone settings request.Check
     else if bytes_eq name (codes "dump") then alone settings request.Dump
     else if bytes_eq name (codes "draw") then alone settings request.Draw
+    else if bytes_eq name (codes "migrate") then alone settings request.Migrate
     else None
 
 -- what words ask for that are accepted
 abbrev pub asked_for : List Text → Option Request
 asked_for words =
-    option_and_then (λ name. asked_by name (settings_given words) (number_given words (codes "threads"))) (subcommand_named words)
+    option_and_then
+    (λ name. asked_by name (settings_given words) (number_given words (codes "threads")) (number_given words (codes "image")))
+    (subcommand_named words)
 
 -- why words that are not accepted are turned away: they ask for a text that is shown, or are refused
 abbrev pub IsTurned : List Text → Request → Type 0

@@ -22,6 +22,11 @@ pub const BUILD: Help = Help {
     example: "Example: lhash build < script.txt > file.lhf",
 };
 
+pub const MIGRATE: Help = Help {
+    about: "Read an image of either version, and write its records as one of version 2",
+    example: "Example: lhash migrate < old.lhf > new.lhf",
+};
+
 pub const CHECK: Help = Help {
     about: "Read an image, and write what is counted of it",
     example: "Example: lhash check < file.lhf",

@@ -12,22 +12,26 @@ ghost use Rattle.lh_options.specs.OptionLaws.{
   drive_given,
   draw_alone,
   dump_alone,
+  first_image_given,
   help_asked,
   initial_twice,
   initial_zero,
   max_below_initial,
   max_given,
   max_over_limit,
+  migrate_alone,
   no_options,
   no_subcommand,
   Refuses,
   steps_given,
+  third_image,
   threads_over_limit,
   threads_zero,
   unknown_option,
   version_asked,
 };
 ghost use Rattle.lh_options.specs.Options.{Asks, AsksForHelp};
+ghost use Rattle.lh_options.specs.declared.options.ImageVersion.TheVariants.{First, Second};
 
 /// The words give the options the numbers that stand in them, and an option that is left out its
 /// default. A number out of its range, an option given twice and an unknown one are refused, and so is
@@ -37,7 +41,9 @@ pub fn words_give_options()
     ensures given { Gives max_given (record { initial = 3; capacity = 14; load = 100; max = 7 }) }
     ensures below { Gives max_below_initial (record { initial = 8; capacity = 14; load = 100; max = 7 }) }
     ensures steps { GivesSteps steps_given (record { initial = 1; capacity = 2; load = 200; max = 65536 }) }
-    ensures build { GivesBuild build_given (record { initial = 1; capacity = 14; load = 100; max = 1 }) }
+    ensures build { GivesBuild build_given (record { initial = 1; capacity = 14; load = 100; max = 1 }) Second }
+    ensures first { GivesBuild first_image_given (record { initial = 1; capacity = 14; load = 100; max = 65536 }) First }
+    ensures migrate { Asks migrate_alone (codes "migrate") }
     ensures drive { GivesDrive drive_given (record { initial = 3; capacity = 14; load = 100; max = 65536 }) 64 }
     ensures drive_left_out { GivesDrive drive_alone (record { initial = 1; capacity = 14; load = 100; max = 65536 }) 4 }
     ensures check { Asks check_alone (codes "check") }
@@ -49,6 +55,7 @@ pub fn words_give_options()
     ensures no_thread { Refuses threads_zero }
     ensures too_many_threads { Refuses threads_over_limit }
     ensures too_great { Refuses max_over_limit }
+    ensures no_third { Refuses third_image }
     ensures twice { Refuses initial_twice }
     ensures unknown { Refuses unknown_option }
     ensures help { AsksForHelp help_asked }

@@ -9,7 +9,4 @@ mod help;
 pub mod laws;
 mod options;
 
-pub use options::{Request, request_of};
-
-#[cfg(test)]
-mod tests;
+pub use options::{ImageVersion, Request, request_of};

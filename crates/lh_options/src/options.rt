@@ -1,11 +1,11 @@
 //! The command line.
-ghost use Rattle.std.specs.Prelude.{◌≡◌, ◌⊎◌, IfOk, IfSome, IfNone, None, Some, codes, false, map};
+ghost use Rattle.std.specs.Prelude.{◌≡◌, ◌⊎◌, IfOk, IfSome, IfNone, None, Some, codes, false, map, option_map};
 ghost use Rattle.lh_addr.specs.Settings.{IsInRange};
 ghost use Rattle.clap.specs.Words.{found_of, kind_of, new_app, rows_of, rule_of};
-ghost use Rattle.lh_options.specs.Options.{Answers, IsMaxBelowInitial, IsServable, number_in, drive_app, option_rule, program_app, with_settings};
-ghost use Rattle.lh_options.specs.OptionSteps.{HasNumber, HasSettings, HasThreads, IsFileCommand, IsImageCommand, IsRefusal, Reads, asked_in, settings_in};
+ghost use Rattle.lh_options.specs.Options.{Answers, IsMaxBelowInitial, IsServable, number_in, build_app, drive_app, option_rule, version_of, program_app, with_settings};
+ghost use Rattle.lh_options.specs.OptionSteps.{HasNumber, HasSettings, HasImage, HasThreads, IsFileCommand, IsImageCommand, IsRefusal, Reads, asked_in, settings_in};
 
-use crate::help::{BUILD, CHECK, COMMANDS, DRAW, DRIVE, DUMP, Help, STEPS};
+use crate::help::{BUILD, CHECK, COMMANDS, DRAW, DRIVE, DUMP, Help, MIGRATE, STEPS};
 use clap::error::ErrorKind;
 use clap::{Arg, ArgAction, ArgMatches, Command, Error};
 use lh_addr::limits::{
@@ -20,6 +20,21 @@ const MIN_THREADS: u32 = 1;
 /// The greatest number of threads that a script is run in.
 const MAX_THREADS: u32 = 64;
 
+/// The number of the first version of an image.
+const FIRST_IMAGE: u32 = 1;
+
+/// The number of the last version of an image.
+const LAST_IMAGE: u32 = 2;
+
+/// The versions of an image.
+#[derive(Clone, Copy, Debug, PartialEq, Eq)]
+pub enum ImageVersion {
+    /// Pages of 1,024 bytes.
+    First,
+    /// Pages of 4,096 bytes.
+    Second,
+}
+
 /// What the words ask for.
 #[derive(Debug, Drop)]
 pub enum Request {
@@ -27,14 +42,16 @@ pub enum Request {
     Commands(Config),
     /// The subcommand `steps`, with the configuration that its options give.
     Steps(Config),
-    /// The subcommand `build`, with the configuration that its options give.
-    Build(Config),
+    /// The subcommand `build`, with the configuration and the version of the image that its options give.
+    Build(Config, ImageVersion),
     /// The subcommand `check`.
     Check,
     /// The subcommand `dump`.
     Dump,
     /// The subcommand `draw`.
     Draw,
+    /// The subcommand `migrate`.
+    Migrate,
     /// The subcommand `drive`, with the configuration and the number of threads that its options give.
     Drive(Config, u32),
     /// Help or the version, and its text.
@@ -129,6 +146,20 @@ fn drive_command<'a>(alloc: Global) -> Result<Command<'a>, AllocError>
     ))
 }
 
+/// The subcommand that writes an image: a file's options, and one for the version of the image.
+fn build_command<'a>(alloc: Global) -> Result<Command<'a>, AllocError>
+    ensures { IfOk result (Reads build_app) }
+{
+    file_command(alloc, "build", BUILD)?.arg(option(
+        alloc,
+        "image",
+        "Version of the image",
+        "2",
+        FIRST_IMAGE,
+        LAST_IMAGE,
+    ))
+}
+
 fn program<'a>(alloc: Global) -> Result<Command<'a>, AllocError>
     ensures { IfOk result (Reads program_app) }
 {
@@ -138,11 +169,12 @@ fn program<'a>(alloc: Global) -> Result<Command<'a>, AllocError>
         .subcommand_required(true)
         .subcommand(file_command(alloc, "commands", COMMANDS)?)?
         .subcommand(file_command(alloc, "steps", STEPS)?)?
-        .subcommand(file_command(alloc, "build", BUILD)?)?
+        .subcommand(build_command(alloc)?)?
         .subcommand(image_command(alloc, "check", CHECK))?
         .subcommand(image_command(alloc, "dump", DUMP))?
         .subcommand(drive_command(alloc)?)?
-        .subcommand(image_command(alloc, "draw", DRAW))
+        .subcommand(image_command(alloc, "draw", DRAW))?
+        .subcommand(image_command(alloc, "migrate", MIGRATE))
 }
 
 /// The number of an option.
@@ -174,12 +206,24 @@ fn config_of(matches: &ArgMatches<'_>) -> Option<Config>
     }
 }
 
+/// The version of the image that the option gives.
+fn version_in(matches: &ArgMatches<'_>) -> ImageVersion
+    requires { HasImage (rows_of (found_of matches.now)) }
+    ensures { option_map version_of (number_in (rows_of (found_of matches.now)) (codes "image")) ≡ Some result }
+{
+    match number(matches, "image") {
+        FIRST_IMAGE => ImageVersion::First,
+        _ => ImageVersion::Second,
+    }
+}
+
 /// What a subcommand asks for.
-#[tactic(auto, using(crate::proofs::Asking::commands, crate::proofs::Asking::steps, crate::proofs::Asking::build, crate::proofs::Asking::drive, crate::proofs::Asking::check, crate::proofs::Asking::dump, crate::proofs::Asking::draw, crate::proofs::Asking::out_of_order))]
+#[tactic(auto, using(crate::proofs::Asking::commands, crate::proofs::Asking::steps, crate::proofs::Asking::build, crate::proofs::Asking::drive, crate::proofs::Asking::check, crate::proofs::Asking::dump, crate::proofs::Asking::draw, crate::proofs::Asking::migrate, crate::proofs::Asking::out_of_order))]
 fn asked(name: &str, matches: &ArgMatches<'_>) -> Request
     requires named { IsFileCommand name.now ⊎ IsImageCommand name.now }
     requires settings { IsFileCommand name.now → HasSettings (rows_of (found_of matches.now)) }
     requires threads { name.now ≡ codes "drive" → HasThreads (rows_of (found_of matches.now)) }
+    requires image { name.now ≡ codes "build" → HasImage (rows_of (found_of matches.now)) }
     requires none { IsImageCommand name.now → settings_in (rows_of (found_of matches.now)) ≡ None }
     ensures value { asked_in name.now (rows_of (found_of matches.now)) ≡ Some result }
     ensures servable { IsServable result }
@@ -194,12 +238,13 @@ fn asked(name: &str, matches: &ArgMatches<'_>) -> Request
             None => Request::MaxBelowInitial,
         },
         "build" => match config_of(matches) {
-            Some(config) => Request::Build(config),
+            Some(config) => Request::Build(config, version_in(matches)),
             None => Request::MaxBelowInitial,
         },
         "check" => Request::Check,
         "dump" => Request::Dump,
         "draw" => Request::Draw,
+        "migrate" => Request::Migrate,
         "drive" => match config_of(matches) {
             Some(config) => Request::Drive(config, number(matches, "threads")),
             None => Request::MaxBelowInitial,

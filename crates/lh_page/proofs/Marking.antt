@@ -6,7 +6,7 @@ use Rattle.std.proofs.lemmas.Bool.{cases_eq}
 use Rattle.std.proofs.lemmas.List.{get_or-take, get_or-set_other, get_or-set_same, get_or_append_left, length-take, length-set, length_push}
 use Rattle.lh_page.specs.declared.pair.Pair.{Pair}
 use Rattle.lh_page.specs.Mark.{mark_of}
-use Rattle.lh_page.specs.Marks.{IsMarked, IsMarkedAt}
+use Rattle.lh_page.specs.Marks.{marked_room, IsMarked, IsMarkedAt}
 use Rattle.lh_page.specs.Records.{no_pair, key_at}
 
 -- the records that two lists share keep their marks, but for one place that is marked anew
@@ -36,9 +36,9 @@ marked_set marks pairs place p same h i low below =
     ])
 
 -- a record that isn't looked at has another key
-pub other_mark : (marks : List ℕ) (pairs : List Pair) (i : ℕ) (key : List ℕ) (mark : ℕ) → IsMarked marks pairs → i < 32 → i < length pairs → mark ≡ mark_of key → (get_or marks i 0 ≡ mark → ⊥) → key_at pairs i ≢ key
+pub other_mark : (marks : List ℕ) (pairs : List Pair) (i : ℕ) (key : List ℕ) (mark : ℕ) → IsMarked marks pairs → i < marked_room → i < length pairs → mark ≡ mark_of key → (get_or marks i 0 ≡ mark → ⊥) → key_at pairs i ≢ key
 other_mark marks pairs i key mark h low within is differ same = differ (h i low within ∙ ap mark_of same ∙ sym is)
 
 -- no record whose bit is off has the key
 abbrev pub AbsentOff : List Pair → List ℕ → ℕ → Type 0
-AbsentOff pairs key bits = (i : ℕ) → i < 32 → i < length pairs → bit_at bits i ≡ 0 → key_at pairs i ≢ key
+AbsentOff pairs key bits = (i : ℕ) → i < marked_room → i < length pairs → bit_at bits i ≡ 0 → key_at pairs i ≢ key

@@ -2,7 +2,7 @@
 use Rattle.std.proofs.Common.{◌≡◌, ◌≢◌, ℕ, zero, suc, ◌+◌, ◌*◌, ◌<◌, ◌≤◌, Bool, true, false, eqb, List, length, take, sym, ap, ◌∙◌, inl, inr, arith}
 use Rattle.std.specs.Prelude.{slice_index}
 use Rattle.std.proofs.lemmas.Bool.{and_parts, and_from, cases_lt, eqb-true, eq-eqb}
-use Rattle.std.proofs.lemmas.List.{ext_get_or}
+use Rattle.std.proofs.lemmas.List.{ext_get_or, get_or-take, length-take-le}
 use Rattle.std.specs.Bool.{OnTrue, OnFalse}
 use Rattle.std.specs.Str.{bytes_eq}
 use Rattle.byteorder.specs.Endian.{little_from}
@@ -62,3 +62,14 @@ words_from_same a b e =
 pub eq_told : (r : Bool) (n : ℕ) (a b v w : List ℕ) → OnTrue r (a ≡ b) → OnFalse r (a ≢ b) → take n a ≡ v → take n b ≡ w → padded key_room v ≡ a → padded key_room w ≡ b → r ≡ bytes_eq v w
 eq_told true n a b v w same other front behind whole all = sym (bytes_eq-same v w (sym front ∙ ap (take n) same ∙ behind))
 eq_told false n a b v w same other front behind whole all = sym (bytes_eq-other v w (λ e. other (sym whole ∙ ap (padded key_room) e ∙ all)))
+
+-- the first bytes of a row are those of another where the two agree at each of their places
+pub front_told : (r : Bool) (n : ℕ) (a b v : List ℕ) → n ≤ length a → n ≤ length b → take n a ≡ v → OnTrue r ((i : ℕ) → i < n → slice_index a i ≡ slice_index b i) →
+    OnFalse r ((i : ℕ) × (i < n) × (slice_index a i ≢ slice_index b i)) → r ≡ bytes_eq (take n b) v
+front_told true n a b v wide long front same other =
+    sym (bytes_eq-same (take n b) v (ext_get_or 0 (take n b) (take n a) (length-take-le n b long ∙ sym (length-take-le n a wide)) (λ i low.
+    let below : i < n = omega (arith, length-take-le n b long) in
+    get_or-take n b i 0 below ∙ (sym (same i below) ∙ sym (get_or-take n a i 0 below))) ∙ front))
+front_told false n a b v wide long front same other =
+    sym (bytes_eq-other (take n b) v (λ e. other.2
+    (sym (get_or-take n a other.0 0 other.1) ∙ (ap (λ l. slice_index l other.0) (front ∙ sym e) ∙ get_or-take n b other.0 0 other.1))))

@@ -3,6 +3,7 @@ pub mod Rows
 pub mod Mark
 pub mod Records
 pub mod PackedList
+pub mod Lines
 pub mod Marks
 pub mod Format
 pub mod PageTable

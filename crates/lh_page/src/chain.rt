@@ -6,28 +6,28 @@ ghost use Rattle.lh_page.specs.Limits.{IsCapacity};
 ghost use Rattle.lh_page.specs.PackedList.{IsPackedList, pages_of};
 ghost use Rattle.lh_page.specs.Records.{keys_of, place_of, value_at, with_value, AbsentBelow, StandsFirst};
 
-use crate::division::{append, copied, divided};
+use crate::division::{Division, Part, copied, divided};
 use crate::key::Key;
 use crate::key_set::KeySet;
 use crate::marks::{MARKED, find_marked, mark_at, marks_of, put_mark};
 use crate::memory::Memory;
 use crate::packing::pages_needed;
 use crate::pair::Pair;
+use crate::record_list::RecordList;
 use crate::value::Value;
 use std::alloc::Global;
 use std::marker::Model;
-use std::mem;
 
 /// The records of one bucket, in a primary page and overflow pages of `capacity` records each.
 ///
 /// The record at place `i` stands in page `i / capacity`, so every page but the last is full and only the primary
-/// page may be empty. No key stands twice. Memory is taken by half pages, and none before the first record.
+/// page may be empty. No key stands twice. Memory is taken by units of four records, and none before the first one.
 #[derive(Debug, Drop)]
 pub struct Chain {
     capacity: u32,
     // The marks of the first records, so that a look-up touches few others.
     marks: [u8; MARKED],
-    pairs: Vec<Pair>,
+    pairs: RecordList,
 }
 
 impl Model for Chain {
@@ -36,9 +36,9 @@ impl Model for Chain {
 
     ghost Value = { PackedList };
 
-    ghost view = { λ c. record { capacity = c.capacity; pairs = c.pairs.items } };
+    ghost view = { λ c. record { capacity = c.capacity; pairs = c.pairs } };
 
-    ghost invariant = { λ c. IsChain c.capacity c.marks c.pairs.items };
+    ghost invariant = { λ c. IsChain c.capacity c.marks c.pairs };
 }
 
 impl Chain {
@@ -51,7 +51,7 @@ impl Chain {
         Ok(Chain {
             capacity,
             marks: [0; MARKED],
-            pairs: Vec::new(alloc),
+            pairs: RecordList::new(alloc),
         })
     }
 
@@ -63,8 +63,8 @@ impl Chain {
         ensures { IfOk result (λ chain. chain ≡ record { capacity = capacity; pairs = pairs.now }) }
     {
         let mut chain = Chain::new(alloc, capacity)?;
-        chain.pairs = copied(alloc, pairs, capacity)?;
-        chain.marks = marks_of(pairs);
+        chain.pairs = copied(alloc, pairs)?;
+        chain.marks = marks_of(&chain.pairs);
         Ok(chain)
     }
 
@@ -96,10 +96,9 @@ impl Chain {
         ensures found { IfSome result (λ place. StandsFirst self.now.pairs place key.now) }
         ensures absent { IfNone result (AbsentBelow self.now.pairs (length self.now.pairs) key.now) }
     {
-        let pairs = self.pairs.as_slice();
-        match find_marked(&self.marks, pairs, key) {
+        match find_marked(&self.marks, &self.pairs, key) {
             Some(place) => Some(place),
-            None => find_unmarked(pairs, key),
+            None => find_unmarked(&self.pairs, key),
         }
     }
 
@@ -108,7 +107,7 @@ impl Chain {
         requires { place < length self.now.pairs }
         ensures { slice_get self.now.pairs place ≡ Some result }
     {
-        self.pairs[place]
+        self.pairs.pair_at(place)
     }
 
     /// Appends a record whose key is not there yet. After an error the chain is as it was.
@@ -118,7 +117,7 @@ impl Chain {
         ensures err { OnErr result (self.new ≡ self.old) }
     {
         let place = self.pairs.len();
-        append(&mut self.pairs, pair, self.capacity)?;
+        self.pairs.push(&pair)?;
         // Made of the key at hand: reading it back would wait until the record has reached its memory.
         put_mark(&mut self.marks, place, &pair.key);
         Ok(())
@@ -144,13 +143,15 @@ impl Chain {
             (self.new ≡ record self.old { pairs = filter (λ p. not (S.member keys.now p.key)) self.old.pairs }) }
         ensures err { OnErr result (self.new ≡ self.old) }
     {
-        let parts = divided(*self.pairs.allocator(), &self.pairs, keys, self.capacity)?;
-        self.marks = marks_of(&parts.kept);
-        self.pairs = parts.kept;
+        let Division { gone, kept } = divided(self.pairs.allocator(), &self.pairs, keys)?;
+        let Part { pairs, marks } = kept;
+        self.pairs = pairs;
+        self.marks = marks;
+        let Part { pairs, marks } = gone;
         Ok(Chain {
             capacity: self.capacity,
-            marks: marks_of(&parts.gone),
-            pairs: parts.gone,
+            marks,
+            pairs,
         })
     }
 
@@ -160,19 +161,19 @@ impl Chain {
         ensures replaced { result ≡ value_at self.old.pairs place }
         ensures changed { self.new ≡ record self.old { pairs = with_value self.old.pairs place value } }
     {
-        mem::replace(&mut self.pairs[place].value, value)
+        self.pairs.replace(place, &value)
     }
 }
 
 /// The place of the first record with a key, which stands behind those with marks.
-fn find_unmarked(pairs: &[Pair], key: &Key) -> Option<usize>
+fn find_unmarked(pairs: &RecordList, key: &Key) -> Option<usize>
     requires { AbsentBelow pairs.now MARKED key.now }
     ensures found { IfSome result (λ place. StandsFirst pairs.now place key.now) }
     ensures absent { IfNone result (AbsentBelow pairs.now (length pairs.now) key.now) }
 {
-    for i in MARKED..pairs.len() {
-        if pairs[i].key == *key {
-            return Some(i);
+    for place in MARKED..pairs.len() {
+        if pairs.has_key(place, key) {
+            return Some(place);
         }
     }
     None

@@ -1,78 +1,94 @@
 //! Dividing a list of records in two, each part in the order of the whole.
-ghost use Rattle.std.specs.Prelude.{not, ◌≡◌, ◌≤◌, [], ◌∷◌, ◌++◌, IfOk, OnOk, OnErr};
+ghost use Rattle.std.specs.Prelude.{not, ◌≡◌, ◌<◌, [], ◌∷◌, ◌++◌, length, slice_index_or, IfOk, OnOk};
 ghost use Rattle.std.specs.List.{filter};
+ghost use Rattle.lh_page.specs.Records.{key_at, no_pair};
 
+use crate::key::Key;
 use crate::key_set::KeySet;
+use crate::marks::{MARKED, put_mark};
 use crate::memory::Memory;
 use crate::pair::Pair;
+use crate::record_list::RecordList;
 use std::alloc::Global;
+use std::marker::Model;
 
 /// The two parts of a list of records.
 #[derive(Drop)]
 pub struct Division {
-    pub gone: Vec<Pair>,
-    pub kept: Vec<Pair>,
+    pub gone: Part,
+    pub kept: Part,
 }
 
-/// The records in half a page, or one more.
-fn half_page(capacity: u32) -> usize
-    requires { 1 ≤ capacity }
-    ensures { 1 ≤ result }
-{
-    capacity.div_ceil(2) as usize
+/// Records and their marks.
+#[derive(Drop)]
+pub struct Part {
+    pub pairs: RecordList,
+    pub marks: [u8; MARKED],
 }
 
-/// The records in so many half pages as these fill.
-fn in_half_pages(records: usize, capacity: u32) -> usize
-    requires { 1 ≤ capacity }
-{
-    let half = half_page(capacity);
-    records.div_ceil(half).saturating_mul(half)
+impl Model for Part {
+    ghost use Rattle.std.specs.Prelude.{◌≡◌, List, length};
+    ghost use Rattle.lh_page.specs.declared.pair.Pair.{Pair};
+    ghost use Rattle.lh_page.specs.Marks.{marked_room, IsMarked};
+
+    ghost Value = { List Pair };
+
+    ghost view = { λ p. p.pairs };
+
+    ghost invariant = { λ p. (length p.marks ≡ marked_room) × IsMarked p.marks p.pairs };
 }
 
-/// A copy of records, in the memory of so many half pages as they fill.
-pub fn copied(alloc: Global, pairs: &[Pair], capacity: u32) -> Result<Vec<Pair>, Memory>
-    requires { 1 ≤ capacity }
-    ensures { IfOk result (λ copy. copy.items ≡ pairs.now) }
+impl Part {
+    /// No records, with memory for as many as are to come.
+    fn with_room(alloc: Global, records: usize) -> Result<Self, Memory>
+        ensures { IfOk result (λ part. part ≡ []) }
+    {
+        Ok(Part {
+            pairs: RecordList::with_room(alloc, records)?,
+            marks: [0; MARKED],
+        })
+    }
+
+    /// Appends the record at a place of a list, whose key is at hand. After an error nothing has changed.
+    #[inline]
+    fn push_from(&mut self, pairs: &RecordList, place: usize, key: &Key) -> Result<(), Memory>
+        requires within { place < length pairs.now }
+        requires key { key.now ≡ key_at pairs.now place }
+        ensures { OnOk result (self.new ≡ self.old ++ slice_index_or pairs.now place no_pair ∷ []) }
+    {
+        let last = self.pairs.len();
+        self.pairs.push_from(pairs, place)?;
+        put_mark(&mut self.marks, last, key);
+        Ok(())
+    }
+}
+
+/// A copy of records, in the memory of as many units as they fill.
+pub fn copied(alloc: Global, pairs: &[Pair]) -> Result<RecordList, Memory>
+    ensures { IfOk result (λ copy. copy ≡ pairs.now) }
 {
-    let mut copy = Vec::with_capacity(alloc, in_half_pages(pairs.len(), capacity))?;
-    copy.extend_from_slice(pairs)?;
+    let mut copy = RecordList::with_room(alloc, pairs.len())?;
+    for pair in pairs {
+        copy.push(pair)?;
+    }
     Ok(copy)
 }
 
-/// Appends a record. Where there is no room for it, the list takes the memory of half a page more.
-pub fn append(pairs: &mut Vec<Pair>, pair: Pair, capacity: u32) -> Result<(), Memory>
-    requires { 1 ≤ capacity }
-    ensures ok { OnOk result (pairs.new.items ≡ pairs.old.items ++ pair ∷ []) }
-    ensures err { OnErr result (pairs.new.items ≡ pairs.old.items) }
+/// Divides records into those whose keys are in a set and the others. Each part gets the memory of as many units
+/// as half of the records fill, and more where it has more of them.
+pub fn divided<S: KeySet>(alloc: Global, pairs: &RecordList, keys: &S) -> Result<Division, Memory>
+    ensures gone { IfOk result (λ parts. parts.gone ≡ filter (λ p. S.member keys.now p.key) pairs.now) }
+    ensures kept { IfOk result (λ parts. parts.kept ≡ filter (λ p. not (S.member keys.now p.key)) pairs.now) }
 {
-    if pairs.len() == pairs.capacity() {
-        pairs.reserve_exact(half_page(capacity))?;
-    }
-    pairs.push_reserved(pair);
-    Ok(())
-}
-
-/// Divides records into those whose keys are in a set and the others. Each part gets the memory of so
-/// many half pages as half of the records fill, and more where it has more of them.
-pub fn divided<S: KeySet>(
-    alloc: Global,
-    pairs: &[Pair],
-    keys: &S,
-    capacity: u32,
-) -> Result<Division, Memory>
-    requires { 1 ≤ capacity }
-    ensures gone { IfOk result (λ parts. parts.gone.items ≡ filter (λ p. S.member keys.now p.key) pairs.now) }
-    ensures kept { IfOk result (λ parts. parts.kept.items ≡ filter (λ p. not (S.member keys.now p.key)) pairs.now) }
-{
-    let room = in_half_pages(pairs.len().div_ceil(2), capacity);
-    let mut gone = Vec::with_capacity(alloc, room)?;
-    let mut kept = Vec::with_capacity(alloc, room)?;
-    for pair in pairs {
-        if keys.contains(&pair.key) {
-            append(&mut gone, *pair, capacity)?;
+    let room = pairs.len().div_ceil(2);
+    let mut gone = Part::with_room(alloc, room)?;
+    let mut kept = Part::with_room(alloc, room)?;
+    for place in 0..pairs.len() {
+        let key = pairs.key_at(place);
+        if keys.contains(&key) {
+            gone.push_from(pairs, place, &key)?;
         } else {
-            append(&mut kept, *pair, capacity)?;
+            kept.push_from(pairs, place, &key)?;
         }
     }
     Ok(Division { gone, kept })

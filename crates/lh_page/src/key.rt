@@ -1,13 +1,16 @@
 //! Keys: short byte strings that are kept in place and copied freely.
-ghost use Rattle.std.specs.Prelude.{◌≡◌, ◌≢◌, ℕ, ◌≤◌, ◌+◌, ◌↔◌, List, [], ◌∷◌, length, Some, IsOk, IfOk, IfErr, nat_eq, refl};
+ghost use Rattle.std.specs.Prelude.{◌≡◌, ◌≢◌, ℕ, ◌<◌, ◌≤◌, ◌+◌, ◌↔◌, List, [], ◌∷◌, length, take, slice_index, Some, IsOk, IfOk, IfErr, nat_eq, refl};
 ghost use Rattle.std.specs.Ordering.{nat_cmp};
 ghost use Rattle.std.specs.Bool.{OnTrue, OnFalse};
+ghost use Rattle.std.specs.Str.{bytes_eq};
 ghost use Rattle.std.specs.Cmp.{partial_equiv_from_equiv};
 ghost use Rattle.std.specs.Cmp.Lexicographic.{pointwise, slice_cmp, nat_list_eq_equiv, nat_list_cmp_total, texts_po, texts_ties};
 ghost use Rattle.lh_page.specs.Limits.{IsKey};
 ghost use Rattle.lh_page.specs.Mark.{mark_of, mixed, same_words, word_at};
 
+use crate::comparing::{STRIDE, common_front};
 use crate::limits::LONGEST_KEY;
+use crate::line::LINE_ROOM;
 use crate::rows::{KEY_ROOM, row};
 use byteorder::{ByteOrder, LittleEndian};
 use std::cmp::Ordering;
@@ -61,10 +64,27 @@ impl Key {
         if length < 1 || length > LONGEST_KEY {
             return Err(KeyLength { length });
         }
-        Ok(Key {
+        Ok(Key::of(bytes))
+    }
+
+    /// The key with these bytes, of which there are as many as keys have.
+    #[inline]
+    pub(crate) fn of(bytes: &[u8]) -> Self
+        requires { IsKey bytes.now }
+        ensures { result ≡ bytes.now }
+    {
+        Key {
             bytes: row(bytes),
-            len: length as u8,
-        })
+            len: bytes.len() as u8,
+        }
+    }
+
+    /// The number of bytes.
+    #[inline]
+    pub(crate) fn len(&self) -> u8
+        ensures { result ≡ length self.now }
+    {
+        self.len
     }
 
     pub fn bytes(&self) -> &[u8]
@@ -72,6 +92,23 @@ impl Key {
         ensures kept { IsKey self.now }
     {
         &self.bytes[..self.len as usize]
+    }
+
+    /// The key, with zeros behind it.
+    #[inline]
+    pub(crate) fn row(&self) -> &[u8; KEY_ROOM]
+        ensures front { take (length self.now) result.now ≡ self.now }
+        ensures kept { IsKey self.now }
+    {
+        &self.bytes
+    }
+
+    /// Whether this key is the first `len` of some bytes.
+    #[inline]
+    pub(crate) fn is_front(&self, bytes: &[u8; LINE_ROOM], len: u8) -> bool
+        ensures { result ≡ bytes_eq (take len bytes.now) self.now }
+    {
+        self.len == len && starts_alike(&self.bytes, bytes, len as usize)
     }
 
     /// A key for places that hold none.
@@ -90,6 +127,22 @@ impl Key {
     {
         mix(&self.bytes)
     }
+}
+
+/// Whether the first bytes are the same in both. The second half of them is looked at only where it counts, since it
+/// may be in another line of the cache.
+#[inline]
+fn starts_alike(a: &[u8; KEY_ROOM], b: &[u8; LINE_ROOM], len: usize) -> bool
+    requires { len ≤ KEY_ROOM }
+    ensures same { OnTrue result ((i : ℕ) → i < len → slice_index a.now i ≡ slice_index b.now i) }
+    ensures other { OnFalse result ((i : ℕ) × (i < len) × (slice_index a.now i ≢ slice_index b.now i)) }
+{
+    let front = common_front(a, b);
+    if len <= STRIDE || front < STRIDE {
+        return front >= len;
+    }
+    let rest = KEY_ROOM - STRIDE;
+    rest + common_front(&a[rest..], &b[rest..]) >= len
 }
 
 /// The high byte of a sum of odd multiples of the seven words.

@@ -10,6 +10,7 @@
 #![tactic(auto)]
 
 mod chain;
+mod comparing;
 mod division;
 mod fault;
 pub mod format;
@@ -18,6 +19,7 @@ mod key;
 mod key_set;
 pub mod laws;
 pub mod limits;
+mod line;
 mod marks;
 mod memory;
 mod packing;
@@ -25,8 +27,10 @@ mod page;
 mod pair;
 mod pairs;
 mod reading;
+mod record_list;
 mod rows;
 mod slot;
+mod unit;
 mod value;
 mod writing;
 

@@ -1,23 +1,23 @@
 //! The row of one-byte marks in the head of a chain. A look-up reads the records of its key's mark alone.
-ghost use Rattle.std.specs.Prelude.{◌≡◌, ◌≢◌, ◌↔◌, ℕ, ◌<◌, length, slice_index, IfSome, IfNone};
+ghost use Rattle.std.specs.Prelude.{◌≡◌, ◌≢◌, ◌↔◌, ℕ, ◌+◌, ◌^◌, ◌<◌, length, slice_index, IfSome, IfNone};
 ghost use Rattle.std.specs.Int.{bit_at};
 ghost use Rattle.lh_page.specs.Mark.{mark_of};
 ghost use Rattle.lh_page.specs.Marks.{IsMarked, IsMarkedAt};
 ghost use Rattle.lh_page.specs.Records.{AbsentBelow, StandsFirst};
 
 use crate::key::Key;
-use crate::pair::Pair;
+use crate::record_list::RecordList;
 use std::simd::prelude::*;
 
 /// How many records of a chain have marks.
-pub const MARKED: usize = 32;
+pub const MARKED: usize = 48;
 
 /// Marks the record at a place, where one stands there and its mark has room.
-pub fn mark_at(marks: &mut [u8; MARKED], pairs: &[Pair], place: usize)
+pub fn mark_at(marks: &mut [u8; MARKED], pairs: &RecordList, place: usize)
     ensures { IsMarkedAt marks.old marks.new pairs.now place }
 {
     if place < MARKED && place < pairs.len() {
-        marks[place] = pairs[place].key.mark();
+        marks[place] = pairs.key_at(place).mark();
     }
 }
 
@@ -33,19 +33,19 @@ pub fn put_mark(marks: &mut [u8; MARKED], place: usize, key: &Key)
 }
 
 /// The marks of the first records.
-pub fn marks_of(pairs: &[Pair]) -> [u8; MARKED]
+pub fn marks_of(pairs: &RecordList) -> [u8; MARKED]
     ensures marked { IsMarked result pairs.now }
     ensures room { length result ≡ MARKED }
 {
     let mut marks = [0; MARKED];
-    for place in 0..MARKED {
+    for place in 0..pairs.len().min(MARKED) {
         mark_at(&mut marks, pairs, place);
     }
     marks
 }
 
 /// The place of the first record with a key among those with marks.
-pub fn find_marked(marks: &[u8; MARKED], pairs: &[Pair], key: &Key) -> Option<usize>
+pub fn find_marked(marks: &[u8; MARKED], pairs: &RecordList, key: &Key) -> Option<usize>
     requires { IsMarked marks.now pairs.now }
     ensures found { IfSome result (λ place. StandsFirst pairs.now place key.now) }
     ensures absent { IfNone result (AbsentBelow pairs.now MARKED key.now) }
@@ -56,7 +56,7 @@ pub fn find_marked(marks: &[u8; MARKED], pairs: &[Pair], key: &Key) -> Option<us
         if place >= MARKED || place >= pairs.len() {
             return None;
         }
-        if pairs[place].key == *key {
+        if pairs.has_key(place, key) {
             return Some(place);
         }
         left = without(left, place);
@@ -69,8 +69,31 @@ pub fn find_marked(marks: &[u8; MARKED], pairs: &[Pair], key: &Key) -> Option<us
 fn places_of(marks: &[u8; MARKED], mark: u8) -> u64
     ensures { (i : ℕ) → i < MARKED → (bit_at result i ≡ 1) ↔ (slice_index marks.now i ≡ mark) }
 {
-    u8x32::from_array(*marks)
+    front_places(marks, mark) | back_places(marks, mark) << FRONT
+}
+
+/// How many marks are compared at once, before the others are.
+const FRONT: usize = 32;
+
+/// The places of a mark among the front ones, as the bits that are set.
+#[inline]
+fn front_places(marks: &[u8; MARKED], mark: u8) -> u64
+    ensures few { result < 2 ^ FRONT }
+    ensures places { (i : ℕ) → i < FRONT → (bit_at result i ≡ 1) ↔ (slice_index marks.now i ≡ mark) }
+{
+    u8x32::from_slice(&marks[..FRONT])
         .simd_eq(u8x32::splat(mark))
+        .to_bitmask()
+}
+
+/// The places of a mark behind the front ones, counted from the first of these.
+#[inline]
+fn back_places(marks: &[u8; MARKED], mark: u8) -> u64
+    ensures few { result < 2 ^ 16 }
+    ensures places { (i : ℕ) → i < 16 → (bit_at result i ≡ 1) ↔ (slice_index marks.now (FRONT + i) ≡ mark) }
+{
+    u8x16::from_slice(&marks[FRONT..])
+        .simd_eq(u8x16::splat(mark))
         .to_bitmask()
 }
 

@@ -1,5 +1,5 @@
 //! Values: short byte strings that are kept in place and copied freely.
-ghost use Rattle.std.specs.Prelude.{◌≡◌, ℕ, ◌↔◌, List, [], length, Some, IsOk, IfOk, IfErr, nat_eq, refl};
+ghost use Rattle.std.specs.Prelude.{◌≡◌, ℕ, ◌↔◌, List, [], length, take, Some, IsOk, IfOk, IfErr, nat_eq, refl};
 ghost use Rattle.std.specs.Ordering.{nat_cmp};
 ghost use Rattle.std.specs.Cmp.{partial_equiv_from_equiv};
 ghost use Rattle.std.specs.Cmp.Lexicographic.{pointwise, slice_cmp, nat_list_eq_equiv, nat_list_cmp_total, texts_po, texts_ties};
@@ -58,10 +58,19 @@ impl Value {
         if length > LONGEST_VALUE {
             return Err(ValueLength { length });
         }
-        Ok(Value {
+        Ok(Value::of(bytes))
+    }
+
+    /// The value with these bytes, of which there are as many as values have.
+    #[inline]
+    pub(crate) fn of(bytes: &[u8]) -> Self
+        requires { IsValue bytes.now }
+        ensures { result ≡ bytes.now }
+    {
+        Value {
             bytes: row(bytes),
-            len: length as u8,
-        })
+            len: bytes.len() as u8,
+        }
     }
 
     /// The value without bytes.
@@ -72,6 +81,14 @@ impl Value {
             bytes: [0; VALUE_ROOM],
             len: 0,
         }
+    }
+
+    /// The value, with zeros behind it.
+    #[inline]
+    pub(crate) fn row(&self) -> &[u8; VALUE_ROOM]
+        ensures { take (length self.now) result.now ≡ self.now }
+    {
+        &self.bytes
     }
 
     pub fn bytes(&self) -> &[u8]

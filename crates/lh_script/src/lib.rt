@@ -24,6 +24,3 @@ pub use fault::{LineFault, ParseError, ScriptFault};
 pub use script::{MOST_BYTES, Statement, parse};
 pub use step_texts::{EffectText, EntryText, RefusalText};
 pub use texts::{KeyText, ReplyText, SizeText, ValueText};
-
-#[cfg(test)]
-mod tests;

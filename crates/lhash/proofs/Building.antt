@@ -17,15 +17,17 @@ use Rattle.lh_bucket.specs.PlainMap.{outcome}
 use Rattle.lh_bucket.specs.Records.{map_of}
 use Rattle.lh_core.specs.Serial.{IsSerial, size_of}
 use Rattle.lh_core.specs.World.{WorldSeen, no_bucket}
-use Rattle.lh_image.specs.declared.fault.WriteImageFault.TheVariants.{TooLarge as TooMany, WriteFault}
+use Rattle.lh_image.specs.declared.fault.WriteImageFault.{WriteImageFault}
+use Rattle.lh_image.specs.declared.fault.WriteImageFault.TheVariants.{OldCapacity, OldRecord, TooLarge, WriteFault, Memory as MemoryToWrite}
+use Rattle.lh_image.specs.declared.version.Version.{Version}
 use Rattle.lh_image.specs.Canonical.{canonical}
 use Rattle.lh_image.specs.Writing.{IsWritten}
 use Rattle.lh_script.specs.Commands.{command}
-use Rattle.lhash.specs.Images.{EndsBuilding, IsLedTo}
+use Rattle.lhash.specs.Images.{EndsBuilding, IsLedTo, unwritten_as}
 use Rattle.lhash.specs.Run.{ReadsScript}
 use Rattle.lh_script.specs.Scripts.{script}
 use Rattle.lhash.specs.declared.status.DeviceFault.TheVariants.{Read, Write}
-use Rattle.lhash.specs.declared.status.InputFault.TheVariants.{Script, Image, TooLarge}
+use Rattle.lhash.specs.declared.status.InputFault.TheVariants.{Script, Image, Unwritten}
 use Rattle.lhash.specs.declared.status.Status.{Status}
 use Rattle.lhash.specs.declared.status.Status.TheVariants.{Done, Input, Words, Device, Memory, NotSettled}
 
@@ -48,57 +50,71 @@ led_to settings calls told world l serial is kept =
     }
 
 -- a run that read no script ends without a write
-unread : (settings : Settings) (status : Status) (input : List ℕ) (a : Option (List ℕ)) →
-    ReadsScript {A = Call} (Err status) (script command input) → EndsBuilding settings input status a a
+unread : (version : Version) (settings : Settings) (status : Status) (input : List ℕ) (a : Option (List ℕ)) →
+    ReadsScript {A = Call} (Err status) (script command input) → EndsBuilding version settings input status a a
 unfolding EndsBuilding
-unread settings Done input a h = absurd h
-unread settings (Input (Script fault)) input a h = (h, Keeps-refl a)
-unread settings (Input (Image fault)) input a h = absurd h
-unread settings (Input TooLarge) input a h = absurd h
-unread settings (Words text) input a h = absurd h
-unread settings (Device Read) input a h = Keeps-refl a
-unread settings (Device Write) input a h = absurd h
-unread settings Memory input a h = Keeps-refl a
-unread settings (NotSettled fault) input a h = absurd h
+unread version settings Done input a h = absurd h
+unread version settings (Input (Script fault)) input a h = (h, Keeps-refl a)
+unread version settings (Input (Image fault)) input a h = absurd h
+unread version settings (Input (Unwritten fault)) input a h = absurd h
+unread version settings (Words text) input a h = absurd h
+unread version settings (Device Read) input a h = Keeps-refl a
+unread version settings (Device Write) input a h = absurd h
+unread version settings Memory input a h = Keeps-refl a
+unread version settings (NotSettled fault) input a h = absurd h
 
-pub unbuilt : (settings : Settings) (status : Status) (left a : Option (List ℕ)) →
-    IfSome left (λ input. ReadsScript {A = Call} (Err status) (script command input)) → IfSome left (λ input. EndsBuilding settings input status a a)
-unbuilt settings status None a h = tt
-unbuilt settings status (Some input) a h = unread settings status input a h
+pub unbuilt : (version : Version) (settings : Settings) (status : Status) (left a : Option (List ℕ)) →
+    IfSome left (λ input. ReadsScript {A = Call} (Err status) (script command input)) →
+    IfSome left (λ input. EndsBuilding version settings input status a a)
+unbuilt version settings status None a h = tt
+unbuilt version settings status (Some input) a h = unread version settings status input a h
 
 -- a run in which memory was wanting ends without a write
-pub unwritten : (settings : Settings) (left before now : Option (List ℕ)) → Keeps before now → IfSome left (λ input. EndsBuilding settings input Memory before now)
+pub unbuilt_memory : (version : Version) (settings : Settings) (left a : Option (List ℕ)) →
+    IfSome left (λ input. EndsBuilding version settings input Memory a a)
 unfolding EndsBuilding
-unwritten settings None before now h = tt
-unwritten settings (Some input) before now h = h
+unbuilt_memory version settings None a = tt
+unbuilt_memory version settings (Some input) a = Keeps-refl a
 
-pub unbuilt_memory : (settings : Settings) (left a : Option (List ℕ)) → IfSome left (λ input. EndsBuilding settings input Memory a a)
-unbuilt_memory settings left a = unwritten settings left a a (Keeps-refl a)
+-- a fault of the file, and neither of the device nor of memory
+pub unwritten_for_file : (fault : WriteImageFault) → (fault ≡ WriteFault → ⊥) → (fault ≡ MemoryToWrite → ⊥) →
+    Input (Unwritten fault) ≡ unwritten_as fault
+unwritten_for_file WriteFault a b = absurd (a refl)
+unwritten_for_file MemoryToWrite a b = absurd (b refl)
+unwritten_for_file fault a b = refl
 
 -- the script was read
 abbrev pub IsScriptOf : Option (List ℕ) → List Call → Type 0
 IsScriptOf left calls = IfSome left (λ input. script command input ≡ Ok calls)
 
 -- the whole image was written
-pub built_whole : (settings : Settings) (calls : List Call) (l : Lists) (left before now : Option (List ℕ)) → IsScriptOf left calls → IsLedTo settings calls l →
-    IsWritten l (Ok tt) before now → IfSome left (λ input. EndsBuilding settings input Done before now)
+pub built_whole : (version : Version) (settings : Settings) (calls : List Call) (l : Lists) (left before now : Option (List ℕ)) →
+    IsScriptOf left calls → IsLedTo settings calls l → IsWritten version l (Ok tt) before now →
+    IfSome left (λ input. EndsBuilding version settings input Done before now)
 unfolding EndsBuilding
-built_whole settings calls l None before now given led written = tt
-built_whole settings calls l (Some input) before now given led written =
-    (calls, canonical l, given, record { listing = l; led = led; few = written.0; bytes = refl }, written.1)
+built_whole version settings calls l None before now given led written = tt
+built_whole version settings calls l (Some input) before now given led written =
+    (calls, canonical version l, given, record { listing = l; led = led; fits = written.0; bytes = refl }, written.1)
 
--- a beginning of it was written
-pub built_begun : (settings : Settings) (calls : List Call) (l : Lists) (left before now : Option (List ℕ)) → IsScriptOf left calls → IsLedTo settings calls l →
-    IsWritten l (Err WriteFault) before now → IfSome left (λ input. EndsBuilding settings input (Device Write) before now)
+-- a beginning of it was written, or nothing, since the file has no image
+failed : (version : Version) (settings : Settings) (calls : List Call) (l : Lists) (fault : WriteImageFault) (input : List ℕ)
+    (before now : Option (List ℕ)) → script command input ≡ Ok calls → IsLedTo settings calls l → IsWritten version l (Err fault) before now →
+    EndsBuilding version settings input (unwritten_as fault) before now
 unfolding EndsBuilding
-built_begun settings calls l None before now given led written = tt
-built_begun settings calls l (Some input) before now given led written =
-    (calls, canonical l, given, record { listing = l; led = led; few = written.0; bytes = refl }, written.1)
+failed version settings calls l WriteFault input before now given led written =
+    (calls, canonical version l, given, record { listing = l; led = led; fits = written.0; bytes = refl }, written.1)
+failed version settings calls l MemoryToWrite input before now given led written = absurd written.0
+failed version settings calls l OldCapacity input before now given led written =
+    (calls, given, record { listing = l; led = led; refused = written.0 }, written.1)
+failed version settings calls l (OldRecord bucket place) input before now given led written =
+    (calls, given, record { listing = l; led = led; refused = written.0 }, written.1)
+failed version settings calls l TooLarge input before now given led written =
+    (calls, given, record { listing = l; led = led; refused = written.0 }, written.1)
 
--- the file is too large for an image
-pub built_large : (settings : Settings) (calls : List Call) (l : Lists) (left before now : Option (List ℕ)) → IsScriptOf left calls → IsLedTo settings calls l →
-    IsWritten l (Err TooMany) before now → IfSome left (λ input. EndsBuilding settings input (Input TooLarge) before now)
-unfolding EndsBuilding
-built_large settings calls l None before now given led written = tt
-built_large settings calls l (Some input) before now given led written =
-    (calls, given, record { listing = l; led = led; many = written.0 }, written.1)
+pub built_not : (version : Version) (settings : Settings) (calls : List Call) (l : Lists) (fault : WriteImageFault) (status : Status)
+    (left before now : Option (List ℕ)) → status ≡ unwritten_as fault → IsScriptOf left calls → IsLedTo settings calls l →
+    IsWritten version l (Err fault) before now → IfSome left (λ input. EndsBuilding version settings input status before now)
+built_not version settings calls l fault status None before now is given led written = tt
+built_not version settings calls l fault status (Some input) before now is given led written =
+    subst (λ (s : Status). EndsBuilding version settings input s before now) (sym is)
+    (failed version settings calls l fault input before now given led written)

@@ -16,7 +16,7 @@ use Rattle.lhash.specs.declared.drive.DriveFault.{DriveFault}
 use Rattle.lhash.specs.declared.drive.DriveFault.TheVariants.{Settle, Call, Thread, Memory}
 use Rattle.lhash.specs.declared.driven.Driven.{Driven}
 use Rattle.lhash.specs.declared.status.DeviceFault.TheVariants.{Read, Write}
-use Rattle.lhash.specs.declared.status.InputFault.TheVariants.{Script, Image, TooLarge}
+use Rattle.lhash.specs.declared.status.InputFault.TheVariants.{Script, Image, Unwritten}
 use Rattle.lhash.specs.declared.status.Status.{Status}
 use Rattle.lhash.specs.declared.status.Status.TheVariants.{Done, Input, Words, Device, NotSettled, Memory as NoMemory}
 
@@ -27,7 +27,7 @@ unfolding EndsDriving
 unread settings Done input a h = absurd h
 unread settings (Input (Script fault)) input a h = (h, Keeps-refl a)
 unread settings (Input (Image fault)) input a h = absurd h
-unread settings (Input TooLarge) input a h = absurd h
+unread settings (Input (Unwritten fault)) input a h = absurd h
 unread settings (Words text) input a h = absurd h
 unread settings (Device Read) input a h = Keeps-refl a
 unread settings (Device Write) input a h = absurd h

@@ -16,7 +16,7 @@ use Rattle.lh_script.specs.StepTexts.{steps_text}
 use Rattle.lh_script.specs.Steps.{step}
 use Rattle.lh_script.specs.declared.fault.ScriptFault.{ScriptFault}
 use Rattle.lhash.specs.declared.status.DeviceFault.TheVariants.{Read, Write}
-use Rattle.lhash.specs.declared.status.InputFault.TheVariants.{Script, Image, TooLarge}
+use Rattle.lhash.specs.declared.status.InputFault.TheVariants.{Script, Image, Unwritten}
 use Rattle.lhash.specs.declared.status.Status.{Status}
 use Rattle.lhash.specs.declared.status.Status.TheVariants.{Done, Input, Words, Device, Memory, NotSettled}
 use Rattle.lh_script.specs.Scripts.{Reading, script}
@@ -27,7 +27,7 @@ pub unread : {A : Type 0} (status : Status) (given : Result (List A) ScriptFault
 unread Done given output a h = absurd h
 unread (Input (Script fault)) given output a h = (ap (due output) h, Keeps-refl a)
 unread (Input (Image fault)) given output a h = absurd h
-unread (Input TooLarge) given output a h = absurd h
+unread (Input (Unwritten fault)) given output a h = absurd h
 unread (Words text) given output a h = absurd h
 unread (Device Read) given output a h = Keeps-refl a
 unread (Device Write) given output a h = absurd h
@@ -41,7 +41,7 @@ unfolding EndsSteps
 no_steps settings Done input a h = absurd h
 no_steps settings (Input (Script fault)) input a h = (h, Keeps-refl a)
 no_steps settings (Input (Image fault)) input a h = absurd h
-no_steps settings (Input TooLarge) input a h = absurd h
+no_steps settings (Input (Unwritten fault)) input a h = absurd h
 no_steps settings (Words text) input a h = absurd h
 no_steps settings (Device Read) input a h = Keeps-refl a
 no_steps settings (Device Write) input a h = absurd h
@@ -68,9 +68,6 @@ pub steps_begun : (settings : Settings) (input : List ℕ) (events : List Event)
 unfolding EndsSteps
 steps_begun settings input events entries world before now headline given memory written =
     (events, steps_text entries, given, record { entries = entries; world = world; headline = headline; memory = memory; lines = refl }, written)
-
-pub keeps : (a : Option (List ℕ)) → Keeps a a
-keeps a = Keeps-refl a
 
 pub same_script : {A : Type 0} (read : Reading A) (input bytes : List ℕ) → IsReadOf 16777216 input bytes → script read bytes ≡ script read input
 same_script read input bytes (inl e) = ap (script read) e

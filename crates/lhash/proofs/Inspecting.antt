@@ -1,18 +1,27 @@
 -- From the bytes of an image to what is told of it
-use Rattle.std.proofs.Common.{◌≡◌, ◌∙◌, ℕ, List, Option, None, Some, IfSome, refl, sym, ap, subst}
-use Rattle.std.specs.Prelude.{Result, Ok}
+use Rattle.std.proofs.Common.{◌≡◌, ◌∙◌, ◌≤◌, ℕ, List, Option, None, Some, IfSome, refl, sym, ap, subst, arith}
+use Rattle.std.specs.Prelude.{Result, Ok, Err}
 use Rattle.std.specs.Io.KnownBytes.{Appends}
 use Rattle.std.proofs.KnownBytes.{Keeps-refl}
 use Rattle.lh_bucket.specs.Listing.{Lists}
 use Rattle.lh_image.specs.declared.census.Census.{Census}
 use Rattle.lh_image.specs.declared.fault.ImageFault.{ImageFault}
 use Rattle.lh_image.specs.declared.fault.ImageFault.TheVariants.{ReadFault, Memory}
+use Rattle.lh_image.specs.declared.fault.WriteImageFault.{WriteImageFault}
+use Rattle.lh_image.specs.declared.fault.WriteImageFault.TheVariants.{OldCapacity, OldRecord, TooLarge, WriteFault, Memory as MemoryToWrite}
+use Rattle.lh_image.specs.declared.version.Version.TheVariants.{Two}
+use Rattle.lh_image.specs.Canonical.{canonical, page_total}
 use Rattle.lh_image.specs.Census.{census_of}
+use Rattle.lh_image.specs.Counted.{CensusLaw}
+use Rattle.lh_image.specs.Image.{IsImage}
+use Rattle.lh_image.specs.Layout.{most_pages, view_of}
 use Rattle.lh_image.specs.Reading.{IsTold, reading_of}
+use Rattle.lh_image.specs.View.{page_count}
+use Rattle.lh_image.specs.Writing.{IsNotOld, IsWritten}
 use Rattle.lhash.specs.Devices.{TakesBeginning}
 use Rattle.lh_draw.specs.Drawing.{drawing_of}
 use Rattle.lhash.specs.ImageTexts.{check_text, dump_text}
-use Rattle.lhash.specs.Images.{check_due, draw_due, dump_due, refused_as, told_of}
+use Rattle.lhash.specs.Images.{check_due, draw_due, dump_due, migrate_due, refused_as, told_of, unwritten_as}
 use Rattle.lhash.specs.Run.{Ends}
 use Rattle.lhash.specs.declared.status.DeviceFault.TheVariants.{Write}
 use Rattle.lhash.specs.declared.status.InputFault.TheVariants.{Image}
@@ -106,3 +115,46 @@ pub draw_begun : (listing : Lists) (left before now : Option (List ℕ)) → Sho
     TakesBeginning before now (drawing_of listing) → IfSome left (λ input. Ends (Device Write) (draw_due input) before now)
 draw_begun listing None before now shows h = tt
 draw_begun listing (Some input) before now shows h = (drawing_of listing, drawing_due listing shows.0 input shows.1 shows.2, h)
+
+-- and so is its image of version 2
+image_due : (listing l : Lists) (input : List ℕ) → reading_of input ≡ Ok l → listing ≡ l → migrate_due input ≡ Ok (canonical Two listing)
+unfolding migrate_due
+image_due listing l input e is = ap (told_of (canonical Two)) e ∙ ap (λ (x : Lists). Ok (canonical Two x)) (sym is)
+
+pub unmigrated : (fault : ImageFault) (status : Status) (left a : Option (List ℕ)) → status ≡ refused_as fault →
+    IfSome left (λ input. IsTold fault (reading_of input)) → IfSome left (λ input. Ends status (migrate_due input) a a)
+unfolding migrate_due
+unmigrated fault status None a is h = tt
+unmigrated fault status (Some input) a is h =
+    subst (λ (s : Status). Ends s (migrate_due input) a a) (sym is) (unread (canonical Two) fault (reading_of input) a h)
+
+pub migrated : (listing : Lists) (left before now : Option (List ℕ)) → Shows left (λ l. listing ≡ l) →
+    IsWritten Two listing (Ok tt) before now → IfSome left (λ input. Ends Done (migrate_due input) before now)
+migrated listing None before now shows h = tt
+migrated listing (Some input) before now shows h = (canonical Two listing, image_due listing shows.0 input shows.1 shows.2, h.1)
+
+-- an image's listing needs no more pages than the image has
+few_pages : CensusLaw → (input : List ℕ) (l : Lists) → IsImage input l → page_total l ≤ most_pages
+few_pages census input l image =
+    let pages : page_total l ≡ page_count (view_of input) = ap (λ (c : Census). c.pages) (census input l image) in
+    let count : page_count (view_of input) ≡ image.0 = ap (λ h. h.pages) image.2.shown.header in
+    omega (arith, pages, count, image.2.shown.few)
+
+-- a write of it failed: it is neither too large nor too wide
+failed : CensusLaw → (listing : Lists) (fault : WriteImageFault) (input : List ℕ) (before now : Option (List ℕ)) → IsImage input listing →
+    migrate_due input ≡ Ok (canonical Two listing) → IsNotOld fault → IsWritten Two listing (Err fault) before now →
+    Ends (unwritten_as fault) (migrate_due input) before now
+failed census listing WriteFault input before now image due new h = (canonical Two listing, due, h.1)
+failed census listing MemoryToWrite input before now image due new h = absurd h.0
+failed census listing OldCapacity input before now image due new h = absurd new
+failed census listing (OldRecord bucket place) input before now image due new h = absurd new
+failed census listing TooLarge input before now image due new h =
+    absurd (omega (arith, few_pages census input listing image, h.0.1))
+
+pub migrate_begun : CensusLaw → (listing : Lists) (fault : WriteImageFault) (status : Status) (left before now : Option (List ℕ)) →
+    status ≡ unwritten_as fault → Shows left (λ l. listing ≡ l) → IfSome left (λ input. IsImage input listing) → IsNotOld fault →
+    IsWritten Two listing (Err fault) before now → IfSome left (λ input. Ends status (migrate_due input) before now)
+migrate_begun census listing fault status None before now is shows image new h = tt
+migrate_begun census listing fault status (Some input) before now is shows image new h =
+    subst (λ (s : Status). Ends s (migrate_due input) before now) (sym is)
+    (failed census listing fault input before now image (image_due listing shows.0 input shows.1 shows.2) new h)

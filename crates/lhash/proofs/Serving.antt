@@ -3,18 +3,23 @@ use Rattle.std.proofs.Common.{◌≡◌, ◌∙◌, ◌⊎◌, ℕ, ◌<◌, ◌
 use Rattle.std.specs.Prelude.{option_and_then, option_map}
 use Rattle.std.specs.Io.KnownBytes.{Keeps}
 use Rattle.lh_addr.specs.Settings.{Settings}
-use Rattle.lh_options.specs.Options.{Accepts, Answers, Asks, AsksForHelp, IsTurned, Text, asked_by, asked_for, number_given, settings_given, subcommand_named}
+use Rattle.lh_options.specs.Options.{Accepts, Answers, Asks, AsksForHelp, IsTurned, Text, asked_by, asked_for, number_given, settings_given, subcommand_named, version_of}
 use Rattle.lh_options.proofs.Asking.{asked_named, build, commands, drive, refused_alone, steps, undriven}
 use Rattle.lh_options.specs.declared.options.Request.{Request}
 use Rattle.lh_options.specs.declared.options.Request.TheVariants as request
 use Rattle.lhash.specs.Driving.{EndsDriving}
-use Rattle.lhash.specs.Images.{EndsBuilding, check_due, draw_due, dump_due}
+use Rattle.lhash.specs.Images.{EndsBuilding, check_due, draw_due, dump_due, migrate_due, version_asked}
 use Rattle.lhash.specs.Run.{Ends, EndsSteps, commands_due}
-use Rattle.lhash.specs.Serving.{Ending, EndsCommands, EndsTold, IsHelped, IsRun, IsTurnedAway, IsWordsOf, RefusesBelow, Serves, ServesFile, ServesImage, TurnsAway, below_initial}
+use Rattle.lhash.specs.Serving.{Ending, EndsCommands, EndsTold, IsHelped, IsRun, IsTurnedAway, IsWordsOf, RefusesBelow, Serves, ServesBuild, ServesFile, ServesImage, TurnsAway, below_initial}
 use Rattle.lhash.specs.declared.status.DeviceFault.TheVariants.{Read, Write}
 use Rattle.lhash.specs.declared.status.InputFault.{InputFault}
 use Rattle.lhash.specs.declared.status.Status.{Status}
 use Rattle.lhash.specs.declared.status.Status.TheVariants.{Done, Input, Words, Device, Memory, NotSettled}
+
+-- a request is served as what it is
+pub served_as : {r asked : Request} → r ≡ asked → (status : Status) (left rest before now : Option (List ℕ)) →
+    Serves asked status left rest before now → Serves r status left rest before now
+served_as is status left rest before now = subst (λ (r : Request). Serves r status left rest before now) (sym is)
 
 -- what ended for want of memory, with nothing written, ended in a way that allows it
 unwritten : (EndsWith : Ending) (status : Status) (left before now : Option (List ℕ)) →
@@ -27,20 +32,20 @@ unwritten EndsWith status (Some input) before now allows is keeps = subst (λ (s
 below_asked : (words : List Text) (name : Option Text) → subcommand_named words ≡ name → (settings : Settings) → settings_given words ≡ Some settings →
     settings.max < settings.initial → (r : Request) → asked_for words ≡ Some r → r ≡ request.MaxBelowInitial
 below_asked words None named settings given below r is =
-    let none : asked_for words ≡ None = ap (option_and_then (λ n. asked_by n (settings_given words) (number_given words (codes "threads")))) named in
+    let none : asked_for words ≡ None = ap (option_and_then (λ n. asked_by n (settings_given words) (number_given words (codes "threads")) (number_given words (codes "image")))) named in
     absurd cc
 below_asked words (Some name) named settings given below r is =
-    let one : asked_for words ≡ asked_by name (settings_given words) (number_given words (codes "threads")) =
-    ap (option_and_then (λ n. asked_by n (settings_given words) (number_given words (codes "threads")))) named in
-    let by : asked_by name (settings_given words) (number_given words (codes "threads")) ≡ asked_by name (Some settings) (number_given words (codes "threads")) =
-    ap (λ s. asked_by name s (number_given words (codes "threads"))) given in
-    refused_alone name (number_given words (codes "threads")) settings r below (sym (one ∙ by) ∙ is)
+    let one : asked_for words ≡ asked_by name (settings_given words) (number_given words (codes "threads")) (number_given words (codes "image")) =
+    ap (option_and_then (λ n. asked_by n (settings_given words) (number_given words (codes "threads")) (number_given words (codes "image")))) named in
+    let by : asked_by name (settings_given words) (number_given words (codes "threads")) (number_given words (codes "image")) ≡ asked_by name (Some settings) (number_given words (codes "threads")) (number_given words (codes "image")) =
+    ap (λ s. asked_by name s (number_given words (codes "threads")) (number_given words (codes "image"))) given in
+    refused_alone name (number_given words (codes "threads")) (number_given words (codes "image")) settings r below (sym (one ∙ by) ∙ is)
 
 -- a run for words that ask for one thing served it, or ended for want of memory
 served : (words : List Text) (status : Status) (left rest before now : Option (List ℕ)) (name : Text) (r : Request) (EndsWith : Ending) →
     (Serves r status left rest before now → IfSome left (λ input. EndsWith input status before now)) →
     ((input : List ℕ) → Keeps before now → EndsWith input Memory before now) →
-    Asks words name → asked_by name (settings_given words) (number_given words (codes "threads")) ≡ Some r →
+    Asks words name → asked_by name (settings_given words) (number_given words (codes "threads")) (number_given words (codes "image")) ≡ Some r →
     IsRun words status left rest before now → IfSome left (λ input. EndsWith input status before now)
 served words status left rest before now name r EndsWith ends allows asks is (inl run) =
     let same : Some run.0 ≡ Some r = sym (asked_named words name run.0 asks run.1) ∙ is in
@@ -52,19 +57,20 @@ served words status left rest before now name r EndsWith ends allows asks is (in
 pub serves_commands : ServesFile (codes "commands") EndsCommands
 serves_commands words status left rest before now settings asks given within run =
     served words status left rest before now (codes "commands") (request.Commands settings) (EndsCommands settings)
-    (λ h. h) (λ input keeps. keeps) asks (commands (codes "commands") _ _ settings refl given within) run
+    (λ h. h) (λ input keeps. keeps) asks (commands (codes "commands") _ _ _ settings refl given within) run
 
 pub serves_steps : ServesFile (codes "steps") EndsSteps
 unfolding EndsSteps
 serves_steps words status left rest before now settings asks given within run =
     served words status left rest before now (codes "steps") (request.Steps settings) (EndsSteps settings)
-    (λ h. h) (λ input keeps. keeps) asks (steps (codes "steps") _ _ settings refl given within) run
+    (λ h. h) (λ input keeps. keeps) asks (steps (codes "steps") _ _ _ settings refl given within) run
 
-pub serves_build : ServesFile (codes "build") EndsBuilding
+pub serves_build : ServesBuild
 unfolding EndsBuilding
-serves_build words status left rest before now settings asks given within run =
-    served words status left rest before now (codes "build") (request.Build settings) (EndsBuilding settings)
-    (λ h. h) (λ input keeps. keeps) asks (build (codes "build") _ _ settings refl given within) run
+serves_build words status left rest before now settings n asks given image within run =
+    served words status left rest before now (codes "build") (request.Build settings (version_of n)) (EndsBuilding (version_asked (version_of n)) settings)
+    (λ h. h) (λ input keeps. keeps) asks
+    (build (codes "build") _ _ _ settings (version_of n) refl given (ap (option_map version_of) image) within) run
 
 -- words that ask for a run in threads give their number, or ask for nothing
 driven : (words : List Text) (status : Status) (left rest before now : Option (List ℕ)) (settings : Settings) (threads : Option ℕ) →
@@ -73,10 +79,12 @@ driven : (words : List Text) (status : Status) (left rest before now : Option (L
 unfolding EndsDriving
 driven words status left rest before now settings (Some n) counted asks given within run =
     served words status left rest before now (codes "drive") (request.Drive settings n) (EndsDriving settings)
-    (λ h. h) (λ input keeps. keeps) asks (drive (codes "drive") _ _ settings n refl given counted within) run
+    (λ h. h) (λ input keeps. keeps) asks (drive (codes "drive") _ _ _ settings n refl given counted within) run
 driven words status left rest before now settings None counted asks given within (inl run) =
-    let none = undriven (codes "drive") _ _ settings refl given counted within in
+    let none : asked_by (codes "drive") (settings_given words) (number_given words (codes "threads")) (number_given words (codes "image")) ≡ None =
+    undriven (codes "drive") _ _ _ settings refl given counted within in
     let some = asked_named words (codes "drive") run.0 asks run.1 in
+    let apart : Some run.0 ≡ None = sym some ∙ none in
     absurd cc
 driven words status left rest before now settings None counted asks given within (inr run) =
     unwritten (EndsDriving settings) status left before now (λ input keeps. keeps) run.0 run.2
@@ -90,15 +98,16 @@ serves_alone : (words : List Text) (status : Status) (left rest before now : Opt
     (settings : Option Settings) → settings_given words ≡ settings →
     (Serves r status left rest before now → IfSome left (λ input. EndsWith input status before now)) →
     ((input : List ℕ) → Keeps before now → EndsWith input Memory before now) → Asks words name →
-    ((threads : Option ℕ) → asked_by name None threads ≡ Some r) → ((s : Settings) (threads : Option ℕ) → asked_by name (Some s) threads ≡ None) →
+    ((threads image : Option ℕ) → asked_by name None threads image ≡ Some r) →
+    ((s : Settings) (threads image : Option ℕ) → asked_by name (Some s) threads image ≡ None) →
     IsRun words status left rest before now → IfSome left (λ input. EndsWith input status before now)
 serves_alone words status left rest before now name r EndsWith None given ends allows asks alone none run =
     served words status left rest before now name r EndsWith ends allows asks
-    (ap (λ s. asked_by name s (number_given words (codes "threads"))) given ∙ alone (number_given words (codes "threads"))) run
+    (ap (λ s. asked_by name s (number_given words (codes "threads")) (number_given words (codes "image"))) given ∙ alone (number_given words (codes "threads")) (number_given words (codes "image"))) run
 serves_alone words status left rest before now name r EndsWith (Some s) given ends allows asks alone none (inl run) =
     let some = asked_named words name run.0 asks run.1 in
-    let same : asked_by name (settings_given words) (number_given words (codes "threads")) ≡ None =
-    ap (λ x. asked_by name x (number_given words (codes "threads"))) given ∙ none s (number_given words (codes "threads")) in
+    let same : asked_by name (settings_given words) (number_given words (codes "threads")) (number_given words (codes "image")) ≡ None =
+    ap (λ x. asked_by name x (number_given words (codes "threads")) (number_given words (codes "image"))) given ∙ none s (number_given words (codes "threads")) (number_given words (codes "image")) in
     absurd cc
 serves_alone words status left rest before now name r EndsWith (Some s) given ends allows asks alone none (inr run) =
     unwritten EndsWith status left before now allows run.0 run.2
@@ -107,19 +116,25 @@ pub serves_check : ServesImage (codes "check") (EndsTold check_due)
 unfolding asked_by
 serves_check words status left rest before now asks run =
     serves_alone words status left rest before now (codes "check") request.Check (EndsTold check_due) (settings_given words) refl
-    (λ h. h) (λ input keeps. keeps) asks (λ threads. refl) (λ s threads. refl) run
+    (λ h. h) (λ input keeps. keeps) asks (λ threads image. refl) (λ s threads image. refl) run
 
 pub serves_dump : ServesImage (codes "dump") (EndsTold dump_due)
 unfolding asked_by
 serves_dump words status left rest before now asks run =
     serves_alone words status left rest before now (codes "dump") request.Dump (EndsTold dump_due) (settings_given words) refl
-    (λ h. h) (λ input keeps. keeps) asks (λ threads. refl) (λ s threads. refl) run
+    (λ h. h) (λ input keeps. keeps) asks (λ threads image. refl) (λ s threads image. refl) run
 
 pub serves_draw : ServesImage (codes "draw") (EndsTold draw_due)
 unfolding asked_by
 serves_draw words status left rest before now asks run =
     serves_alone words status left rest before now (codes "draw") request.Draw (EndsTold draw_due) (settings_given words) refl
-    (λ h. h) (λ input keeps. keeps) asks (λ threads. refl) (λ s threads. refl) run
+    (λ h. h) (λ input keeps. keeps) asks (λ threads image. refl) (λ s threads image. refl) run
+
+pub serves_migrate : ServesImage (codes "migrate") (EndsTold migrate_due)
+unfolding asked_by
+serves_migrate words status left rest before now asks run =
+    serves_alone words status left rest before now (codes "migrate") request.Migrate (EndsTold migrate_due) (settings_given words) refl
+    (λ h. h) (λ input keeps. keeps) asks (λ threads image. refl) (λ s threads image. refl) run
 
 -- what is refused for its settings
 pub refuses_below : RefusesBelow
@@ -146,11 +161,12 @@ turned words (request.Refused text) status left rest before now is serves =
     (subst (λ (s : Status). IsTurnedAway words s before now) (sym serves.0) (is, serves.2), serves.1)
 turned words (request.Commands config) status left rest before now is serves = absurd is
 turned words (request.Steps config) status left rest before now is serves = absurd is
-turned words (request.Build config) status left rest before now is serves = absurd is
+turned words (request.Build config image) status left rest before now is serves = absurd is
 turned words (request.Drive config threads) status left rest before now is serves = absurd is
 turned words request.Check status left rest before now is serves = absurd is
 turned words request.Dump status left rest before now is serves = absurd is
 turned words request.Draw status left rest before now is serves = absurd is
+turned words request.Migrate status left rest before now is serves = absurd is
 turned words request.MaxBelowInitial status left rest before now is serves = absurd is
 
 -- what is turned away

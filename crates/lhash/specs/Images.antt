@@ -1,5 +1,5 @@
--- What the subcommands for images do: which image `build` writes, and what `check` and `dump` tell of one
-use Rattle.std.specs.Prelude.{◌≡◌, ℕ, ◌<◌, ◌≤◌, List, Option, Result, Ok, Err, ◌==◌}
+-- What the subcommands for images do: which image `build` and `migrate` write, and what `check` and `dump` tell of one
+use Rattle.std.specs.Prelude.{◌≡◌, ℕ, ◌<◌, List, Option, Result, Ok, Err, ◌==◌}
 use Rattle.std.specs.FinMap.{empty, retain_keys}
 use Rattle.std.specs.Io.KnownBytes.{Keeps}
 use Rattle.lh_addr.specs.Fnv.{code_of}
@@ -12,18 +12,24 @@ use Rattle.lh_bucket.specs.Records.{map_of}
 use Rattle.lh_core.specs.Serial.{size_of}
 use Rattle.lh_image.specs.declared.fault.ImageFault.{ImageFault}
 use Rattle.lh_image.specs.declared.fault.ImageFault.TheVariants.{ReadFault, Memory}
-use Rattle.lh_image.specs.Layout.{most_pages}
-use Rattle.lh_image.specs.Canonical.{canonical, page_total}
+use Rattle.lh_image.specs.declared.fault.WriteImageFault.{WriteImageFault}
+use Rattle.lh_image.specs.declared.fault.WriteImageFault.TheVariants.{WriteFault, Memory as MemoryToWrite}
+use Rattle.lh_image.specs.declared.version.Version.{Version}
+use Rattle.lh_image.specs.declared.version.Version.TheVariants.{One, Two}
+use Rattle.lh_image.specs.Canonical.{canonical}
 use Rattle.lh_image.specs.Census.{census_of}
 use Rattle.lh_image.specs.Reading.{reading_of}
+use Rattle.lh_image.specs.Writing.{FitsImage, IsRefused}
+use Rattle.lh_options.specs.declared.options.ImageVersion.{ImageVersion}
+use Rattle.lh_options.specs.declared.options.ImageVersion.TheVariants.{First, Second}
 use Rattle.lh_script.specs.Commands.{command}
 use Rattle.lh_draw.specs.Drawing.{drawing_of}
 use Rattle.lhash.specs.ImageTexts.{check_text, dump_text}
 use Rattle.lhash.specs.Run.{EndsTelling}
 use Rattle.lh_script.specs.Scripts.{script}
-use Rattle.lhash.specs.declared.status.DeviceFault.TheVariants.{Read}
+use Rattle.lhash.specs.declared.status.DeviceFault.TheVariants.{Read, Write}
 use Rattle.lhash.specs.declared.status.InputFault.{InputFault}
-use Rattle.lhash.specs.declared.status.InputFault.TheVariants.{Image, TooLarge}
+use Rattle.lhash.specs.declared.status.InputFault.TheVariants.{Image, Unwritten}
 use Rattle.lhash.specs.declared.status.Status.{Status}
 use Rattle.lhash.specs.declared.status.Status.TheVariants.{Input, Device, Memory as NoMemory}
 
@@ -34,24 +40,29 @@ pub record IsLedTo (settings : Settings) (calls : List Call) (l : Lists) : Type 
   pub placed : (i : ℕ) → i < size l → map_of (list_at l.lists i) ≡ retain_keys (outcome empty calls) (λ key. address settings.initial (size l) (code_of key) == i)
   pub listing : IsListing l
 
--- What `build` may write for calls: the canonical image of a listing of the file that they lead to, where that isn't too large.
-pub record IsBuilt (settings : Settings) (calls : List Call) (output : List ℕ) : Type 0 where
+-- the version of an image that is asked for
+abbrev pub version_asked : ImageVersion → Version
+version_asked First = One
+version_asked Second = Two
+
+-- What `build` may write for calls: the canonical image, in a version, of a listing of the file that they lead to, where it has one.
+pub record IsBuilt (version : Version) (settings : Settings) (calls : List Call) (output : List ℕ) : Type 0 where
   pub listing : Lists
   pub led : IsLedTo settings calls listing
-  pub few : page_total listing ≤ most_pages
-  pub bytes : output ≡ canonical listing
+  pub fits : FitsImage version listing
+  pub bytes : output ≡ canonical version listing
 
--- the file that calls lead to is too large for an image
-pub record IsTooLarge (settings : Settings) (calls : List Call) : Type 0 where
+-- the file that calls lead to has no image in a version, for this reason
+pub record HasNoImage (version : Version) (settings : Settings) (calls : List Call) (fault : WriteImageFault) : Type 0 where
   pub listing : Lists
   pub led : IsLedTo settings calls listing
-  pub many : most_pages < page_total listing
+  pub refused : IsRefused version listing fault
 
--- how `build` ends on an input: too large, and the writer took nothing, where the file that the script leads to is; otherwise with the image of that file, or with the script's first fault
-unfoldable pub EndsBuilding : Settings → List ℕ → Status → Option (List ℕ) → Option (List ℕ) → Type 0
-EndsBuilding settings input (Input TooLarge) before now =
-    (calls : List Call) × (script command input ≡ Ok calls) × IsTooLarge settings calls × Keeps before now
-EndsBuilding settings input status before now = EndsTelling (IsBuilt settings) status (script command input) before now
+-- how `build` ends on an input: with the reason, and the writer took nothing, where the file that the script leads to has no image; otherwise with the image of that file, or with the script's first fault
+unfoldable pub EndsBuilding : Version → Settings → List ℕ → Status → Option (List ℕ) → Option (List ℕ) → Type 0
+EndsBuilding version settings input (Input (Unwritten fault)) before now =
+    (calls : List Call) × (script command input ≡ Ok calls) × HasNoImage version settings calls fault × Keeps before now
+EndsBuilding version settings input status before now = EndsTelling (IsBuilt version settings) status (script command input) before now
 
 -- what is to be written of an image, or the first fault of bytes that are none
 abbrev pub told_of : (Lists → List ℕ) → Result Lists ImageFault → Result (List ℕ) InputFault
@@ -69,6 +80,16 @@ dump_due input = told_of dump_text (reading_of input)
 -- what `draw` is to write for an input: a drawing of the listing that it is an image of
 unfoldable pub draw_due : List ℕ → Result (List ℕ) InputFault
 draw_due input = told_of drawing_of (reading_of input)
+
+-- what `migrate` is to write for an input: the canonical image of version 2 of the listing that it is an image of
+unfoldable pub migrate_due : List ℕ → Result (List ℕ) InputFault
+migrate_due input = told_of (canonical Two) (reading_of input)
+
+-- how a run ends whose file was not written as an image
+abbrev pub unwritten_as : WriteImageFault → Status
+unwritten_as WriteFault = Device Write
+unwritten_as MemoryToWrite = NoMemory
+unwritten_as fault = Input (Unwritten fault)
 
 -- how a run ends whose input was not read as an image
 abbrev pub refused_as : ImageFault → Status

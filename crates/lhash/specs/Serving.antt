@@ -3,12 +3,12 @@ use Rattle.std.specs.Prelude.{◌≡◌, ◌⊎◌, ℕ, ◌<◌, ◌≤◌, Lis
 use Rattle.std.specs.String.{string_bytes}
 use Rattle.std.specs.Io.KnownBytes.{Keeps}
 use Rattle.lhash.specs.Driving.{EndsDriving}
-use Rattle.lhash.specs.Images.{EndsBuilding, check_due, draw_due, dump_due}
+use Rattle.lhash.specs.Images.{EndsBuilding, check_due, draw_due, dump_due, migrate_due, version_asked}
 use Rattle.lh_addr.specs.Settings.{Settings}
-use Rattle.lh_options.specs.Options.{Accepts, Answers, Asks, AsksForHelp, IsRefused, Text, settings_given}
+use Rattle.lh_options.specs.Options.{Accepts, Answers, Asks, AsksForHelp, IsRefused, Text, number_given, settings_given, version_of}
 use Rattle.lhash.specs.Run.{Ends, EndsSteps, commands_due}
 use Rattle.lh_options.specs.declared.options.Request.{Request}
-use Rattle.lh_options.specs.declared.options.Request.TheVariants.{Commands, Steps, Build, Check, Draw, Dump, Drive, Help, Refused, MaxBelowInitial}
+use Rattle.lh_options.specs.declared.options.Request.TheVariants.{Commands, Steps, Build, Check, Draw, Dump, Drive, Migrate, Help, Refused, MaxBelowInitial}
 use Rattle.lhash.specs.declared.status.DeviceFault.TheVariants.{Write}
 use Rattle.lhash.specs.declared.status.InputFault.{InputFault}
 use Rattle.lhash.specs.declared.status.Status.{Status}
@@ -34,10 +34,11 @@ below_initial = codes "max is less than initial"
 abbrev pub Serves : Request → Status → Option (List ℕ) → Option (List ℕ) → Option (List ℕ) → Option (List ℕ) → Type 0
 Serves (Commands config) status left rest before now = IfSome left (λ input. Ends status (commands_due config input) before now)
 Serves (Steps config) status left rest before now = IfSome left (λ input. EndsSteps config input status before now)
-Serves (Build config) status left rest before now = IfSome left (λ input. EndsBuilding config input status before now)
+Serves (Build config image) status left rest before now = IfSome left (λ input. EndsBuilding (version_asked image) config input status before now)
 Serves Check status left rest before now = IfSome left (λ input. Ends status (check_due input) before now)
 Serves Dump status left rest before now = IfSome left (λ input. Ends status (dump_due input) before now)
 Serves Draw status left rest before now = IfSome left (λ input. Ends status (draw_due input) before now)
+Serves Migrate status left rest before now = IfSome left (λ input. Ends status (migrate_due input) before now)
 Serves (Drive config threads) status left rest before now = IfSome left (λ input. EndsDriving config input status before now)
 Serves (Help text) status left rest before now = IsHelped status × Keeps left rest
 Serves (Refused text) status left rest before now = (status ≡ Words text) × Keeps left rest × Keeps before now
@@ -77,6 +78,14 @@ ServesFile name EndsWith =
     (words : List Text) (status : Status) (left rest before now : Option (List ℕ)) (settings : Settings) →
     Asks words name → settings_given words ≡ Some settings → settings.initial ≤ settings.max →
     IsRun words status left rest before now → IfSome left (λ input. EndsWith settings input status before now)
+
+-- a run for words that ask for `build`, and give settings in order and the number of a version, ends by them
+abbrev pub ServesBuild : Type 0
+ServesBuild =
+    (words : List Text) (status : Status) (left rest before now : Option (List ℕ)) (settings : Settings) (n : ℕ) →
+    Asks words (codes "build") → settings_given words ≡ Some settings → number_given words (codes "image") ≡ Some n →
+    settings.initial ≤ settings.max → IsRun words status left rest before now →
+    IfSome left (λ input. EndsBuilding (version_asked (version_of n)) settings input status before now)
 
 -- a run for words that ask for this subcommand, which reads an image, ends so
 abbrev pub ServesImage : Text → Ending → Type 0

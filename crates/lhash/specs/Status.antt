@@ -1,12 +1,12 @@
 -- How a run ended: its exit status, and its text on standard error
 use Rattle.std.specs.Prelude.{ℕ, List, [], ◌++◌, codes}
 use Rattle.std.specs.String.{string_bytes}
-use Rattle.lh_image.specs.Texts.{image_fault_text}
+use Rattle.lh_image.specs.Texts.{image_fault_text, write_image_fault_text}
 use Rattle.lh_script.specs.FaultTexts.{script_fault_text}
 use Rattle.lhash.specs.declared.status.DeviceFault.{DeviceFault}
 use Rattle.lhash.specs.declared.status.DeviceFault.TheVariants.{Read, Write}
 use Rattle.lhash.specs.declared.status.InputFault.{InputFault}
-use Rattle.lhash.specs.declared.status.InputFault.TheVariants.{Script, Image, TooLarge}
+use Rattle.lhash.specs.declared.status.InputFault.TheVariants.{Script, Image, Unwritten}
 use Rattle.lhash.specs.declared.status.Status.{Status}
 use Rattle.lhash.specs.declared.status.Status.TheVariants.{Done, Input, Words, Device, Memory, NotSettled}
 use Rattle.lhash.specs.Unsettled.{unsettled_text}
@@ -23,7 +23,7 @@ code_of (NotSettled fault) = 5
 abbrev pub input_fault_text : InputFault → List ℕ
 input_fault_text (Script fault) = script_fault_text fault
 input_fault_text (Image fault) = image_fault_text fault
-input_fault_text TooLarge = codes "image too large"
+input_fault_text (Unwritten fault) = write_image_fault_text fault
 
 abbrev pub device_text : DeviceFault → List ℕ
 device_text Read = codes "read failed"

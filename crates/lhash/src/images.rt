@@ -1,8 +1,9 @@
-//! The subcommands for images: `build`, from a script to an image, and `check` and `dump`, from an
-//! image to what is told of it.
+//! The subcommands for images: `build`, from a script to an image, `migrate`, from an image to one of version 2, and
+//! `check` and `dump`, from an image to what is told of it.
 ghost use Rattle.std.specs.Prelude.{◌≡◌, IfOk, IfSome};
 ghost use Rattle.lh_image.specs.Reading.{IsAnswer};
-ghost use Rattle.lhash.specs.Images.{EndsBuilding, IsLedTo, check_due, dump_due, refused_as};
+ghost use Rattle.lh_image.specs.Writing.{IsWritten};
+ghost use Rattle.lhash.specs.Images.{EndsBuilding, IsLedTo, check_due, dump_due, migrate_due, refused_as, unwritten_as, version_asked};
 ghost use Rattle.lhash.specs.Run.{Ends};
 
 use crate::answer::read_script;
@@ -13,7 +14,11 @@ use crate::status::{DeviceFault, InputFault, Status};
 use lh_addr::Config;
 use lh_bucket::{Call, Listing, PagedBucket};
 use lh_core::{Memory, serial};
-use lh_image::{ImageFault, WriteImageFault, check_image, read_image, write_image};
+use lh_image::laws::census_counts_pages;
+use lh_image::{
+    ImageFault, WriteImageFault, check_image, read_image, write_image, write_image_v1,
+};
+use lh_options::ImageVersion;
 use std::alloc::Global;
 use std::io::{Read, Write};
 
@@ -28,17 +33,44 @@ fn file_after(alloc: Global, config: Config, calls: &[Call]) -> Result<Listing, 
     Ok(listing)
 }
 
+/// Writes a file as an image of a version.
+fn write_in<W: Write>(
+    version: ImageVersion,
+    listing: &Listing,
+    writer: &mut W,
+) -> Result<(), WriteImageFault>
+    ensures { IsWritten (version_asked version) listing.now result (W.contents writer.old) (W.contents writer.new) }
+{
+    match version {
+        ImageVersion::First => write_image_v1(listing, writer),
+        ImageVersion::Second => write_image(listing, writer),
+    }
+}
+
+/// How a run ends whose file was not written.
+#[tactic(auto, using(crate::proofs::Building::unwritten_for_file))]
+fn unwritten(fault: WriteImageFault) -> Status
+    ensures { result ≡ unwritten_as fault }
+{
+    match fault {
+        WriteImageFault::WriteFault => Status::Device(DeviceFault::Write),
+        WriteImageFault::Memory => Status::Memory,
+        fault => Status::Input(InputFault::Unwritten(fault)),
+    }
+}
+
 /// Reads a command script whole, answers its calls in turn from an empty file, and writes that file
-/// as an image.
-#[tactic(auto, using(crate::proofs::Building::unbuilt, crate::proofs::Building::unbuilt_memory, crate::proofs::Building::unwritten))]
+/// as an image of a version.
+#[tactic(auto, using(crate::proofs::Building::unbuilt, crate::proofs::Building::unbuilt_memory))]
 pub fn answer_build<R: Read, W: Write>(
     alloc: Global,
     config: Config,
+    version: ImageVersion,
     reader: &mut R,
     writer: &mut W,
 ) -> Status
     ensures { IfSome (R.remaining reader.old) (λ input.
-        EndsBuilding config input result (W.contents writer.old) (W.contents writer.new)) }
+        EndsBuilding (version_asked version) config input result (W.contents writer.old) (W.contents writer.new)) }
 {
     let calls: Vec<Call> = match read_script(alloc, reader) {
         Ok(calls) => calls,
@@ -47,11 +79,9 @@ pub fn answer_build<R: Read, W: Write>(
     let Ok(listing) = file_after(alloc, config, calls.as_slice()) else {
         return Status::Memory;
     };
-    match write_image(&listing, writer) {
+    match write_in(version, &listing, writer) {
         Ok(()) => Status::Done,
-        Err(WriteImageFault::TooLarge) => Status::Input(InputFault::TooLarge),
-        Err(WriteImageFault::WriteFault) => Status::Device(DeviceFault::Write),
-        Err(WriteImageFault::Memory) => Status::Memory,
+        Err(fault) => unwritten(fault),
     }
 }
 
@@ -64,6 +94,23 @@ pub fn unreadable(fault: ImageFault) -> Status
         ImageFault::ReadFault => Status::Device(DeviceFault::Read),
         ImageFault::Memory => Status::Memory,
         fault => Status::Input(InputFault::Image(fault)),
+    }
+}
+
+/// Reads an image of either version, and writes its file as one of version 2. That has as many pages, so it is never
+/// too large.
+pub fn answer_migrate<R: Read, W: Write>(alloc: Global, reader: &mut R, writer: &mut W) -> Status
+    ensures { IfSome (R.remaining reader.old) (λ input.
+        Ends result (migrate_due input) (W.contents writer.old) (W.contents writer.new)) }
+{
+    census_counts_pages();
+    let listing = match read_image(alloc, reader) {
+        Ok(listing) => listing,
+        Err(fault) => return unreadable(fault),
+    };
+    match write_image(&listing, writer) {
+        Ok(()) => Status::Done,
+        Err(fault) => unwritten(fault),
     }
 }
 

@@ -2,9 +2,9 @@
 //! a function that does nothing.
 ghost use Rattle.std.specs.Prelude.{codes};
 ghost use Rattle.lhash.specs.Driving.{EndsDriving};
-ghost use Rattle.lhash.specs.Images.{EndsBuilding, check_due, draw_due, dump_due};
+ghost use Rattle.lhash.specs.Images.{check_due, draw_due, dump_due, migrate_due};
 ghost use Rattle.lhash.specs.Run.{EndsSteps};
-ghost use Rattle.lhash.specs.Serving.{EndsCommands, EndsTold, RefusesBelow, ServesFile, ServesImage, TurnsAway};
+ghost use Rattle.lhash.specs.Serving.{EndsCommands, EndsTold, RefusesBelow, ServesBuild, ServesFile, ServesImage, TurnsAway};
 
 /// Words that ask for `commands` have the replies of one plain map to the script's calls written, and the number of
 /// buckets that the split policy gives; or the run ends at the script's first fault, with nothing written.
@@ -17,9 +17,10 @@ pub fn steps_is_served()
     ensures { ServesFile (codes "steps") EndsSteps }
 {}
 
-/// Words that ask for `build` have the image written of the file that the script's calls lead to.
+/// Words that ask for `build` have the image written, in the version that they give, of the file that the script's
+/// calls lead to; or they are told why it has none.
 pub fn build_is_served()
-    ensures { ServesFile (codes "build") EndsBuilding }
+    ensures { ServesBuild }
 {}
 
 /// Words that ask for `drive` have the totals written of a settled, legal history.
@@ -40,6 +41,11 @@ pub fn dump_is_served()
 /// Words that ask for `draw` have the drawing written of the listing that the input is an image of.
 pub fn draw_is_served()
     ensures { ServesImage (codes "draw") (EndsTold draw_due) }
+{}
+
+/// Words that ask for `migrate` have the image of version 2 written of the listing that the input is an image of.
+pub fn migrate_is_served()
+    ensures { ServesImage (codes "migrate") (EndsTold migrate_due) }
 {}
 
 /// Words whose `--max` is less than their `--initial` are refused, with nothing read and nothing written.

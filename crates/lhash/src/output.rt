@@ -1,6 +1,6 @@
 //! Lines on their way to a writer: they wait until there are enough of them for one write.
-ghost use Rattle.std.specs.Prelude.{◌≡◌, ◌<◌, ◌++◌, ℕ, List, Option, OnOk, OnErr, IfOk, IfSome, flat_map, Some, []};
-ghost use Rattle.std.specs.String.{string_bytes};
+ghost use Rattle.std.specs.Prelude.{◌≡◌, ◌<◌, ◌≤◌, ◌+◌, ◌++◌, ℕ, List, Option, OnOk, OnErr, IfOk, IfSome, flat_map, Some, []};
+ghost use Rattle.std.specs.String.{string_bytes, string_capacity};
 ghost use Rattle.std.specs.Io.KnownBytes.{Appends};
 ghost use Rattle.lh_bucket.specs.Listing.{list_at, size};
 ghost use Rattle.lhash.specs.Devices.{Adds, Breaks, Sends, TakesBeginning};
@@ -12,6 +12,7 @@ use crate::device::{WriteFailed, write_all};
 use crate::image_texts::RecordText;
 use lh_bucket::{Listing, Reply};
 use lh_core::{Effect, Refusal};
+use lh_page::limits::{LONGEST_KEY, LONGEST_VALUE};
 use lh_script::{EntryText, ReplyText, SizeText};
 use std::alloc::{AllocError, Global};
 use std::fmt::Display;
@@ -20,12 +21,13 @@ use std::io::Write;
 /// How many bytes are written at once.
 const CHUNK: usize = 65_536;
 
-/// No line is longer.
-const LONGEST_LINE: usize = 256;
+/// No line is longer: key and value take two digits a byte, and all else takes less than 100 bytes.
+const LONGEST_LINE: usize = 100 + 2 * (LONGEST_KEY + LONGEST_VALUE);
 
 /// Room for the lines that wait, so that none of them needs memory later.
 pub fn room(alloc: Global) -> Result<String, AllocError>
-    ensures { IfOk result (λ waiting. string_bytes waiting ≡ []) }
+    ensures empty { IfOk result (λ waiting. string_bytes waiting ≡ []) }
+    ensures reserved { IfOk result (λ waiting. CHUNK + LONGEST_LINE ≤ string_capacity waiting) }
 {
     String::with_capacity(alloc, CHUNK + LONGEST_LINE)
 }

@@ -7,7 +7,7 @@ use crate::answer::{answer_commands, answer_steps};
 use crate::device::write_all;
 use crate::draw::answer_draw;
 use crate::drive::answer_drive;
-use crate::images::{answer_build, answer_check, answer_dump};
+use crate::images::{answer_build, answer_check, answer_dump, answer_migrate};
 use crate::status::{DeviceFault, Status};
 use lh_options::{Request, request_of};
 use std::alloc::Global;
@@ -26,7 +26,7 @@ fn write_help<W: Write>(writer: &mut W, text: &str) -> Status
 }
 
 /// Words that are refused for this reason.
-pub fn refuse(alloc: Global, reason: &str) -> Status
+fn refuse(alloc: Global, reason: &str) -> Status
     ensures { IsWordsOf reason.now result }
 {
     match String::from_str(alloc, reason) {
@@ -36,7 +36,6 @@ pub fn refuse(alloc: Global, reason: &str) -> Status
 }
 
 /// Does what is asked for.
-#[tactic(auto, using(crate::proofs::Ending::keeps))]
 fn serve<A: Threads + Wait + Sync, R: Read, W: Write>(
     rt: &A,
     alloc: Global,
@@ -51,10 +50,11 @@ fn serve<A: Threads + Wait + Sync, R: Read, W: Write>(
     match request {
         Request::Commands(config) => answer_commands(alloc, config, reader, writer),
         Request::Steps(config) => answer_steps(alloc, config, reader, writer),
-        Request::Build(config) => answer_build(alloc, config, reader, writer),
+        Request::Build(config, version) => answer_build(alloc, config, version, reader, writer),
         Request::Check => answer_check(alloc, reader, writer),
         Request::Dump => answer_dump(alloc, reader, writer),
         Request::Draw => answer_draw(alloc, reader, writer),
+        Request::Migrate => answer_migrate(alloc, reader, writer),
         Request::Drive(config, threads) => {
             answer_drive(rt, alloc, config, threads, reader, writer)
         }

@@ -3,7 +3,7 @@ ghost use Rattle.std.specs.Prelude.{◌≡◌, Some};
 ghost use Rattle.lhash.specs.Status.{code_of, status_text};
 
 use crate::unsettled::Unsettled;
-use lh_image::ImageFault;
+use lh_image::{ImageFault, WriteImageFault};
 use lh_script::ScriptFault;
 use std::fmt;
 
@@ -14,8 +14,8 @@ pub enum InputFault {
     Script(ScriptFault),
     /// The bytes are no image.
     Image(ImageFault),
-    /// The image of the file that the script leads to would have more than 1,048,576 pages.
-    TooLarge,
+    /// The file that the script leads to has no image in the version that is asked for.
+    Unwritten(WriteImageFault),
 }
 
 /// Which device failed.
@@ -70,7 +70,7 @@ impl fmt::Display for InputFault {
         match self {
             InputFault::Script(fault) => write!(f, "{fault}"),
             InputFault::Image(fault) => write!(f, "{fault}"),
-            InputFault::TooLarge => write!(f, "image too large"),
+            InputFault::Unwritten(fault) => write!(f, "{fault}"),
         }
     }
 }

@@ -5,9 +5,11 @@ use std::marker::PhantomData;
 
 mod chained;
 mod marked;
+mod slots;
 
 pub use chained::Chained;
 pub use marked::{Marked16, Marked32, Vector16, Vector32};
+pub use slots::Slots;
 
 /// A row of records that is searched by key.
 pub trait Layout: Drop {
@@ -24,6 +26,27 @@ pub trait Layout: Drop {
     fn add(&mut self, record: Record) -> Result<(), AllocError>;
 
     fn find(&self, key: &Self::Sought) -> Option<usize>;
+}
+
+/// A row of records with their values, which is also divided in two.
+pub trait Store: Layout {
+    /// A record as this layout takes it.
+    type Item: Drop;
+
+    type Value: Drop;
+
+    fn item(record: &Record) -> Option<Self::Item>;
+
+    /// Adds a record, if its key is not there.
+    fn insert(&mut self, item: &Self::Item) -> Result<(), AllocError>;
+
+    /// The value under a key.
+    fn value(&self, key: &Self::Sought) -> Option<Self::Value>;
+
+    /// Takes out the records whose keys end in an odd digit.
+    fn split(&mut self) -> Result<Self, AllocError>
+    where
+        Self: Sized;
 }
 
 fn room(records: &mut Vec<Record>) -> Result<(), AllocError> {

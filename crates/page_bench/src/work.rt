@@ -1,6 +1,6 @@
 //! The same look-ups in each layout.
-use crate::layouts::Layout;
-use crate::record::{Record, key_of};
+use crate::layouts::{Layout, Store};
+use crate::record::{key_of, record_of};
 use std::alloc::{AllocError, Global};
 use std::io;
 use std::time::Instant;
@@ -12,6 +12,8 @@ pub struct Size {
     pub queries: usize,
     /// Bytes in a key.
     pub key: usize,
+    /// Bytes in a value.
+    pub value: usize,
     /// Records in a chain.
     pub chain: usize,
 }
@@ -22,22 +24,30 @@ struct Query<K> {
     key: K,
 }
 
-fn chains<L: Layout>(alloc: Global, size: Size) -> Result<Vec<L>, AllocError> {
+fn empty_chains<L: Layout>(alloc: Global, size: Size) -> Result<Vec<L>, AllocError> {
     let mut all = Vec::new(alloc);
     let count = size.records.checked_div(size.chain).unwrap_or(1).max(1);
     for _ in 0..count {
         all.push(L::empty(alloc)?)?;
     }
-    // Chains grow side by side, as in a file.
+    Ok(all)
+}
+
+/// Adds all records. Chains grow side by side, as in a file.
+#[inline(never)]
+fn fill<L: Layout>(chains: &mut [L], size: Size) -> Result<(), AllocError> {
     for place in 0..size.chain {
-        for (i, chain) in all.iter_mut().enumerate() {
+        for (i, chain) in chains.iter_mut().enumerate() {
             let number = i.wrapping_mul(size.chain).wrapping_add(place);
-            chain.add(Record {
-                key: key_of(number, size.key),
-                value: [1; 41],
-            })?;
+            chain.add(record_of(number, size.key, size.value))?;
         }
     }
+    Ok(())
+}
+
+fn chains<L: Layout>(alloc: Global, size: Size) -> Result<Vec<L>, AllocError> {
+    let mut all = empty_chains(alloc, size)?;
+    fill::<L>(&mut all, size)?;
     Ok(all)
 }
 
@@ -122,5 +132,100 @@ pub fn run<L: Layout>(
     let (c, d) = (miss_tenths / 10, miss_tenths % 10);
     println!(rt;
         "{place} key {key} chain {chain} {name}: hit {a}.{b} ns, miss {c}.{d} ns ({hit}, {miss})"
+    )
+}
+
+/// All records in the order in which they come.
+fn items<S: Store>(alloc: Global, size: Size) -> Result<Vec<S::Item>, AllocError> {
+    let mut all = Vec::new(alloc);
+    let count = size.records.checked_div(size.chain).unwrap_or(1).max(1);
+    for place in 0..size.chain {
+        for i in 0..count {
+            let number = i.wrapping_mul(size.chain).wrapping_add(place);
+            if let Some(item) = S::item(&record_of(number, size.key, size.value)) {
+                all.push(item)?;
+            }
+        }
+    }
+    Ok(all)
+}
+
+/// Adds records to chains that grow side by side.
+#[inline(never)]
+fn insert<S: Store>(chains: &mut [S], items: &[S::Item]) -> Result<(), AllocError> {
+    let mut i = 0;
+    for item in items {
+        if i >= chains.len() {
+            i = 0;
+        }
+        if i < chains.len() {
+            chains[i].insert(item)?;
+            i += 1;
+        }
+    }
+    Ok(())
+}
+
+/// Reads the values of keys.
+#[inline(never)]
+fn read<S: Store>(chains: &[S], queries: &[Query<S::Sought>]) -> usize {
+    let mut count = 0usize;
+    for query in queries {
+        if query.chain < chains.len() && chains[query.chain].value(&query.key).is_some() {
+            count = count.wrapping_add(1);
+        }
+    }
+    count
+}
+
+/// Divides each chain in two.
+#[inline(never)]
+fn divide<S: Store>(chains: &mut [S], gone: &mut Vec<S>) -> Result<(), AllocError> {
+    for chain in chains.iter_mut() {
+        gone.push(chain.split()?)?;
+    }
+    Ok(())
+}
+
+/// Tenths of a nanosecond for each of some steps.
+fn tenths(taken: u64, steps: usize) -> u64 {
+    taken.saturating_mul(10) / (steps as u64).max(1)
+}
+
+/// Adds records, reads values and divides chains in one layout, and prints a line.
+pub fn serve<S: Store>(
+    rt: &HostRuntime,
+    place: &str,
+    name: &str,
+    size: Size,
+    timed: bool,
+) -> io::Result<()> {
+    let mut chains = empty_chains::<S>(rt.alloc(), size)?;
+    let hits = queries::<S>(rt.alloc(), size, true)?;
+    let mut gone = Vec::with_capacity(rt.alloc(), chains.len())?;
+    let items = items::<S>(rt.alloc(), size)?;
+    let start = Instant::now(rt)?;
+    insert::<S>(&mut chains, &items)?;
+    let filled = u64::try_from(start.elapsed(rt)?.as_nanos()).unwrap_or(u64::MAX);
+    let mut least = u64::MAX;
+    let mut count = 0;
+    for _ in 0..5 {
+        let start = Instant::now(rt)?;
+        count = read::<S>(&chains, &hits);
+        least = least.min(u64::try_from(start.elapsed(rt)?.as_nanos()).unwrap_or(u64::MAX));
+    }
+    let start = Instant::now(rt)?;
+    divide::<S>(&mut chains, &mut gone)?;
+    let divided = u64::try_from(start.elapsed(rt)?.as_nanos()).unwrap_or(u64::MAX);
+    let left = read::<S>(&chains, &hits);
+    if !timed {
+        return println!(rt; "{name}: {count} values, {left} of chains that were divided");
+    }
+    let insert = tenths(filled, size.records);
+    let search = tenths(least, size.queries);
+    let split = tenths(divided, size.records);
+    let (key, value, chain) = (size.key, size.value, size.chain);
+    println!(rt;
+        "{place} key {key} value {value} chain {chain} {name}: insert {insert}, value {search}, split {split} tenths of ns ({count}, {left})"
     )
 }

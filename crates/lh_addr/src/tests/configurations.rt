@@ -5,7 +5,7 @@ use std::test::Fail;
 #[test]
 fn configurations_have_limits(rt: HostRuntime) -> Result<(), Fail> {
     assert_eq!(rt; Config::new(0, 14, 100, 1), Err(Range::Initial));
-    assert_eq!(rt; Config::new(1, 15, 300, 0), Err(Range::Capacity));
+    assert_eq!(rt; Config::new(1, 25, 300, 0), Err(Range::Capacity));
     assert_eq!(rt; Config::new(1, 14, 201, 0), Err(Range::Load));
     assert_eq!(rt; Config::new(3, 2, 100, 2), Err(Range::Max));
     assert_eq!(rt;
@@ -17,6 +17,8 @@ fn configurations_have_limits(rt: HostRuntime) -> Result<(), Fail> {
     assert_eq!(rt; config.capacity(), 2);
     assert_eq!(rt; config.load(), 100);
     assert_eq!(rt; config.max(), 65_536);
+    let widest = Config::new(1, 24, 100, 1).ok().ok_or("config")?;
+    assert_eq!(rt; widest.capacity(), 24);
     Ok(())
 }
 

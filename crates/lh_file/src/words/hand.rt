@@ -9,6 +9,12 @@ use std::marker::Model;
 
 /// A caller's own token of a running file. Each thread works with a hand of its own: it may make so
 /// many calls, it may have the right to split, and where the file records it keeps its acts.
+///
+/// A hand that is dropped takes with it what it has: its calls, its acts and the right to split. A right that is lost
+/// so stays taken: from then on every hand that asks finds it busy, no insert splits, and settling answers
+/// [`SettleFault::SplitUnderWay`](crate::SettleFault::SplitUnderWay). A worker that may end early, by a `?` say, between
+/// [`try_split_right`](crate::HashFile::try_split_right) and [`split`](crate::HashFile::split) should borrow a hand
+/// that its caller keeps. The calls of the file never keep the right: an insert gives it back whether or not it split.
 #[derive(Drop)]
 pub struct Hand {
     pub(crate) seat: Seat<(), View>,

@@ -1,6 +1,6 @@
 //! Chains of records.
 use crate::tests::records::pair_of;
-use crate::{Chain, Key, KeySet, Memory, Pair, Value, pages_needed};
+use crate::{Chain, Key, KeyLength, KeySet, Memory, Pair, Value, ValueLength, pages_needed};
 use std::process::Abort;
 use std::test::Fail;
 
@@ -36,6 +36,49 @@ fn expect_keys(rt: &impl Abort, chain: &Chain, keys: &[u8]) {
         assert!(rt; place < chain.len());
         assert_eq!(rt; chain.pair_at(place).key.bytes().first(), Some(key));
     }
+}
+
+/// A key of a length that begins with a letter.
+fn key_of(letter: u8, len: usize) -> Result<Key, KeyLength> {
+    let mut bytes = [b'-'; 56];
+    bytes[0] = letter;
+    Key::new(&bytes[..len.min(56)])
+}
+
+/// A value of a length, with its number in each of its bytes.
+fn value_of(number: u8, len: usize) -> Result<Value, ValueLength> {
+    Value::new(&[number; 112][..len.min(112)])
+}
+
+/// The record of a letter. Some of these values are behind their keys, and some are not.
+fn record_of(letter: u8) -> Result<Pair, Fail> {
+    let keys = [56, 1, 16, 50, 55];
+    let values = [6, 112, 46, 12, 0, 7, 62];
+    Ok(Pair {
+        key: key_of(letter, keys[letter as usize % 5])?,
+        value: value_of(letter, values[letter as usize % 7])?,
+    })
+}
+
+/// The chain has the records of these letters in their order.
+fn expect_records(rt: &impl Abort, chain: &Chain, letters: &[u8]) -> Result<(), Fail> {
+    assert_eq!(rt; chain.len(), letters.len());
+    for (place, letter) in letters.iter().enumerate() {
+        let pair = record_of(*letter)?;
+        assert!(rt; place < chain.len());
+        assert_eq!(rt; chain.pair_at(place), pair);
+        assert_eq!(rt; chain.find(&pair.key), Some(place));
+    }
+    Ok(())
+}
+
+/// Pushes the records of letters, each once more where memory was refused.
+fn add_records(rt: &impl Abort, chain: &mut Chain, letters: &[u8]) -> Result<(), Fail> {
+    for letter in letters {
+        let pair = record_of(*letter)?;
+        add(rt, chain, pair.key.bytes(), pair.value.bytes())?;
+    }
+    Ok(())
 }
 
 /// Keys below `g`.
@@ -125,4 +168,116 @@ fn counts_the_pages_of_records(rt: HostRuntime) {
     assert_eq!(rt; pages_needed(2, 2), 1);
     assert_eq!(rt; pages_needed(3, 2), 2);
     assert_eq!(rt; pages_needed(usize::MAX, 1), usize::MAX);
+}
+
+#[test]
+fn a_value_crosses_from_the_line_and_back(rt: HostRuntime) -> Result<(), Fail> {
+    for len in [1, 16, 55, 56] {
+        let mut chain = Chain::new(rt.alloc(), 24)?;
+        add_records(&rt, &mut chain, b"abcde")?;
+        let key = key_of(b'x', len)?;
+        let mut before = value_of(0, 3)?;
+        add(&rt, &mut chain, key.bytes(), before.bytes())?;
+        for length in [7, 112, 6, 47, 61, 0, 111, 46, 62, 5] {
+            let Some(place) = chain.find(&key) else {
+                return Err(Fail::from("no record has the key"));
+            };
+            let value = value_of(length as u8, length)?;
+            assert_eq!(rt; chain.replace_at(place, value), before);
+            assert_eq!(rt; chain.find(&key), Some(5));
+            assert!(rt; place < chain.len());
+            assert_eq!(rt; chain.pair_at(place), Pair { key, value });
+            before = value;
+        }
+        assert_eq!(rt;
+            delete(&rt, &mut chain, record_of(b'a')?.key.bytes())?,
+            record_of(b'a')?
+        );
+        assert_eq!(rt; chain.find(&key), Some(0));
+        assert!(rt; 0 < chain.len());
+        assert_eq!(rt; chain.pair_at(0), Pair { key, value: before });
+    }
+    Ok(())
+}
+
+#[test]
+fn the_longest_keys_have_six_bytes_behind_them(rt: HostRuntime) -> Result<(), Fail> {
+    let mut chain = Chain::new(rt.alloc(), 2)?;
+    for (letter, len) in [
+        (b'a', 6),
+        (b'b', 7),
+        (b'c', 6),
+        (b'd', 7),
+        (b'e', 0),
+        (b'f', 112),
+    ] {
+        let value = value_of(letter, len)?;
+        add(&rt, &mut chain, key_of(letter, 56)?.bytes(), value.bytes())?;
+    }
+    for (place, (letter, len)) in [
+        (b'a', 6),
+        (b'b', 7),
+        (b'c', 6),
+        (b'd', 7),
+        (b'e', 0),
+        (b'f', 112),
+    ]
+    .iter()
+    .enumerate()
+    {
+        let pair = Pair {
+            key: key_of(*letter, 56)?,
+            value: value_of(*letter, *len)?,
+        };
+        assert!(rt; place < chain.len());
+        assert_eq!(rt; chain.pair_at(place), pair);
+    }
+    // A key that differs in its last byte alone, one that differs at the end of its first half, and a shorter one.
+    let mut bytes = [b'-'; 56];
+    bytes[0] = b'a';
+    assert_eq!(rt; chain.find(&Key::new(&bytes)?), Some(0));
+    bytes[55] = b'+';
+    assert_eq!(rt; chain.find(&Key::new(&bytes)?), None);
+    bytes[55] = b'-';
+    bytes[31] = b'+';
+    assert_eq!(rt; chain.find(&Key::new(&bytes)?), None);
+    assert_eq!(rt; chain.find(&key_of(b'a', 55)?), None);
+    Ok(())
+}
+
+#[test]
+fn a_delete_moves_a_record_to_another_unit(rt: HostRuntime) -> Result<(), Fail> {
+    let mut chain = Chain::new(rt.alloc(), 24)?;
+    let mut letters = *b"abcdefghijklm";
+    add_records(&rt, &mut chain, &letters)?;
+    for (removed, place) in [0, 11, 3, 4, 7, 1, 5, 0, 4, 2, 0, 1, 0].iter().enumerate() {
+        assert!(rt; removed < 13 && *place < 13);
+        let pair = record_of(letters[*place])?;
+        assert_eq!(rt; chain.find(&pair.key), Some(*place));
+        assert_eq!(rt; delete(&rt, &mut chain, pair.key.bytes())?, pair);
+        letters[*place] = letters[12 - removed];
+        expect_records(&rt, &chain, &letters[..12 - removed])?;
+    }
+    assert_eq!(rt; chain.len(), 0);
+    add_records(&rt, &mut chain, b"nop")?;
+    expect_records(&rt, &chain, b"nop")
+}
+
+#[test]
+fn a_split_takes_long_values_along(rt: HostRuntime) -> Result<(), Fail> {
+    let letters = b"ABCDEFGHIJKLMNOPQRSTUVWXYZabcdefghijklmnopqrstuvwxyz";
+    let mut chain = Chain::new(rt.alloc(), 24)?;
+    add_records(&rt, &mut chain, letters)?;
+    assert_eq!(rt; chain.pages(), 3);
+    expect_records(&rt, &chain, letters)?;
+    let gone = match chain.split_off(&Early) {
+        Ok(gone) => gone,
+        Err(Memory) => {
+            expect_records(&rt, &chain, letters)?;
+            chain.split_off(&Early)?
+        }
+    };
+    // Those below `g` are more than half.
+    expect_records(&rt, &gone, b"ABCDEFGHIJKLMNOPQRSTUVWXYZabcdef")?;
+    expect_records(&rt, &chain, b"ghijklmnopqrstuvwxyz")
 }

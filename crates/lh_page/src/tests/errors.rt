@@ -15,12 +15,12 @@ fn printed<D: Display>(rt: &HostRuntime, value: &D) -> Result<String, AllocError
 #[test]
 fn prints_errors(rt: HostRuntime) -> Result<(), Fail> {
     assert_eq!(rt;
-        printed(&rt, &KeyLength { length: 31 })?.as_str(),
-        "key length 31"
+        printed(&rt, &KeyLength { length: 57 })?.as_str(),
+        "key length 57"
     );
     assert_eq!(rt;
-        printed(&rt, &ValueLength { length: 41 })?.as_str(),
-        "value length 41"
+        printed(&rt, &ValueLength { length: 113 })?.as_str(),
+        "value length 113"
     );
     assert_eq!(rt; printed(&rt, &Memory)?.as_str(), "no memory");
     assert_eq!(rt; printed(&rt, &PageFault::Kind)?.as_str(), "page kind");

@@ -5,12 +5,12 @@ use std::test::Fail;
 
 #[test]
 fn refuses_lengths(rt: HostRuntime) -> Result<(), Fail> {
-    let bytes = [b'a'; 41];
-    assert_eq!(rt; Key::new(&bytes[..31]), Err(KeyLength { length: 31 }));
+    let bytes = [b'a'; 113];
+    assert_eq!(rt; Key::new(&bytes[..57]), Err(KeyLength { length: 57 }));
     assert_eq!(rt; Key::new(&[]), Err(KeyLength { length: 0 }));
-    assert_eq!(rt; Value::new(&bytes), Err(ValueLength { length: 41 }));
-    assert_eq!(rt; Key::new(&bytes[..30])?.bytes().len(), 30);
-    assert_eq!(rt; Value::new(&bytes[..40])?.bytes().len(), 40);
+    assert_eq!(rt; Value::new(&bytes), Err(ValueLength { length: 113 }));
+    assert_eq!(rt; Key::new(&bytes[..56])?.bytes().len(), 56);
+    assert_eq!(rt; Value::new(&bytes[..112])?.bytes().len(), 112);
     assert_eq!(rt; Value::new(&[])?.bytes().len(), 0);
     Ok(())
 }
@@ -23,6 +23,15 @@ fn orders_by_bytes(rt: HostRuntime) -> Result<(), Fail> {
     assert!(rt; a < longer);
     assert!(rt; longer < b);
     assert_ne!(rt; a, longer);
+    // Each byte counts, up to the last one of the longest keys.
+    let mut bytes = [b'a'; 56];
+    let all = Key::new(&bytes)?;
+    for place in 0..56 {
+        bytes[place] = b'b';
+        assert_ne!(rt; Key::new(&bytes)?, all);
+        bytes[place] = b'a';
+    }
+    assert_eq!(rt; Key::new(&bytes)?, all);
     assert!(rt; pair_of(b"a", b"2")? > pair_of(b"a", b"1")?);
     Ok(())
 }

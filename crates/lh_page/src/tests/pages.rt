@@ -2,6 +2,7 @@
 use crate::tests::records::pair_of;
 use crate::{
     Page, PageFault, PageHead, PageKind, Pairs, page_from_bytes, page_head, page_to_bytes,
+    page2_from_bytes, page2_head, page2_to_bytes,
 };
 use std::test::Fail;
 
@@ -19,7 +20,7 @@ fn worked_page() -> Result<Page, Fail> {
     })
 }
 
-/// Its bytes, from the format's worked example.
+/// Its bytes in version 1, from the format's worked example.
 fn worked_bytes() -> [u8; 1024] {
     let mut bytes = [0; 1024];
     bytes[..3].copy_from_slice(&[0x01, 0x02, 0x02]);
@@ -28,6 +29,92 @@ fn worked_bytes() -> [u8; 1024] {
     bytes[88..91].copy_from_slice(&[0x01, 0x01, 0x65]);
     bytes[120] = 0x35;
     bytes
+}
+
+/// Its bytes in version 2, from the format's worked example.
+fn worked_bytes_2() -> [u8; 4096] {
+    let mut bytes = [0; 4096];
+    bytes[..3].copy_from_slice(&[0x01, 0x02, 0x02]);
+    bytes[16..19].copy_from_slice(&[0x01, 0x01, 0x61]);
+    bytes[74] = 0x31;
+    bytes[186..189].copy_from_slice(&[0x01, 0x01, 0x65]);
+    bytes[244] = 0x35;
+    bytes
+}
+
+/// A page of 24 records of the longest keys and values.
+fn full_page() -> Result<Page, Fail> {
+    let mut pairs = Pairs::new();
+    for record in 0..24 {
+        pairs.push(pair_of(&[record + 1; 56], &[record; 112])?);
+    }
+    Ok(Page {
+        kind: PageKind::Overflow,
+        level: 16,
+        bucket: 65535,
+        next: 65536,
+        pairs,
+    })
+}
+
+#[test]
+fn writes_and_reads_the_worked_bytes_of_version_2(rt: HostRuntime) -> Result<(), Fail> {
+    let page = worked_page()?;
+    assert_eq!(rt; page2_to_bytes(&page), worked_bytes_2());
+    assert_eq!(rt; page2_from_bytes(&worked_bytes_2(), 2), Ok(page));
+    let full = full_page()?;
+    let bytes = page2_to_bytes(&full);
+    assert_eq!(rt;
+        &bytes[..18],
+        [
+            2, 24, 16, 0, 0xff, 0xff, 0, 0, 0, 0, 1, 0, 0, 0, 0, 0, 56, 112
+        ]
+        .as_slice()
+    );
+    // Slot 23 is the last 170 bytes: the lengths, 56 bytes of the key, 112 of the value.
+    assert_eq!(rt; &bytes[3926..3929], [56, 112, 24].as_slice());
+    assert_eq!(rt; &bytes[3982..3986], [24, 24, 23, 23].as_slice());
+    assert_eq!(rt; bytes[4095], 23);
+    let head = PageHead {
+        kind: 2,
+        used: 24,
+        level: 16,
+        clear: true,
+        bucket: 65535,
+        next: 65536,
+    };
+    assert_eq!(rt; page2_head(&bytes), head);
+    assert_eq!(rt; page2_from_bytes(&bytes, 24), Ok(full));
+    assert_eq!(rt; page2_from_bytes(&bytes, 23), Err(PageFault::Used));
+    Ok(())
+}
+
+#[test]
+fn names_the_first_fault_of_version_2(rt: HostRuntime) {
+    // Where a byte is changed, to what, and the fault that is due with room for two records.
+    let rows = [
+        (0, 3, PageFault::Kind),
+        (15, 1, PageFault::Kind),
+        (1, 3, PageFault::Used),
+        (1, 1, PageFault::Slot(1)),
+        (16, 57, PageFault::Slot(0)),
+        (16, 0, PageFault::Slot(0)),
+        (17, 113, PageFault::Slot(0)),
+        (73, 1, PageFault::Slot(0)),
+        (185, 1, PageFault::Slot(0)),
+        (356, 1, PageFault::Slot(2)),
+        (4095, 1, PageFault::Slot(23)),
+    ];
+    for (place, byte, fault) in rows {
+        let mut bytes = worked_bytes_2();
+        assert!(rt; place < 4096);
+        bytes[place] = byte;
+        assert_eq!(rt;
+            page2_from_bytes(&bytes, 2),
+            Err(fault),
+            "byte {place} is {byte}"
+        );
+    }
 }
 
 #[test]

@@ -2,7 +2,8 @@
 use Rattle.std.proofs.Common.{refl, inl, inr, codes}
 use Rattle.clap.proofs.OnLiterals.{clap_on_literals}
 use Rattle.clap.specs.declared.error.kind.ErrorKind.TheVariants as kind
-use Rattle.lh_options.specs.OptionLaws.{Gives, GivesBuild, GivesDrive, GivesSteps, Refuses, build_given, check_alone, check_with_option, draw_alone, drive_alone, drive_given, dump_alone, help_asked, initial_twice, initial_zero, max_below_initial, max_given, max_over_limit, no_options, no_subcommand, steps_given, threads_over_limit, threads_zero, unknown_option, version_asked}
+use Rattle.lh_options.specs.OptionLaws.{Gives, GivesBuild, GivesDrive, GivesSteps, Refuses, build_given, check_alone, check_with_option, draw_alone, drive_alone, drive_given, dump_alone, first_image_given, help_asked, initial_twice, initial_zero, max_below_initial, max_given, max_over_limit, migrate_alone, no_options, no_subcommand, steps_given, third_image, threads_over_limit, threads_zero, unknown_option, version_asked}
+use Rattle.lh_options.specs.declared.options.ImageVersion.TheVariants.{First, Second}
 use Rattle.lh_options.specs.Options.{Accepts, Asks, AsksForHelp, settings_given, subcommand_named}
 use Rattle.lh_options.proofs.laws.words_give_options.Goals as goal
 
@@ -22,9 +23,17 @@ steps : GivesSteps steps_given (record { initial = 1; capacity = 2; load = 200; 
 unfolding clap_on_literals Accepts settings_given subcommand_named
 steps = ((refl, refl), refl)
 
-build : GivesBuild build_given (record { initial = 1; capacity = 14; load = 100; max = 1 })
+build : GivesBuild build_given (record { initial = 1; capacity = 14; load = 100; max = 1 }) Second
 unfolding clap_on_literals Accepts settings_given subcommand_named
-build = ((refl, refl), refl)
+build = ((refl, refl), refl, refl)
+
+first : GivesBuild first_image_given (record { initial = 1; capacity = 14; load = 100; max = 65536 }) First
+unfolding clap_on_literals Accepts settings_given subcommand_named
+first = ((refl, refl), refl, refl)
+
+migrate : Asks migrate_alone (codes "migrate")
+unfolding clap_on_literals Accepts subcommand_named
+migrate = (refl, refl)
 
 drive : GivesDrive drive_given (record { initial = 3; capacity = 14; load = 100; max = 65536 }) 64
 unfolding clap_on_literals Accepts settings_given subcommand_named
@@ -70,6 +79,10 @@ too_great : Refuses max_over_limit
 unfolding clap_on_literals Accepts
 too_great = λ e. cc
 
+no_third : Refuses third_image
+unfolding clap_on_literals Accepts
+no_third = λ e. cc
+
 twice : Refuses initial_twice
 unfolding clap_on_literals Accepts
 twice = λ e. cc
@@ -93,6 +106,8 @@ returns c = record {
   below = below;
   steps = steps;
   build = build;
+  first = first;
+  migrate = migrate;
   drive = drive;
   drive_left_out = drive_left_out;
   check = check;
@@ -104,6 +119,7 @@ returns c = record {
   no_thread = no_thread;
   too_many_threads = too_many_threads;
   too_great = too_great;
+  no_third = no_third;
   twice = twice;
   unknown = unknown;
   help = help;

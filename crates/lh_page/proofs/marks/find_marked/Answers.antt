@@ -1,10 +1,12 @@
 use Rattle.std.proofs.Common.{sym, ◌∙◌, arith}
-use Rattle.lh_page.proofs.Places.{same_key}
+use Rattle.std.proofs.lemmas.Slice.Eq.{bytes_eq-Decides}
+use Rattle.lh_page.specs.Records.{key_at}
 use Rattle.lh_page.proofs.marks.find_marked.Goals as goal
 
-pub returns-then-eq-clause-found : goal.returns-then-eq-clause-found
-returns-then-eq-clause-found c = (
-  c.if-place-pairs.false,
-  λ k less within. c.loop-left.invariant k (omega arith) within (c.lowest-place.ensures.below k less),
-  same_key c.args.pairs.now c.lowest-place.result c.index-pairs-place.result c.args.key.now c.if-place-pairs.false (sym c.eq.ensures ∙ c.if-eq.true),
-)
+pub returns-then-has_key-clause-found : goal.returns-then-has_key-clause-found
+returns-then-has_key-clause-found c =
+    let place = c.lowest-place.result in (
+      omega arith,
+      λ k less within. c.loop-left.invariant k (omega arith) within (c.lowest-place.ensures.below k less),
+      (bytes_eq-Decides (key_at c.args.pairs.now place) c.args.key.now).0 (sym c.has_key.ensures ∙ c.if-has_key.true),
+    )

@@ -4,7 +4,7 @@ use Rattle.lh_page.proofs.chain.Chain.new.Goals as goal
 
 pub invariant_of-result : goal.invariant_of-result
 invariant_of-result c = record {
-  list = record { capacity = c.requires; distinct = distinct_none c.new.result.items c.new.ensures.items };
+  list = record { capacity = c.requires; distinct = distinct_none c.new.result c.new.ensures };
   room = refl;
-  marked = λ i low below. absurd (omega (arith, ap length c.new.ensures.items));
+  marked = λ i low below. absurd (omega (arith, ap length c.new.ensures));
 }

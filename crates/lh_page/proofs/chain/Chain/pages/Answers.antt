@@ -5,7 +5,7 @@ use Rattle.lh_page.proofs.chain.Chain.pages.Goals as goal
 
 pub returns : goal.returns
 returns c =
-    let pairs = c.self.inside.pairs.items in
+    let pairs = c.self.inside.pairs in
     let b = c.self.inside.capacity in
     let all : c.len.result ≡ length pairs = omega arith in
     c.pages_needed.ensures ∙ ap (pages_needed b) all ∙ sym (length-pieces (length pairs) b pairs c.self.invariant.list.capacity.0 (omega arith))

@@ -11,14 +11,14 @@ pub invariant_of-self-2 : goal.invariant_of-self-2
 invariant_of-self-2 c =
     let k = c.self.inside in
     let h = c.self.invariant in
-    let items : c.append.new.pairs.items ≡ k.pairs.items ++ c.args.pair ∷ [] = c.in_ok-append.ensures.ok in
-    let last : c.len-place.result ≡ length k.pairs.items = omega arith in
+    let items : c.push.new.self ≡ k.pairs ++ c.args.pair ∷ [] = c.in_ok-push.ensures.ok in
+    let last : c.len-place.result ≡ length k.pairs = omega arith in
     let absent = rw (← c.self.view_is) at c.requires in
-    let key = ap (λ (q : Pair). q.key) (get_or_push k.pairs.items c.args.pair no_pair c.len-place.result (sym last)) in
+    let key = ap (λ (q : Pair). q.key) (get_or_push k.pairs c.args.pair no_pair c.len-place.result (sym last)) in
     record {
-      list = record { capacity = h.list.capacity; distinct = rw items (distinct_push k.pairs.items c.args.pair h.list.distinct absent) };
+      list = record { capacity = h.list.capacity; distinct = rw items (distinct_push k.pairs c.args.pair h.list.distinct absent) };
       room = c.put_mark.ensures.room ∙ h.room;
-      marked = rw items (marked_push k.marks c.put_mark.new.marks k.pairs.items c.args.pair c.len-place.result last h.marked (record {
+      marked = rw items (marked_push k.marks c.put_mark.new.marks k.pairs c.args.pair c.len-place.result last h.marked (record {
         marked = λ low within. c.put_mark.ensures.marked low ∙ ap mark_of (sym key);
         room = c.put_mark.ensures.room;
         others = c.put_mark.ensures.others;

@@ -1,0 +1,10 @@
+use Rattle.std.proofs.Common.{codes}
+use Rattle.std.proofs.lemmas.Result.{IfOk-weaker}
+use Rattle.lh_options.specs.Options.{option_rule}
+use Rattle.lh_options.proofs.CommandShapes.{option-reads}
+use Rattle.lh_options.proofs.options.build_command.Goals as goal
+
+pub returns : goal.returns
+returns c =
+    IfOk-weaker c.arg.result _ _
+    (λ m h. option-reads _ m c.option.result _ (option_rule (codes "image") (codes "2") 1 2) h c.option.ensures.local c.option.ensures.rule c.in_ok-file_command.ensures) c.arg.ensures

@@ -1,0 +1,279 @@
+//! Requests of words that are written out.
+use lh_addr::Config;
+use lh_options::{ImageVersion, Request, request_of};
+use std::alloc::AllocError;
+use std::process::Abort;
+
+/// The four settings that the words give, as `initial capacity load max`, or what stands in their
+/// place.
+fn answer(rt: &(impl Abort + AllocGlobal), words: &[&str]) -> Result<String, AllocError> {
+    let alloc = rt.alloc();
+    match request_of(alloc, words)? {
+        Request::Commands(config) | Request::Steps(config) => settings(rt, &config),
+        Request::Build(config, version) => {
+            let settings = settings(rt, &config)?;
+            let version = match version {
+                ImageVersion::First => "version 1",
+                ImageVersion::Second => "version 2",
+            };
+            format!(in alloc; "{settings}, {version}")
+        }
+        Request::Drive(config, threads) => {
+            let settings = settings(rt, &config)?;
+            format!(in alloc; "{settings}, {threads} threads")
+        }
+        Request::Check => String::from_str(alloc, "check"),
+        Request::Dump => String::from_str(alloc, "dump"),
+        Request::Draw => String::from_str(alloc, "draw"),
+        Request::Migrate => String::from_str(alloc, "migrate"),
+        Request::Help(text) => {
+            assert!(rt;
+                text.as_str().starts_with("Usage: lhash")
+                    || text.as_str().contains("\nUsage: lhash")
+            );
+            String::from_str(alloc, "help")
+        }
+        Request::Refused(text) => format!(in alloc; "refused: {text}"),
+        Request::MaxBelowInitial => String::from_str(alloc, "max is below initial"),
+    }
+}
+
+fn settings(rt: &impl AllocGlobal, config: &Config) -> Result<String, AllocError> {
+    let initial = config.initial();
+    let capacity = config.capacity();
+    let load = config.load();
+    let max = config.max();
+    format!(in rt.alloc(); "{initial} {capacity} {load} {max}")
+}
+
+/// After `lhash commands`, these words give this answer.
+fn expect(
+    rt: &(impl Abort + AllocGlobal),
+    options: &[&str],
+    expected: &str,
+) -> Result<(), AllocError> {
+    let mut words = Vec::new(rt.alloc());
+    words.push("lhash")?;
+    words.push("commands")?;
+    for option in options {
+        words.push(*option)?;
+    }
+    let given = answer(rt, words.as_slice())?;
+    assert!(rt; given.as_str() == expected, "{options:?} gives {given}");
+    Ok(())
+}
+
+#[test]
+fn each_option_apart_and_attached(rt: HostRuntime) -> Result<(), AllocError> {
+    expect(&rt, [].as_slice(), "1 14 100 65536")?;
+    expect(&rt, ["--initial", "3"].as_slice(), "3 14 100 65536")?;
+    expect(&rt, ["--initial=3"].as_slice(), "3 14 100 65536")?;
+    expect(&rt, ["--capacity", "2"].as_slice(), "1 2 100 65536")?;
+    expect(&rt, ["--capacity=2"].as_slice(), "1 2 100 65536")?;
+    expect(&rt, ["--load", "80"].as_slice(), "1 14 80 65536")?;
+    expect(&rt, ["--load=80"].as_slice(), "1 14 80 65536")?;
+    expect(&rt, ["--max", "7"].as_slice(), "1 14 100 7")?;
+    expect(&rt, ["--max=7"].as_slice(), "1 14 100 7")?;
+    expect(
+        &rt,
+        [
+            "--max=300",
+            "--load",
+            "200",
+            "--capacity=1",
+            "--initial",
+            "256",
+        ]
+        .as_slice(),
+        "256 1 200 300",
+    )
+}
+
+#[test]
+fn ends_of_the_ranges(rt: HostRuntime) -> Result<(), AllocError> {
+    expect(&rt, ["--load=10"].as_slice(), "1 14 10 65536")?;
+    expect(&rt, ["--max=1"].as_slice(), "1 14 100 1")?;
+    expect(&rt, ["--initial", "+3"].as_slice(), "3 14 100 65536")?;
+    expect(&rt, ["--initial", "007"].as_slice(), "7 14 100 65536")?;
+    expect(
+        &rt,
+        ["--initial=0"].as_slice(),
+        "refused: invalid value '0' for '--initial <initial>': 0 is not in 1..=256",
+    )?;
+    expect(
+        &rt,
+        ["--initial=257"].as_slice(),
+        "refused: invalid value '257' for '--initial <initial>': 257 is not in 1..=256",
+    )?;
+    expect(
+        &rt,
+        ["--capacity", "25"].as_slice(),
+        "refused: invalid value '25' for '--capacity <capacity>': 25 is not in 1..=24",
+    )?;
+    expect(
+        &rt,
+        ["--load", "9"].as_slice(),
+        "refused: invalid value '9' for '--load <load>': 9 is not in 10..=200",
+    )?;
+    expect(
+        &rt,
+        ["--max", "65537"].as_slice(),
+        "refused: invalid value '65537' for '--max <max>': 65537 is not in 1..=65536",
+    )?;
+    expect(
+        &rt,
+        ["--initial=-1"].as_slice(),
+        "refused: invalid value '-1' for '--initial <initial>': -1 is not in 1..=256",
+    )
+}
+
+#[test]
+fn words_that_are_no_numbers(rt: HostRuntime) -> Result<(), AllocError> {
+    expect(
+        &rt,
+        ["--initial", "x"].as_slice(),
+        "refused: invalid value 'x' for '--initial <initial>': invalid digit found in string",
+    )?;
+    expect(
+        &rt,
+        ["--initial="].as_slice(),
+        "refused: invalid value '' for '--initial <initial>': cannot parse integer from empty string",
+    )?;
+    expect(
+        &rt,
+        ["--initial"].as_slice(),
+        "refused: a value is required for '--initial <initial>' but none was supplied",
+    )?;
+    expect(
+        &rt,
+        ["--initial", "-1"].as_slice(),
+        "refused: unexpected argument '-1' found",
+    )?;
+    expect(
+        &rt,
+        ["--initial=3", "--initial=3"].as_slice(),
+        "refused: the argument '--initial <initial>' cannot be used multiple times",
+    )?;
+    expect(
+        &rt,
+        ["--threads", "3"].as_slice(),
+        "refused: unexpected argument '--threads' found",
+    )?;
+    expect(
+        &rt,
+        ["extra"].as_slice(),
+        "refused: unexpected argument 'extra' found",
+    )
+}
+
+/// After `lhash drive`, these words give this answer.
+fn drive_expect(
+    rt: &(impl Abort + AllocGlobal),
+    option: &str,
+    expected: &str,
+) -> Result<(), AllocError> {
+    let given = answer(rt, ["lhash", "drive", "--load=80", option].as_slice())?;
+    assert!(rt; given.as_str() == expected, "{option} gives {given}");
+    Ok(())
+}
+
+#[test]
+fn threads_are_1_to_64(rt: HostRuntime) -> Result<(), AllocError> {
+    drive_expect(&rt, "--max=7", "1 14 80 7, 4 threads")?;
+    drive_expect(&rt, "--threads=1", "1 14 80 65536, 1 threads")?;
+    drive_expect(&rt, "--threads=64", "1 14 80 65536, 64 threads")?;
+    drive_expect(
+        &rt,
+        "--threads=0",
+        "refused: invalid value '0' for '--threads <threads>': 0 is not in 1..=64",
+    )?;
+    drive_expect(
+        &rt,
+        "--threads=65",
+        "refused: invalid value '65' for '--threads <threads>': 65 is not in 1..=64",
+    )
+}
+
+/// These words give this answer.
+fn gives(
+    rt: &(impl Abort + AllocGlobal),
+    words: &[&str],
+    expected: &str,
+) -> Result<(), AllocError> {
+    let given = answer(rt, words)?;
+    assert_eq!(rt; given.as_str(), expected);
+    Ok(())
+}
+
+#[test]
+fn an_image_is_of_version_1_or_2(rt: HostRuntime) -> Result<(), AllocError> {
+    gives(
+        &rt,
+        ["lhash", "build"].as_slice(),
+        "1 14 100 65536, version 2",
+    )?;
+    gives(
+        &rt,
+        ["lhash", "build", "--image", "1"].as_slice(),
+        "1 14 100 65536, version 1",
+    )?;
+    gives(
+        &rt,
+        ["lhash", "build", "--image=2", "--capacity=24"].as_slice(),
+        "1 24 100 65536, version 2",
+    )?;
+    gives(
+        &rt,
+        ["lhash", "build", "--image=3"].as_slice(),
+        "refused: invalid value '3' for '--image <image>': 3 is not in 1..=2",
+    )?;
+    gives(
+        &rt,
+        ["lhash", "build", "--image=0"].as_slice(),
+        "refused: invalid value '0' for '--image <image>': 0 is not in 1..=2",
+    )?;
+    gives(&rt, ["lhash", "migrate"].as_slice(), "migrate")?;
+    gives(
+        &rt,
+        ["lhash", "migrate", "--image=2"].as_slice(),
+        "refused: unexpected argument '--image' found",
+    )?;
+    gives(
+        &rt,
+        ["lhash", "commands", "--image=2"].as_slice(),
+        "refused: unexpected argument '--image' found",
+    )
+}
+
+#[test]
+fn max_below_initial(rt: HostRuntime) -> Result<(), AllocError> {
+    expect(
+        &rt,
+        ["--initial=8", "--max=7"].as_slice(),
+        "max is below initial",
+    )?;
+    expect(&rt, ["--initial=8", "--max=8"].as_slice(), "8 14 100 8")
+}
+
+#[test]
+fn subcommands_and_help(rt: HostRuntime) -> Result<(), AllocError> {
+    expect(&rt, ["--help"].as_slice(), "help")?;
+    expect(&rt, ["-h"].as_slice(), "help")?;
+    let help = answer(&rt, ["lhash", "--help"].as_slice())?;
+    assert_eq!(rt; help.as_str(), "help");
+    let help = answer(&rt, ["lhash", "help"].as_slice())?;
+    assert_eq!(rt; help.as_str(), "help");
+    let help = answer(&rt, ["lhash", "help", "commands"].as_slice())?;
+    assert_eq!(rt; help.as_str(), "help");
+    let none = answer(&rt, ["lhash"].as_slice())?;
+    assert_eq!(rt;
+        none.as_str(),
+        "refused: 'lhash' requires a subcommand but one was not provided"
+    );
+    let unknown = answer(&rt, ["lhash", "bogus"].as_slice())?;
+    assert_eq!(rt;
+        unknown.as_str(),
+        "refused: unrecognized subcommand 'bogus'"
+    );
+    Ok(())
+}

@@ -1,0 +1,87 @@
+//! Step scripts from end to end: events, and the texts of faults.
+use lh_bucket::Call;
+use lh_core::Event;
+use lh_page::{Key, Value};
+use lh_script::{ParseError, parse};
+use std::alloc::{AllocError, Global};
+use std::process::Abort;
+use std::test::Fail;
+
+/// How many events a text has, or what is wrong with it.
+fn outcome(alloc: Global, text: &[u8]) -> Result<String, AllocError> {
+    match parse::<Event>(alloc, text) {
+        Ok(events) => {
+            let count = events.len();
+            format!(in alloc; "{count} events")
+        }
+        Err(ParseError::Fault(fault)) => fault.to_string(alloc),
+        Err(ParseError::Memory) => Err(AllocError),
+    }
+}
+
+fn expect(rt: &(impl Abort + AllocGlobal), text: &str, expected: &str) -> Result<(), Fail> {
+    let told = outcome(rt.alloc(), text.as_bytes())?;
+    assert!(rt; told.as_str() == expected, "{text:?} gives {told}");
+    Ok(())
+}
+
+#[test]
+fn each_line_is_an_event(rt: HostRuntime) -> Result<(), Fail> {
+    let text =
+        b"call 0 search 61\ncall 07 insert 62 3132\n\n# act\ncall 15 delete 63\ncall 1 replace 62 32\nread 1\nlock 2\nrehash 3\nact 4\nrelease 05\nsplit-begin\nsplit-lock\nsplit-move\nsplit-release\nsplit-point\nsplit-drop\n".as_slice();
+    let Ok(events) = parse::<Event>(rt.alloc(), text) else {
+        return Err(Fail::from("no events"));
+    };
+    let expected = [
+        Event::Call(0, Call::Search(Key::new(b"a")?)),
+        Event::Call(7, Call::Insert(Key::new(b"b")?, Value::new(b"12")?)),
+        Event::Call(15, Call::Delete(Key::new(b"c")?)),
+        Event::Call(1, Call::Replace(Key::new(b"b")?, Value::new(b"2")?)),
+        Event::Read(1),
+        Event::Lock(2),
+        Event::Rehash(3),
+        Event::Act(4),
+        Event::Release(5),
+        Event::SplitBegin,
+        Event::SplitLock,
+        Event::SplitMove,
+        Event::SplitRelease,
+        Event::SplitPoint,
+        Event::SplitDrop,
+    ];
+    assert_eq!(rt; events.as_slice(), expected.as_slice());
+    Ok(())
+}
+
+#[test]
+fn a_worker_has_one_or_two_digits(rt: HostRuntime) -> Result<(), Fail> {
+    expect(&rt, "read 9", "1 events")?;
+    expect(&rt, "read 15", "1 events")?;
+    expect(&rt, "read 16", "line 1: bad worker number")?;
+    expect(&rt, "read 99", "line 1: bad worker number")?;
+    expect(&rt, "read 007", "line 1: bad worker number")?;
+    expect(&rt, "read a", "line 1: bad worker number")?;
+    expect(&rt, "read 1:", "line 1: bad worker number")?;
+    expect(&rt, "read -1", "line 1: bad worker number")?;
+    expect(&rt, "call 007 search 61", "line 1: bad worker number")?;
+    expect(&rt, "call 16 search 61", "line 1: bad worker number")
+}
+
+#[test]
+fn faults_of_a_line_have_an_order(rt: HostRuntime) -> Result<(), Fail> {
+    expect(&rt, "frob 16", "line 1: unknown word")?;
+    expect(&rt, "call 0", "line 1: wrong number of words")?;
+    expect(&rt, "call", "line 1: wrong number of words")?;
+    expect(&rt, "call 0 frob", "line 1: unknown word")?;
+    expect(&rt, "call 16 frob 6g", "line 1: unknown word")?;
+    expect(&rt, "call 16 search", "line 1: wrong number of words")?;
+    expect(&rt, "call 16 insert 6g", "line 1: wrong number of words")?;
+    expect(&rt, "call 16 insert 6g 3", "line 1: bad worker number")?;
+    expect(&rt, "call 1 insert 6g 3", "line 1: bad hexadecimal")?;
+    expect(&rt, "call 1 insert - 3", "line 1: key length 0")?;
+    expect(&rt, "call 1 insert 61 3", "line 1: bad hexadecimal")?;
+    expect(&rt, "read", "line 1: wrong number of words")?;
+    expect(&rt, "read 16 1", "line 1: wrong number of words")?;
+    expect(&rt, "split-begin 1", "line 1: wrong number of words")?;
+    expect(&rt, "split-begin\nsplit", "line 2: unknown word")
+}

@@ -1,0 +1,34 @@
+use Rattle.std.proofs.Common.{refl}
+use Rattle.std.proofs.KnownBytes.{Keeps-refl}
+use Rattle.lhash.proofs.Serving.{served_as}
+use Rattle.lhash.proofs.program.serve.Goals as goal
+
+pub returns-in-Commands : goal.returns-in-Commands
+returns-in-Commands g c = served_as c.in-Commands.is _ _ _ _ _ c.answer_commands.ensures
+
+pub returns-in-Build : goal.returns-in-Build
+returns-in-Build g c = served_as c.in-Build.is _ _ _ _ _ c.answer_build.ensures
+
+pub returns-in-Check : goal.returns-in-Check
+returns-in-Check g c = served_as c.in-Check.is _ _ _ _ _ c.answer_check.ensures
+
+pub returns-in-Draw : goal.returns-in-Draw
+returns-in-Draw g c = served_as c.in-Draw.is _ _ _ _ _ c.answer_draw.ensures
+
+pub returns-in-Drive : goal.returns-in-Drive
+returns-in-Drive g c = served_as c.in-Drive.is _ _ _ _ _ c.answer_drive.ensures
+
+pub returns-in-Refused : goal.returns-in-Refused
+returns-in-Refused g c = served_as c.in-Refused.is _ _ _ _ _ (refl, Keeps-refl _, Keeps-refl _)
+
+pub returns-in-Help : goal.returns-in-Help
+returns-in-Help g c = served_as c.in-Help.is _ _ _ _ _ (search Keeps-refl)
+
+pub returns-in-Dump : goal.returns-in-Dump
+returns-in-Dump g c = served_as c.in-Dump.is _ _ _ _ _ search
+
+pub returns-in-MaxBelowInitial : goal.returns-in-MaxBelowInitial
+returns-in-MaxBelowInitial g c = served_as c.in-MaxBelowInitial.is _ _ _ _ _ (search Keeps-refl)
+
+pub returns-in-Steps : goal.returns-in-Steps
+returns-in-Steps g c = served_as c.in-Steps.is _ _ _ _ _ search

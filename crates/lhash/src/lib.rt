@@ -1,0 +1,30 @@
+//! Scripts of commands and of steps on a linear hash file, and images of files: all of the program
+//! `lhash` but its process.
+//!
+//! `lhash commands` reads a command script, answers its calls and writes their replies. `lhash
+//! steps` reads a step script, takes its steps and writes what is told of each. `lhash build` reads a
+//! command script and writes the file that it leads to as an image; `lhash check` reads an image and
+//! writes what is counted of it, `lhash dump` its records, `lhash draw` a drawing. `lhash drive` makes the calls of a command
+//! script in threads that share one file, and writes what they did in all. `run` does it from words
+//! and bytes to bytes and a status.
+#![tactic(auto)]
+
+mod answer;
+mod device;
+mod draw;
+mod drive;
+mod driven;
+mod image_texts;
+mod images;
+pub mod laws;
+mod output;
+mod program;
+mod status;
+mod unsettled;
+mod workers;
+
+pub use drive::{DriveFault, drive_with};
+pub use driven::Driven;
+pub use program::run;
+pub use status::{DeviceFault, InputFault, Status};
+pub use unsettled::Unsettled;

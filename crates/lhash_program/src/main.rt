@@ -1,0 +1,64 @@
+//! The program `lhash`: [`run`] on the process's own words, input and output.
+#![tactic(auto)]
+
+ghost use Rattle.std.specs.Prelude.{codes};
+ghost use Rattle.lhash.specs.Serving.{IsWordsOf};
+
+use lhash::{Status, run};
+use std::alloc::Global;
+use std::env;
+use std::io::{BufReader, ErrorKind, Read, Write};
+use std::process::ExitCode;
+use std::rt::Runtime;
+use std::sync::Wait;
+use std::thread::Threads;
+
+/// The most bytes that one read of the process's input is asked for.
+const READ_AHEAD: usize = 65_536;
+
+/// How a run ends of which a word is no text.
+fn no_text(alloc: Global) -> Status
+    ensures { IsWordsOf (codes "an argument is not UTF-8") result }
+{
+    match String::from_str(alloc, "an argument is not UTF-8") {
+        Ok(text) => Status::Words(text),
+        Err(_) => Status::Memory,
+    }
+}
+
+/// The words that the process was started with, or how the run ends without them.
+fn process_words(rt: &(impl Runtime + AllocGlobal)) -> Result<Vec<String>, Status> {
+    match env::args(rt) {
+        Ok(words) => words.collect(rt.alloc()).map_err(|_| Status::Memory),
+        Err(error) if error.kind() == ErrorKind::OutOfMemory => Err(Status::Memory),
+        Err(_) => Err(no_text(rt.alloc())),
+    }
+}
+
+/// Runs on the words of the process, with this input and output. Nothing is read before it is asked for;
+/// then as much as comes is read at once, and given in the pieces that are asked for.
+fn run_process<A: Runtime + AllocGlobal + Threads + Wait + Sync, R: Read + Drop, W: Write>(
+    rt: &A,
+    reader: R,
+    writer: &mut W,
+) -> Status {
+    let words = match process_words(rt) {
+        Ok(words) => words,
+        Err(status) => return status,
+    };
+    let texts: Result<Vec<&str>, _> = words.iter().map(|word| word.as_str()).collect(rt.alloc());
+    let input = BufReader::with_capacity(rt.alloc(), READ_AHEAD, reader);
+    match (texts, input) {
+        (Ok(texts), Ok(mut input)) => run(rt, texts.as_slice(), &mut input, writer),
+        _ => Status::Memory,
+    }
+}
+
+fn main(rt: HostRuntime) -> ExitCode {
+    let status = run_process(&rt, rt.stdin(), &mut rt.stdout());
+    let code = status.code();
+    if code != 0 {
+        let _ = eprintln!(rt; "lhash: {status}");
+    }
+    ExitCode::from(code)
+}

@@ -1,0 +1,275 @@
+//! Readers and writers that fail at each of their turns, or that give and take little, of every subcommand.
+use crate::tests::images::{FIVE, FIVE_CENSUS, FIVE_RECORDS, FIVE_WORDS, built, inserts};
+use crate::tests::support::{Sink, Source, ran};
+use lhash::run;
+use std::process::Abort;
+use std::sync::Wait;
+use std::test::Fail;
+use std::thread::Threads;
+
+/// The words of a run, its script, and what it writes.
+type Row = (&'static [&'static str], &'static str, &'static str);
+
+/// A run of each subcommand that reads a script and writes text.
+const ROWS: [Row; 3] = [
+    (
+        &["lhash", "commands"],
+        "insert 61 31\nreplace 61 32\n",
+        "inserted\nreplaced\nbuckets 1\n",
+    ),
+    (
+        &["lhash", "steps"],
+        "call 0 search 61\nread 0\n",
+        "called\naim 0 0\n",
+    ),
+    (
+        &["lhash", "drive", "--threads", "2"],
+        "insert 61 31\ninsert 62 32\nsearch 61\ndelete 62\n",
+        "settled\ncalls 4\nfound 1\nabsent 0\ninserted 2\nexists 0\ndeleted 1\nreplaced 0\nrecords 1\n",
+    ),
+];
+
+/// A read that fails ends the run, with nothing written, and is not tried again.
+fn read_fails(
+    rt: &(impl Abort + AllocGlobal + Threads + Wait + Sync),
+    words: &[&str],
+    bytes: &[u8],
+    at_once: usize,
+    failing_read: usize,
+) -> Result<(), Fail> {
+    let mut source = Source {
+        bytes,
+        at_once,
+        reads: 0,
+        failing_read,
+    };
+    let mut output = Vec::new(rt.alloc());
+    let status = run(rt, words, &mut source, &mut output);
+    assert!(rt;
+        status.code() == 3 && output.is_empty(),
+        "read {failing_read}"
+    );
+    assert!(rt; source.reads == failing_read);
+    let text = status.to_string(rt.alloc())?;
+    assert!(rt; text.as_str() == "read failed");
+    Ok(())
+}
+
+/// A reader that gives so many bytes at a time is read whole, in so many reads.
+fn reads_whole(
+    rt: &(impl Abort + AllocGlobal + Threads + Wait + Sync),
+    words: &[&str],
+    bytes: &[u8],
+    at_once: usize,
+    told: &[u8],
+) -> Result<usize, Fail> {
+    let mut source = Source {
+        bytes,
+        at_once,
+        reads: 0,
+        failing_read: 0,
+    };
+    let mut output = Vec::new(rt.alloc());
+    let status = run(rt, words, &mut source, &mut output);
+    assert!(rt; status.code() == 0 && *output.as_slice() == *told);
+    Ok(source.reads)
+}
+
+/// Each read ends the run where it fails.
+fn fails_at_each_read(
+    rt: &(impl Abort + AllocGlobal + Threads + Wait + Sync),
+    words: &[&str],
+    bytes: &[u8],
+    at_once: usize,
+    told: &[u8],
+) -> Result<(), Fail> {
+    let reads = reads_whole(rt, words, bytes, at_once, told)?;
+    for failing_read in 1..=reads {
+        read_fails(rt, words, bytes, at_once, failing_read)?;
+    }
+    Ok(())
+}
+
+/// A write or the flush that fails ends the run, and is not tried again.
+fn write_fails(
+    rt: &(impl Abort + AllocGlobal + Threads + Wait + Sync),
+    words: &[&str],
+    input: &[u8],
+    at_once: usize,
+    failing_write: usize,
+    whole: &[u8],
+) -> Result<(), Fail> {
+    let mut source = input;
+    let mut sink = Sink::new(rt.alloc(), at_once, failing_write);
+    let status = run(rt, words, &mut source, &mut sink);
+    assert!(rt;
+        status.code() == 3 && sink.writes == failing_write,
+        "write {failing_write}"
+    );
+    assert!(rt; whole.starts_with(sink.bytes.as_slice()));
+    let text = status.to_string(rt.alloc())?;
+    assert!(rt; text.as_str() == "write failed");
+    Ok(())
+}
+
+/// A writer that takes so many bytes at a time gets the whole, in so many writes with the flush.
+fn takes_whole(
+    rt: &(impl Abort + AllocGlobal + Threads + Wait + Sync),
+    words: &[&str],
+    input: &[u8],
+    at_once: usize,
+    whole: &[u8],
+) -> usize {
+    let mut source = input;
+    let mut sink = Sink::new(rt.alloc(), at_once, 0);
+    let status = run(rt, words, &mut source, &mut sink);
+    assert!(rt; status.code() == 0 && *sink.bytes.as_slice() == *whole);
+    sink.writes
+}
+
+/// Each of so many writes with the flush ends the run where it fails.
+fn fails_at_each_write(
+    rt: &(impl Abort + AllocGlobal + Threads + Wait + Sync),
+    words: &[&str],
+    input: &[u8],
+    at_once: usize,
+    writes: usize,
+    whole: &[u8],
+) -> Result<(), Fail> {
+    assert!(rt; takes_whole(rt, words, input, at_once, whole) == writes);
+    for failing_write in 1..=writes {
+        write_fails(rt, words, input, at_once, failing_write, whole)?;
+    }
+    Ok(())
+}
+
+#[test]
+fn each_failed_read_of_a_script_ends_the_run(rt: HostRuntime) -> Result<(), Fail> {
+    for (words, script, told) in ROWS {
+        fails_at_each_read(&rt, words, script.as_bytes(), 1, told.as_bytes())?;
+    }
+    let image = built(&rt, FIVE_WORDS, FIVE)?;
+    fails_at_each_read(&rt, FIVE_WORDS, FIVE.as_bytes(), 4, &image)
+}
+
+/// Byte by byte there are as many writes as bytes, and the flush.
+#[test]
+fn each_failed_write_ends_the_run(rt: HostRuntime) -> Result<(), Fail> {
+    for (words, script, told) in ROWS {
+        let writes = told.len().saturating_add(1);
+        fails_at_each_write(&rt, words, script.as_bytes(), 1, writes, told.as_bytes())?;
+    }
+    Ok(())
+}
+
+#[test]
+fn each_failed_write_of_an_image_ends_build(rt: HostRuntime) -> Result<(), Fail> {
+    let image = built(&rt, FIVE_WORDS, FIVE)?;
+    let script = FIVE.as_bytes();
+    assert!(rt; takes_whole(&rt, FIVE_WORDS, script, 1, &image) == 4_097);
+    fails_at_each_write(&rt, FIVE_WORDS, script, 64, 65, &image)?;
+    fails_at_each_write(&rt, FIVE_WORDS, script, 4_096, 5, &image)
+}
+
+#[test]
+fn images_are_read_in_pieces_of_any_length(rt: HostRuntime) -> Result<(), Fail> {
+    let image = built(&rt, FIVE_WORDS, FIVE)?;
+    for at_once in [1, 7, 1_024, 4_095] {
+        let census = FIVE_CENSUS.as_bytes();
+        reads_whole(&rt, &["lhash", "check"], &image, at_once, census)?;
+        let records = FIVE_RECORDS.as_bytes();
+        reads_whole(&rt, &["lhash", "dump"], &image, at_once, records)?;
+    }
+    Ok(())
+}
+
+/// Each read and each write of a subcommand that reads an image ends the run where it fails. Reads of 7 bytes
+/// at most take 147 for each of the four pages, longer ones one; one more finds the end.
+fn fails_at_each_turn(
+    rt: &(impl Abort + AllocGlobal + Threads + Wait + Sync),
+    words: &[&str],
+    image: &[u8],
+    told: &[u8],
+) -> Result<(), Fail> {
+    for (at_once, reads) in [(7, 589), (1_024, 5)] {
+        assert!(rt; reads_whole(rt, words, image, at_once, told)? == reads);
+        fails_at_each_read(rt, words, image, at_once, told)?;
+    }
+    fails_at_each_write(rt, words, image, 1, told.len().saturating_add(1), told)
+}
+
+#[test]
+fn each_failed_turn_ends_what_reads_an_image(rt: HostRuntime) -> Result<(), Fail> {
+    let image = built(&rt, FIVE_WORDS, FIVE)?;
+    fails_at_each_turn(&rt, &["lhash", "check"], &image, FIVE_CENSUS.as_bytes())?;
+    fails_at_each_turn(&rt, &["lhash", "dump"], &image, FIVE_RECORDS.as_bytes())?;
+    let draw = ["lhash", "draw"];
+    let (_, drawing, _) = ran(&rt, &draw, &image)?;
+    assert!(rt; drawing.len() > 1_000);
+    fails_at_each_turn(&rt, &draw, &image, &drawing)
+}
+
+/// The first three faults of an image come before a read that fails.
+#[test]
+fn faults_of_the_first_page_come_before_a_failed_read(rt: HostRuntime) -> Result<(), Fail> {
+    let image = built(&rt, FIVE_WORDS, FIVE)?;
+    // The magic, the initial number of buckets, and the number of records.
+    let faults = [
+        (3, b'3', "image I1"),
+        (4, 0, "image I2 at offset 4"),
+        (28, 7, "image I3"),
+    ];
+    for (place, byte, text) in faults {
+        let mut forged = Vec::new(rt.alloc());
+        forged.extend_from_slice(&image)?;
+        if let Some(old) = forged.get_mut(place) {
+            *old = byte;
+        }
+        let mut source = Source {
+            bytes: &forged,
+            at_once: 1_024,
+            reads: 0,
+            failing_read: 2,
+        };
+        let mut output = Vec::new(rt.alloc());
+        let status = run(&rt, &["lhash", "check"], &mut source, &mut output);
+        assert!(rt; status.code() == 1 && output.is_empty());
+        assert_eq!(rt; status.to_string(rt.alloc())?.as_str(), text);
+    }
+    Ok(())
+}
+
+#[test]
+fn a_writer_that_takes_nothing_has_failed(rt: HostRuntime) -> Result<(), Fail> {
+    let mut input = b"".as_slice();
+    let mut sink = Sink::new(rt.alloc(), 0, 0);
+    let words = ["lhash", "commands"];
+    let status = run(&rt, words.as_slice(), &mut input, &mut sink);
+    assert_eq!(rt; status.to_string(rt.alloc())?.as_str(), "write failed");
+    assert_eq!(rt; sink.writes, 1);
+    Ok(())
+}
+
+/// What a script of many lines leads to goes out in few writes.
+fn goes_out_in_chunks(
+    rt: &(impl Abort + AllocGlobal + Threads + Wait + Sync),
+    words: &[&str],
+    input: &[u8],
+    lines: usize,
+) {
+    let mut source = input;
+    let mut sink = Sink::new(rt.alloc(), usize::MAX, 0);
+    let status = run(rt, words, &mut source, &mut sink);
+    assert!(rt; status.code() == 0 && sink.writes < 16);
+    let written = sink.bytes.iter().filter(|byte| **byte == b'\n').count();
+    assert!(rt; written == lines);
+}
+
+#[test]
+fn many_lines_go_out_in_chunks(rt: HostRuntime) -> Result<(), Fail> {
+    let script = inserts(&rt, 20_000)?;
+    goes_out_in_chunks(&rt, &["lhash", "commands"], script.as_bytes(), 20_001);
+    let image = built(&rt, &["lhash", "build"], script.as_str())?;
+    goes_out_in_chunks(&rt, &["lhash", "dump"], &image, 20_000);
+    Ok(())
+}

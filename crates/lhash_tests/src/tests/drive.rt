@@ -1,0 +1,218 @@
+//! Command scripts in threads.
+use crate::tests::support::{fails, writes};
+use lh_addr::Config;
+use lh_bucket::Call;
+use lh_file::{Gate, NoGate, Point};
+use lh_page::{Key, Value};
+use lhash::{Driven, Status, Unsettled, drive_with};
+use std::alloc::{AllocError, Global};
+use std::process::Abort;
+use std::sync::atomic::{AtomicU64, Ordering};
+use std::test::Fail;
+use std::thread;
+
+/// So many inserts of different keys, and then a search for each of them.
+fn inserts_and_searches(alloc: Global, keys: u32) -> Result<String, AllocError> {
+    let mut script = String::new(alloc);
+    for number in 0..keys {
+        let line = format!(in alloc; "insert {number:04x} {number:08x}\n")?;
+        script.push_str(line.as_str())?;
+    }
+    for number in 0..keys {
+        let line = format!(in alloc; "search {number:04x}\n")?;
+        script.push_str(line.as_str())?;
+    }
+    Ok(script)
+}
+
+#[test]
+fn four_threads_find_what_they_inserted(rt: HostRuntime) -> Result<(), Fail> {
+    let script = inserts_and_searches(rt.alloc(), 400)?;
+    let words = ["lhash", "drive", "--threads", "4"];
+    let totals =
+        "settled\ncalls 800\nfound 400\nabsent 0\ninserted 400\nexists 0\ndeleted 0\nreplaced 0\nrecords 400\n";
+    writes(&rt, words.as_slice(), script.as_str(), totals)
+}
+
+#[test]
+fn each_reply_is_counted(rt: HostRuntime) -> Result<(), Fail> {
+    let words = ["lhash", "drive", "--threads", "1", "--initial=3"];
+    let script =
+        "insert 61 31\ninsert 61 32\nsearch 61\nsearch 62\ninsert 62 33\ndelete 61\ndelete 61\nsearch 62\ninsert 63 -\nreplace 62 34\nreplace 62 -\nreplace 64 -\nsearch 62\n";
+    let totals =
+        "settled\ncalls 13\nfound 3\nabsent 3\ninserted 3\nexists 1\ndeleted 1\nreplaced 2\nrecords 2\n";
+    writes(&rt, words.as_slice(), script, totals)
+}
+
+#[test]
+fn an_empty_script_has_totals(rt: HostRuntime) -> Result<(), Fail> {
+    let words = ["lhash", "drive"];
+    let totals =
+        "settled\ncalls 0\nfound 0\nabsent 0\ninserted 0\nexists 0\ndeleted 0\nreplaced 0\nrecords 0\n";
+    writes(&rt, words.as_slice(), "# none\n", totals)
+}
+
+#[test]
+fn a_faulty_script_runs_nothing(rt: HostRuntime) -> Result<(), Fail> {
+    let words = ["lhash", "drive"];
+    let script = "insert 61 31\nsearch 6\nfrob\n";
+    fails(&rt, words.as_slice(), script, 1, "line 2: bad hexadecimal")?;
+    let words = ["lhash", "drive", "--initial", "3", "--max", "2"];
+    fails(&rt, words.as_slice(), "frob", 2, "max is less than initial")
+}
+
+/// A status of this fault has code 5 and this text.
+fn tells(rt: &(impl Abort + AllocGlobal), fault: Unsettled, text: &str) -> Result<(), AllocError> {
+    let status = Status::NotSettled(fault);
+    assert_eq!(rt; status.code(), 5);
+    assert_eq!(rt; status.to_string(rt.alloc())?.as_str(), text);
+    Ok(())
+}
+
+#[test]
+fn what_is_not_settled_has_a_text(rt: HostRuntime) -> Result<(), Fail> {
+    let key = Key::new(b"\x61\x0a")?;
+    tells(
+        &rt,
+        Unsettled::SplitUnderWay,
+        "not settled: split under way",
+    )?;
+    tells(
+        &rt,
+        Unsettled::MissingStamp(7),
+        "not settled: missing stamp 7",
+    )?;
+    tells(&rt, Unsettled::Reply(12), "not settled: reply at 12")?;
+    tells(&rt, Unsettled::Content(key), "not settled: content of 610a")?;
+    let away = Unsettled::Placed { bucket: 3, key };
+    tells(&rt, away, "not settled: place of 610a in bucket 3")?;
+    tells(&rt, Unsettled::Call, "not settled: call fault")?;
+    Ok(())
+}
+
+/// Holds each call at the first bucket that it gets, until so many calls have got one.
+#[derive(Drop)]
+struct MeetAll {
+    wanted: u64,
+    met: AtomicU64,
+    late: AtomicU64,
+}
+
+/// How many turns a call is held before the test fails.
+const TURNS: u32 = 1_000_000;
+
+impl Gate for MeetAll {
+    fn at(&self, point: Point) {
+        let Point::Holding { .. } = point else {
+            return;
+        };
+        self.met.fetch_add(1, Ordering::SeqCst);
+        for _turn in 0..TURNS {
+            if self.met.load(Ordering::SeqCst) >= self.wanted {
+                return;
+            }
+            thread::yield_now();
+        }
+        self.late.fetch_add(1, Ordering::SeqCst);
+    }
+}
+
+/// An insert of a 1 for each letter.
+fn inserts_of(alloc: Global, letters: &[u8]) -> Result<Vec<Call>, Fail> {
+    let mut calls = Vec::new(alloc);
+    let value = Value::new(b"1")?;
+    for letter in letters {
+        let key = Key::new(&[*letter])?;
+        calls.push(Call::Insert(key, value))?;
+    }
+    Ok(calls)
+}
+
+#[test]
+fn nine_calls_hold_nine_buckets(rt: HostRuntime) -> Result<(), Fail> {
+    let calls = inserts_of(rt.alloc(), b"abcdefghi")?;
+    let gate = MeetAll {
+        wanted: 9,
+        met: AtomicU64::new(0),
+        late: AtomicU64::new(0),
+    };
+    let config = Config::new(16, 14, 100, 65536)?;
+    let driven = drive_with(&rt, rt.alloc(), config, calls.as_slice(), 9, &gate);
+    let totals = Driven {
+        calls: 9,
+        found: 0,
+        absent: 0,
+        inserted: 9,
+        exists: 0,
+        deleted: 0,
+        replaced: 0,
+        records: 9,
+    };
+    assert_eq!(rt; driven, Ok(totals));
+    assert_eq!(rt; gate.late.load(Ordering::SeqCst), 0);
+    Ok(())
+}
+
+/// Records are counted, and held against the acts, once their threads have ended.
+#[test]
+fn a_record_outlives_the_thread_that_wrote_it(rt: HostRuntime) -> Result<(), Fail> {
+    let config = Config::new(1, 14, 100, 65536)?;
+    let calls = inserts_of(rt.alloc(), b"a")?;
+    let driven = drive_with(&rt, rt.alloc(), config, calls.as_slice(), 1, NoGate);
+    let totals = Driven {
+        calls: 1,
+        found: 0,
+        absent: 0,
+        inserted: 1,
+        exists: 0,
+        deleted: 0,
+        replaced: 0,
+        records: 1,
+    };
+    assert_eq!(rt; driven, Ok(totals));
+    Ok(())
+}
+
+/// A gate that takes one turn of waiting at every point.
+#[derive(Clone, Copy)]
+struct OneTurn;
+
+impl Gate for OneTurn {
+    fn at(&self, _point: Point) {
+        thread::yield_now();
+    }
+}
+
+/// So many inserts of different keys, and then a search for each of them.
+fn calls_of(alloc: Global, keys: u16) -> Result<Vec<Call>, Fail> {
+    let mut calls = Vec::new(alloc);
+    let value = Value::new(b"1")?;
+    for number in 0..keys {
+        let key = Key::new(&number.to_be_bytes())?;
+        calls.push(Call::Insert(key, value))?;
+    }
+    for number in 0..keys {
+        let key = Key::new(&number.to_be_bytes())?;
+        calls.push(Call::Search(key))?;
+    }
+    Ok(calls)
+}
+
+#[test]
+fn eight_threads_settle_though_each_waits(rt: HostRuntime) -> Result<(), Fail> {
+    let calls = calls_of(rt.alloc(), 1000)?;
+    let config = Config::new(1, 1, 100, 65536)?;
+    let driven = drive_with(&rt, rt.alloc(), config, calls.as_slice(), 8, OneTurn);
+    let totals = Driven {
+        calls: 2000,
+        found: 1000,
+        absent: 0,
+        inserted: 1000,
+        exists: 0,
+        deleted: 0,
+        replaced: 0,
+        records: 1000,
+    };
+    assert_eq!(rt; driven, Ok(totals));
+    Ok(())
+}

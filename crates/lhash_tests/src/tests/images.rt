@@ -1,0 +1,239 @@
+//! Images, from scripts to bytes and from bytes to what is told of them.
+use crate::tests::support::{fails, ran};
+use std::process::Abort;
+use std::sync::Wait;
+use std::test::Fail;
+use std::thread::Threads;
+
+mod forged;
+mod opened;
+mod second;
+
+/// The bytes of an image that are not zero: from which place on, and what.
+type Part = (usize, &'static [u8]);
+
+/// Five records of which the splits after the third and the fifth make three buckets.
+pub const FIVE: &str = "insert 61 31\ninsert 62 32\ninsert 63 33\ninsert 64 34\ninsert 65 35\n";
+
+pub const FIVE_WORDS: &[&str] = &["lhash", "build", "--capacity", "2", "--image", "1"];
+
+const FIVE_PARTS: &[Part] = &[
+    (
+        0,
+        b"LHF1\x01\0\0\0\x02\0\0\0\x64\0\0\0\x03\0\0\0\0\0\x01\0\x04\0\0\0\x05",
+    ),
+    (1_024, b"\x01\x02\x02\0\0\0\0\0\0\0\0\0\0\0\0\0\x01\x01a"),
+    (1_072, b"1"),
+    (1_112, b"\x01\x01e"),
+    (1_144, b"5"),
+    (2_048, b"\x01\x02\x01\0\x01\0\0\0\0\0\0\0\0\0\0\0\x01\x01b"),
+    (2_096, b"2"),
+    (2_136, b"\x01\x01d"),
+    (2_168, b"4"),
+    (3_072, b"\x01\x01\x02\0\x02\0\0\0\0\0\0\0\0\0\0\0\x01\x01c"),
+    (3_120, b"3"),
+];
+
+pub const FIVE_CENSUS: &str =
+    "buckets 3\nlevel 1\npointer 1\nrecords 5\npages 4\noverflow 0\nlongest 1\n";
+
+pub const FIVE_RECORDS: &str = "0 61 31\n0 65 35\n1 62 32\n1 64 34\n2 63 33\n";
+
+/// The image of a file with no record, in pages of two.
+const EMPTY_PARTS: &[Part] = &[
+    (
+        0,
+        b"LHF1\x01\0\0\0\x02\0\0\0\x64\0\0\0\x01\0\0\0\0\0\x01\0\x02",
+    ),
+    (1_024, b"\x01"),
+];
+
+/// Four records in a chain of two pages.
+pub const CHAIN: &str = "insert 61 31\ninsert 63 32\ninsert 65 33\ninsert 67 34\n";
+
+pub const CHAIN_WORDS: &[&str] = &[
+    "lhash",
+    "build",
+    "--capacity",
+    "2",
+    "--max",
+    "1",
+    "--image=1",
+];
+
+const CHAIN_PARTS: &[Part] = &[
+    (
+        0,
+        b"LHF1\x01\0\0\0\x02\0\0\0\x64\0\0\0\x01\0\0\0\x01\0\0\0\x03\0\0\0\x04",
+    ),
+    (1_024, b"\x01\x02\0\0\0\0\0\0\x02\0\0\0\0\0\0\0\x01\x01a"),
+    (1_072, b"1"),
+    (1_112, b"\x01\x01c"),
+    (1_144, b"2"),
+    (2_048, b"\x02\x02\0\0\0\0\0\0\0\0\0\0\0\0\0\0\x01\x01e"),
+    (2_096, b"3"),
+    (2_136, b"\x01\x01g"),
+    (2_168, b"4"),
+];
+
+/// The image that `build` writes.
+pub fn built(
+    rt: &(impl Abort + AllocGlobal + Threads + Wait + Sync),
+    words: &[&str],
+    script: &str,
+) -> Result<Vec<u8>, Fail> {
+    let (code, image, text) = ran(rt, words, script.as_bytes())?;
+    assert!(rt; code == 0 && text.is_empty());
+    Ok(image)
+}
+
+/// A run on these bytes is done, and wrote this.
+pub fn told(
+    rt: &(impl Abort + AllocGlobal + Threads + Wait + Sync),
+    words: &[&str],
+    input: &[u8],
+    output: &[u8],
+) -> Result<(), Fail> {
+    let (code, written, text) = ran(rt, words, input)?;
+    assert!(rt; code == 0 && text.is_empty());
+    assert!(rt; *written.as_slice() == *output);
+    Ok(())
+}
+
+/// Both `check` and `dump` accept an image, and tell this of it.
+pub fn accepted(
+    rt: &(impl Abort + AllocGlobal + Threads + Wait + Sync),
+    image: &[u8],
+    census: &str,
+    records: &str,
+) -> Result<(), Fail> {
+    told(rt, &["lhash", "check"], image, census.as_bytes())?;
+    told(rt, &["lhash", "dump"], image, records.as_bytes())
+}
+
+/// Puts bytes in the place of those that stand there.
+pub fn put(bytes: &mut [u8], place: usize, part: &[u8]) {
+    for (offset, byte) in part.iter().enumerate() {
+        if let Some(old) = bytes.get_mut(place.saturating_add(offset)) {
+            *old = *byte;
+        }
+    }
+}
+
+/// So many bytes, zeros but for these parts.
+fn bytes_of(rt: &impl AllocGlobal, size: usize, parts: &[Part]) -> Result<Vec<u8>, Fail> {
+    let mut bytes = Vec::new(rt.alloc());
+    bytes.resize(size, 0)?;
+    for (place, part) in parts {
+        put(bytes.as_mut_slice(), *place, part);
+    }
+    Ok(bytes)
+}
+
+/// `build` writes this image of a script.
+fn builds(
+    rt: &(impl Abort + AllocGlobal + Threads + Wait + Sync),
+    words: &[&str],
+    script: &str,
+    size: usize,
+    parts: &[Part],
+) -> Result<Vec<u8>, Fail> {
+    let image = bytes_of(rt, size, parts)?;
+    told(rt, words, script.as_bytes(), &image)?;
+    Ok(image)
+}
+
+#[test]
+fn five_records_in_three_buckets(rt: HostRuntime) -> Result<(), Fail> {
+    let image = builds(&rt, FIVE_WORDS, FIVE, 4_096, FIVE_PARTS)?;
+    accepted(&rt, &image, FIVE_CENSUS, FIVE_RECORDS)
+}
+
+#[test]
+fn an_empty_file(rt: HostRuntime) -> Result<(), Fail> {
+    let image = builds(&rt, FIVE_WORDS, "", 2_048, EMPTY_PARTS)?;
+    let census = "buckets 1\nlevel 0\npointer 0\nrecords 0\npages 2\noverflow 0\nlongest 1\n";
+    accepted(&rt, &image, census, "")
+}
+
+#[test]
+fn a_chain_of_two_pages(rt: HostRuntime) -> Result<(), Fail> {
+    let image = builds(&rt, CHAIN_WORDS, CHAIN, 3_072, CHAIN_PARTS)?;
+    let census = "buckets 1\nlevel 0\npointer 0\nrecords 4\npages 3\noverflow 1\nlongest 2\n";
+    accepted(&rt, &image, census, "0 61 31\n0 63 32\n0 65 33\n0 67 34\n")
+}
+
+#[test]
+fn a_record_goes_into_the_hole(rt: HostRuntime) -> Result<(), Fail> {
+    let script = "insert 61 31\ninsert 63 32\ninsert 65 33\ninsert 67 34\ndelete 61\n";
+    let image = built(&rt, CHAIN_WORDS, script)?;
+    let records = b"0 67 34\n0 63 32\n0 65 33\n";
+    told(&rt, &["lhash", "dump"], &image, records)
+}
+
+#[test]
+fn long_keys_and_empty_values(rt: HostRuntime) -> Result<(), Fail> {
+    let key = "616263646566676869606162636465666768696061626364656667686960";
+    let value = "31323334353637383930313233343536373839303132333435363738393031323334353637383930";
+    let script = format!(in rt.alloc(); "insert {key} {value}\ninsert 00ff -\n")?;
+    let image = built(&rt, CHAIN_WORDS, script.as_str())?;
+    let records = format!(in rt.alloc(); "0 {key} {value}\n0 00ff -\n")?;
+    told(&rt, &["lhash", "dump"], &image, records.as_bytes())
+}
+
+/// A script of so many inserts.
+pub fn inserts(rt: &impl AllocGlobal, count: u32) -> Result<String, Fail> {
+    let mut script = String::new(rt.alloc());
+    for number in 0..count {
+        script.writeln(format_args!("insert {number:06x} -"))?;
+    }
+    Ok(script)
+}
+
+/// So many records, one to a page, leave no page for the header.
+#[test]
+fn an_image_has_a_greatest_number_of_pages(rt: HostRuntime) -> Result<(), Fail> {
+    let script = inserts(&rt, 1_048_576)?;
+    let words = ["lhash", "build", "--capacity", "1"];
+    fails(&rt, words.as_slice(), script.as_str(), 1, "image too large")
+}
+
+/// There is a page for each record.
+#[test]
+fn an_image_of_many_pages_is_read(rt: HostRuntime) -> Result<(), Fail> {
+    let script = inserts(&rt, 110_000)?;
+    let words = ["lhash", "build", "--capacity", "1", "--image", "1"];
+    let image = built(&rt, words.as_slice(), script.as_str())?;
+    let (code, census, _) = ran(&rt, &["lhash", "check"], &image)?;
+    assert!(rt; code == 0 && census.starts_with(b"buckets 65536\n"));
+    Ok(())
+}
+
+#[test]
+fn build_reads_scripts_as_commands_does(rt: HostRuntime) -> Result<(), Fail> {
+    let build = ["lhash", "build"].as_slice();
+    fails(&rt, build, "# x\n\nfrob", 1, "line 3: unknown word")?;
+    fails(&rt, build, "insert - 31", 1, "line 1: key length 0")?;
+    let words = ["lhash", "build", "--initial", "3", "--max", "2"];
+    fails(&rt, words.as_slice(), "frob", 2, "max is less than initial")
+}
+
+/// The words are refused, and nothing is written.
+fn turned_away(
+    rt: &(impl Abort + AllocGlobal + Threads + Wait + Sync),
+    words: &[&str],
+) -> Result<(), Fail> {
+    let (code, written, _) = ran(rt, words, b"")?;
+    assert!(rt; code == 2 && written.is_empty());
+    Ok(())
+}
+
+#[test]
+fn what_reads_an_image_takes_no_options(rt: HostRuntime) -> Result<(), Fail> {
+    for subcommand in ["check", "dump", "draw", "migrate"] {
+        for option in ["--max=1", "--initial=1", "extra"] {
+            turned_away(&rt, &["lhash", subcommand, option])?;
+        }
+    }
+    Ok(())
+}

@@ -1,0 +1,82 @@
+//! Images that are read, opened as a running file, used by two hands, settled and written again.
+ghost use Rattle.std.specs.Prelude.{◌≡◌, false};
+ghost use Rattle.lh_file.specs.FileState.{IsOf};
+
+use super::{FIVE, FIVE_WORDS, built, told};
+use crate::tests::support::ran;
+use lh_bucket::Listing;
+use lh_file::{Hand, HashFile, NoGate, settle};
+use lh_image::{read_image, write_image};
+use lh_page::{Key, Value};
+use std::alloc::Global;
+use std::sync::Wait;
+use std::test::Fail;
+
+/// Inserts a record.
+fn insert<R: Wait>(
+    rt: &R,
+    file: &HashFile<NoGate>,
+    hand: &mut Hand,
+    key: &[u8],
+    value: &[u8],
+) -> Result<(), Fail>
+    requires { IsOf file.now.state hand.old }
+    ensures of { IsOf file.now.state hand.new }
+    ensures right { hand.new.view.has_right ≡ hand.old.view.has_right }
+{
+    file.insert(rt, hand, Key::new(key)?, Value::new(value)?)?;
+    Ok(())
+}
+
+/// Opens a listing as a file, inserts two keys by two hands, and answers what stands in the settled file.
+fn used<R: Wait>(
+    rt: &R,
+    alloc: Global,
+    listing: &Listing,
+    one: &[u8],
+    two: &[u8],
+) -> Result<Listing, Fail> {
+    let (file, mut first) = HashFile::open_from(alloc, listing, true, NoGate)?;
+    let mut second = file.split_hand(&mut first, 1)?;
+    insert(rt, &file, &mut first, one, b"6")?;
+    insert(rt, &file, &mut second, two, b"7")?;
+    let hand = file.join_hands(first, second)?;
+    let (closed, acts) = file.close(rt, hand)?;
+    settle(alloc, listing, &closed, &acts)?;
+    Ok(closed.listing(alloc)?)
+}
+
+/// The fourth bucket comes with the seventh record.
+#[test]
+fn an_image_is_opened_used_and_written_again(rt: HostRuntime) -> Result<(), Fail> {
+    let bytes = built(&rt, FIVE_WORDS, FIVE)?;
+    let listing = read_image(rt.alloc(), &mut bytes.as_slice())?;
+    let after = used(&rt, rt.alloc(), &listing, b"f", b"g")?;
+    let mut image = Vec::new(rt.alloc());
+    write_image(&after, &mut image)?;
+    told(
+        &rt,
+        &["lhash", "dump"],
+        &image,
+        b"0 61 31\n0 65 35\n1 62 32\n1 66 36\n2 63 33\n2 67 37\n3 64 34\n",
+    )
+}
+
+/// A file that was migrated takes longer keys, and is opened with them.
+#[test]
+fn a_migrated_image_is_opened_with_longer_keys(rt: HostRuntime) -> Result<(), Fail> {
+    let old = built(&rt, FIVE_WORDS, FIVE)?;
+    let (code, new, _) = ran(&rt, &["lhash", "migrate"], &old)?;
+    assert_eq!(rt; code, 0);
+    let listing = read_image(rt.alloc(), &mut new.as_slice())?;
+    let longest = [b'k'; 56];
+    let once = used(&rt, rt.alloc(), &listing, &longest, b"f")?;
+    let twice = used(&rt, rt.alloc(), &once, &longest, b"g")?;
+    let mut image = Vec::new(rt.alloc());
+    write_image(&twice, &mut image)?;
+    let key = "6b6b6b6b6b6b6b6b6b6b6b6b6b6b";
+    let records = format!(in rt.alloc();
+        "0 61 31\n0 65 35\n1 62 32\n1 {key}{key}{key}{key} 36\n1 66 37\n2 63 33\n2 67 37\n3 64 34\n"
+    )?;
+    told(&rt, &["lhash", "dump"], &image, records.as_bytes())
+}
