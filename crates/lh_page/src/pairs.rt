@@ -46,6 +46,13 @@ impl Pairs {
         }
     }
 
+    /// Lets all records go.
+    pub fn clear(&mut self)
+        ensures { self.new ≡ [] }
+    {
+        self.len = 0;
+    }
+
     /// The number of records.
     pub fn len(&self) -> usize
         ensures length { result ≡ length self.now }

@@ -38,7 +38,6 @@ pub fn page2_from_bytes(bytes: &[u8; 4096], capacity: u32) -> Result<Page, PageF
 }
 
 /// The page that bytes of a format show, or their first fault.
-#[tactic(auto, unfolding(crate::specs::PageFields::fault_of, crate::specs::PageFields::has_bad_kind))]
 fn read_page(bytes: &[u8], format: Format, capacity: u32) -> Result<Page, PageFault>
     requires size { length bytes.now ≡ page_size format }
     requires limits { IsWithinLimits format }
@@ -47,30 +46,48 @@ fn read_page(bytes: &[u8], format: Format, capacity: u32) -> Result<Page, PageFa
     ensures fault { result_err result ≡ fault_of format bytes.now capacity }
 {
     let head = head_in(bytes);
-    let kind = match head.kind {
-        1 => PageKind::Primary,
-        2 => PageKind::Overflow,
-        _ => return Err(PageFault::Kind),
-    };
-    if !head.clear {
-        return Err(PageFault::Kind);
-    }
-    if head.used as u32 > capacity {
-        return Err(PageFault::Used);
-    }
     let mut page = Page {
-        kind,
+        kind: if head.kind == 1 {
+            PageKind::Primary
+        } else {
+            PageKind::Overflow
+        },
         level: head.level,
         bucket: head.bucket,
         next: head.next,
         pairs: Pairs::new(),
     };
-    read_pairs(bytes, format, head.used as usize, &mut page.pairs)?;
+    pairs_from_bytes(bytes, format, capacity, &mut page.pairs)?;
     Ok(page)
 }
 
-/// Appends the records in the used slots to none, or tells the first faulty slot of all. They are put where
-/// they stay, since a page is long to move.
+/// Puts the records of a page in place of others, or tells the page's first fault. A page is long to make and to
+/// move: a reader of many makes room for their records once.
+#[tactic(auto, unfolding(crate::specs::PageFields::fault_of, crate::specs::PageFields::has_bad_kind))]
+pub fn pairs_from_bytes(
+    bytes: &[u8],
+    format: Format,
+    capacity: u32,
+    pairs: &mut Pairs,
+) -> Result<(), PageFault>
+    requires size { length bytes.now ≡ page_size format }
+    requires limits { IsWithinLimits format }
+    requires capacity { capacity ≤ format.slots }
+    ensures pairs { OnOk result (pairs.new ≡ pairs_of format bytes.now) }
+    ensures fault { result_err result ≡ fault_of format bytes.now capacity }
+{
+    let head = head_in(bytes);
+    if head.kind != 1 && head.kind != 2 || !head.clear {
+        return Err(PageFault::Kind);
+    }
+    if head.used as u32 > capacity {
+        return Err(PageFault::Used);
+    }
+    pairs.clear();
+    read_pairs(bytes, format, head.used as usize, pairs)
+}
+
+/// Appends the records in the used slots to none, or tells the first faulty slot of all.
 fn read_pairs(bytes: &[u8], format: Format, used: usize, pairs: &mut Pairs) -> Result<(), PageFault>
     requires size { length bytes.now ≡ page_size format }
     requires limits { IsWithinLimits format }

@@ -35,7 +35,8 @@ fn read_page<R: Read>(
     ensures within { OnOk result (AreWithin table.new.entries.items table.new.pairs.items) }
     ensures size { OnOk result (length table.new.entries.items ≡ length table.old.entries.items + 1) }
     ensures sum { OnOk result (faults.new.sum ≤ faults.old.sum + 255) }
-    ensures read { (bytes : List ℕ) → R.remaining reader.old ≡ Some (drop (page_bytes (version_of bytes) * page) bytes) →
+    ensures read { (bytes : List ℕ) →
+        R.remaining reader.old ≡ Some (drop (page_bytes (version_of bytes) * page) bytes) →
         HaveCome bytes header.now page table.old.entries.items table.old.pairs.items faults.old →
         ReadsTo bytes header.now (page + 1) result table.new.entries.items table.new.pairs.items faults.new
         (R.remaining reader.new) }

@@ -6,8 +6,7 @@ ghost use Rattle.lh_image.specs.Version.{format_of, page_bytes, slots};
 
 use crate::fault::ImageFault;
 use crate::reading::first_page::Header;
-use crate::reading::page::page_of;
-use lh_page::{PageFault, PageHead, Pair, Pairs};
+use lh_page::{PageFault, PageHead, Pair, Pairs, pairs_from_bytes};
 use std::alloc::Global;
 
 /// Where a page leads, and where its records stand among those of all pages.
@@ -25,6 +24,8 @@ pub(crate) struct Entry {
 pub(crate) struct Table {
     pub entries: Vec<Entry>,
     pub pairs: Vec<Pair>,
+    // Room for the records of one page.
+    page: Pairs,
 }
 
 /// Appends the records of a page.
@@ -55,6 +56,7 @@ impl Table {
         Ok(Table {
             entries,
             pairs: Vec::new(alloc),
+            page: Pairs::new(),
         })
     }
 
@@ -75,9 +77,11 @@ impl Table {
         ensures fault { IfErr result (λ f. f ≡ ImageFault.Memory) }
     {
         let start = self.pairs.len();
-        let has_bad_slot = match page_of(header.version, bytes, header.config.capacity()) {
-            Ok(page) => {
-                append(&mut self.pairs, &page.pairs)?;
+        let format = header.version.format();
+        let capacity = header.config.capacity();
+        let has_bad_slot = match pairs_from_bytes(bytes, format, capacity, &mut self.page) {
+            Ok(()) => {
+                append(&mut self.pairs, &self.page)?;
                 false
             }
             Err(PageFault::Slot(_)) => true,
