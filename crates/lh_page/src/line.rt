@@ -69,7 +69,7 @@ impl Line {
         if self.fits() {
             Value::of(&self.bytes[key_len..key_len + value_len])
         } else {
-            Value::at_front(cold, self.value_len)
+            Value::of(&cold[..value_len])
         }
     }
 

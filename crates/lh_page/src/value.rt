@@ -1,5 +1,5 @@
 //! Values: short byte strings that are kept in place and copied freely.
-ghost use Rattle.std.specs.Prelude.{◌≡◌, ℕ, ◌≤◌, ◌↔◌, List, [], length, take, Some, IsOk, IfOk, IfErr, nat_eq, refl};
+ghost use Rattle.std.specs.Prelude.{◌≡◌, ℕ, ◌↔◌, List, [], length, take, Some, IsOk, IfOk, IfErr, nat_eq, refl};
 ghost use Rattle.std.specs.Ordering.{nat_cmp};
 ghost use Rattle.std.specs.Cmp.{partial_equiv_from_equiv};
 ghost use Rattle.std.specs.Cmp.Lexicographic.{pointwise, slice_cmp, nat_list_eq_equiv, nat_list_cmp_total, texts_po, texts_ties};
@@ -81,17 +81,6 @@ impl Value {
             bytes: [0; VALUE_ROOM],
             len: 0,
         }
-    }
-
-    /// The value at the front of a row. All of the row is copied, so that nothing waits for its length.
-    #[inline]
-    pub(crate) fn at_front(row: &[u8; VALUE_ROOM], len: u8) -> Self
-        requires { len ≤ LONGEST_VALUE }
-        ensures { result ≡ take len row.now }
-    {
-        let mut bytes = *row;
-        bytes[len as usize..].fill(0);
-        Value { bytes, len }
     }
 
     /// The value, with zeros behind it.

@@ -9,4 +9,4 @@ returns-then-fits c =
     c.of.ensures ∙ ap (λ n. take n (drop line.key_len line.bytes)) all ∙ sym (value_in-near line c.args.cold.now (sym c.fits.ensures ∙ c.if-fits.true))
 
 pub returns-else-fits : goal.returns-else-fits
-returns-else-fits c = c.at_front.ensures ∙ sym (value_in-far c.args.self.now c.args.cold.now (sym c.fits.ensures ∙ c.if-fits.false))
+returns-else-fits c = c.of-else-fits.ensures ∙ sym (value_in-far c.args.self.now c.args.cold.now (sym c.fits.ensures ∙ c.if-fits.false))
