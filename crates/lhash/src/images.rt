@@ -15,9 +15,7 @@ use lh_addr::Config;
 use lh_bucket::{Call, Listing, PagedBucket};
 use lh_core::{Memory, serial};
 use lh_image::laws::census_counts_pages;
-use lh_image::{
-    ImageFault, WriteImageFault, check_image, read_image, write_image, write_image_v1,
-};
+use lh_image::{ImageFault, WriteImageFault, check_image, read_image, write_image, write_image_v1};
 use lh_options::ImageVersion;
 use std::alloc::Global;
 use std::io::{Read, Write};
