@@ -20,9 +20,10 @@ use thiserror::Error;
 /// A key of 1 to 56 bytes. Keys are compared and ordered by their bytes, a key before its longer extensions.
 #[derive(Clone, Copy, Debug)]
 pub struct Key {
-    // Zeros stand behind the key's bytes.
+    // Zeros stand behind the key's bytes. The length is a whole word, since copies of an odd number of bytes are made
+    // of words that overlap, and each then waits for the one before.
     bytes: [u8; KEY_ROOM],
-    len: u8,
+    len: usize,
 }
 
 impl Model for Key {
@@ -75,7 +76,7 @@ impl Key {
     {
         Key {
             bytes: row(bytes),
-            len: bytes.len() as u8,
+            len: bytes.len(),
         }
     }
 
@@ -84,14 +85,14 @@ impl Key {
     pub(crate) fn len(&self) -> u8
         ensures { result ≡ length self.now }
     {
-        self.len
+        self.len as u8
     }
 
     pub fn bytes(&self) -> &[u8]
         ensures value { result.now ≡ self.now }
         ensures kept { IsKey self.now }
     {
-        &self.bytes[..self.len as usize]
+        &self.bytes[..self.len]
     }
 
     /// The key, with zeros behind it.
@@ -108,7 +109,7 @@ impl Key {
     pub(crate) fn is_front(&self, bytes: &[u8; LINE_ROOM], len: u8) -> bool
         ensures { result ≡ bytes_eq (take len bytes.now) self.now }
     {
-        self.len == len && starts_alike(&self.bytes, bytes, len as usize)
+        self.len == len as usize && starts_alike(&self.bytes, bytes, len as usize)
     }
 
     /// A key for places that hold none.

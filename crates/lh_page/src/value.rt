@@ -14,9 +14,9 @@ use thiserror::Error;
 /// A value of 0 to 112 bytes. Values are compared and ordered by their bytes, a value before its longer extensions.
 #[derive(Clone, Copy, Debug)]
 pub struct Value {
-    // Zeros stand behind the value's bytes.
+    // Zeros stand behind the value's bytes. The length is a whole word, as that of a key is.
     bytes: [u8; VALUE_ROOM],
-    len: u8,
+    len: usize,
 }
 
 impl Model for Value {
@@ -69,7 +69,7 @@ impl Value {
     {
         Value {
             bytes: row(bytes),
-            len: bytes.len() as u8,
+            len: bytes.len(),
         }
     }
 
@@ -95,7 +95,7 @@ impl Value {
         ensures value { result.now ≡ self.now }
         ensures kept { IsValue self.now }
     {
-        &self.bytes[..self.len as usize]
+        &self.bytes[..self.len]
     }
 }
 
