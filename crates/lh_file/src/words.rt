@@ -4,6 +4,7 @@ ghost use Rattle.std.specs.Prelude.{◌≡◌, ◌≤◌, IfOk};
 mod counts;
 pub(crate) mod hand;
 pub(crate) mod load;
+mod looks;
 pub(crate) mod numbers;
 mod plays;
 pub(crate) mod right;

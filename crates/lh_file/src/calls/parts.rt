@@ -48,9 +48,7 @@ pub fn look_on<G: Gate>(
     ensures of { IsOf file.now.state hand.new }
 {
     // Act
-    let answer = bucket.look(call, k);
-    file.words.record_act(hand, call, answer.reply());
-    answer
+    file.words.record_look(hand, bucket, call, k)
 }
 
 /// The act of a call at its bucket, whose lock the caller has exclusively: the bucket serves it, and the
