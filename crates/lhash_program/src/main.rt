@@ -4,10 +4,13 @@
 ghost use Rattle.std.specs.Prelude.{codes};
 ghost use Rattle.lhash.specs.Serving.{IsWordsOf};
 
+mod one_try;
+
+use crate::one_try::OneTry;
 use lhash::{Status, run};
 use std::alloc::Global;
 use std::env;
-use std::io::{BufReader, ErrorKind, Read, Write};
+use std::io::{BufReader, BufWriter, ErrorKind, Read, Write};
 use std::process::ExitCode;
 use std::rt::Runtime;
 use std::sync::Wait;
@@ -15,6 +18,9 @@ use std::thread::Threads;
 
 /// The most bytes that one read of the process's input is asked for.
 const READ_AHEAD: usize = 65_536;
+
+/// How many bytes of output are gathered for one write.
+const GATHERED: usize = 65_536;
 
 /// How a run ends of which a word is no text.
 fn no_text(alloc: Global) -> Status
@@ -36,11 +42,12 @@ fn process_words(rt: &(impl Runtime + AllocGlobal)) -> Result<Vec<String>, Statu
 }
 
 /// Runs on the words of the process, with this input and output. Nothing is read before it is asked for;
-/// then as much as comes is read at once, and given in the pieces that are asked for.
-fn run_process<A: Runtime + AllocGlobal + Threads + Wait + Sync, R: Read + Drop, W: Write>(
+/// then as much as comes is read at once, and given in the pieces that are asked for. What is written goes out in
+/// larger pieces.
+fn run_process<A: Runtime + AllocGlobal + Threads + Wait + Sync, R: Read + Drop, W: Write + Drop>(
     rt: &A,
     reader: R,
-    writer: &mut W,
+    writer: W,
 ) -> Status {
     let words = match process_words(rt) {
         Ok(words) => words,
@@ -48,14 +55,20 @@ fn run_process<A: Runtime + AllocGlobal + Threads + Wait + Sync, R: Read + Drop,
     };
     let texts: Result<Vec<&str>, _> = words.iter().map(|word| word.as_str()).collect(rt.alloc());
     let input = BufReader::with_capacity(rt.alloc(), READ_AHEAD, reader);
-    match (texts, input) {
-        (Ok(texts), Ok(mut input)) => run(rt, texts.as_slice(), &mut input, writer),
+    let output = BufWriter::with_capacity(rt.alloc(), GATHERED, OneTry(writer));
+    match (texts, input, output) {
+        (Ok(texts), Ok(mut input), Ok(mut output)) => {
+            let status = run(rt, texts.as_slice(), &mut input, &mut output);
+            // Dropped whole it would write once more what a failed write has left.
+            let _ = output.into_parts();
+            status
+        }
         _ => Status::Memory,
     }
 }
 
 fn main(rt: HostRuntime) -> ExitCode {
-    let status = run_process(&rt, rt.stdin(), &mut rt.stdout());
+    let status = run_process(&rt, rt.stdin(), rt.stdout());
     let code = status.code();
     if code != 0 {
         let _ = eprintln!(rt; "lhash: {status}");
