@@ -78,13 +78,19 @@ with_subcommand_required app = record app { top = record app.top { subcommand_re
 abbrev pub with_version : App → App
 with_version app = record app { top = record app.top { has_version = true } }
 
+-- the program's command before it has a subcommand, which it asks for
+abbrev pub root_app : App
+root_app = with_subcommand_required (with_version (new_app (codes "lhash")))
+
+-- with the subcommands that take a script in one thread
+abbrev pub scripts_app : App
+scripts_app = with_subcommand (with_subcommand (with_subcommand root_app commands_app.top) steps_app.top) build_app.top
+
 -- the program's command
 abbrev pub program_app : App
 program_app =
-    with_subcommand (with_subcommand (with_subcommand (with_subcommand
-    (with_subcommand (with_subcommand (with_subcommand (with_subcommand
-    (with_subcommand_required (with_version (new_app (codes "lhash"))))
-    commands_app.top) steps_app.top) build_app.top) check_app.top) dump_app.top) drive_app.top) draw_app.top) migrate_app.top
+    with_subcommand (with_subcommand (with_subcommand (with_subcommand (with_subcommand scripts_app
+    check_app.top) dump_app.top) drive_app.top) draw_app.top) migrate_app.top
 
 -- the whole number that a text writes in decimal digits, where it is such a text; a plus may stand first
 abbrev pub number_of : Text → Option ℕ

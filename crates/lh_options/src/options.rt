@@ -2,7 +2,7 @@
 ghost use Rattle.std.specs.Prelude.{◌≡◌, ◌⊎◌, IfOk, IfSome, IfNone, None, Some, codes, false, map, option_map};
 ghost use Rattle.lh_addr.specs.Settings.{IsInRange};
 ghost use Rattle.clap.specs.Words.{found_of, kind_of, new_app, rows_of, rule_of};
-ghost use Rattle.lh_options.specs.Options.{Answers, IsMaxBelowInitial, IsServable, number_in, build_app, drive_app, option_rule, version_of, program_app, with_settings};
+ghost use Rattle.lh_options.specs.Options.{Answers, IsMaxBelowInitial, IsServable, number_in, build_app, drive_app, option_rule, version_of, root_app, scripts_app, program_app, with_settings};
 ghost use Rattle.lh_options.specs.OptionSteps.{HasNumber, HasSettings, HasImage, HasThreads, IsFileCommand, IsImageCommand, IsRefusal, Reads, asked_in, settings_in};
 
 use crate::help::{BUILD, CHECK, COMMANDS, DRAW, DRIVE, DUMP, Help, MIGRATE, STEPS};
@@ -160,16 +160,30 @@ fn build_command<'a>(alloc: Global) -> Result<Command<'a>, AllocError>
     ))
 }
 
-fn program<'a>(alloc: Global) -> Result<Command<'a>, AllocError>
-    ensures { IfOk result (Reads program_app) }
+/// The program's name and version, without a subcommand yet.
+fn root<'a>(alloc: Global) -> Command<'a>
+    ensures { Reads root_app result }
 {
     Command::new(alloc, "lhash")
         .about("A linear hash file")
         .version("0.1.0")
         .subcommand_required(true)
+}
+
+/// The program's command with the subcommands that take a script in one thread.
+fn with_scripts<'a>(alloc: Global) -> Result<Command<'a>, AllocError>
+    ensures { IfOk result (Reads scripts_app) }
+{
+    root(alloc)
         .subcommand(file_command(alloc, "commands", COMMANDS)?)?
         .subcommand(file_command(alloc, "steps", STEPS)?)?
-        .subcommand(build_command(alloc)?)?
+        .subcommand(build_command(alloc)?)
+}
+
+fn program<'a>(alloc: Global) -> Result<Command<'a>, AllocError>
+    ensures { IfOk result (Reads program_app) }
+{
+    with_scripts(alloc)?
         .subcommand(image_command(alloc, "check", CHECK))?
         .subcommand(image_command(alloc, "dump", DUMP))?
         .subcommand(drive_command(alloc)?)?
@@ -218,7 +232,6 @@ fn version_in(matches: &ArgMatches<'_>) -> ImageVersion
 }
 
 /// What a subcommand asks for.
-#[tactic(auto, using(crate::proofs::Asking::commands, crate::proofs::Asking::steps, crate::proofs::Asking::build, crate::proofs::Asking::drive, crate::proofs::Asking::check, crate::proofs::Asking::dump, crate::proofs::Asking::draw, crate::proofs::Asking::migrate, crate::proofs::Asking::out_of_order))]
 fn asked(name: &str, matches: &ArgMatches<'_>) -> Request
     requires named { IsFileCommand name.now ⊎ IsImageCommand name.now }
     requires settings { IsFileCommand name.now → HasSettings (rows_of (found_of matches.now)) }

@@ -1,17 +1,24 @@
 -- What was read gives what the input gives.
-use Rattle.std.proofs.Common.{◌≡◌, refl, false, inl, inr, ℕ, List, Option, ap, arith}
+use Rattle.std.proofs.Common.{◌≡◌, ◌∙◌, refl, sym, false, inl, inr, ℕ, List, Option, None, Some, IfSome, ap, ap₂, arith}
 use Rattle.std.proofs.KnownBytes.{Keeps-refl}
 use Rattle.std.specs.Io.KnownBytes.{Appends, Keeps}
 use Rattle.std.specs.List.{list_any}
+use Rattle.std.specs.FinMap.{empty}
 use Rattle.std.proofs.lemmas.Bool.Decides.{nat_tests}
 use Rattle.std.specs.Prelude.{Result, Ok, Err}
 use Rattle.lh_addr.specs.Settings.{Settings}
+use Rattle.lh_bucket.specs.PlainMap.{replies}
+use Rattle.lh_bucket.specs.declared.call.Call.{Call}
+use Rattle.lh_bucket.specs.declared.call.Reply.{Reply}
 use Rattle.lh_core.specs.Headline.{IsHeadline}
 use Rattle.lh_core.specs.Log.{Entry}
+use Rattle.lh_core.specs.Serial.{size_of}
 use Rattle.lh_core.specs.World.{WorldSeen}
 use Rattle.lh_core.specs.declared.event.Event.{Event}
 use Rattle.lhash.specs.Devices.{IsReadOf, TakesBeginning}
-use Rattle.lhash.specs.Run.{Ends, EndsSteps, ReadsScript, due, is_want}
+use Rattle.lhash.specs.Run.{Ends, EndsSteps, ReadsScript, commands_due, due, is_want}
+use Rattle.lh_script.specs.Commands.{command}
+use Rattle.lh_script.specs.Texts.{commands_text}
 use Rattle.lh_script.specs.StepTexts.{steps_text}
 use Rattle.lh_script.specs.Steps.{step}
 use Rattle.lh_script.specs.declared.fault.ScriptFault.{ScriptFault}
@@ -34,6 +41,24 @@ unread (Device Write) given output a h = absurd h
 unread Memory given output a h = Keeps-refl a
 unread (NotSettled fault) given output a h = absurd h
 
+-- the replies to a script's calls and the number of buckets were written
+pub answered : (settings : Settings) (left before now : Option (List ℕ)) (calls : List Call) (told : List Reply) (buckets : ℕ) →
+    IfSome left (λ input. script command input ≡ Ok calls) → Appends before now (commands_text told buckets) →
+    told ≡ replies empty calls → buckets ≡ size_of settings calls → IfSome left (λ input. Ends Done (commands_due settings input) before now)
+unfolding commands_due
+answered settings None before now calls told buckets given written replied size = tt
+answered settings (Some input) before now calls told buckets given written replied size =
+    (commands_text told buckets, ap (due (λ calls. commands_text (replies empty calls) (size_of settings calls))) given ∙ ap Ok (ap₂ commands_text (sym replied) (sym size)), written)
+
+-- a beginning of them was written
+pub answered_in_part : (settings : Settings) (left before now : Option (List ℕ)) (calls : List Call) (told : List Reply) (buckets : ℕ) →
+    IfSome left (λ input. script command input ≡ Ok calls) → TakesBeginning before now (commands_text told buckets) →
+    told ≡ replies empty calls → buckets ≡ size_of settings calls → IfSome left (λ input. Ends (Device Write) (commands_due settings input) before now)
+unfolding commands_due
+answered_in_part settings None before now calls told buckets given written replied size = tt
+answered_in_part settings (Some input) before now calls told buckets given written replied size =
+    (commands_text told buckets, ap (due (λ calls. commands_text (replies empty calls) (size_of settings calls))) given ∙ ap Ok (ap₂ commands_text (sym replied) (sym size)), written)
+
 -- a run that read no step script ends without a write
 pub no_steps : (settings : Settings) (status : Status) (input : List ℕ) (a : Option (List ℕ)) →
     ReadsScript {A = Event} (Err status) (script step input) → EndsSteps settings input status a a
@@ -54,19 +79,21 @@ unfolding EndsSteps
 no_memory settings input a = Keeps-refl a
 
 -- the lines of all entries were written
-pub steps_told : (settings : Settings) (input : List ℕ) (events : List Event) (entries : List Entry) (world : WorldSeen) (before now : Option (List ℕ)) →
-    IsHeadline settings events entries world → script step input ≡ Ok events → list_any is_want entries ≡ false →
-    Appends before now (steps_text entries) → EndsSteps settings input Done before now
+pub steps_told : (settings : Settings) (left before now : Option (List ℕ)) (events : List Event) (entries : List Entry) (world : WorldSeen) →
+    IfSome left (λ input. script step input ≡ Ok events) → Appends before now (steps_text entries) →
+    IsHeadline settings events entries world → list_any is_want entries ≡ false → IfSome left (λ input. EndsSteps settings input Done before now)
 unfolding EndsSteps
-steps_told settings input events entries world before now headline given memory written =
+steps_told settings None before now events entries world given written headline memory = tt
+steps_told settings (Some input) before now events entries world given written headline memory =
     (events, steps_text entries, given, record { entries = entries; world = world; headline = headline; memory = memory; lines = refl }, written)
 
 -- a beginning of the lines of all entries was written
-pub steps_begun : (settings : Settings) (input : List ℕ) (events : List Event) (entries : List Entry) (world : WorldSeen) (before now : Option (List ℕ)) →
-    IsHeadline settings events entries world → script step input ≡ Ok events → list_any is_want entries ≡ false →
-    TakesBeginning before now (steps_text entries) → EndsSteps settings input (Device Write) before now
+pub steps_begun : (settings : Settings) (left before now : Option (List ℕ)) (events : List Event) (entries : List Entry) (world : WorldSeen) →
+    IfSome left (λ input. script step input ≡ Ok events) → TakesBeginning before now (steps_text entries) →
+    IsHeadline settings events entries world → list_any is_want entries ≡ false → IfSome left (λ input. EndsSteps settings input (Device Write) before now)
 unfolding EndsSteps
-steps_begun settings input events entries world before now headline given memory written =
+steps_begun settings None before now events entries world given written headline memory = tt
+steps_begun settings (Some input) before now events entries world given written headline memory =
     (events, steps_text entries, given, record { entries = entries; world = world; headline = headline; memory = memory; lines = refl }, written)
 
 pub same_script : {A : Type 0} (read : Reading A) (input bytes : List ℕ) → IsReadOf 16777216 input bytes → script read bytes ≡ script read input

@@ -80,7 +80,7 @@ fn wanted_memory(entries: &[Result<Effect, Refusal>]) -> bool
 
 /// Reads a step script whole, takes its steps in turn from an empty file, and writes what is told
 /// of each. Nothing is written where memory was wanting for one of them.
-#[tactic(auto, using(crate::proofs::Ending::no_steps, crate::proofs::Ending::steps_told, crate::proofs::Ending::steps_begun))]
+#[tactic(auto, using(crate::proofs::Ending::no_steps))]
 pub fn answer_steps<R: Read, W: Write>(
     alloc: Global,
     config: Config,
