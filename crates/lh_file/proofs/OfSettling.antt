@@ -6,6 +6,7 @@ pub mod Deciding
 pub mod Exact
 pub mod FaultLaws
 pub mod Histories
+pub mod NoneMissing
 pub mod Orders
 pub mod Placed
 pub mod Sorting

@@ -2,5 +2,6 @@
 mod chains;
 mod errors;
 mod keys;
+mod memory;
 mod pages;
 mod records;

@@ -1,5 +1,5 @@
 //! Which records a split sends where, and in what order.
-use super::calls::{fill, keys_of, serve_here};
+use super::calls::{fill, keys_of, pair, serve_here};
 use crate::{Bucket, Call, PagedBucket, PlainBucket};
 use lh_page::Key;
 use std::alloc::Global;
@@ -46,4 +46,25 @@ fn places_keep_their_order(rt: HostRuntime) -> Result<(), Fail> {
     assert_eq!(rt; stay.as_slice(), b"ceg".as_slice());
     assert_eq!(rt; gone.as_slice(), b"bd".as_slice());
     Ok(())
+}
+
+/// A bucket of level 0 has no greatest number of records, nor has a split of it.
+fn split_divides_many_records<B: Bucket>(rt: &impl Abort, alloc: Global) -> Result<(), Fail> {
+    let mut old = B::make(alloc, 1, 24, 0, Some(0))?;
+    let mut new = B::make(alloc, 1, 24, 1, None)?;
+    for number in 0..1000_u16 {
+        let record = pair(&number.to_be_bytes(), b"1")?;
+        let call = Call::Insert(record.key, record.value);
+        serve_here(&mut old, &call, 0)?.ok_or("not the bucket")?;
+    }
+    assert_eq!(rt; old.len(), 1000);
+    old.split_into(&mut new)?;
+    assert_eq!(rt; (old.len(), new.len()), (500, 500));
+    Ok(())
+}
+
+#[test]
+fn a_split_divides_many_records(rt: HostRuntime) -> Result<(), Fail> {
+    split_divides_many_records::<PlainBucket>(&rt, rt.alloc())?;
+    split_divides_many_records::<PagedBucket>(&rt, rt.alloc())
 }

@@ -90,7 +90,7 @@ fn listed<B: Bucket>(world: &World<B>) -> Result<Listing, Fail> {
 }
 
 /// How many records the filled buckets have.
-fn records_in<B: Bucket>(world: &World<B>) -> usize {
+pub(super) fn records_in<B: Bucket>(world: &World<B>) -> usize {
     let mut records: usize = 0;
     for number in 0..world.filled() {
         records = records.saturating_add(world.bucket(number).len());

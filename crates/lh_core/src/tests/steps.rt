@@ -215,3 +215,68 @@ fn events_out_of_turn_are_refused(rt: HostRuntime) -> Result<(), Fail> {
         &[(Event::SplitBegin, Err(Refusal::FileFull))],
     )
 }
+
+/// Inserts a letter by a worker, and says what the act is told.
+fn inserted<B: Bucket>(world: &mut World<B>, worker: u8, letter: u8) -> Result<Effect, Fail> {
+    world.step(Event::Call(worker, insert(&[letter], b"1")?))?;
+    world.step(Event::Read(worker))?;
+    world.step(Event::Lock(worker))?;
+    Ok(world.step(Event::Act(worker))?)
+}
+
+/// The split of bucket 0 into itself and bucket 2. After each of its steps a record is inserted in bucket 1, and before
+/// the pointer moves one in the new bucket.
+fn inserts_go_on_beside_a_split<B: Bucket>(rt: &impl Abort, alloc: Global) -> Result<(), Fail> {
+    let mut world = World::<B>::new(alloc, Config::new(2, 14, 100, 65536)?)?;
+    let answered = Effect::Answered(Reply::Inserted);
+    let steps = [
+        (Event::SplitBegin, 0, b'b'),
+        (Event::SplitLock, 1, b'd'),
+        (Event::SplitMove, 2, b'f'),
+        (Event::SplitRelease, 3, b'h'),
+    ];
+    for (event, worker, letter) in &steps {
+        world.step(*event)?;
+        assert_eq!(rt; inserted(&mut world, *worker, *letter)?, answered);
+        world.step(Event::Release(*worker))?;
+    }
+    let events = [
+        Event::Call(14, insert(b"c", b"1")?),
+        Event::Read(14),
+        Event::Lock(14),
+        Event::Rehash(14),
+        Event::Lock(14),
+    ];
+    for event in &events {
+        world.step(*event)?;
+    }
+    assert_eq!(rt; world.step(Event::Act(14)), Ok(answered));
+    Ok(())
+}
+
+#[test]
+fn inserts_are_served_in_each_state_of_a_split(rt: HostRuntime) -> Result<(), Fail> {
+    inserts_go_on_beside_a_split::<PlainBucket>(&rt, rt.alloc())?;
+    inserts_go_on_beside_a_split::<PagedBucket>(&rt, rt.alloc())
+}
+
+/// A list of events may be long, and a file may begin with many buckets.
+fn a_long_run<B: Bucket>(rt: &impl Abort, alloc: Global) -> Result<(), Fail> {
+    let config = Config::new(256, 24, 10, 65536)?;
+    let mut events = Vec::new(alloc);
+    for _turn in 0..3000 {
+        events.push(Event::SplitBegin)?;
+        events.push(Event::SplitDrop)?;
+    }
+    let Ran { entries, world } = run::<B>(alloc, config, events.as_slice())?;
+    assert_eq!(rt; entries.len(), 6000);
+    assert!(rt; entries.iter().all(|entry| entry.is_ok()));
+    assert_eq!(rt; (world.root().buckets(), world.filled()), (256, 256));
+    Ok(())
+}
+
+#[test]
+fn a_list_of_events_may_be_long(rt: HostRuntime) -> Result<(), Fail> {
+    a_long_run::<PlainBucket>(&rt, rt.alloc())?;
+    a_long_run::<PagedBucket>(&rt, rt.alloc())
+}

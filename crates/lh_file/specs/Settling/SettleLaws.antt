@@ -1,12 +1,14 @@
 -- Laws of settling
-use Rattle.std.specs.Prelude.{◌≡◌, ◌≢◌, ◌⊎◌, List}
+use Rattle.std.specs.Prelude.{◌≡◌, ◌≢◌, ◌⊎◌, ℕ, ◌+◌, ◌^◌, true, List, length}
 use Rattle.lh_bucket.specs.Listing.{Lists}
 use Rattle.lh_file.specs.declared.act.ActLine.{ActLine}
 use Rattle.lh_file.specs.declared.settling.settle_fault.SettleFault.{SettleFault}
 use Rattle.lh_file.specs.declared.settling.settle_fault.SettleFault.TheVariants.{Memory}
 use Rattle.lh_file.specs.Settling.ClosedFile.{ClosedFile, IsClosed}
 use Rattle.lh_file.specs.Settling.Settled.{IsHistory, Settled}
-use Rattle.lh_file.specs.Settling.SettleFault.{IsDue}
+use Rattle.lh_file.specs.Settling.SettleFault.{IsDue, IsMissing}
+use Rattle.lh_file.specs.Closing.{NoneIsLost}
+use Rattle.lh_file.specs.Words.HandState.{HandState}
 
 -- Acts have one history at most.
 abbrev pub HistoryLaw : Type 0
@@ -32,3 +34,9 @@ abbrev pub AnswerLaw : Type 0
 AnswerLaw =
     (opening : Lists) (closed : ClosedFile) (acts : List ActLine) → IsClosed closed →
     (Settled opening closed acts) ⊎ ((fault : SettleFault) × (fault ≢ Memory) × IsDue opening closed acts fault)
+
+-- No stamp is missing where the file records and all calls came home to the hand that closed it.
+abbrev pub NoneMissingLaw : Type 0
+NoneMissingLaw =
+    (hand : HandState) (closed : ClosedFile) (stamp : ℕ) → hand.recording ≡ true →
+    hand.view.left + length hand.acts ≡ 2 ^ 63 → NoneIsLost hand closed.stamps → IsMissing closed hand.acts stamp → ⊥

@@ -51,7 +51,7 @@ fn value_of(number: u8, len: usize) -> Result<Value, ValueLength> {
 }
 
 /// The record of a letter. Some of these values are behind their keys, and some are not.
-fn record_of(letter: u8) -> Result<Pair, Fail> {
+pub fn record_of(letter: u8) -> Result<Pair, Fail> {
     let keys = [56, 1, 16, 50, 55];
     let values = [6, 112, 46, 12, 0, 7, 62];
     Ok(Pair {
@@ -61,7 +61,7 @@ fn record_of(letter: u8) -> Result<Pair, Fail> {
 }
 
 /// The chain has the records of these letters in their order.
-fn expect_records(rt: &impl Abort, chain: &Chain, letters: &[u8]) -> Result<(), Fail> {
+pub fn expect_records(rt: &impl Abort, chain: &Chain, letters: &[u8]) -> Result<(), Fail> {
     assert_eq!(rt; chain.len(), letters.len());
     for (place, letter) in letters.iter().enumerate() {
         let pair = record_of(*letter)?;
@@ -82,7 +82,7 @@ fn add_records(rt: &impl Abort, chain: &mut Chain, letters: &[u8]) -> Result<(),
 }
 
 /// Keys below `g`.
-struct Early;
+pub struct Early;
 
 impl KeySet for Early {
     ghost use Rattle.std.specs.Prelude.{get_or, nat_lt};
@@ -280,4 +280,21 @@ fn a_split_takes_long_values_along(rt: HostRuntime) -> Result<(), Fail> {
     // Those below `g` are more than half.
     expect_records(&rt, &gone, b"ABCDEFGHIJKLMNOPQRSTUVWXYZabcdef")?;
     expect_records(&rt, &chain, b"ghijklmnopqrstuvwxyz")
+}
+
+/// No number of records is too many for a chain, nor for a split of it.
+#[test]
+fn a_chain_has_many_records(rt: HostRuntime) -> Result<(), Fail> {
+    let mut chain = Chain::new(rt.alloc(), 24)?;
+    for number in 0..2000_u16 {
+        let pair = pair_of(&number.wrapping_mul(32).to_be_bytes(), b"1")?;
+        assert_eq!(rt; chain.find(&pair.key), None);
+        chain.push(pair)?;
+    }
+    assert_eq!(rt; (chain.len(), chain.pages()), (2000, 84));
+    let gone = chain.split_off(&Early)?;
+    // The first byte is below `g` for a number below 103 * 256 / 32.
+    assert_eq!(rt; (gone.len(), chain.len()), (824, 1176));
+    assert_eq!(rt; (gone.pages(), chain.pages()), (35, 49));
+    Ok(())
 }
