@@ -3,7 +3,7 @@ ghost use Rattle.std.specs.Prelude.{◌≡◌};
 ghost use Rattle.lh_bucket.specs.Bucket.{CanSplit};
 
 use super::calls::{pair, reply_of, serve_here};
-use crate::{Bucket, Call, Memory, PagedBucket, PlainBucket, Reply};
+use lh_bucket::{Bucket, Call, Memory, PagedBucket, PlainBucket, Reply};
 use lh_page::Pair;
 use std::alloc::Global;
 use std::process::Abort;
