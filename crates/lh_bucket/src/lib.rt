@@ -32,6 +32,3 @@ pub use listing::{Listing, ListingFault};
 pub use paged_bucket::PagedBucket;
 pub use plain_bucket::PlainBucket;
 pub use verdict::Verdict;
-
-#[cfg(test)]
-mod tests;

@@ -4,8 +4,8 @@ ghost use Rattle.lh_bucket.specs.declared.call.Call.TheVariants.{Search};
 ghost use Rattle.lh_bucket.specs.Bucket.{answer};
 
 use super::calls::{fill, keys_of, pair, reply_of};
-use crate::{Answer, Bucket, Call, PagedBucket, PlainBucket, Reply, Verdict};
 use lh_addr::fnv1a;
+use lh_bucket::{Answer, Bucket, Call, PagedBucket, PlainBucket, Reply, Verdict};
 use lh_page::{Key, Value};
 use std::alloc::Global;
 use std::process::Abort;

@@ -3,8 +3,8 @@ ghost use Rattle.std.specs.Prelude.{◌≡◌, ◌≤◌, OnErr, IfOk, IfSome, I
 ghost use Rattle.lh_bucket.specs.Bucket.{answer, content};
 ghost use Rattle.lh_bucket.specs.PlainMap.{after};
 
-use crate::{Answer, Bucket, Call, Memory, Reply, Verdict};
 use lh_addr::fnv1a;
+use lh_bucket::{Answer, Bucket, Call, Memory, Reply, Verdict};
 use lh_page::{Key, Pair, Value};
 use std::alloc::Global;
 use std::test::Fail;

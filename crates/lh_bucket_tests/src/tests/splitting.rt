@@ -1,6 +1,6 @@
 //! Which records a split sends where, and in what order.
 use super::calls::{fill, keys_of, pair, serve_here};
-use crate::{Bucket, Call, PagedBucket, PlainBucket};
+use lh_bucket::{Bucket, Call, PagedBucket, PlainBucket};
 use lh_page::Key;
 use std::alloc::Global;
 use std::process::Abort;

@@ -3,9 +3,9 @@ ghost use Rattle.std.specs.Prelude.{◌<◌};
 ghost use Rattle.lh_bucket.specs.Listing.{size};
 
 use super::calls::{keys_of, pair};
-use crate::{Bucket, Listing, ListingFault, PagedBucket};
 use lh_addr::laws::address_is_only_bucket;
 use lh_addr::{Config, Root};
+use lh_bucket::{Bucket, Listing, ListingFault, PagedBucket};
 use lh_page::Pair;
 use std::alloc::Global;
 use std::test::Fail;

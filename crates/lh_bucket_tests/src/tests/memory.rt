@@ -3,8 +3,8 @@ ghost use Rattle.std.specs.Prelude.{◌≡◌};
 ghost use Rattle.lh_bucket.specs.Bucket.{CanSplit};
 
 use super::calls::{pair, reply_of, serve_here};
-use crate::{Bucket, Call, Listing, ListingFault, Memory, PagedBucket, PlainBucket, Reply};
 use lh_addr::Config;
+use lh_bucket::{Bucket, Call, Listing, ListingFault, Memory, PagedBucket, PlainBucket, Reply};
 use lh_page::Pair;
 use std::alloc::Global;
 use std::process::Abort;
