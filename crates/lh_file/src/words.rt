@@ -6,6 +6,7 @@ pub(crate) mod hand;
 pub(crate) mod load;
 mod looks;
 pub(crate) mod numbers;
+mod places;
 mod plays;
 pub(crate) mod right;
 mod root;
@@ -17,6 +18,7 @@ pub(crate) mod view;
 use crate::act::ActLine;
 use crate::words::hand::Hand;
 use crate::words::numbers::FileWords;
+use crate::words::places::{DELETES, INSERTS, ROOT, STAMPS, WIDTH};
 use crate::words::rule::RunningRule;
 use crate::words::sizes::Sizes;
 use crate::words::view::View;
@@ -25,18 +27,6 @@ use lh_addr::{Config, RootWord};
 use lh_bucket::Memory;
 use std::alloc::Global;
 use std::marker::Model;
-
-// The words stand 64 bytes apart, so that no two of them share a cache line: a step on one would make
-// each load of the others wait.
-
-/// The place of the root word.
-pub(crate) const ROOT: usize = 0;
-/// The place of the stamp word.
-pub(crate) const STAMPS: usize = 8;
-/// The place of the count of inserts.
-pub(crate) const INSERTS: usize = 16;
-/// The place of the count of deletes.
-pub(crate) const DELETES: usize = 24;
 
 /// A running file but for its buckets: the words under their rule, the configuration, whether acts are
 /// recorded, and how many records the file was opened with.
@@ -91,7 +81,7 @@ impl Words {
             opened: buckets,
             max: config.max(),
         };
-        let mut words = [0; 32];
+        let mut words = [0; WIDTH];
         words[ROOT] = RootWord::new(buckets, false);
         let (table, seat) = Table::of_words(alloc, &words, &sizes)?;
         let file = Words {

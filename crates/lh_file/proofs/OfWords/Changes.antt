@@ -10,6 +10,7 @@ use Rattle.lh_file.specs.Words.Rule.{Each, rights_of, HasLimits, IsRule, words_o
 use Rattle.lh_file.specs.Words.Plays.{Seated}
 use Rattle.lh_file.specs.Words.Views.{spent}
 use Rattle.lh_file.specs.declared.words.numbers.FileWords.{FileWords}
+use Rattle.lh_file.specs.declared.words.places.TheConstants.{ROOT, STAMPS, INSERTS, DELETES, WIDTH}
 use Rattle.lh_file.specs.declared.words.sizes.Sizes.{Sizes}
 use Rattle.lh_file.specs.declared.words.view.View.{View}
 use Rattle.lh_file.proofs.OfWords.Lists.{total-set, terms_le}
@@ -91,36 +92,36 @@ module _ (initial max : ℕ) where
   }
 
 -- one word of the table is stored, and the others stay
-pub root_stored : (ws : List ℕ) (n m : ℕ) → length ws ≡ 32 → n ≡ m → words_of (set ws 0 n) ≡ record (words_of ws) { root = m }
+pub root_stored : (ws : List ℕ) (n m : ℕ) → length ws ≡ WIDTH → n ≡ m → words_of (set ws ROOT n) ≡ record (words_of ws) { root = m }
 root_stored ws n m wide e i = record {
-  root = (get_or-set_same ws 0 n 0 (omega arith) ∙ e) i;
-  stamps = get_or-set_other ws 0 8 n 0 (λ e. omega arith) i;
-  inserts = get_or-set_other ws 0 16 n 0 (λ e. omega arith) i;
-  deletes = get_or-set_other ws 0 24 n 0 (λ e. omega arith) i;
+  root = (get_or-set_same ws ROOT n 0 (omega arith) ∙ e) i;
+  stamps = get_or-set_other ws ROOT STAMPS n 0 (λ e. omega arith) i;
+  inserts = get_or-set_other ws ROOT INSERTS n 0 (λ e. omega arith) i;
+  deletes = get_or-set_other ws ROOT DELETES n 0 (λ e. omega arith) i;
 }
 
-pub stamps_stored : (ws : List ℕ) (n m : ℕ) → length ws ≡ 32 → n ≡ m → words_of (set ws 8 n) ≡ record (words_of ws) { stamps = m }
+pub stamps_stored : (ws : List ℕ) (n m : ℕ) → length ws ≡ WIDTH → n ≡ m → words_of (set ws STAMPS n) ≡ record (words_of ws) { stamps = m }
 stamps_stored ws n m wide e i = record {
-  root = get_or-set_other ws 8 0 n 0 (λ e. omega arith) i;
-  stamps = (get_or-set_same ws 8 n 0 (omega arith) ∙ e) i;
-  inserts = get_or-set_other ws 8 16 n 0 (λ e. omega arith) i;
-  deletes = get_or-set_other ws 8 24 n 0 (λ e. omega arith) i;
+  root = get_or-set_other ws STAMPS ROOT n 0 (λ e. omega arith) i;
+  stamps = (get_or-set_same ws STAMPS n 0 (omega arith) ∙ e) i;
+  inserts = get_or-set_other ws STAMPS INSERTS n 0 (λ e. omega arith) i;
+  deletes = get_or-set_other ws STAMPS DELETES n 0 (λ e. omega arith) i;
 }
 
-pub inserts_stored : (ws : List ℕ) (n m : ℕ) → length ws ≡ 32 → n ≡ m → words_of (set ws 16 n) ≡ record (words_of ws) { inserts = m }
+pub inserts_stored : (ws : List ℕ) (n m : ℕ) → length ws ≡ WIDTH → n ≡ m → words_of (set ws INSERTS n) ≡ record (words_of ws) { inserts = m }
 inserts_stored ws n m wide e i = record {
-  root = get_or-set_other ws 16 0 n 0 (λ e. omega arith) i;
-  stamps = get_or-set_other ws 16 8 n 0 (λ e. omega arith) i;
-  inserts = (get_or-set_same ws 16 n 0 (omega arith) ∙ e) i;
-  deletes = get_or-set_other ws 16 24 n 0 (λ e. omega arith) i;
+  root = get_or-set_other ws INSERTS ROOT n 0 (λ e. omega arith) i;
+  stamps = get_or-set_other ws INSERTS STAMPS n 0 (λ e. omega arith) i;
+  inserts = (get_or-set_same ws INSERTS n 0 (omega arith) ∙ e) i;
+  deletes = get_or-set_other ws INSERTS DELETES n 0 (λ e. omega arith) i;
 }
 
-pub deletes_stored : (ws : List ℕ) (n m : ℕ) → length ws ≡ 32 → n ≡ m → words_of (set ws 24 n) ≡ record (words_of ws) { deletes = m }
+pub deletes_stored : (ws : List ℕ) (n m : ℕ) → length ws ≡ WIDTH → n ≡ m → words_of (set ws DELETES n) ≡ record (words_of ws) { deletes = m }
 deletes_stored ws n m wide e i = record {
-  root = get_or-set_other ws 24 0 n 0 (λ e. omega arith) i;
-  stamps = get_or-set_other ws 24 8 n 0 (λ e. omega arith) i;
-  inserts = get_or-set_other ws 24 16 n 0 (λ e. omega arith) i;
-  deletes = (get_or-set_same ws 24 n 0 (omega arith) ∙ e) i;
+  root = get_or-set_other ws DELETES ROOT n 0 (λ e. omega arith) i;
+  stamps = get_or-set_other ws DELETES STAMPS n 0 (λ e. omega arith) i;
+  inserts = get_or-set_other ws DELETES INSERTS n 0 (λ e. omega arith) i;
+  deletes = (get_or-set_same ws DELETES n 0 (omega arith) ∙ e) i;
 }
 
 -- the rule holds of a table after a step on the word i that stores n

@@ -10,6 +10,7 @@ use Rattle.lh_file.specs.Words.Rule.{rights_of, IsRule, words_of, Holds}
 use Rattle.lh_file.specs.Words.Plays.{Seated, loaded_inserts, loaded_deletes, stamped, counted_insert, counted_delete}
 use Rattle.lh_file.specs.Words.Views.{stamped_with}
 use Rattle.lh_file.specs.declared.words.numbers.FileWords.{FileWords}
+use Rattle.lh_file.specs.declared.words.places.TheConstants.{STAMPS, INSERTS, DELETES}
 use Rattle.lh_file.specs.declared.words.sizes.Sizes.{Sizes}
 use Rattle.lh_file.specs.declared.words.view.View.{View}
 use Rattle.lh_file.proofs.OfWords.Lists.{term_le, total-le, total-sum, times-append, once-more, all-below}
@@ -57,12 +58,12 @@ module _ (initial max : ℕ) where
       }
 
 module _ (k : Sizes) where
-  pub loads_inserts : (slots id : ℕ) (m : Seated) → 0 < m.0.initial → Allows (Holds k) slots id m 16 (λ n. n) (loaded_inserts (step slots 16 0 0 none) m)
+  pub loads_inserts : (slots id : ℕ) (m : Seated) → 0 < m.0.initial → Allows (Holds k) slots id m INSERTS (λ n. n) (loaded_inserts (step slots INSERTS 0 0 none) m)
   loads_inserts slots id m live s o _ me _ = let rule = o.rule in (
     m.0,
     keeps,
     tt,
-    after_step k s o 16 id (get_or s.words 16 0) m m.0 (words_of s.words) me (ap words_of (set-get_or s.words 16 0))
+    after_step k s o INSERTS id (get_or s.words INSERTS 0) m m.0 (words_of s.words) me (ap words_of (set-get_or s.words INSERTS 0))
         (seen k.initial k.max (words_of s.words) s.views rule id m.0 m.0.known me live (rule.known id m.0 me) (rule.exact id m.0 me)),
     (
       omega (arith, term_le (λ (u : View). u.inserted) s.views id m.0 me, rule.inserts),
@@ -72,26 +73,26 @@ module _ (k : Sizes) where
     ),
   )
 
-  pub loads_deletes : (slots id : ℕ) (m : Seated) → 0 < m.0.initial → Allows (Holds k) slots id m 24 (λ n. n) (loaded_deletes (step slots 24 0 0 none) m)
+  pub loads_deletes : (slots id : ℕ) (m : Seated) → 0 < m.0.initial → Allows (Holds k) slots id m DELETES (λ n. n) (loaded_deletes (step slots DELETES 0 0 none) m)
   loads_deletes slots id m live s o _ me _ = let rule = o.rule in (
     m.0,
     keeps,
     tt,
-    after_step k s o 24 id (get_or s.words 24 0) m m.0 (words_of s.words) me (ap words_of (set-get_or s.words 24 0))
+    after_step k s o DELETES id (get_or s.words DELETES 0) m m.0 (words_of s.words) me (ap words_of (set-get_or s.words DELETES 0))
         (seen k.initial k.max (words_of s.words) s.views rule id m.0 m.0.known me live (rule.known id m.0 me) (rule.exact id m.0 me)),
     (omega (arith, term_le (λ (u : View). u.deleted) s.views id m.0 me, rule.deletes), refl),
   )
 
   pub draws_stamp : (slots id : ℕ) (m : Seated) → 0 < m.0.initial → 0 < m.0.left
-      → Allows (Holds k) slots id m 8 (λ n. (n + 1) % 2 ^ 64) (stamped (step slots 8 1 0 none) m)
-  draws_stamp slots id m live some_left s o _ me _ = let q : ℕ = get_or s.words 8 0 in let rule = o.rule in
+      → Allows (Holds k) slots id m STAMPS (λ n. (n + 1) % 2 ^ 64) (stamped (step slots STAMPS 1 0 none) m)
+  draws_stamp slots id m live some_left s o _ me _ = let q : ℕ = get_or s.words STAMPS 0 in let rule = o.rule in
       let b = rule.budget in let t = term_le (λ (u : View). u.left) s.views id m.0 me in let f = rule.few id m.0 me in
       let w : View = stamped_with m.0 q in let n : ℕ = (q + 1) % 2 ^ 64 in let new : FileWords = record (words_of s.words) { stamps = q + 1 } in
       let len = length-append m.0.stamps (q ∷ []) in (
         w,
         keeps,
         tt,
-        after_step k s o 8 id n m w new me (stamps_stored s.words n (q + 1) o.wide (omega arith))
+        after_step k s o STAMPS id n m w new me (stamps_stored s.words n (q + 1) o.wide (omega arith))
             (recounted k.initial k.max (words_of s.words) new s.views rule id m.0 w me live refl (refl, refl, refl, refl)
             (λ x. omega (arith, times-append x m.0.stamps (q ∷ []), once-more x q))
             (omega arith) (omega arith) (omega arith) (omega arith) (omega arith)),
@@ -99,28 +100,28 @@ module _ (k : Sizes) where
       )
 
   pub counts_insert : (slots id : ℕ) (m : Seated) → 0 < m.0.initial → m.0.inserted + m.0.deleted < length m.0.stamps
-      → Allows (Holds k) slots id m 16 (λ n. (n + 1) % 2 ^ 64) (counted_insert (step slots 16 1 0 none) m)
-  counts_insert slots id m live room s o _ me _ = let c : ℕ = get_or s.words 16 0 in let rule = o.rule in
+      → Allows (Holds k) slots id m INSERTS (λ n. (n + 1) % 2 ^ 64) (counted_insert (step slots INSERTS 1 0 none) m)
+  counts_insert slots id m live room s o _ me _ = let c : ℕ = get_or s.words INSERTS 0 in let rule = o.rule in
       let b = rule.budget in let f = few_enough k.initial k.max (words_of s.words) s.views rule in
       let w : View = record (m.0) { inserted = m.0.inserted + 1 } in let n : ℕ = (c + 1) % 2 ^ 64 in let new : FileWords = record (words_of s.words) { inserts = c + 1 } in (
         w,
         keeps,
         tt,
-        after_step k s o 16 id n m w new me (inserts_stored s.words n (c + 1) o.wide (omega arith))
+        after_step k s o INSERTS id n m w new me (inserts_stored s.words n (c + 1) o.wide (omega arith))
             (recounted k.initial k.max (words_of s.words) new s.views rule id m.0 w me live refl (refl, refl, refl, refl)
             (λ x. omega arith) (omega arith) (omega arith) (omega arith) (omega arith) (omega arith)),
         refl,
       )
 
   pub counts_delete : (slots id : ℕ) (m : Seated) → 0 < m.0.initial → m.0.inserted + m.0.deleted < length m.0.stamps
-      → Allows (Holds k) slots id m 24 (λ n. (n + 1) % 2 ^ 64) (counted_delete (step slots 24 1 0 none) m)
-  counts_delete slots id m live room s o _ me _ = let c : ℕ = get_or s.words 24 0 in let rule = o.rule in
+      → Allows (Holds k) slots id m DELETES (λ n. (n + 1) % 2 ^ 64) (counted_delete (step slots DELETES 1 0 none) m)
+  counts_delete slots id m live room s o _ me _ = let c : ℕ = get_or s.words DELETES 0 in let rule = o.rule in
       let b = rule.budget in let f = few_enough k.initial k.max (words_of s.words) s.views rule in
       let w : View = record (m.0) { deleted = m.0.deleted + 1 } in let n : ℕ = (c + 1) % 2 ^ 64 in let new : FileWords = record (words_of s.words) { deletes = c + 1 } in (
         w,
         keeps,
         tt,
-        after_step k s o 24 id n m w new me (deletes_stored s.words n (c + 1) o.wide (omega arith))
+        after_step k s o DELETES id n m w new me (deletes_stored s.words n (c + 1) o.wide (omega arith))
             (recounted k.initial k.max (words_of s.words) new s.views rule id m.0 w me live refl (refl, refl, refl, refl)
             (λ x. omega arith) (omega arith) (omega arith) (omega arith) (omega arith) (omega arith)),
         refl,

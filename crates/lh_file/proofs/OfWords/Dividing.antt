@@ -9,6 +9,7 @@ use Rattle.lh_file.specs.Words.Sums.{total, times}
 use Rattle.lh_file.specs.Words.Rule.{Each, rights_of, HasLimits, IsRule, words_of, Holds}
 use Rattle.lh_file.specs.Words.Views.{first_view, spent, lessened, branch, joined}
 use Rattle.lh_file.specs.declared.words.numbers.FileWords.{FileWords}
+use Rattle.lh_file.specs.declared.words.places.TheConstants.{ROOT, WIDTH}
 use Rattle.lh_file.specs.declared.words.sizes.Sizes.{Sizes}
 use Rattle.lh_file.specs.declared.words.view.View.{View}
 use Rattle.lh_file.proofs.OfWords.Lists.{total-append, total-set, times-append, once-no}
@@ -91,7 +92,7 @@ opened k low high = record {
     only : (P : View → Type 0) → P (first_view k) → Each (first_view k ∷ []) P
     only P here = each_snoc P [] (first_view k) (nothing P) here
 
-pub opens : (k : Sizes) (word : ℕ) → word ≡ 2 * k.opened → k.initial ≤ k.opened → k.opened ≤ k.max → Holds k (opening (set (replicate 32 0) 0 word) [] (first_view k))
+pub opens : (k : Sizes) (word : ℕ) → word ≡ 2 * k.opened → k.initial ≤ k.opened → k.opened ≤ k.max → Holds k (opening (set (replicate WIDTH 0) ROOT word) [] (first_view k))
 opens k word is low high = record {
   wide = refl;
   rule = subst (λ (n : ℕ). IsRule k.initial k.max (record { root = n; stamps = 0; inserts = 0; deletes = 0 }) (first_view k ∷ [])) (sym is) (opened k low high);

@@ -10,13 +10,14 @@ use Rattle.lh_file.specs.Words.HandState.{HandState, knowing}
 use Rattle.lh_file.specs.Words.Plays.{Seated, stamped}
 use Rattle.lh_file.specs.Words.Fields.{state_of as file_state, IsFile}
 use Rattle.lh_file.specs.declared.words.hand.Hand.TheInside as hand
+use Rattle.lh_file.specs.declared.words.places.TheConstants.{WIDTH}
 use Rattle.lh_file.specs.declared.words.Words.TheInside as words
 
 -- the hand's fields are of the file's
 pub is_of : (f : words.Inside) (h : hand.Inside) (F : FileState) (H : HandState) → file_state f ≡ F → hand_state h ≡ H → IsOf F H → IsOf (file_state f) (hand_state h)
 is_of f h F H e d is = subst (λ (x : FileState). IsOf x (hand_state h)) (sym e) (subst (IsOf F) (sym d) is)
 
-pub has_word : (f : words.Inside) → IsFile f → (i : ℕ) → i < 32 → i < f.table.shared.table_id.words
+pub has_word : (f : words.Inside) → IsFile f → (i : ℕ) → i < WIDTH → i < f.table.shared.table_id.words
 has_word f is i h = let w = is.words in omega arith
 
 pub small : (f : words.Inside) → IsFile f → f.table.shared.key.max < 2 ^ 32

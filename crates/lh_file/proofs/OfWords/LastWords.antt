@@ -8,6 +8,7 @@ use Rattle.lh_file.specs.Closing.{RuleHolds}
 use Rattle.lh_file.specs.Words.Sums.{total, times, once_below}
 use Rattle.lh_file.specs.Words.Rule.{IsRule, words_of, Holds}
 use Rattle.lh_file.specs.declared.words.numbers.FileWords.{FileWords}
+use Rattle.lh_file.specs.declared.words.places.TheConstants.{ROOT, STAMPS, INSERTS, DELETES}
 use Rattle.lh_file.specs.declared.words.sizes.Sizes.{Sizes}
 use Rattle.lh_file.specs.declared.words.view.View.{View}
 use Rattle.lh_file.proofs.OfWords.Lists.{total-sum, term_le, total-cons, times-cons}
@@ -22,10 +23,10 @@ abbrev pub Closes : Sizes → FileWords → View → Type 0
 Closes k words view = (views : List View) × (id : ℕ) × IsRule k.initial k.max words views × (get_elem? views id ≡ some view)
 
 pub closes : (k : Sizes) (items : List ℕ) (xs : List (Unit {0})) (id : ℕ) (v : View) (words : FileWords) → Final (Seen (Holds k) id v) items xs
-    → get_elem? items 0 ≡ some words.root → get_elem? items 8 ≡ some words.stamps → get_elem? items 16 ≡ some words.inserts → get_elem? items 24 ≡ some words.deletes
+    → get_elem? items ROOT ≡ some words.root → get_elem? items STAMPS ≡ some words.stamps → get_elem? items INSERTS ≡ some words.inserts → get_elem? items DELETES ≡ some words.deletes
     → Closes k words v
 closes k items xs id v words end root stamps inserts deletes = let s = end.0 in let o = end.1.0 in
-    let is : words_of items ≡ words = λ i. record { root = at items 0 words.root root i; stamps = at items 8 words.stamps stamps i; inserts = at items 16 words.inserts inserts i; deletes = at items 24 words.deletes deletes i } in
+    let is : words_of items ≡ words = λ i. record { root = at items ROOT words.root root i; stamps = at items STAMPS words.stamps stamps i; inserts = at items INSERTS words.inserts inserts i; deletes = at items DELETES words.deletes deletes i } in
     (s.views, id, subst (λ (w : FileWords). IsRule k.initial k.max w s.views) (ap words_of end.2 ∙ is) o.rule, end.1.1)
 
 pub closes-for : (k : Sizes) (config : Settings) (words : FileWords) (v w : View) → k.initial ≡ config.initial → k.max ≡ config.max → v ≡ w → Closes k words v → RuleHolds config words w

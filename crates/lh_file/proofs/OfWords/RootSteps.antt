@@ -11,6 +11,7 @@ use Rattle.lh_file.specs.Words.Rule.{rights_of, IsRule, words_of, Holds}
 use Rattle.lh_file.specs.Words.Plays.{Seated, IsFound, loaded_root, claimed, pointed, dropped}
 use Rattle.lh_file.specs.Words.Views.{rooted}
 use Rattle.lh_file.specs.declared.words.numbers.FileWords.{FileWords}
+use Rattle.lh_file.specs.declared.words.places.TheConstants.{ROOT}
 use Rattle.lh_file.specs.declared.words.sizes.Sizes.{Sizes}
 use Rattle.lh_file.specs.declared.words.view.View.{View}
 use Rattle.lh_file.proofs.OfWords.Lists.{term_le}
@@ -75,21 +76,21 @@ module _ (k : Sizes) where
   abbrev Next : Words → ℕ → ℕ → Seated → (ℕ → Seated → Type 0) → ℕ → Type 0
   Next s i id m then n = (w : View) × (a : Act (Unit {0})) × Valid s.homes m.1 a × Holds k (stepped s i n id m.1 w a) × then (get_or s.words i 0) (w, carried_after m.1 a)
 
-  pub loads_root : (slots id : ℕ) (m : Seated) → 0 < m.0.initial → Allows (Holds k) slots id m 0 (λ n. n) (loaded_root (step slots 0 0 0 none) m)
-  loads_root slots id m live s o _ me _ = let size : ℕ = buckets_of (get_or s.words 0 0) in let w : View = rooted m.0 size m.0.has_right in (
+  pub loads_root : (slots id : ℕ) (m : Seated) → 0 < m.0.initial → Allows (Holds k) slots id m ROOT (λ n. n) (loaded_root (step slots ROOT 0 0 none) m)
+  loads_root slots id m live s o _ me _ = let size : ℕ = buckets_of (get_or s.words ROOT 0) in let w : View = rooted m.0 size m.0.has_right in (
     w,
     keeps,
     tt,
-    after_step k s o 0 id (get_or s.words 0 0) m w (words_of s.words) me (ap words_of (set-get_or s.words 0 0))
+    after_step k s o ROOT id (get_or s.words ROOT 0) m w (words_of s.words) me (ap words_of (set-get_or s.words ROOT 0))
         (seen k.initial k.max (words_of s.words) s.views o.rule id m.0 size me live (omega arith) (λ _. refl)),
     (found k.initial k.max (words_of s.words) s.views o.rule id m.0 me live, refl),
   )
 
   pub claims_right : (slots id : ℕ) (m : Seated) (old new : ℕ) → 0 < m.0.initial → old % 2 ≡ 0 → buckets_of old < m.0.max → new ≡ old + 1
-      → Allows (Holds k) slots id m 0 (λ n. either (eqb n old) new n) (claimed (step slots 0 old new none) m)
-  claims_right slots id m old new live even room is s o _ me _ = let r : ℕ = get_or s.words 0 0 in let size : ℕ = buckets_of r in let rule = o.rule in
+      → Allows (Holds k) slots id m ROOT (λ n. either (eqb n old) new n) (claimed (step slots ROOT old new none) m)
+  claims_right slots id m old new live even room is s o _ me _ = let r : ℕ = get_or s.words ROOT 0 in let size : ℕ = buckets_of r in let rule = o.rule in
       let at = found k.initial k.max (words_of s.words) s.views rule id m.0 me live in
-      exchanged r old new (Next s 0 id m (claimed (step slots 0 old new none) m))
+      exchanged r old new (Next s ROOT id m (claimed (step slots ROOT old new none) m))
       (λ hit. let t = term_le rights_of s.views id m.0 me in let q = rule.right in let l = rule.least in let g = rule.greatest in
       let lim = (limits_of k.initial k.max (words_of s.words) s.views rule id m.0 me live).1 in
       let nobody : rights_of m.0 ≡ 0 = omega arith in
@@ -97,7 +98,7 @@ module _ (k : Sizes) where
         w,
         keeps,
         tt,
-        after_step k s o 0 id new m w (record (words_of s.words) { root = new }) me (root_stored s.words new new o.wide refl)
+        after_step k s o ROOT id new m w (record (words_of s.words) { root = new }) me (root_stored s.words new new o.wide refl)
             (rooted_anew k.initial k.max (words_of s.words) s.views rule id m.0 new size true me live (omega arith) (omega arith) (omega arith) (omega arith) (omega arith) (inl (omega arith))),
         (at, (λ _. (no_right m.0 nobody, refl)), λ miss. absurd (miss hit)),
       ))
@@ -105,31 +106,31 @@ module _ (k : Sizes) where
         w,
         keeps,
         tt,
-        after_step k s o 0 id r m w (words_of s.words) me (ap words_of (set-get_or s.words 0 0))
+        after_step k s o ROOT id r m w (words_of s.words) me (ap words_of (set-get_or s.words ROOT 0))
             (seen k.initial k.max (words_of s.words) s.views rule id m.0 size me live (omega arith) (λ _. refl)),
         (at, (λ hit. absurd (miss hit)), λ _. refl),
       ))
 
   pub moves_pointer : (slots id : ℕ) (m : Seated) → 0 < m.0.initial → m.0.has_right ≡ true → k.max < 2 ^ 32
-      → Allows (Holds k) slots id m 0 (λ n. (n + 1) % 2 ^ 64) (pointed (step slots 0 1 0 none) m)
-  moves_pointer slots id m live has small s o _ me _ = let r : ℕ = get_or s.words 0 0 in let rule = o.rule in let w : View = rooted m.0 (m.0.known + 1) false in
+      → Allows (Holds k) slots id m ROOT (λ n. (n + 1) % 2 ^ 64) (pointed (step slots ROOT 1 0 none) m)
+  moves_pointer slots id m live has small s o _ me _ = let r : ℕ = get_or s.words ROOT 0 in let rule = o.rule in let w : View = rooted m.0 (m.0.known + 1) false in
       let t = term_le rights_of s.views id m.0 me in let p = rights-one m.0 has in let q = rule.right in let l = rule.least in let g = rule.greatest in let e = rule.exact id m.0 me has in (
         w,
         keeps,
         tt,
-        after_step k s o 0 id ((r + 1) % 2 ^ 64) m w (record (words_of s.words) { root = r + 1 }) me (root_stored s.words ((r + 1) % 2 ^ 64) (r + 1) o.wide (omega arith))
+        after_step k s o ROOT id ((r + 1) % 2 ^ 64) m w (record (words_of s.words) { root = r + 1 }) me (root_stored s.words ((r + 1) % 2 ^ 64) (r + 1) o.wide (omega arith))
             (rooted_anew k.initial k.max (words_of s.words) s.views rule id m.0 (r + 1) (m.0.known + 1) false me live (omega arith) (omega arith) (omega arith) (omega arith) (omega arith) (inr has)),
         (omega arith, refl),
       )
 
   pub drops_right : (slots id : ℕ) (m : Seated) → 0 < m.0.initial → m.0.has_right ≡ true → k.max < 2 ^ 32
-      → Allows (Holds k) slots id m 0 (λ n. (n + (2 ^ 64 - 1)) % 2 ^ 64) (dropped (step slots 0 1 0 none) m)
-  drops_right slots id m live has small s o _ me _ = let r : ℕ = get_or s.words 0 0 in let rule = o.rule in let w : View = rooted m.0 m.0.known false in
+      → Allows (Holds k) slots id m ROOT (λ n. (n + (2 ^ 64 - 1)) % 2 ^ 64) (dropped (step slots ROOT 1 0 none) m)
+  drops_right slots id m live has small s o _ me _ = let r : ℕ = get_or s.words ROOT 0 in let rule = o.rule in let w : View = rooted m.0 m.0.known false in
       let t = term_le rights_of s.views id m.0 me in let p = rights-one m.0 has in let q = rule.right in let l = rule.least in let g = rule.greatest in let e = rule.exact id m.0 me has in (
         w,
         keeps,
         tt,
-        after_step k s o 0 id ((r + (2 ^ 64 - 1)) % 2 ^ 64) m w (record (words_of s.words) { root = r - 1 }) me (root_stored s.words ((r + (2 ^ 64 - 1)) % 2 ^ 64) (r - 1) o.wide (omega arith))
+        after_step k s o ROOT id ((r + (2 ^ 64 - 1)) % 2 ^ 64) m w (record (words_of s.words) { root = r - 1 }) me (root_stored s.words ((r + (2 ^ 64 - 1)) % 2 ^ 64) (r - 1) o.wide (omega arith))
             (rooted_anew k.initial k.max (words_of s.words) s.views rule id m.0 (r - 1) m.0.known false me live (omega arith) (omega arith) (omega arith) (omega arith) (omega arith) (inr has)),
         (omega arith, refl),
       )

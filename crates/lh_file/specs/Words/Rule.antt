@@ -7,6 +7,7 @@ use Rattle.lh_addr.specs.RootWord.{buckets_of}
 use Rattle.lh_file.specs.Words.Sums.{total, times, once_below}
 use Rattle.lh_file.specs.Words.Views.{spent}
 use Rattle.lh_file.specs.declared.words.numbers.FileWords.{FileWords}
+use Rattle.lh_file.specs.declared.words.places.TheConstants.{ROOT, STAMPS, INSERTS, DELETES, WIDTH}
 use Rattle.lh_file.specs.declared.words.sizes.Sizes.{Sizes}
 use Rattle.lh_file.specs.declared.words.view.View.{View}
 
@@ -48,16 +49,16 @@ pub record IsRule (initial max : ℕ) (words : FileWords) (views : List View) : 
   -- Each hand has the file's limits, or was joined into another
   pub limits : Each views (λ view. (view ≡ spent) ⊎ HasLimits initial max view)
 
--- the words of a file among the 32 of its table, of which no two share a cache line
+-- the words of a file among those of its table
 abbrev pub words_of : List ℕ → FileWords
 words_of words = record {
-  root = slice_index words 0;
-  stamps = slice_index words 8;
-  inserts = slice_index words 16;
-  deletes = slice_index words 24;
+  root = slice_index words ROOT;
+  stamps = slice_index words STAMPS;
+  inserts = slice_index words INSERTS;
+  deletes = slice_index words DELETES;
 }
 
 -- the rule holds of a file's table
 pub record Holds (sizes : Sizes) (table : State (Unit {0}) View) : Type 0 where
-  pub wide : length table.words ≡ 32
+  pub wide : length table.words ≡ WIDTH
   pub rule : IsRule sizes.initial sizes.max (words_of table.words) table.views

@@ -2,10 +2,11 @@
 ghost use Rattle.std.specs.Prelude.{◌≡◌, ◌≤◌, true, false, IsOk, OnOk, OnErr};
 
 use crate::act::ActLine;
+use crate::words::Words;
 use crate::words::hand::Hand;
 use crate::words::load::Load;
+use crate::words::places::{DELETES, INSERTS, STAMPS};
 use crate::words::plays::{CountDelete, CountInsert, DrawStamp, LoadDeletes, LoadInserts};
-use crate::words::{DELETES, INSERTS, STAMPS, Words};
 use lh_bucket::{Call, Memory, Reply};
 
 impl Words {

@@ -1,10 +1,11 @@
 //! The root word: the number of buckets, and the right to split.
 ghost use Rattle.std.specs.Prelude.{◌≡◌, ◌*◌, ◌+◌, ◌^◌, ◌<◌, ◌≤◌, true, false};
 
+use crate::words::Words;
 use crate::words::hand::Hand;
+use crate::words::places::ROOT;
 use crate::words::plays::{ClaimRight, DropRight, LoadRoot, MovePointer};
 use crate::words::right::Right;
-use crate::words::{ROOT, Words};
 use lh_addr::RootWord;
 
 impl Words {

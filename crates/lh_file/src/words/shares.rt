@@ -2,10 +2,11 @@
 ghost use Rattle.std.specs.Prelude.{◌≡◌, ◌<◌, ◌≤◌, [], false, length, IsOk};
 
 use crate::fault::{FileFault, JoinFault};
+use crate::words::Words;
 use crate::words::hand::Hand;
+use crate::words::places::INSERTS;
 use crate::words::plays::{Amount, Divide, LoadInserts, Unite};
 use crate::words::view::View;
-use crate::words::{INSERTS, Words};
 use atomic_table::Seat;
 use std::marker::Brand;
 

@@ -19,6 +19,9 @@ returns-clause-words c = closes-for c.self.inside.table.shared.key c.args.self.c
     (ap (λ (h : HandState). h.view) c.hand.view_is)
     (ended c)
 
+pub returns-clause-root : goal.returns-clause-root
+returns-clause-root c = let held = returns-clause-words c in (held.2.least, held.2.greatest)
+
 pub returns-clause-none_is_lost : goal.returns-clause-none_is_lost
 returns-clause-none_is_lost c = subst (λ (h : HandState). NoneIsLost h c.word-2.result) c.hand.view_is
     (λ on full. let kept = c.hand.invariant.recorded on in

@@ -13,6 +13,6 @@ compare_exchange-found-requires c =
     let not_full = c.if-size-max.false in
     let same = ap (λ (f : FileState). f.config.max) c.self.view_is in (
       of.table,
-      has_word c.self.inside c.self.invariant 0 (omega arith),
+      has_word c.self.inside c.self.invariant _ (omega arith),
       claims_right c.self.inside.table.shared.key _ _ c.hand.inside.seat.me c.root_word-word.result c.new.result c.hand.invariant.live no_right (omega arith) (omega arith),
     )
