@@ -45,6 +45,3 @@ pub use ran::{Ran, run};
 pub use serial_ran::{SerialRan, serial};
 pub use state::{SplitState, WorkerState};
 pub use world::World;
-
-#[cfg(test)]
-mod tests;

@@ -1,8 +1,8 @@
 //! Lists of steps, and what they leave.
 use super::calls::{insert, search, small};
-use crate::{Effect, Event, Ran, Refusal, SplitState, WorkerState, World, run};
 use lh_addr::Config;
 use lh_bucket::{Bucket, PagedBucket, PlainBucket, Reply};
+use lh_core::{Effect, Event, Ran, Refusal, SplitState, WorkerState, World, run};
 use lh_page::Value;
 use std::alloc::Global;
 use std::process::Abort;

@@ -1,5 +1,5 @@
 //! The texts of refusals.
-use crate::Refusal;
+use lh_core::Refusal;
 use std::test::Fail;
 
 #[test]

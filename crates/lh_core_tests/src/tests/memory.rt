@@ -1,9 +1,11 @@
 //! Memory that is refused: run with each request for it refused in turn, one in each run.
 use super::calls::{insert, search, small};
 use super::refusing::records_in;
-use crate::{Effect, Event, Ran, Refusal, SerialRan, SplitState, WorkerState, World, run, serial};
 use lh_addr::Config;
 use lh_bucket::{Bucket, Call, Listing, Memory, PagedBucket, PlainBucket, Reply};
+use lh_core::{
+    Effect, Event, Ran, Refusal, SerialRan, SplitState, WorkerState, World, run, serial,
+};
 use lh_page::Value;
 use std::alloc::Global;
 use std::process::Abort;

@@ -1,8 +1,8 @@
 //! Calls served one after another.
 use super::calls::{delete, insert, search, small};
-use crate::{SerialRan, serial};
 use lh_addr::Config;
 use lh_bucket::{Bucket, Call, PagedBucket, PlainBucket, Reply};
+use lh_core::{SerialRan, serial};
 use lh_page::Value;
 use std::alloc::Global;
 use std::test::Fail;

@@ -1,7 +1,7 @@
 //! A bucket without memory: what steps, runs and calls tell of it, and that they go on.
 use super::calls::{insert, search, small};
-use crate::{Effect, Event, Ran, Refusal, SplitState, WorkerState, World, run, serial};
 use lh_bucket::{Answer, Bucket, Call, Listing, Memory, PagedBucket, Reply, Verdict};
+use lh_core::{Effect, Event, Ran, Refusal, SplitState, WorkerState, World, run, serial};
 use lh_page::Pair;
 use std::alloc::Global;
 use std::process::Abort;
