@@ -24,6 +24,13 @@ impl Gate for GiveWay {
     }
 }
 
+/// Which keys each of the threads calls by: those of its own, or the same three as all others.
+#[derive(Clone, Copy)]
+enum Keys {
+    Own,
+    Shared,
+}
+
 /// A hand that has done its share, and whether it was told what was due.
 #[derive(Drop)]
 struct Finished {
@@ -63,16 +70,51 @@ fn call<R: Wait>(rt: &R, file: &HashFile<GiveWay>, hand: &mut Hand, number: u16,
     }
 }
 
+/// Inserts one of three letters in an even turn, and deletes it in the next one. Says whether it was told one of the two
+/// replies that there are.
+fn contend<R: Wait>(rt: &R, file: &HashFile<GiveWay>, hand: &mut Hand, turn: u16) -> bool
+    requires { IsOf file.now.state hand.old }
+    ensures { IsOf file.now.state hand.new }
+{
+    let letter = b"abc"[(turn / 2 % 3) as usize];
+    let (Ok(key), Ok(value)) = (Key::new(&[letter]), Value::new(b"1")) else {
+        return false;
+    };
+    let (answer, replies) = if turn % 2 == 0 {
+        let answer = file.insert(rt, hand, key, value);
+        (answer, [Reply::Inserted, Reply::Exists])
+    } else {
+        let answer = file.delete(rt, hand, key);
+        (answer, [Reply::Deleted, Reply::Absent])
+    };
+    match answer {
+        Ok(answer) => replies.contains(&answer.reply()),
+        Err(_) => false,
+    }
+}
+
 /// Inserts each eighth of a thousand numbers, then replaces their values and then searches for them, in
-/// the same order.
-fn share<R: Wait>(rt: &R, file: &HashFile<GiveWay>, mut hand: Hand, first: u16) -> Finished
+/// the same order; or inserts and deletes three letters, as all others do.
+fn share<R: Wait>(
+    rt: &R,
+    file: &HashFile<GiveWay>,
+    mut hand: Hand,
+    first: u16,
+    keys: Keys,
+) -> Finished
     requires { IsOf file.now.state hand }
     ensures { IsOf file.now.state result.hand }
 {
     let mut is_well = true;
     for turn in 0..375_u16 {
-        let number = (turn % 125).wrapping_mul(8).wrapping_add(first);
-        is_well = call(rt, file, &mut hand, number, turn / 125) && is_well;
+        let is_told = match keys {
+            Keys::Own => {
+                let number = (turn % 125).wrapping_mul(8).wrapping_add(first);
+                call(rt, file, &mut hand, number, turn / 125)
+            }
+            Keys::Shared => contend(rt, file, &mut hand, turn),
+        };
+        is_well = is_told && is_well;
     }
     Finished { hand, is_well }
 }
@@ -117,6 +159,7 @@ fn crowd<R: Threads + Wait + Sync>(
     alloc: Global,
     file: &HashFile<GiveWay>,
     hand: Hand,
+    keys: Keys,
 ) -> Option<Hand>
     requires { IsOf file.now.state hand }
     ensures { IfSome result (IsOf file.now.state) }
@@ -134,7 +177,7 @@ fn crowd<R: Threads + Wait + Sync>(
                 let part = second_of(file, &mut all, 375)?;
                 let Ok(worker) = scope.spawn_with(
                     OfCrowd(file),
-                    move || share(rt, file, part, first),
+                    move || share(rt, file, part, first, keys),
                 ) else {
                     return None;
                 };
@@ -152,9 +195,10 @@ fn crowded<R: Threads + Wait + Sync>(
     rt: &R,
     alloc: Global,
     config: Config,
+    keys: Keys,
 ) -> Option<(u64, usize)> {
     let (file, hand) = made(alloc, config, GiveWay).ok()?;
-    let all = crowd(rt, alloc, &file, hand)?;
+    let all = crowd(rt, alloc, &file, hand, keys)?;
     let (closed, acts) = closed_by(rt, file, all)?;
     let settled = settled_acts(alloc, config, &closed, &acts)?;
     Some((closed.records(), settled))
@@ -163,7 +207,19 @@ fn crowded<R: Threads + Wait + Sync>(
 #[test]
 fn eight_threads_insert_replace_and_find_a_thousand_records(rt: HostRuntime) -> Result<(), Fail> {
     let config = Config::new(1, 1, 100, 65536)?;
-    let left = crowded(&rt, rt.alloc(), config).ok_or("a call went wrong")?;
+    let left = crowded(&rt, rt.alloc(), config, Keys::Own).ok_or("a call went wrong")?;
     assert_eq!(rt; left, (1000, 3000));
+    Ok(())
+}
+
+/// The acts of a bucket are settled in the order in which they changed it, however many there are at once.
+#[test]
+fn eight_threads_insert_and_delete_three_records(rt: HostRuntime) -> Result<(), Fail> {
+    let config = Config::new(1, 1, 100, 65536)?;
+    let (records, settled) = crowded(&rt, rt.alloc(), config, Keys::Shared).ok_or(
+        "a call went wrong",
+    )?;
+    assert!(rt; records <= 3);
+    assert_eq!(rt; settled, 3000);
     Ok(())
 }

@@ -257,3 +257,74 @@ fn a_search_by_an_old_root_follows_four_splits(rt: HostRuntime) -> Result<(), Fa
     };
     perform(&rt, rt.alloc(), scene)
 }
+
+/// A call that knows of the first bucket alone begins by the root as it is now, at the level of its bucket.
+const BY_THE_ROOT: [Point; 5] = [
+    Point::Pointed { buckets: 5 },
+    Point::Read,
+    Point::Holding { bucket: 3 },
+    Point::Acted { bucket: 3 },
+    Point::Released { bucket: 3 },
+];
+
+const FOUR_SPLITS_AT_ONCE: [(Task, Told); 9] = [
+    (Task::TryRight, FIRST_RIGHT),
+    (Task::Split, Told::Done),
+    (Task::TryRight, SECOND_RIGHT),
+    (Task::Split, Told::Done),
+    (Task::TryRight, THIRD_RIGHT),
+    (Task::Split, Told::Done),
+    (Task::TryRight, FOURTH_RIGHT),
+    (Task::Split, Told::Done),
+    (Task::Reach(1), Told::Done),
+];
+
+#[test]
+fn a_call_begins_by_the_root_as_it_is(rt: HostRuntime) -> Result<(), Fail> {
+    let scene = Scene {
+        capacity: 2,
+        holds: &[],
+        first: &FOUR_SPLITS_AT_ONCE,
+        second: &[
+            (Task::Wait(1), Told::Done),
+            (Task::Search(b'h'), Told::Absent),
+        ],
+        buckets: 5,
+        acts: 1,
+        points: &BY_THE_ROOT,
+    };
+    perform(&rt, rt.alloc(), scene)
+}
+
+/// The first insert has let its bucket go, and is held until the second one has it.
+const HELD_WITHOUT_THE_LOCK: [Hold; 2] = [
+    Hold {
+        from: 0,
+        point: Point::Released { bucket: 0 },
+        to: 1,
+        until: 2,
+    },
+    Hold {
+        from: 1,
+        point: Point::Holding { bucket: 0 },
+        to: 2,
+        until: 2,
+    },
+];
+
+#[test]
+fn a_bucket_that_is_released_is_free(rt: HostRuntime) -> Result<(), Fail> {
+    let scene = Scene {
+        capacity: 14,
+        holds: &HELD_WITHOUT_THE_LOCK,
+        first: &[(Task::Insert(b'a'), Told::Inserted)],
+        second: &[
+            (Task::Wait(1), Told::Done),
+            (Task::Insert(b'b'), Told::Inserted),
+        ],
+        buckets: 1,
+        acts: 2,
+        points: &[],
+    };
+    perform(&rt, rt.alloc(), scene)
+}

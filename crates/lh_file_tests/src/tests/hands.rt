@@ -4,18 +4,21 @@ ghost use Rattle.lh_file.specs.FileState.{IsOf};
 
 use lh_addr::Config;
 use lh_bucket::{Call, Reply};
-use lh_file::{ActLine, FileFault, FileWords, Hand, JoinFault, Load, Right, Words};
+use lh_file::{ActLine, FileFault, FileWords, Hand, JoinFault, Load, Memory, Right, Words};
 use lh_page::{Key, Value};
 use std::alloc::Global;
 use std::process::Abort;
 use std::test::Fail;
 
-/// A file of one bucket, which may have `max`, with its first hand.
+/// A file of one bucket, which may have `max`, with its first hand. It is asked for once more where memory was refused.
 pub fn file_of(alloc: Global, max: u32, recording: bool) -> Result<(Words, Hand), Fail>
     ensures { IfOk result (λ made. IsOf made.0 made.1) }
 {
     let config = Config::new(1, 14, 100, max)?;
-    Ok(Words::create(alloc, config, recording)?)
+    match Words::create(alloc, config, recording) {
+        Ok(made) => Ok(made),
+        Err(Memory) => Ok(Words::create(alloc, config, recording)?),
+    }
 }
 
 fn insert(key: &[u8]) -> Result<Call, Fail> {

@@ -74,3 +74,42 @@ fn an_opened_file_is_listed(rt: HostRuntime) -> Result<(), Fail> {
     assert!(rt; has_letters(&after, 2, b"cg") && has_letters(&after, 3, b"d"));
     Ok(())
 }
+
+/// So many records in the one bucket of a file, on pages of two.
+fn long_chain(alloc: Global, count: u16) -> Result<Listing, Fail> {
+    let mut pairs = Vec::new(alloc);
+    let value = Value::new(b"1")?;
+    for number in 0..count {
+        let key = Key::new(&number.to_be_bytes())?;
+        pairs.push(Pair { key, value })?;
+    }
+    let mut lists = Vec::new(alloc);
+    lists.push(pairs)?;
+    Ok(Listing::new(alloc, Config::new(1, 2, 100, 1)?, 1, lists)?)
+}
+
+/// The listing of a file that is opened from one and closed at once.
+fn reopened<R: Wait>(rt: &R, alloc: Global, listing: &Listing) -> Result<Listing, Fail> {
+    let ended = play_in_turn(rt, alloc, listing, &[]).ok_or("no memory")?;
+    Ok(ended.closed.into_listing(alloc)?)
+}
+
+#[test]
+fn a_file_is_opened_with_a_long_chain(rt: HostRuntime) -> Result<(), Fail> {
+    let listing = long_chain(rt.alloc(), 500)?;
+    let after = reopened(&rt, rt.alloc(), &listing)?;
+    assert_eq!(rt; (after.buckets(), after.len()), (1, 500));
+    Ok(())
+}
+
+#[test]
+fn a_file_may_begin_with_256_buckets(rt: HostRuntime) -> Result<(), Fail> {
+    let config = Config::new(256, 24, 10, 65536)?;
+    let listing = Listing::empty(rt.alloc(), config)?;
+    let after = reopened(&rt, rt.alloc(), &listing)?;
+    assert_eq!(rt;
+        (after.config(), after.buckets(), after.len()),
+        (config, 256, 0)
+    );
+    Ok(())
+}

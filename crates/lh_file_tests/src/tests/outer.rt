@@ -65,6 +65,57 @@ fn a_replace_asks_for_no_split(rt: HostRuntime) -> Result<(), Fail> {
     Ok(())
 }
 
+/// The load asks for more splits than one. Neither a search, a delete, nor an insert of a key that is there asks for one,
+/// and an insert makes one at most.
+const ONE_SPLIT_AN_INSERT: [Turn; 15] = [
+    (1, Task::TryRight, FIRST_RIGHT),
+    (2, Task::Insert(b'a'), Told::Inserted),
+    (2, Task::Insert(b'b'), Told::Inserted),
+    (2, Task::Insert(b'c'), Told::Inserted),
+    (2, Task::Insert(b'd'), Told::Inserted),
+    (1, Task::DropRight, Told::Done),
+    (2, Task::Search(b'a'), Told::Found),
+    (2, Task::Buckets, Told::Number(1)),
+    (2, Task::Insert(b'a'), Told::Exists),
+    (2, Task::Buckets, Told::Number(1)),
+    (2, Task::Delete(b'a'), Told::Deleted),
+    (2, Task::Buckets, Told::Number(1)),
+    (2, Task::Insert(b'a'), Told::Inserted),
+    (2, Task::Buckets, Told::Number(2)),
+    (1, Task::Buckets, Told::Number(2)),
+];
+
+#[test]
+fn an_insert_makes_one_split_at_most(rt: HostRuntime) -> Result<(), Fail> {
+    let listing = Listing::empty(rt.alloc(), Config::new(1, 1, 100, 65536)?)?;
+    let ended = play_in_turn(&rt, rt.alloc(), &listing, &ONE_SPLIT_AN_INSERT).ok_or("no memory")?;
+    assert_eq!(rt; ended.wrong, None);
+    assert_eq!(rt; ended.settled, Ok(8));
+    Ok(())
+}
+
+/// A record that was deleted is none that the load counts.
+const DELETED_IN_TURN: [Turn; 9] = [
+    (1, Task::Insert(b'a'), Told::Inserted),
+    (1, Task::Delete(b'a'), Told::Deleted),
+    (1, Task::Insert(b'b'), Told::Inserted),
+    (2, Task::Delete(b'b'), Told::Deleted),
+    (2, Task::Insert(b'c'), Told::Inserted),
+    (2, Task::Deleted, Told::Number(2)),
+    (2, Task::Buckets, Told::Number(1)),
+    (2, Task::Insert(b'd'), Told::Inserted),
+    (2, Task::Buckets, Told::Number(2)),
+];
+
+#[test]
+fn a_deleted_record_asks_for_no_split(rt: HostRuntime) -> Result<(), Fail> {
+    let listing = Listing::empty(rt.alloc(), Config::new(1, 1, 100, 65536)?)?;
+    let ended = play_in_turn(&rt, rt.alloc(), &listing, &DELETED_IN_TURN).ok_or("no memory")?;
+    assert_eq!(rt; ended.wrong, None);
+    assert_eq!(rt; ended.settled, Ok(6));
+    Ok(())
+}
+
 const RIGHT_OF_ONE: [Turn; 4] = [
     (1, Task::TryRight, FIRST_RIGHT),
     (2, Task::TryRight, BUSY),

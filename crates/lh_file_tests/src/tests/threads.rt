@@ -1,12 +1,12 @@
 //! Hands of many threads.
-ghost use Rattle.std.specs.Prelude.{◌≡◌, All, IfSome};
+ghost use Rattle.std.specs.Prelude.{◌≡◌, [], false, All, IfSome, IfOk, IfErr};
 ghost use Rattle.lh_file.specs.FileState.{IsOf};
 
 use super::hands::file_of;
 use lh_bucket::{Call, Reply};
 use lh_file::{ActLine, Hand, JoinFault, Right, Words};
 use lh_page::Key;
-use std::alloc::Global;
+use std::alloc::{AllocError, Global};
 use std::process::Abort;
 use std::sync::Wait;
 use std::test::Fail;
@@ -43,6 +43,20 @@ fn take_turn(file: &Words, hand: &mut Hand, call: &Call, reply: Reply)
     }
 }
 
+/// Joins two hands, asked for once more where memory was refused.
+fn join_again(file: &Words, first: Hand, second: Hand) -> Result<Hand, JoinFault>
+    requires first { IsOf file.now first }
+    requires second { IsOf file.now second }
+    requires right { second.view.has_right ≡ false }
+    ensures ok { IfOk result (IsOf file.now) }
+    ensures fault { IfErr result (λ fault. IsOf file.now fault.first) }
+{
+    match file.join_hands(first, second) {
+        Err(JoinFault { first, second }) => file.join_hands(first, second),
+        joined => joined,
+    }
+}
+
 /// Takes a turn with a hand of its own, and joins that hand in.
 fn take_turn_apart(file: &Words, mut hand: Hand, call: &Call, reply: Reply) -> Hand
     requires { IsOf file.now hand }
@@ -55,7 +69,7 @@ fn take_turn_apart(file: &Words, mut hand: Hand, call: &Call, reply: Reply) -> H
     if part.has_right() {
         return hand;
     }
-    match file.join_hands(hand, part) {
+    match join_again(file, hand, part) {
         Ok(both) => both,
         Err(JoinFault { first, second: _ }) => first,
     }
@@ -121,7 +135,7 @@ fn joined(file: &Words, first: Hand, second: Hand) -> Option<Hand>
     if second.has_right() {
         return None;
     }
-    file.join_hands(first, second).ok()
+    join_again(file, first, second).ok()
 }
 
 /// Joins the hands of all workers into the first.
@@ -141,7 +155,18 @@ fn join_all<R: Threads + Wait>(
     Some(all)
 }
 
-/// Works in so many threads while this one looks, and joins all hands into the first.
+/// Room for so many workers, asked for once more where memory was refused.
+fn room_for<'a>(alloc: Global, threads: u32) -> Option<Vec<PromisedHandle<Hand, OfFile<'a>>>>
+    ensures { IfSome result (λ workers. workers.items ≡ []) }
+{
+    match Vec::with_capacity(alloc, threads as usize) {
+        Ok(workers) => Some(workers),
+        Err(AllocError) => Vec::with_capacity(alloc, threads as usize).ok(),
+    }
+}
+
+/// Works in so many threads while this one looks, and joins all hands into the first. A thread that is refused takes no
+/// part.
 fn work_in_threads<R: Threads + Wait>(
     rt: &R,
     alloc: Global,
@@ -149,6 +174,7 @@ fn work_in_threads<R: Threads + Wait>(
     hand: Hand,
     key: Key,
     threads: u32,
+    turns: u64,
 ) -> Option<(Hand, bool)>
     requires { IsOf file.now hand }
     ensures { IfSome result (λ worked. IsOf file.now worked.0) }
@@ -161,12 +187,14 @@ fn work_in_threads<R: Threads + Wait>(
             ensures { IfSome result (λ worked. IsOf file.entry.now worked.0) }
         {
             let mut all = hand;
-            let mut workers = Vec::new(alloc);
+            let mut workers = room_for(alloc, threads)?;
             for _i in 0..threads {
                 let part = part_of(file, &mut all, 1 << 40)?;
-                let Ok(worker) = scope.spawn_with(OfFile(file), move || work(file, part, key, 250))
-                else {
-                    return None;
+                let Ok(worker) = scope.spawn_with(
+                    OfFile(file),
+                    move || work(file, part, key, turns),
+                ) else {
+                    continue;
                 };
                 if !keep(file, &mut workers, worker) {
                     return None;
@@ -180,7 +208,10 @@ fn work_in_threads<R: Threads + Wait>(
 
 /// Whether each number below `count` is the stamp of a line.
 fn has_each_stamp(alloc: Global, acts: &[ActLine], count: usize) -> Result<bool, Fail> {
-    let mut there = vec![in alloc; false; count]?;
+    let mut there = match vec![in alloc; false; count] {
+        Ok(there) => there,
+        Err(AllocError) => vec![in alloc; false; count]?,
+    };
     for act in acts {
         if let Some(place) = there.get_mut(act.stamp as usize) {
             *place = true;
@@ -189,28 +220,54 @@ fn has_each_stamp(alloc: Global, acts: &[ActLine], count: usize) -> Result<bool,
     Ok(there.iter().all(|&is| is))
 }
 
-/// Closes a file of which 2,000 calls were deletes and 2,000 searches, and checks that none is lost.
-fn check_acts(rt: &impl Abort, alloc: Global, file: Words, mut all: Hand) -> Result<(), Fail>
+/// So many hands in threads take turns in a file, of two calls each. The file, and the hand into which all were joined.
+pub(crate) fn worked_apart<R: Threads + Wait + Abort>(
+    rt: &R,
+    alloc: Global,
+    threads: u32,
+    turns: u64,
+) -> Result<(Words, Hand), Fail>
+    ensures { IfOk result (λ worked. IsOf worked.0 worked.1) }
+{
+    let (file, first) = file_of(alloc, 65536, true)?;
+    let key = Key::new(b"a")?;
+    let Some((all, rising)) = work_in_threads(rt, alloc, &file, first, key, threads, turns) else {
+        return Err(Fail::from("a hand was lost"));
+    };
+    assert!(rt; rising);
+    Ok((file, all))
+}
+
+/// Closes a file whose calls were deletes and searches, and checks that none is lost and each delete is counted. The
+/// number of calls.
+pub(crate) fn check_acts(
+    rt: &impl Abort,
+    alloc: Global,
+    file: Words,
+    mut all: Hand,
+) -> Result<usize, Fail>
     requires { IsOf file all }
 {
-    assert_eq!(rt; all.left(), (1 << 63) - 4000);
     let load = file.load(&mut all);
-    assert_eq!(rt; (load.inserted, load.deleted), (0, 2000));
     let size = file.buckets(&mut all);
     let (words, acts) = file.close(all);
-    assert_eq!(rt; (words.root, words.stamps), (2 * size as u64, 4000));
-    assert_eq!(rt; acts.len(), 4000);
-    assert!(rt; has_each_stamp(alloc, &acts, 4000)?);
-    Ok(())
+    let deletes = acts
+        .iter()
+        .filter(|act| act.reply == Reply::Deleted)
+        .count();
+    assert_eq!(rt; (load.inserted, load.deleted), (0, deletes as u64));
+    assert_eq!(rt;
+        (words.root, words.stamps),
+        (2 * size as u64, acts.len() as u64)
+    );
+    assert!(rt; has_each_stamp(alloc, &acts, acts.len())?);
+    Ok(acts.len())
 }
 
 #[test]
 fn threads_lose_no_act(rt: HostRuntime) -> Result<(), Fail> {
-    let (file, first) = file_of(rt.alloc(), 65536, true)?;
-    let key = Key::new(b"a")?;
-    let Some((all, rising)) = work_in_threads(&rt, rt.alloc(), &file, first, key, 8) else {
-        panic!(rt; "a thread or its memory was refused")
-    };
-    assert!(rt; rising);
-    check_acts(&rt, rt.alloc(), file, all)
+    let (file, all) = worked_apart(&rt, rt.alloc(), 8, 250)?;
+    assert_eq!(rt; all.left(), (1 << 63) - 4000);
+    assert_eq!(rt; check_acts(&rt, rt.alloc(), file, all)?, 4000);
+    Ok(())
 }

@@ -7,13 +7,23 @@ use std::alloc::Global;
 use std::process::Abort;
 use std::test::Fail;
 
-/// The census of an image, which is asked for once more where memory was refused.
+/// The census of an image, however few bytes a read gives, which is asked for once more where memory was refused. No read
+/// is of more bytes than a page has.
 pub(crate) fn expect_census(rt: &impl Abort, alloc: Global, bytes: &[u8], wanted: Census) {
-    let mut found = check_image(alloc, &mut reader_of(bytes, 1024));
-    if found == Err(ImageFault::Memory) {
-        found = check_image(alloc, &mut reader_of(bytes, 1024));
+    let page = if bytes.first_chunk() == Some(b"LHF1") {
+        1024
+    } else {
+        4096
+    };
+    for most in [1, 7, 1024, 4095] {
+        let mut reader = reader_of(bytes, most);
+        let mut found = check_image(alloc, &mut reader);
+        if found == Err(ImageFault::Memory) {
+            found = check_image(alloc, &mut reader_of(bytes, most));
+        }
+        assert_eq!(rt; found, Ok(wanted), "{most}");
+        assert!(rt; reader.longest <= page);
     }
-    assert_eq!(rt; found, Ok(wanted));
 }
 
 #[test]

@@ -1,10 +1,12 @@
-//! Growths that are refused: to be run with each allocation failing in turn, one in each run. The images
+//! Growth that is refused: run with each request for memory refused in turn, one in each run. The images
 //! themselves take no memory.
-use crate::tests::building::{THREE_BUCKETS, TWO_PAGES, put_all};
+use crate::tests::building::{THREE_BUCKETS, TWO_PAGES, put_all, read_again};
+use crate::tests::census::expect_census;
 use crate::tests::streams::reader_of;
 use crate::tests::version_2::THREE_BUCKETS_2;
 use lh_image::*;
 use std::alloc::Global;
+use std::io::{self, Write};
 use std::process::Abort;
 
 /// The fault of bytes, if they have one. Where memory was refused that is told and nothing else, and the
@@ -50,4 +52,72 @@ fn refused_growth_keeps_the_order_of_faults(rt: HostRuntime) {
     expect(&rt, rt.alloc(), &bytes, Some(ImageFault::Never(2)));
     bytes[2056] = 1;
     expect(&rt, rt.alloc(), &bytes, Some(ImageFault::Next(2)));
+}
+
+/// The census of a sound image.
+#[test]
+fn refused_growth_of_a_census_is_told(rt: HostRuntime) {
+    let mut bytes = [0; 3072];
+    put_all(&mut bytes, TWO_PAGES);
+    let census = Census {
+        buckets: 1,
+        level: 0,
+        pointer: 0,
+        records: 4,
+        pages: 3,
+        overflow: 1,
+        longest: 2,
+    };
+    expect_census(&rt, rt.alloc(), &bytes, census);
+}
+
+/// Holds what is written against the bytes that are due, and so takes no memory.
+#[derive(Drop)]
+struct Due<'a> {
+    bytes: &'a [u8],
+    is_same: bool,
+}
+
+impl Write for Due<'_> {
+    fn write(&mut self, buf: &[u8]) -> io::Result<usize> {
+        self.is_same = self.is_same && self.bytes.get(..buf.len()) == Some(buf);
+        self.bytes = self.bytes.get(buf.len()..).unwrap_or(&[]);
+        Ok(buf.len())
+    }
+
+    fn flush(&mut self) -> io::Result<()> {
+        Ok(())
+    }
+}
+
+/// Writing takes no memory: whatever was refused on the way to a listing, that is written.
+#[test]
+fn refused_growth_stops_no_writing(rt: HostRuntime) {
+    let mut bytes = [0; 4096];
+    put_all(&mut bytes, THREE_BUCKETS);
+    let mut due = Due {
+        bytes: &bytes,
+        is_same: true,
+    };
+    match read_again(rt.alloc(), &bytes) {
+        Ok(listing) => assert_eq!(rt; write_image_v1(&listing, &mut due), Ok(())),
+        Err(fault) => panic!(rt; "{fault}"),
+    }
+    assert!(rt; due.is_same && due.bytes.is_empty());
+}
+
+/// The same of version 2.
+#[test]
+fn refused_growth_stops_no_writing_of_version_2(rt: HostRuntime) {
+    let mut bytes = [0; 16_384];
+    put_all(&mut bytes, THREE_BUCKETS_2);
+    let mut due = Due {
+        bytes: &bytes,
+        is_same: true,
+    };
+    match read_again(rt.alloc(), &bytes) {
+        Ok(listing) => assert_eq!(rt; write_image(&listing, &mut due), Ok(())),
+        Err(fault) => panic!(rt; "{fault}"),
+    }
+    assert!(rt; due.is_same && due.bytes.is_empty());
 }

@@ -57,7 +57,7 @@ fn reads_records_by_bucket(rt: HostRuntime) -> Result<(), Fail> {
 
 #[test]
 fn a_failed_read_is_never_tried_again(rt: HostRuntime) -> Result<(), Fail> {
-    let mut bytes = three_buckets_image(rt.alloc())?;
+    let bytes = three_buckets_image(rt.alloc())?;
     for fails_at in 0..6 {
         let mut reader = reader_of(&bytes, 1024);
         reader.fails_at = fails_at;
@@ -77,24 +77,31 @@ fn a_failed_read_is_never_tried_again(rt: HostRuntime) -> Result<(), Fail> {
             assert_eq!(rt; reader.reads, 5.min(fails_at + 1));
         }
     }
-    // the first page decides the faults of the header
-    set(&mut bytes, 16, 0);
-    for fails_at in 0..3 {
-        let mut reader = reader_of(&bytes, 1024);
-        reader.fails_at = fails_at;
-        let fault = match read_image(rt.alloc(), &mut reader) {
-            Ok(_listing) => None,
-            Err(fault) => Some(fault),
-        };
-        assert_eq!(rt;
-            fault,
-            Some(if fails_at == 0 {
+    Ok(())
+}
+
+/// The first page decides the faults of the header, whatever comes of the reads behind it.
+#[test]
+fn faults_of_the_header_come_before_a_failed_read(rt: HostRuntime) -> Result<(), Fail> {
+    for (at, byte, want) in [
+        (3, b'3', ImageFault::Magic),
+        (16, 0, ImageFault::HeaderField(16)),
+        (24, 1, ImageFault::Counts),
+    ] {
+        let mut bytes = three_buckets_image(rt.alloc())?;
+        set(&mut bytes, at, byte);
+        for fails_at in 0..3 {
+            let mut reader = reader_of(&bytes, 1024);
+            reader.fails_at = fails_at;
+            let fault = read_image(rt.alloc(), &mut reader).err();
+            let due = if fails_at == 0 {
                 ImageFault::ReadFault
             } else {
-                ImageFault::HeaderField(16)
-            })
-        );
-        assert_eq!(rt; reader.reads, 1);
+                want
+            };
+            assert_eq!(rt; fault, Some(due));
+            assert_eq!(rt; reader.reads, 1);
+        }
     }
     Ok(())
 }
