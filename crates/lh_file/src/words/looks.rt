@@ -6,9 +6,10 @@ ghost use Rattle.lh_bucket.specs.Bucket.{verdict, answer};
 ghost use Rattle.lh_bucket.specs.PlainMap.{key_of, IsSearch};
 
 use crate::act::ActLine;
+use crate::words::Words;
 use crate::words::hand::Hand;
+use crate::words::places::STAMPS;
 use crate::words::plays::DrawStamp;
-use crate::words::{STAMPS, Words};
 use lh_bucket::{Answer, Bucket, Call, PagedBucket};
 
 impl Words {

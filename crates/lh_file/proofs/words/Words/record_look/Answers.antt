@@ -6,6 +6,6 @@ use Rattle.lh_file.proofs.words.Words.record_look.Goals as goal
 pub fetch_add-stamp-requires : goal.fetch_add-stamp-requires
 fetch_add-stamp-requires c = (
   (is_of c.self.inside c.hand.inside _ _ c.self.view_is c.hand.view_is c.requires.of).table,
-  has_word c.self.inside c.self.invariant 8 (omega arith),
+  has_word c.self.inside c.self.invariant _ (omega arith),
   draws_stamp c.self.inside.table.shared.key _ _ c.hand.inside.seat.me c.hand.invariant.live (some_left c.hand.inside _ c.hand.view_is c.requires.left),
 )
