@@ -8,5 +8,7 @@ pub mod Recording
 pub mod Rights
 pub mod Rule
 pub mod RuleLaws
+pub mod Seats
 pub mod Sums
+pub mod Table
 pub mod Views

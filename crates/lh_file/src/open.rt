@@ -109,13 +109,7 @@ impl<G: Gate> HashFile<G> {
             (min (count_of listing.now.lists) (2 ^ 64 - 1)) made.0.state made.1) }
     {
         let segments = Segments::opened(alloc, listing)?;
-        let (words, hand) = Words::open(
-            alloc,
-            listing.config(),
-            listing.buckets(),
-            recording,
-            listing.len(),
-        )?;
+        let (words, hand) = Words::open_from(alloc, listing, recording, listing.len())?;
         let file = HashFile {
             words,
             segments,

@@ -1,7 +1,12 @@
 -- What the rule knows of a hand: how such views begin, and how they are divided and joined
 use Rattle.std.specs.Prelude.{ℕ, ◌+◌, ◌-◌, ◌^◌, Bool, false, [], ◌∷◌, ◌++◌, max}
 use Rattle.lh_file.specs.declared.words.view.View.{View}
-use Rattle.lh_file.specs.declared.words.sizes.Sizes.{Sizes}
+
+-- the number of buckets that a file began with, that it was opened with, and that it may have
+pub record Sizes : Type 0 where
+  pub initial : ℕ
+  pub opened : ℕ
+  pub max : ℕ
 
 -- the view of a file's first hand: it knows the size that the file was opened with, and may draw 2^63 stamps
 abbrev pub first_view : Sizes → View

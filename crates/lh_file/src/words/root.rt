@@ -3,12 +3,13 @@ ghost use Rattle.std.specs.Prelude.{◌≡◌, ◌*◌, ◌+◌, ◌^◌, ◌<�
 
 use crate::words::Words;
 use crate::words::hand::Hand;
+use crate::words::mode::Mode;
 use crate::words::places::ROOT;
 use crate::words::plays::{ClaimRight, DropRight, LoadRoot, MovePointer};
 use crate::words::right::Right;
 use lh_addr::RootWord;
 
-impl Words {
+impl<M: Mode> Words<M> {
     ghost use Rattle.lh_addr.specs.RootWord.{buckets_of};
     ghost use Rattle.lh_file.specs.Words.HandState.{knowing, with_right};
     ghost use Rattle.lh_file.specs.FileState.{IsOf, IsRootWord};
@@ -76,6 +77,11 @@ impl Words {
             .fetch_sub::<DropRight>(&mut hand.seat, ROOT, 1);
         hand.has_right = false;
     }
+}
+
+impl Words {
+    ghost use Rattle.lh_file.specs.Words.HandState.{knowing, with_right};
+    ghost use Rattle.lh_file.specs.FileState.{IsOf};
 
     /// Moves the split pointer past the bucket that was divided, so that the file has one bucket more,
     /// and gives the right to split up.

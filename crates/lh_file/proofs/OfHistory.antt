@@ -1,0 +1,6 @@
+-- Steps keep the history of a traced file
+pub mod Acting
+pub mod Dividing
+pub mod Logs
+pub mod Quiet
+pub mod Rows

@@ -1,0 +1,35 @@
+-- What a history says of single buckets
+use Rattle.std.specs.Prelude.{◌≡◌, ℕ, ◌==◌, ◌<◌, Bool, List, Some, if◌then◌else◌}
+use Rattle.std.specs.Option.{unwrap_or}
+use Rattle.std.specs.FinMap.{retain_keys}
+use Rattle.lh_addr.specs.Fnv.{code_of}
+use Rattle.lh_addr.specs.Growth.{hash_at, level_of}
+use Rattle.lh_bucket.specs.Bucket.{Seen, content}
+use Rattle.lh_bucket.specs.PlainMap.{Records}
+use Rattle.lh_file.specs.Words.Sums.{total}
+
+-- 1 for true and 0 for false
+abbrev pub bit : Bool → ℕ
+bit b = if b then 1 else 0
+
+-- whether a code belongs to the bucket: it leads to the bucket's number at the bucket's level
+abbrev pub owns : ℕ → Seen → Bool
+owns code bucket = hash_at bucket.head.initial (unwrap_or bucket.head.level 0) code == bucket.head.number
+
+-- whether a key belongs to the bucket, by its code
+abbrev pub belongs : Seen → List ℕ → Bool
+belongs bucket key = owns (code_of key) bucket
+
+-- to how many of these buckets a code belongs
+abbrev pub owners_in : ℕ → List Seen → ℕ
+owners_in code buckets = total (λ bucket. bit (owns code bucket)) buckets
+
+-- the bucket holds just what the map has of its keys
+abbrev pub Mirrors : Records → Seen → Type 0
+Mirrors m bucket = content bucket ≡ retain_keys m (belongs bucket)
+
+-- the bucket has its number and its level in a file of this size
+pub record IsPlacedIn (initial buckets : ℕ) (bucket : Seen) : Type 0 where
+  pub initial_is : bucket.head.initial ≡ initial
+  pub below : bucket.head.number < buckets
+  pub level_is : bucket.head.level ≡ Some (level_of initial buckets bucket.head.number)

@@ -1,0 +1,67 @@
+-- What the rule knows of a seat: how it begins, and how it is divided and joined
+use Rattle.std.specs.Prelude.{ℕ, Bool, false, List, [], ◌∷◌, ◌++◌, map, if◌then◌else◌}
+use Rattle.std.specs.List.{range_with_len}
+use Rattle.lh_bucket.specs.Bucket.{Seen}
+use Rattle.lh_bucket.specs.Listing.{Lists, size, list_at}
+use Rattle.lh_bucket.specs.declared.call.Call.{Call}
+use Rattle.lh_bucket.specs.declared.call.Reply.{Reply}
+use Rattle.lh_file.specs.Buckets.Segments.{head_of}
+use Rattle.lh_file.specs.History.Log.{entry}
+use Rattle.lh_file.specs.Words.Views.{Sizes, first_view, spent, stamped_with, lessened, branch, joined}
+use Rattle.lh_file.specs.declared.words.seat_view.SeatView.{SeatView}
+use Rattle.lh_file.specs.declared.words.view.View.{View}
+
+-- the sizes of a file that is opened from a listing
+abbrev pub sizes_of : Lists → Sizes
+sizes_of opening = record { initial = opening.config.initial; opened = size opening; max = opening.config.max }
+
+-- the bucket of a listing at a place
+abbrev pub opened_at : Lists → ℕ → Seen
+opened_at opening bucket = record { head = head_of opening bucket; pairs = list_at opening.lists bucket }
+
+-- the buckets of a listing
+abbrev pub buckets_in : Lists → List Seen
+buckets_in opening = map (opened_at opening) (range_with_len 0 (size opening))
+
+-- the first seat is a hand's, and in a traced file it has all buckets
+abbrev pub first_seat : Bool → Lists → SeatView
+first_seat traced opening = record {
+  view = first_view (sizes_of opening);
+  entries = [];
+  parts = if traced then buckets_in opening else [];
+  moved = false;
+}
+
+-- a seat that is no hand's, with these buckets
+abbrev pub holder : List Seen → SeatView
+holder parts = record { view = spent; entries = []; parts = parts; moved = false }
+
+-- the same seat, which as a hand knows, has and did this
+abbrev pub with_view : SeatView → View → SeatView
+with_view seat view = record seat { view = view }
+
+-- the seat made an act, lent or not: it has one stamp and one entry more, and these buckets
+abbrev pub acted : Bool → Call → Reply → List Seen → ℕ → SeatView → SeatView
+acted lent call given parts stamp seat = record {
+  view = stamped_with seat.view stamp;
+  entries = seat.entries ++ entry lent stamp call given ∷ [];
+  parts = parts;
+  moved = seat.moved;
+}
+
+-- the hand's seat after it gave so many calls away
+abbrev pub lessened_seat : ℕ → SeatView → SeatView
+lessened_seat calls seat = with_view seat (lessened calls seat.view)
+
+-- the seat of the hand that got them
+abbrev pub branch_seat : ℕ → SeatView → SeatView
+branch_seat calls seat = record { view = branch calls seat.view; entries = []; parts = []; moved = false }
+
+-- the seats of two hands in one
+abbrev pub joined_seats : SeatView → SeatView → SeatView
+joined_seats first second = record {
+  view = joined first.view second.view;
+  entries = first.entries ++ second.entries;
+  parts = first.parts ++ second.parts;
+  moved = first.moved;
+}
