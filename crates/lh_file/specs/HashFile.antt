@@ -15,11 +15,11 @@ pub record Shared : Type 0 where
   pub cells : List ℕ
 
 -- what contracts see of the fields
-abbrev pub shared_of : {G : Type 0} → Inside G → Shared
+abbrev pub shared_of : {G M J : Type 0} → Inside G M J → Shared
 shared_of file = record { state = file.words; cells = map cell_name file.segments.cells }
 
 -- the segments are those of the file's configuration
-pub record IsShared {G : Type 0} (file : Inside G) : Type 0 where
+pub record IsShared {G M J : Type 0} (file : Inside G M J) : Type 0 where
   pub config : file.segments.config ≡ file.words.config
   pub in_range : IsInRange file.segments.config
 

@@ -5,11 +5,13 @@ ghost use Rattle.lh_file.specs.FileState.{IsOf};
 ghost use Rattle.lh_file.specs.HashFile.{IsClosing};
 
 use crate::act::Acts;
+use crate::buckets::room::Room;
 use crate::buckets::segments::Segments;
 use crate::file::HashFile;
 use crate::gate::Gate;
 use crate::settling::closed_file::Closed;
 use crate::words::hand::Hand;
+use crate::words::mode::Mode;
 use lh_addr::RootWord;
 use lh_bucket::{Bucket, Memory, PagedBucket};
 use lh_page::Pair;
@@ -28,7 +30,7 @@ fn pairs_of(alloc: Global, bucket: &PagedBucket) -> Result<Vec<Pair>, Memory>
     Ok(pairs)
 }
 
-impl Segments {
+impl<J: Room> Segments<J> {
     /// The records of each bucket, each copied under its lock: of the first `buckets`, and of those past
     /// them that were made.
     fn copied<R: Wait>(&self, rt: &R, buckets: u32) -> Result<Vec<Vec<Pair>>, Memory>
@@ -37,7 +39,7 @@ impl Segments {
         let mut lists = Vec::with_capacity(self.alloc, buckets as usize)?;
         for number in 0..self.config.max() {
             let pairs = match self.made(number) {
-                Some(lock) => pairs_of(self.alloc, &lock.read(rt))?,
+                Some(lock) => pairs_of(self.alloc, lock.read(rt).bucket())?,
                 None if number < buckets => Vec::new(self.alloc),
                 None => break,
             };
@@ -47,7 +49,7 @@ impl Segments {
     }
 }
 
-impl<G: Gate> HashFile<G> {
+impl<G: Gate, M: Mode, J: Room> HashFile<G, M, J> {
     /// Closes the file: how far it has grown, with the records of its buckets, and the acts of the hand
     /// that closes it. A hand that was not joined into this one is lost with its acts. Without memory
     /// for the records, the file and the hand are gone.

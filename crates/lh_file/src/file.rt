@@ -1,12 +1,14 @@
 //! The file.
 ghost use Rattle.std.specs.Prelude.{◌≡◌, true, false};
 
+use crate::buckets::room::{Loose, Room};
 use crate::buckets::segments::Segments;
 use crate::fault::{FileFault, JoinFault};
 use crate::gate::{Gate, Point};
 use crate::words::Words;
 use crate::words::hand::Hand;
 use crate::words::load::Load;
+use crate::words::mode::{Mode, Untraced};
 use crate::words::right::Right;
 use std::marker::Model;
 
@@ -15,13 +17,13 @@ use std::marker::Model;
 /// A search takes the lock of its bucket shared; an insert, a delete or a replace takes it exclusively. A
 /// call holds one bucket at a time, and a split the two that it divides; the other buckets stay free.
 #[derive(Drop)]
-pub struct HashFile<G: Gate> {
-    pub(crate) words: Words,
-    pub(crate) segments: Segments,
+pub struct HashFile<G: Gate, M: Mode = Untraced, J: Room = Loose> {
+    pub(crate) words: Words<M>,
+    pub(crate) segments: Segments<J>,
     pub(crate) gate: G,
 }
 
-impl<G: Gate> Model for HashFile<G> {
+impl<G: Gate, M: Mode, J: Room> Model for HashFile<G, M, J> {
     ghost use Rattle.lh_file.specs.HashFile.{Shared, shared_of, IsShared};
 
     ghost Value = { Shared };
@@ -31,7 +33,7 @@ impl<G: Gate> Model for HashFile<G> {
     ghost invariant = { IsShared };
 }
 
-impl<G: Gate> HashFile<G> {
+impl<G: Gate, M: Mode, J: Room> HashFile<G, M, J> {
     ghost use Rattle.lh_file.specs.FileState.{IsOf};
     ghost use Rattle.lh_file.specs.Words.Calls.{IsBuckets, IsLoadOf, IsDivided, IsUnited};
     ghost use Rattle.lh_file.specs.Words.HandState.{with_right};

@@ -34,6 +34,7 @@ mod settling;
 mod words;
 
 pub use act::{ActLine, Acts};
+pub use buckets::room::{Loose, Room};
 pub use buckets::segment::Segment;
 pub use calls::parts;
 pub use fault::{FileFault, JoinFault};

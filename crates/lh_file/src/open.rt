@@ -5,6 +5,7 @@ ghost use Rattle.lh_bucket.specs.Listing.{size, list_at, count_of};
 ghost use Rattle.lh_file.specs.FileState.{IsOpened};
 ghost use Rattle.lh_file.specs.Buckets.Segments.{head_of};
 
+use crate::buckets::room::Room;
 use crate::buckets::segment::{Segment, end_of, first_of, segment_of, unfilled};
 use crate::buckets::segments::Segments;
 use crate::file::HashFile;
@@ -37,10 +38,10 @@ fn filled(alloc: Global, listing: &Listing, root: &Root, number: u32) -> Result<
     )
 }
 
-impl Segment {
+impl<J: Room> Segment<J> {
     /// Segment `j` of a file that is opened from a listing, by the listing's root: the buckets of the
     /// listing have their records, and those past them are unfilled.
-    fn opened(alloc: Global, listing: &Listing, root: &Root, j: usize) -> Result<Segment, Memory>
+    fn opened(alloc: Global, listing: &Listing, root: &Root, j: usize) -> Result<Segment<J>, Memory>
         requires initial { root.now.initial ≡ listing.now.config.initial }
         requires buckets { root.now.buckets ≡ size listing.now }
         requires below { j < 17 }
@@ -61,9 +62,9 @@ impl Segment {
     }
 }
 
-impl Segments {
+impl<J: Room> Segments<J> {
     /// The segments that hold the buckets of a listing.
-    fn opened(alloc: Global, listing: &Listing) -> Result<Segments, Memory>
+    fn opened(alloc: Global, listing: &Listing) -> Result<Segments<J>, Memory>
         ensures { IfOk result (λ segments. segments.config ≡ listing.now.config) }
     {
         let config = listing.config();

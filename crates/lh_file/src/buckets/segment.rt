@@ -3,6 +3,8 @@ ghost use Rattle.std.specs.Prelude.{◌≡◌, ◌+◌, ◌*◌, ◌^◌, ◌<�
 ghost use Rattle.lh_addr.specs.Limits.{IsInitial, most_buckets};
 ghost use Rattle.lh_file.specs.Buckets.Segments.{first_of, end_of, IsIn};
 
+use crate::buckets::room::{Loose, Room};
+use crate::buckets::slot::Slot;
 use lh_addr::Config;
 use lh_bucket::{Bucket, Memory, PagedBucket};
 use std::alloc::Global;
@@ -10,8 +12,8 @@ use std::sync::RwLock;
 
 /// Some of a file's buckets, each under a lock of its own.
 #[derive(Drop)]
-pub struct Segment {
-    buckets: Vec<RwLock<PagedBucket>>,
+pub struct Segment<J: Room = Loose> {
+    buckets: Vec<RwLock<Slot<J>>>,
 }
 
 /// The number of the segment that a bucket stands in: segment 0 has the buckets that the file began
@@ -57,9 +59,9 @@ pub(crate) fn unfilled(alloc: Global, config: &Config, number: u32) -> Result<Pa
     Ok(bucket)
 }
 
-impl Segment {
+impl<J: Room> Segment<J> {
     /// Segment `j` of a file of this configuration: its buckets are numbered, unfilled and empty.
-    pub(crate) fn unfilled(alloc: Global, config: &Config, j: usize) -> Result<Segment, Memory>
+    pub(crate) fn unfilled(alloc: Global, config: &Config, j: usize) -> Result<Segment<J>, Memory>
         requires { j < 17 }
     {
         let first = first_of(config.initial(), j);
@@ -72,7 +74,7 @@ impl Segment {
     }
 
     /// A segment with no buckets yet, and room for some.
-    pub(crate) fn with_room(alloc: Global, buckets: usize) -> Result<Segment, Memory> {
+    pub(crate) fn with_room(alloc: Global, buckets: usize) -> Result<Segment<J>, Memory> {
         Ok(Segment {
             buckets: Vec::with_capacity(alloc, buckets)?,
         })
@@ -80,12 +82,12 @@ impl Segment {
 
     /// Puts a bucket behind the others.
     pub(crate) fn push(&mut self, bucket: PagedBucket) -> Result<(), Memory> {
-        self.buckets.push(RwLock::new(bucket))?;
+        self.buckets.push(RwLock::new(Slot::bare(bucket)))?;
         Ok(())
     }
 
     /// The lock of the bucket at a place, counted from 0, if there is one.
-    pub(crate) fn lock_at(&self, place: usize) -> Option<&RwLock<PagedBucket>> {
+    pub(crate) fn lock_at(&self, place: usize) -> Option<&RwLock<Slot<J>>> {
         self.buckets.get(place)
     }
 }

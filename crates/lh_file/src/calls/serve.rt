@@ -1,14 +1,17 @@
 //! Searches, inserts, deletes and replaces.
-ghost use Rattle.std.specs.Prelude.{◌≡◌, ◌≤◌};
+ghost use Rattle.std.specs.Prelude.{◌≡◌, ◌≤◌, IfOk, OnErr};
 ghost use Rattle.std.specs.Sync.RwLock.{read_guard_value};
 ghost use Rattle.lh_bucket.specs.declared.call.Call.TheVariants as call;
 ghost use Rattle.lh_bucket.specs.declared.verdict.Verdict.TheVariants.{Here};
 ghost use Rattle.lh_bucket.specs.Bucket.{verdict};
-ghost use Rattle.lh_bucket.specs.PlainMap.{IsSearch};
+ghost use Rattle.lh_addr.specs.Fnv.{code_of};
+ghost use Rattle.lh_bucket.specs.PlainMap.{key_of, IsSearch};
 ghost use Rattle.lh_file.specs.Calls.Aiming.{IsAimOf, IsReady};
 ghost use Rattle.lh_file.specs.FileState.{IsOf};
 ghost use Rattle.lh_file.specs.Calls.Served.{HasLooked, HasServed, Serves};
 
+use crate::buckets::room::Loose;
+use crate::buckets::slot::Slot;
 use crate::calls::aim::Aim;
 use crate::calls::parts;
 use crate::fault::FileFault;
@@ -16,7 +19,7 @@ use crate::file::HashFile;
 use crate::gate::{Gate, Point};
 use crate::words::hand::Hand;
 use crate::words::right::Right;
-use lh_bucket::{Answer, Call, PagedBucket, Reply};
+use lh_bucket::{Answer, Call, Memory, Reply};
 use lh_page::{Key, Value};
 use std::sync::{RwLockReadGuard, RwLockWriteGuard, Wait};
 
@@ -28,7 +31,7 @@ impl<G: Gate> HashFile<G> {
     {
         let call = Call::Search(key);
         let aim = self.begin(hand, &call)?;
-        let (guard, aim) = self.walk::<RwLockReadGuard<PagedBucket>, R>(rt, aim)?;
+        let (guard, aim) = self.walk::<RwLockReadGuard<Slot<Loose>>, R>(rt, aim)?;
         Ok(self.look(guard, hand, &call, aim))
     }
 
@@ -84,8 +87,8 @@ impl<G: Gate> HashFile<G> {
         ensures { Serves self.now.state hand.old call.now result hand.new }
     {
         let aim = self.begin(hand, call)?;
-        let (mut guard, aim) = self.walk::<RwLockWriteGuard<PagedBucket>, R>(rt, aim)?;
-        match parts::act_on(self, &mut guard, hand, call, aim.level) {
+        let (mut guard, aim) = self.walk::<RwLockWriteGuard<Slot<Loose>>, R>(rt, aim)?;
+        match self.act(&mut guard, hand, call, aim.level) {
             Ok(answer) => {
                 self.gate.at(Point::Acted { bucket: aim.bucket });
                 self.release(guard, aim);
@@ -98,10 +101,35 @@ impl<G: Gate> HashFile<G> {
         }
     }
 
+    /// Serves a call at its bucket, whose lock the caller has.
+    #[inline(always)]
+    fn act(
+        &self,
+        slot: &mut Slot<Loose>,
+        hand: &mut Hand,
+        call: &Call,
+        k: u8,
+    ) -> Result<Answer, Memory>
+        requires ready { IsReady self.now.state hand.old }
+        requires low { k ≤ 16 }
+        requires here { verdict slot.old.head (code_of (key_of call.now)) k ≡ Here }
+        ensures call { IfOk result (λ a. a.call ≡ call.now) }
+        ensures served { IfOk result (λ a. HasServed hand.old a.call a.reply hand.new) }
+        ensures of { IsOf self.now.state hand.new }
+        ensures err { OnErr result (hand.new ≡ hand.old) }
+    {
+        let Slot {
+            bucket,
+            perch: _,
+            room: _,
+        } = slot;
+        parts::act_on(self, bucket, hand, call, k)
+    }
+
     /// Answers a search at its bucket, and drops the bucket's lock.
     fn look(
         &self,
-        guard: RwLockReadGuard<'_, PagedBucket>,
+        guard: RwLockReadGuard<'_, Slot<Loose>>,
         hand: &mut Hand,
         call: &Call,
         aim: Aim,
@@ -114,7 +142,7 @@ impl<G: Gate> HashFile<G> {
         ensures served { HasServed hand.old result.call result.reply hand.new }
         ensures of { IsOf self.now.state hand.new }
     {
-        let answer = parts::look_on(self, &guard, hand, call, aim.level);
+        let answer = parts::look_on(self, guard.bucket(), hand, call, aim.level);
         self.gate.at(Point::Acted { bucket: aim.bucket });
         self.release(guard, aim);
         answer

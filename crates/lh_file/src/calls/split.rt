@@ -9,6 +9,8 @@ ghost use Rattle.lh_file.specs.Words.HandState.{knowing, with_right};
 ghost use Rattle.lh_file.specs.Buckets.Segments.{IsNumbered};
 ghost use Rattle.lh_file.specs.Calls.Served.{IsNotSpent};
 
+use crate::buckets::room::Loose;
+use crate::buckets::slot::Slot;
 use crate::calls::aim::defect;
 use crate::fault::FileFault;
 use crate::file::HashFile;
@@ -60,6 +62,31 @@ fn divide(
     Ok(())
 }
 
+/// Divides the records of the two buckets of the next split in their slots, where no seat knows them.
+fn divide_slots(
+    root: &Root,
+    config: &Config,
+    old: &mut Slot<Loose>,
+    new: &mut Slot<Loose>,
+) -> Result<(), FileFault>
+    requires extent { IsExtent root.now }
+    requires initial { root.now.initial ≡ config.now.initial }
+    requires below { root.now.buckets < most_buckets }
+    ensures fault { IfErr result IsNotSpent }
+{
+    let Slot {
+        bucket: old,
+        perch: _,
+        room: _,
+    } = old;
+    let Slot {
+        bucket: new,
+        perch: _,
+        room: _,
+    } = new;
+    divide(root, config, old, new)
+}
+
 impl<G: Gate> HashFile<G> {
     /// Splits the bucket that the split pointer names: moves those of its records that belong to the new
     /// bucket, and then the pointer. The right to split is given up in every case. A split that fails
@@ -102,7 +129,7 @@ impl<G: Gate> HashFile<G> {
         let mut old_guard = old_lock.write(rt);
         let mut new_guard = new_lock.write(rt);
         // SplitMove
-        let moved = divide(&root, &self.words.config, &mut old_guard, &mut new_guard);
+        let moved = divide_slots(&root, &self.words.config, &mut old_guard, &mut new_guard);
         // SplitRelease
         drop(new_guard);
         drop(old_guard);
