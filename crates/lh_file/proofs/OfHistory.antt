@@ -4,3 +4,4 @@ pub mod Dividing
 pub mod Logs
 pub mod Quiet
 pub mod Rows
+pub mod Tokens

@@ -2,3 +2,4 @@
 pub mod Buckets
 pub mod History
 pub mod Log
+pub mod Told

@@ -35,6 +35,7 @@ impl<G: Gate, M: Mode, J: Room> Model for HashFile<G, M, J> {
 
 impl<G: Gate, M: Mode, J: Room> HashFile<G, M, J> {
     ghost use Rattle.lh_file.specs.FileState.{IsOf};
+    ghost use Rattle.lh_file.specs.History.Told.{IsTold};
     ghost use Rattle.lh_file.specs.Words.Calls.{IsBuckets, IsLoadOf, IsDivided, IsUnited};
     ghost use Rattle.lh_file.specs.Words.HandState.{with_right};
     ghost use Rattle.lh_file.specs.Words.Rights.{IsAnswer};
@@ -54,6 +55,17 @@ impl<G: Gate, M: Mode, J: Room> HashFile<G, M, J> {
         ensures { IsLoadOf self.now.state hand.old result hand.new }
     {
         self.words.load(hand)
+    }
+
+    /// How many acts there were so far. In a traced file they are one legal history of a plain map, from the records that
+    /// it was opened with, and each act of this hand stands in it at its stamp. No hand needs to be joined for that, and
+    /// no call to have ended.
+    pub fn told(&self, hand: &mut Hand) -> u64
+        requires { IsOf self.now.state hand.old }
+        ensures same { hand.new ≡ hand.old }
+        ensures history { M.traced ≡ true → IsTold self.now.state.listing result hand.old.entries }
+    {
+        self.words.told(hand)
     }
 
     /// Asks once for the right to split, which one hand at a time may have. A hand that has got it is to give it back,

@@ -48,7 +48,7 @@ pub use settling::{settle, settle_laws};
 pub use words::Words;
 pub use words::hand::Hand;
 pub use words::load::Load;
-pub use words::mode::{Mode, Untraced};
+pub use words::mode::{Mode, Traced, Untraced};
 pub use words::numbers::FileWords;
 pub use words::right::Right;
 pub use words::view::View;

@@ -4,6 +4,7 @@ ghost use Rattle.lh_bucket.specs.Listing.{size};
 
 mod counts;
 pub(crate) mod hand;
+mod history;
 pub(crate) mod load;
 pub(crate) mod mode;
 pub(crate) mod numbers;
@@ -14,6 +15,7 @@ mod root;
 mod rule;
 pub(crate) mod seat_view;
 mod shares;
+pub(crate) mod tokens;
 pub(crate) mod view;
 
 use crate::act::ActLine;

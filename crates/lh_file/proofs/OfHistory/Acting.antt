@@ -1,17 +1,19 @@
 -- An act enters the log in the step that draws its stamp
-use Rattle.std.proofs.Common.{◌≡◌, ◌≢◌, ℕ, ◌+◌, ◌≤◌, Bool, true, false, List, [], ◌∷◌, ◌++◌, set, refl, sym, ap, ◌∙◌, subst, arith, length-append}
+use Rattle.std.proofs.Common.{◌≡◌, ◌≢◌, ℕ, ◌+◌, ◌<◌, ◌≤◌, Bool, true, false, Some, List, [], ◌∷◌, ◌++◌, set, refl, sym, ap, ◌∙◌, subst, arith, length-append}
 use Rattle.std.specs.FinMap.{retain_keys}
 use Rattle.std.proofs.lemmas.Bool.{false≢true}
 use mathlib.Core.Option.{some}
 use lib.ListN.{get_elem?}
 use Rattle.atomic_table.proofs.Lists.{at_longer, at_last}
+use Rattle.lh_addr.specs.Fnv.{code_of}
+use Rattle.lh_addr.specs.Growth.{level_of}
 use Rattle.lh_addr.specs.RootWord.{buckets_of}
-use Rattle.lh_bucket.specs.Bucket.{Seen}
+use Rattle.lh_bucket.specs.Bucket.{Seen, content}
 use Rattle.lh_bucket.specs.Listing.{Lists}
-use Rattle.lh_bucket.specs.PlainMap.{reply}
+use Rattle.lh_bucket.specs.PlainMap.{Records, reply, after, key_of}
 use Rattle.lh_bucket.specs.declared.call.Call.{Call}
 use Rattle.lh_bucket.specs.declared.call.Reply.{Reply}
-use Rattle.lh_file.specs.History.Buckets.{belongs, owners_in, Mirrors, IsPlacedIn}
+use Rattle.lh_file.specs.History.Buckets.{bit, owns, belongs, owners_in, Mirrors, HasServedCall, IsPlacedIn}
 use Rattle.lh_file.specs.History.History.{owners, moves_in, History}
 use Rattle.lh_file.specs.History.Log.{entry, left_after, stamps_in, StandsIn}
 use Rattle.lh_file.specs.Settling.Settled.{map_in}
@@ -21,9 +23,17 @@ use Rattle.lh_file.specs.Words.Sums.{total}
 use Rattle.lh_file.specs.declared.words.numbers.FileWords.{FileWords}
 use Rattle.lh_file.specs.declared.words.seat_view.Entry.{Entry}
 use Rattle.lh_file.specs.declared.words.seat_view.SeatView.{SeatView}
+use Rattle.lh_bucket.proofs.PlainMaps.{reply_here, after_here, after_elsewhere, kept_alike}
 use Rattle.lh_file.proofs.OfHistory.Logs.{left_after-snoc, legal-snoc, stamps_in-append}
-use Rattle.lh_file.proofs.OfHistory.Rows.{each_other, each_set, each_snoc}
-use Rattle.lh_file.proofs.OfWords.Lists.{total-set}
+use Rattle.lh_file.proofs.OfHistory.Rows.{each_other, each_set, each_snoc, each_one}
+use Rattle.lh_file.proofs.OfWords.Lists.{total-set, term_le, terms_le}
+
+-- a code of a bucket counts
+pub owned : (c : ℕ) (d : SeatView) (i : ℕ) (p : Seen) → get_elem? d.parts i ≡ some p → owns c p ≡ true → 1 ≤ owners c d
+owned c d i p at is = subst (λ (b : Bool). bit b ≤ owners c d) is (term_le (λ (x : Seen). bit (owns c x)) d.parts i p at)
+
+pub none_or_all : (b : Bool) → (b ≡ true → ⊥) → b ≡ false
+none_or_all b never = elim b as (λ b. (b ≡ true → ⊥) → b ≡ false) [ true ↦ λ f. absurd (f refl) | false ↦ λ f. refl ] never
 
 module _ (k : Lists) (old new : FileWords) (seats : List SeatView) (id : ℕ) (d : SeatView) (me : get_elem? seats id ≡ some d) (drawn : new.stamps ≡ old.stamps + 1) (root : new.root ≡ old.root) where
   -- the log that is one act longer is legal, and leaves what the buckets hold
@@ -65,3 +75,30 @@ module _ (k : Lists) (old new : FileWords) (seats : List SeatView) (id : ℕ) (d
       (λ j u _ at. still u.parts (o.mirror j u at))
       (λ c. refl)
       (λ n at. at)
+
+  -- an act on the file's bucket that lies with the hand: it is legal, since the bucket holds what the log leaves of its keys, and no other bucket has the key
+  pub acts : (p r : Seen) (call : Call) (given : Reply) → d.parts ≡ p ∷ [] → owns (code_of (key_of call)) p ≡ true → HasServedCall p call given r
+      → History k old seats → History k new (set seats id (acted false call given (r ∷ []) old.stamps d))
+  acts p r call given has own served o =
+      let m : Records = left_after (map_in k) o.log in
+      let n : Records = left_after (map_in k) (o.log ++ entry false old.stamps call given ∷ []) in
+      let longer : n ≡ after m call = left_after-snoc (map_in k) o.log (entry false old.stamps call given) in
+      let there : get_elem? d.parts 0 ≡ some p = subst (λ (l : List Seen). get_elem? l 0 ≡ some p) (sym has) refl in
+      let held : content p ≡ retain_keys m (belongs p) = o.mirror id d me 0 p there in
+      let alike : (key : List ℕ) → belongs p key ≡ belongs r key = λ key. ap (λ hd. owns (code_of key) (record { head = hd; pairs = p.pairs })) (sym served.head) in
+      let count : (c : ℕ) → bit (owns c r) ≡ bit (owns c p) = λ c. ap (λ hd. bit (owns c (record { head = hd; pairs = p.pairs }))) served.head in
+      enters false call given (r ∷ []) o
+      (λ _. served.replied ∙ ap (λ z. reply z call) held ∙ reply_here m (belongs p) call own)
+      (each_one (Mirrors n) r (served.left ∙ ap (λ z. after z call) held ∙ after_here m (belongs p) call own ∙ kept_alike (after m call) (belongs p) (belongs r) alike ∙ ap (λ z. retain_keys z (belongs r)) (sym longer)))
+      (λ j u ne at i x here.
+      let apart : belongs x (key_of call) ≡ false = none_or_all (owns (code_of (key_of call)) x) (λ is.
+      let two = terms_le (owners (code_of (key_of call))) seats id j d u ne me at in
+      let a = owned (code_of (key_of call)) d 0 p there own in let b = owned (code_of (key_of call)) u i x here is in let only = o.one (code_of (key_of call)) in absurd (omega arith)) in
+      o.mirror j u at i x here ∙ sym (after_elsewhere m (belongs x) call apart) ∙ ap (λ z. retain_keys z (belongs x)) (sym longer))
+      (λ c. let a = ap (owners_in c) has in let b = count c in omega arith)
+      (λ z at. each_one (IsPlacedIn k.config.initial z) r (
+      let was : IsPlacedIn k.config.initial z p = at 0 p there in record {
+        initial_is = ap (λ hd. hd.initial) served.head ∙ was.initial_is;
+        below = subst (λ hd. hd.number < z) (sym served.head) was.below;
+        level_is = subst (λ hd. hd.level ≡ Some (level_of k.config.initial z hd.number)) (sym served.head) was.level_is;
+      }))

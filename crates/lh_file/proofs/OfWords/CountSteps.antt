@@ -1,26 +1,30 @@
 -- Each kind of step on the stamp word and on the counts keeps the rule
-use Rattle.std.proofs.Common.{◌≡◌, ℕ, ◌+◌, ◌%◌, ◌^◌, ◌<◌, ◌≤◌, Bool, true, List, [], ◌∷◌, map, length, set, get_or, sym, refl, ap, ◌∙◌, inl, arith, cond, length-append, All}
+use Rattle.std.proofs.Common.{◌≡◌, ℕ, ◌+◌, ◌%◌, ◌^◌, ◌<◌, ◌≤◌, Bool, true, false, List, [], ◌∷◌, map, length, set, get_or, sym, refl, ap, ◌∙◌, subst, inl, arith, cond, length-append, All}
 use mathlib.Core.Option.{none, some}
 use lib.ListN.{get_elem?}
 use lib.Seq.{set-get_or}
 use Rattle.atomic_table.specs.Table.{step, keeps, stepped, Allows}
-use Rattle.atomic_table.proofs.Lists.{at_map}
+use Rattle.atomic_table.proofs.Lists.{at_map, set_again}
+use Rattle.lh_addr.specs.Fnv.{code_of}
 use Rattle.lh_addr.specs.RootWord.{buckets_of}
 use Rattle.lh_bucket.specs.Bucket.{Seen}
 use Rattle.lh_bucket.specs.Listing.{Lists}
+use Rattle.lh_bucket.specs.PlainMap.{key_of}
 use Rattle.lh_bucket.specs.declared.call.Call.{Call}
 use Rattle.lh_bucket.specs.declared.call.Reply.{Reply}
+use Rattle.lh_file.specs.History.Buckets.{owns, HasServedCall}
 use Rattle.lh_file.specs.History.History.{History}
 use Rattle.lh_file.specs.Words.Sums.{times, once_below}
 use Rattle.lh_file.specs.Words.Rule.{rights_of, IsRule, words_of}
 use Rattle.lh_file.specs.Words.Seats.{with_view, acted}
 use Rattle.lh_file.specs.Words.Table.{shown, Holds}
-use Rattle.lh_file.specs.Words.Plays.{Seated, loaded_inserts, loaded_deletes, lent_out, counted_insert, counted_delete}
+use Rattle.lh_file.specs.Words.Plays.{Seated, loaded_inserts, loaded_deletes, lent_out, drawn, told, counted_insert, counted_delete}
 use Rattle.lh_file.specs.Words.Views.{stamped_with}
 use Rattle.lh_file.specs.declared.words.numbers.FileWords.{FileWords}
 use Rattle.lh_file.specs.declared.words.places.TheConstants.{STAMPS, INSERTS, DELETES}
+use Rattle.lh_file.specs.declared.words.seat_view.SeatView.{SeatView}
 use Rattle.lh_file.specs.declared.words.view.View.{View}
-use Rattle.lh_file.proofs.OfHistory.Acting.{lends}
+use Rattle.lh_file.proofs.OfHistory.Acting.{lends, acts}
 use Rattle.lh_file.proofs.OfHistory.Quiet.{quiet}
 use Rattle.lh_file.proofs.OfWords.Lists.{term_le, total-le, total-sum, times-append, once-more, all-below}
 use Rattle.lh_file.proofs.OfWords.Changes.{Words, Change, limits_of, stamps_stored, inserts_stored, deletes_stored, after_step}
@@ -125,6 +129,30 @@ module _ (traced : Bool) (k : Lists) where
         drawn.0,
         (drawn.1, drawn.2, refl),
       )
+
+  pub draws_stamp : (slots id : ℕ) (m : Seated) (p r : Seen) (call : Call) (given : Reply) → m.0.parts ≡ p ∷ [] → owns (code_of (key_of call)) p ≡ true → HasServedCall p call given r → 0 < m.0.view.initial → 0 < m.0.view.left
+      → Allows (Holds traced k) slots id m STAMPS (λ n. (n + 1) % 2 ^ 64) (drawn call given r (step slots STAMPS 1 0 none) m)
+  draws_stamp slots id m p r call given has own served live some_left s o _ me _ = let q : ℕ = get_or s.words STAMPS 0 in
+      let did = draws slots id m false call given (r ∷ []) live some_left s o me
+      (λ _. acts k (words_of s.words) (record (words_of s.words) { stamps = q + 1 }) s.views id m.0 me refl refl p r call given has own served) in (
+        acted false call given (r ∷ []) q m.0,
+        keeps,
+        tt,
+        did.0,
+        (did.1, did.2, refl),
+      )
+
+  -- a load of the stamp word tells of the history
+  pub tells : (slots id : ℕ) (m : Seated) → Allows (Holds traced k) slots id m STAMPS (λ n. n) (told traced k (step slots STAMPS 0 0 none) m)
+  tells slots id m s o _ me _ = (
+    m.0,
+    keeps,
+    tt,
+    subst (λ (ws : List ℕ). Holds traced k (record { words = ws; homes = s.homes; views = set s.views id m.0 })) (sym (set-get_or s.words STAMPS 0))
+        (subst (λ (vs : List SeatView). Holds traced k (record { words = s.words; homes = s.homes; views = vs })) (sym (set_again s.views id m.0 me))
+        (record { wide = o.wide; rule = o.rule; history = o.history })),
+    (refl, λ on. let h = o.history on in (h.log, h.size_is, h.legal, h.stand id m.0 me)),
+  )
 
   pub counts_insert : (slots id : ℕ) (m : Seated) → 0 < m.0.view.initial → m.0.view.inserted + m.0.view.deleted < length m.0.view.stamps
       → Allows (Holds traced k) slots id m INSERTS (λ n. (n + 1) % 2 ^ 64) (counted_insert (step slots INSERTS 1 0 none) m)

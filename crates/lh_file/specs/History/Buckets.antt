@@ -5,7 +5,9 @@ use Rattle.std.specs.FinMap.{retain_keys}
 use Rattle.lh_addr.specs.Fnv.{code_of}
 use Rattle.lh_addr.specs.Growth.{hash_at, level_of}
 use Rattle.lh_bucket.specs.Bucket.{Seen, content}
-use Rattle.lh_bucket.specs.PlainMap.{Records}
+use Rattle.lh_bucket.specs.PlainMap.{Records, reply, after}
+use Rattle.lh_bucket.specs.declared.call.Call.{Call}
+use Rattle.lh_bucket.specs.declared.call.Reply.{Reply}
 use Rattle.lh_file.specs.Words.Sums.{total}
 
 -- 1 for true and 0 for false
@@ -27,6 +29,12 @@ owners_in code buckets = total (λ bucket. bit (owns code bucket)) buckets
 -- the bucket holds just what the map has of its keys
 abbrev pub Mirrors : Records → Seen → Type 0
 Mirrors m bucket = content bucket ≡ retain_keys m (belongs bucket)
+
+-- the bucket served the call with this reply, and is this one now
+pub record HasServedCall (old : Seen) (call : Call) (given : Reply) (new : Seen) : Type 0 where
+  pub head : new.head ≡ old.head
+  pub replied : given ≡ reply (content old) call
+  pub left : content new ≡ after (content old) call
 
 -- the bucket has its number and its level in a file of this size
 pub record IsPlacedIn (initial buckets : ℕ) (bucket : Seen) : Type 0 where

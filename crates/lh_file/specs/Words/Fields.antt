@@ -12,6 +12,7 @@ state_of file = record {
   config = file.config;
   recording = file.recording;
   opening = file.opening;
+  listing = file.table.shared.key;
 }
 
 -- the table has its words and no slot, and it was opened from a listing of the file's configuration

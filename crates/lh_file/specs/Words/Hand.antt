@@ -11,6 +11,7 @@ state_of hand = record {
   table = hand.seat.table_id;
   view = hand.seat.me.0.view;
   recording = hand.recording;
+  entries = hand.seat.me.0.entries;
   acts = hand.acts.items;
   room = vec_capacity hand.acts - vec_len hand.acts;
 }

@@ -1,9 +1,12 @@
 -- What each kind of atomic step does to the hand that takes it, and tells: of the step, the seat before it, the number that it found, and the seat after
-use Rattle.std.specs.Prelude.{◌≡◌, ◌≢◌, ℕ, ◌+◌, ◌*◌, ◌%◌, ◌<◌, ◌≤◌, ◌^◌, true, false, length, All}
+use Rattle.std.specs.Prelude.{◌≡◌, ◌≢◌, ℕ, ◌+◌, ◌*◌, ◌%◌, ◌<◌, ◌≤◌, ◌^◌, Bool, true, false, [], ◌∷◌, length, All}
 use Rattle.atomic_table.specs.Table.{Me, Step}
 use Rattle.lh_addr.specs.RootWord.{buckets_of}
+use Rattle.lh_bucket.specs.Bucket.{Seen}
+use Rattle.lh_bucket.specs.Listing.{Lists}
 use Rattle.lh_bucket.specs.declared.call.Call.{Call}
 use Rattle.lh_bucket.specs.declared.call.Reply.{Reply}
+use Rattle.lh_file.specs.History.Told.{IsTold}
 use Rattle.lh_file.specs.Words.Rule.{rights_of}
 use Rattle.lh_file.specs.Words.Seats.{with_view, acted}
 use Rattle.lh_file.specs.Words.Views.{rooted}
@@ -55,6 +58,17 @@ lent_out call given step before stamp after =
     All (λ x. x < stamp) before.0.view.stamps
     × (before.0.view.inserted + before.0.view.deleted ≤ length before.0.view.stamps)
     × (after ≡ (acted true call given before.0.parts stamp before.0, before.1))
+
+-- an addition of 1 to the stamp word, for an act on the file's bucket that lies with the hand, and is this one now
+abbrev pub drawn : Call → Reply → Seen → Telling
+drawn call given bucket step before stamp after =
+    All (λ x. x < stamp) before.0.view.stamps
+    × (before.0.view.inserted + before.0.view.deleted ≤ length before.0.view.stamps)
+    × (after ≡ (acted false call given (bucket ∷ []) stamp before.0, before.1))
+
+-- a load of the stamp word: in a traced file that was opened from this listing, there is a legal log of so many acts, in which the hand's acts stand
+abbrev pub told : Bool → Lists → Telling
+told traced opening step before word after = (after ≡ before) × (traced ≡ true → IsTold opening word before.0.entries)
 
 -- an addition of 1 to the count of inserts
 abbrev pub counted_insert : Telling

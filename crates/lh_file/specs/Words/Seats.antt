@@ -1,5 +1,5 @@
 -- What the rule knows of a seat: how it begins, and how it is divided and joined
-use Rattle.std.specs.Prelude.{ℕ, Bool, false, List, [], ◌∷◌, ◌++◌, map, if◌then◌else◌}
+use Rattle.std.specs.Prelude.{ℕ, Bool, false, List, [], ◌∷◌, ◌++◌, map, None, if◌then◌else◌}
 use Rattle.std.specs.List.{range_with_len}
 use Rattle.lh_bucket.specs.Bucket.{Seen}
 use Rattle.lh_bucket.specs.Listing.{Lists, size, list_at}
@@ -48,6 +48,26 @@ acted lent call given parts stamp seat = record {
   parts = parts;
   moved = seat.moved;
 }
+
+-- the seat took in what another knows of buckets
+abbrev pub with_token : SeatView → SeatView → SeatView
+with_token seat token = record seat { parts = seat.parts ++ token.parts }
+
+-- the seat gave its buckets to a new one
+abbrev pub partless : SeatView → SeatView
+partless seat = record seat { parts = [] }
+
+-- the new one
+abbrev pub token_of : SeatView → SeatView
+token_of seat = holder seat.parts
+
+-- a bucket that is no file's
+abbrev pub no_bucket : Seen
+no_bucket = record { head = record { number = 0; initial = 1; capacity = 1; level = None }; pairs = [] }
+
+-- what no file was opened from
+abbrev pub no_listing : Lists
+no_listing = record { config = record { initial = 1; capacity = 1; load = 10; max = 1 }; lists = [] }
 
 -- the hand's seat after it gave so many calls away
 abbrev pub lessened_seat : ℕ → SeatView → SeatView

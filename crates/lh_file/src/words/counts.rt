@@ -17,7 +17,7 @@ impl<M: Mode> Words<M> {
     ghost use Rattle.lh_file.specs.Words.HandState.{IsSame};
     ghost use Rattle.lh_file.specs.FileState.{IsOf};
     ghost use Rattle.lh_file.specs.Words.Calls.{IsLoadOf};
-    ghost use Rattle.lh_file.specs.Words.Recording.{IsAct};
+    ghost use Rattle.lh_file.specs.Words.Recording.{IsAct, counted};
     ghost use Rattle.lh_file.specs.Words.Seats.{acted};
 
     /// Makes room for one act in the hand, where the file records.
@@ -52,6 +52,28 @@ impl<M: Mode> Words<M> {
         self.table.shared.fetch_add::<LendStamp<D>>(seat, STAMPS, 1)
     }
 
+    /// Counts the reply of an act that has drawn its stamp.
+    // Inlined: the reply is known to many a call.
+    #[inline(always)]
+    pub(crate) fn count(&self, seat: &mut Seat<(), SeatView>, reply: &Reply)
+        requires at { seat.old.table_id ≡ self.now.table }
+        requires live { 0 < seat.old.me.0.view.initial }
+        requires room { seat.old.me.0.view.inserted + seat.old.me.0.view.deleted < length seat.old.me.0.view.stamps }
+        ensures at { seat.new.table_id ≡ seat.old.table_id }
+        ensures counted { seat.new.me ≡ (counted reply.now seat.old.me.0, seat.old.me.1) }
+    {
+        let shared = &self.table.shared;
+        match reply {
+            Reply::Inserted => {
+                shared.fetch_add::<CountInsert>(seat, INSERTS, 1);
+            }
+            Reply::Deleted => {
+                shared.fetch_add::<CountDelete>(seat, DELETES, 1);
+            }
+            _ => {}
+        }
+    }
+
     /// Notes an act that was just served: draws its stamp, counts its reply, and keeps it where the
     /// file records.
     pub fn record_act(&self, hand: &mut Hand, call: &Call, reply: Reply) -> u64
@@ -61,16 +83,7 @@ impl<M: Mode> Words<M> {
         ensures { IsAct hand.old result call.now reply hand.new }
     {
         let stamp = self.lend::<Brand>(&mut hand.seat, call, &reply);
-        let shared = &self.table.shared;
-        match reply {
-            Reply::Inserted => {
-                shared.fetch_add::<CountInsert>(&mut hand.seat, INSERTS, 1);
-            }
-            Reply::Deleted => {
-                shared.fetch_add::<CountDelete>(&mut hand.seat, DELETES, 1);
-            }
-            _ => {}
-        }
+        self.count(&mut hand.seat, &reply);
         hand.left -= 1;
         if self.recording {
             hand.acts.push_reserved(ActLine {

@@ -1,13 +1,16 @@
 //! The kinds of atomic step that threads take on a file's words: what each does to the hand that takes
 //! it, and what it tells.
 ghost use Rattle.std.specs.Prelude.{ℕ, []};
+ghost use Rattle.lh_bucket.specs.Bucket.{Seen};
+ghost use Rattle.lh_bucket.specs.Listing.{Lists};
 ghost use Rattle.lh_bucket.specs.declared.call.Call.{Call};
 ghost use Rattle.lh_bucket.specs.declared.call.Call.TheVariants.{Search};
 ghost use Rattle.lh_bucket.specs.declared.call.Reply.{Reply};
 ghost use Rattle.lh_bucket.specs.declared.call.Reply.TheVariants.{Absent};
-ghost use Rattle.lh_file.specs.Words.Seats.{holder, lessened_seat, branch_seat, joined_seats};
-ghost use Rattle.lh_file.specs.Words.Plays.{loaded_root, claimed, pointed, dropped, lent_out, counted_insert, counted_delete, loaded_inserts, loaded_deletes};
+ghost use Rattle.lh_file.specs.Words.Seats.{holder, no_bucket, no_listing, with_token, partless, token_of, lessened_seat, branch_seat, joined_seats};
+ghost use Rattle.lh_file.specs.Words.Plays.{loaded_root, claimed, pointed, dropped, lent_out, drawn, told, counted_insert, counted_delete, loaded_inserts, loaded_deletes};
 
+use crate::words::mode::Mode;
 use crate::words::seat_view::SeatView;
 use atomic_table::{Join, Play, Split};
 use std::marker::{Brand, PhantomData};
@@ -46,12 +49,17 @@ pub trait Deed {
     ghost call: { Call };
 
     ghost reply: { Reply };
+
+    // The bucket as it is then.
+    ghost bucket: { Seen };
 }
 
 impl Deed for Brand {
     ghost call = { Search [] };
 
     ghost reply = { Absent };
+
+    ghost bucket = { no_bucket };
 }
 
 /// An addition of 1 to the stamp word, for an act on a bucket that isn't the file's.
@@ -89,6 +97,51 @@ pub struct LoadDeletes;
 
 impl Play<(), SeatView> for LoadDeletes {
     ghost then = { loaded_deletes };
+}
+
+/// An addition of 1 to the stamp word, for an act on the file's bucket that lies with the hand.
+pub struct DrawStamp<D> {
+    of: PhantomData<D>,
+}
+
+impl<D: Deed> Play<(), SeatView> for DrawStamp<D> {
+    ghost then = { drawn D.call D.reply D.bucket };
+}
+
+/// A load of the root word with which a hand takes in the seat of a bucket.
+pub struct TakeIn;
+
+impl Join<SeatView> for TakeIn {
+    ghost both = { with_token };
+
+    ghost spent = { holder [] };
+}
+
+/// A load of the root word with which the bucket goes back to a seat of its own.
+pub struct GiveBack;
+
+impl Split<SeatView> for GiveBack {
+    ghost left = { partless };
+
+    ghost right = { token_of };
+}
+
+/// What a file was opened from. Each call of [`Tell`] picks it, since a step's promise can't read the table's key.
+pub trait Opened {
+    ghost listing: { Lists };
+}
+
+impl Opened for Brand {
+    ghost listing = { no_listing };
+}
+
+/// A load of the stamp word, which tells of the history of a traced file.
+pub struct Tell<M, O> {
+    of: PhantomData<(M, O)>,
+}
+
+impl<M: Mode, O: Opened> Play<(), SeatView> for Tell<M, O> {
+    ghost then = { told M.traced O.listing };
 }
 
 /// How many calls go to a new hand. Each call of [`Divide`] picks the number.
