@@ -30,7 +30,7 @@ impl<G: Gate, M: Mode, J: Room> Model for HashFile<G, M, J> {
 
     ghost view = { shared_of };
 
-    ghost invariant = { IsShared };
+    ghost invariant = { IsShared M.traced J.named J.table };
 }
 
 impl<G: Gate, M: Mode, J: Room> HashFile<G, M, J> {

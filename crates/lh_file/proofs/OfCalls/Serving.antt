@@ -1,6 +1,15 @@
 -- What the parts of a call do to its hand, one after another
-use Rattle.std.proofs.Common.{◌≡◌, ℕ, ◌+◌, ◌-◌, ◌<◌, ◌≤◌, Bool, true, false, [], ◌∷◌, ◌++◌, All, refl, sym, ap, ◌∙◌, subst, arith}
+use Rattle.std.proofs.Common.{◌≡◌, ℕ, ◌+◌, ◌-◌, ◌<◌, ◌≤◌, Bool, true, false, [], ◌∷◌, ◌++◌, All, refl, sym, ap, ◌∙◌, subst, arith, eqb, eq-eqb}
+use Rattle.std.specs.Option.{unwrap_or}
+use Rattle.std.proofs.lemmas.Bool.{false≢true}
+use Rattle.lh_addr.specs.Growth.{hash_at}
+use Rattle.lh_bucket.specs.Bucket.{Seen, verdict}
+use Rattle.lh_bucket.specs.Laws.{HereLaw}
+use Rattle.lh_bucket.specs.PlainMap.{Records, after, IsSearch}
 use Rattle.lh_bucket.specs.declared.call.Call.{Call}
+use Rattle.lh_bucket.specs.declared.call.Call.TheVariants.{Search, Insert, Delete, Replace}
+use Rattle.lh_bucket.specs.declared.verdict.Verdict.TheVariants.{Here}
+use Rattle.lh_file.specs.History.Buckets.{owns}
 use Rattle.lh_bucket.specs.declared.call.Reply.{Reply}
 use Rattle.lh_file.specs.FileState.{FileState, IsOf}
 use Rattle.lh_file.specs.History.Log.{entry}
@@ -108,3 +117,15 @@ looked_then_entered lent a b c call reply looked (stamp, entered) = (stamp, ente
 
 pub entered_then_looked : (lent : Bool) (a b c : HandState) (call : Call) (reply : Reply) → HasEntered lent a call reply b → HasLooked b c → HasEntered lent a call reply c
 entered_then_looked lent a b c call reply (stamp, entered) looked = (stamp, looked.entries ∙ entered)
+
+-- a bucket at which a call is owns the call's key
+pub here_owns : HereLaw → (p : Seen) (c k : ℕ) → verdict p.head c k ≡ Here → owns c p ≡ true
+here_owns law p c k here = let v = (law p.head c k).0 here in
+    ap (λ l. eqb (hash_at p.head.initial (unwrap_or l 0) c) p.head.number) v.1 ∙ eq-eqb (hash_at p.head.initial k c) p.head.number v.0
+
+-- a search leaves the map
+pub searched : (m : Records) (call : Call) → IsSearch call → m ≡ after m call
+searched m (Search key) is = refl
+searched m (Insert key value) is = absurd (false≢true is)
+searched m (Delete key) is = absurd (false≢true is)
+searched m (Replace key value) is = absurd (false≢true is)
