@@ -16,6 +16,9 @@ use std::marker::Model;
 ///
 /// A search takes the lock of its bucket shared; an insert, a delete or a replace takes it exclusively. A
 /// call holds one bucket at a time, and a split the two that it divides; the other buckets stay free.
+///
+/// `M` says whether the file's history is traced, and `J` names the table whose seats lie under a traced file's locks. A
+/// file whose type says neither is untraced.
 #[derive(Drop)]
 pub struct HashFile<G: Gate, M: Mode = Untraced, J: Room = Loose> {
     pub(crate) words: Words<M>,

@@ -32,7 +32,7 @@ use std::alloc::Global;
 use std::marker::Model;
 
 /// A running file but for its buckets: the words under their rule, the configuration, whether acts are
-/// recorded, and how many records the file was opened with.
+/// recorded, and how many records the file was opened with. `M` says whether the file's history is traced.
 #[derive(Drop)]
 pub struct Words<M: Mode = Untraced> {
     pub(crate) table: Table<(), SeatView, Listing, RunningRule<M>, Global>,
