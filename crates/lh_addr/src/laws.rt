@@ -1,7 +1,7 @@
 //! Laws of linear hashing over the definitions of `specs/Growth.antt`, each the contract of a
 //! function that does nothing: a caller whose proof needs a law calls it.
 
-ghost use Rattle.lh_addr.specs.Growth.{RootLaw, AddressLaw, SplitLevels, SplitAddresses, AimBegins, AimStays, AimRises, HashRises, HashFalls};
+ghost use Rattle.lh_addr.specs.Growth.{RootLaw, AddressLaw, LevelReaches, SplitLevels, SplitAddresses, AimBegins, AimStays, AimRises, HashRises, HashFalls};
 
 /// The level and the pointer are the one pair that a file's size has.
 pub fn root_is_only_pair()
@@ -12,6 +12,11 @@ pub fn root_is_only_pair()
 /// local level.
 pub fn address_is_only_bucket()
     ensures { AddressLaw }
+{}
+
+/// A bucket's number is below the size of its local level.
+pub fn levels_reach_their_buckets()
+    ensures { LevelReaches }
 {}
 
 /// A split raises the local levels of two buckets, and moves the addresses of one bucket's codes.

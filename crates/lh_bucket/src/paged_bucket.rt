@@ -49,7 +49,7 @@ impl Model for PagedBucket {
 }
 
 impl PagedBucket {
-    ghost use Rattle.std.specs.Prelude.{ℕ, ◌<◌, length, Some};
+    ghost use Rattle.std.specs.Prelude.{ℕ, ◌*◌, ◌^◌, ◌<◌, length, Some};
     ghost use Rattle.std.specs.List.{IsDistinct};
     ghost use Rattle.std.specs.Str.{bytes_eq};
     ghost use Rattle.lh_addr.specs.Growth.{hash_at};
@@ -70,6 +70,7 @@ impl PagedBucket {
         requires initial { IsInitial initial }
         requires capacity { IsCapacity capacity }
         requires level { level ≤ 16 }
+        requires number { number < initial * 2 ^ level }
         requires distinct { IsDistinct bytes_eq (keys_of pairs.now) }
         requires home { (place : ℕ) → place < length pairs.now →
             hash_at initial level (code_of (key_at pairs.now place)) ≡ number }

@@ -10,7 +10,7 @@ use Rattle.lh_core.specs.History.{IsHistory}
 use Rattle.lh_core.specs.Aims.{AimsLead}
 use Rattle.lh_core.specs.Spans.{ActsLieInSpans}
 use Rattle.lh_core.specs.Rises.{ActsHaveRisen}
-use Rattle.lh_core.specs.World.{WorldSeen, IsPlaced, HasLevels}
+use Rattle.lh_core.specs.World.{WorldSeen, IsPlaced, HaveKeysOnce, HasLevels}
 
 -- The steps of a log have led to a world, and:
 pub record HasLedTo (log : Log) (world : WorldSeen) : Type 0 where
@@ -24,7 +24,9 @@ pub record HasLedTo (log : Log) (world : WorldSeen) : Type 0 where
   pub rises : ActsHaveRisen world.config log
   -- at every moment, during a split too, each record of that map stands in the bucket of its address by the filled buckets, and nowhere else
   pub placed : IsPlaced world.config.initial world.state.filled (outcome empty (acts log)) world.buckets
-  -- and each of these buckets has its local level
+  -- each of these buckets has its keys once: no record is doubled
+  pub once : HaveKeysOnce world.state.filled world.buckets
+  -- and each has its local level
   pub levels : HasLevels world.config.initial world.state.filled world.buckets
   -- whenever no split is under way, each record stands in the bucket of its address by the root
   pub at_rest : world.state.splitter ≡ split.Idle → IsPlaced world.config.initial world.state.buckets (outcome empty (acts log)) world.buckets

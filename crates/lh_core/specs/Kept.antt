@@ -4,7 +4,7 @@ use Rattle.lh_addr.specs.Growth.{level_of}
 use Rattle.lh_addr.specs.Settings.{Settings, IsInRange}
 use Rattle.lh_bucket.specs.Bucket.{Head, Seen}
 use Rattle.lh_core.specs.Sound.{IsSound}
-use Rattle.lh_core.specs.World.{WorldSeen, bucket_at}
+use Rattle.lh_core.specs.World.{WorldSeen, HaveKeysOnce, bucket_at}
 
 -- the head of bucket i
 abbrev pub head_at : Settings → ℕ → ℕ → Head
@@ -15,10 +15,11 @@ head_at config size i = record {
   level = Some (level_of config.initial size i);
 }
 
--- each bucket of a row has its number and its level
+-- each bucket of a row has its number and its level, and its keys once
 pub record IsRow (config : Settings) (size : ℕ) (buckets : List Seen) : Type 0 where
   pub all : length buckets ≡ size
   pub heads : (i : ℕ) → i < size → (bucket_at buckets i).head ≡ head_at config size i
+  pub once : HaveKeysOnce size buckets
 
 -- the configuration is in range, the state is sound, and the filled buckets are there
 pub record IsWorld (world : WorldSeen) : Type 0 where

@@ -2,7 +2,7 @@
 use Rattle.std.specs.Prelude.{◌≡◌, ℕ, List, [], ◌∷◌, ◌++◌, not, length, None, slice_set}
 use Rattle.std.specs.FinMap.{retain_keys}
 use Rattle.lh_bucket.specs.Bucket.{Head, Seen, content, raised, stays}
-use Rattle.lh_core.specs.World.{bucket_at}
+use Rattle.lh_core.specs.World.{HasKeysOnce, bucket_at}
 
 -- the head of a bucket that isn't filled
 abbrev pub unfilled : ℕ → ℕ → ℕ → Head
@@ -17,3 +17,5 @@ pub record IsSplit (old : List Seen) (i initial capacity : ℕ) (new : List Seen
   pub go_head : go.head ≡ raised (bucket_at old i).head (unfilled (length old) initial capacity)
   pub stay_content : content stay ≡ retain_keys (content (bucket_at old i)) (stays (bucket_at old i).head)
   pub go_content : content go ≡ retain_keys (content (bucket_at old i)) (λ key. not (stays (bucket_at old i).head key))
+  pub stay_once : HasKeysOnce stay
+  pub go_once : HasKeysOnce go

@@ -1,9 +1,12 @@
 -- A world: its configuration, its state, and its filled buckets
 use Rattle.std.specs.Prelude.{◌≡◌, ℕ, ◌<◌, List, [], length, Option, Some, None, Ok, Err, ◌==◌, slice_index_or}
 use Rattle.std.specs.FinMap.{retain_keys}
+use Rattle.std.specs.List.{IsDistinct}
+use Rattle.std.specs.Str.{bytes_eq}
 use Rattle.lh_addr.specs.Fnv.{code_of}
 use Rattle.lh_addr.specs.Growth.{address, level_of}
 use Rattle.lh_addr.specs.Settings.{Settings}
+use Rattle.lh_page.specs.Records.{keys_of}
 use Rattle.lh_bucket.specs.declared.call.Call.{Call}
 use Rattle.lh_bucket.specs.declared.call.Reply.{Reply}
 use Rattle.lh_bucket.specs.Bucket.{Seen, content}
@@ -31,6 +34,14 @@ bucket_at buckets i = slice_index_or buckets i no_bucket
 pub record IsPlaced (initial size : ℕ) (map : Records) (buckets : List Seen) : Type 0 where
   pub all : length buckets ≡ size
   pub each : (i : ℕ) → i < size → content (bucket_at buckets i) ≡ retain_keys map (λ key. address initial size (code_of key) == i)
+
+-- a bucket has each of its keys once
+abbrev pub HasKeysOnce : Seen → Type 0
+HasKeysOnce bucket = IsDistinct bytes_eq (keys_of bucket.pairs)
+
+-- so do the first buckets
+abbrev pub HaveKeysOnce : ℕ → List Seen → Type 0
+HaveKeysOnce size buckets = (i : ℕ) → i < size → HasKeysOnce (bucket_at buckets i)
 
 -- each bucket has its local level
 pub record HasLevels (initial size : ℕ) (buckets : List Seen) : Type 0 where

@@ -47,7 +47,11 @@ pub(crate) fn serve<B: Bucket>(
     linear_hashing();
     let bucket = &mut buckets[act.bucket as usize];
     match bucket.serve(act.call, act.level) {
-        Ok(answer) => Ok(answer.reply()),
+        Ok(answer) => {
+            // In a bucket no key stands twice, before a call and after it.
+            let _ = bucket.len();
+            Ok(answer.reply())
+        }
         Err(_) => Err(Memory),
     }
 }
@@ -75,6 +79,9 @@ fn split_one<B: Bucket>(
     buckets.reserve(1)?;
     let old = &mut buckets[i];
     old.split_into(&mut new)?;
+    // In neither of the two a key stands twice.
+    let _ = old.len();
+    let _ = new.len();
     // There is room for it, so nothing can fail once the records are divided.
     if let Err(_) = buckets.push(new) {
         unreachable!();

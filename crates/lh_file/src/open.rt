@@ -11,7 +11,7 @@ use crate::file::HashFile;
 use crate::gate::Gate;
 use crate::words::Words;
 use crate::words::hand::Hand;
-use lh_addr::laws::address_is_only_bucket;
+use lh_addr::laws::{address_is_only_bucket, levels_reach_their_buckets};
 use lh_addr::{Config, Root};
 use lh_bucket::{Listing, Memory, PagedBucket};
 use std::alloc::Global;
@@ -24,8 +24,10 @@ fn filled(alloc: Global, listing: &Listing, root: &Root, number: u32) -> Result<
     ensures head { IfOk result (λ bucket. bucket.head ≡ head_of listing.now number) }
     ensures pairs { IfOk result (λ bucket. bucket.pairs ≡ list_at listing.now.lists number) }
 {
-    // Its law: what is at home in a list of the listing is at home in the bucket, by its level.
+    // Their laws: what is at home in a list of the listing is at home in the bucket, by its level, and that level
+    // reaches the bucket.
     address_is_only_bucket();
+    levels_reach_their_buckets();
     let config = listing.config();
     PagedBucket::filled(
         alloc,

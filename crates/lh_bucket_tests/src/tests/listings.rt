@@ -3,7 +3,7 @@ ghost use Rattle.std.specs.Prelude.{◌<◌};
 ghost use Rattle.lh_bucket.specs.Listing.{size};
 
 use super::calls::{keys_of, pair};
-use lh_addr::laws::address_is_only_bucket;
+use lh_addr::laws::{address_is_only_bucket, levels_reach_their_buckets};
 use lh_addr::{Config, Root};
 use lh_bucket::{Bucket, Listing, ListingFault, PagedBucket};
 use lh_page::Pair;
@@ -98,6 +98,7 @@ fn bucket_of(alloc: Global, listing: &Listing, number: u32) -> Result<PagedBucke
     requires { number < size listing.now }
 {
     address_is_only_bucket();
+    levels_reach_their_buckets();
     let config = listing.config();
     let bucket = PagedBucket::filled(
         alloc,

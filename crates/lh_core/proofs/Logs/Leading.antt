@@ -48,6 +48,7 @@ led g log w h ruled replied placed =
       spans = spans_law g w.config log w.state one most ruled;
       rises = rises_law g w.config log one most;
       placed = placed;
+      once = h.row.once;
       levels = record { each = λ i lt. ap (λ (x : Head). x.level) (h.row.heads i lt) };
       at_rest = λ e. subst (λ n. IsPlaced w.config.initial n (outcome empty (acts log)) w.buckets) (idle_filled w.config w.state h.sound.phase e) placed;
       aims = h.sound.aims;

@@ -17,7 +17,7 @@ use Rattle.lh_bucket.specs.Bucket.{Head, Seen, CanSplit, content, verdict, raise
 use Rattle.lh_bucket.specs.Call.{key_of}
 use Rattle.lh_bucket.specs.PlainMap.{Records, reply, after}
 use Rattle.lh_bucket.specs.Verdict.{verdict_of}
-use Rattle.lh_core.specs.World.{IsPlaced, no_bucket}
+use Rattle.lh_core.specs.World.{IsPlaced, HasKeysOnce, no_bucket}
 use Rattle.lh_core.specs.Kept.{IsRow, head_at}
 use Rattle.lh_core.specs.Splits.{IsSplit, unfilled}
 use Rattle.lh_core.specs.Laws.{LinearHashing}
@@ -68,13 +68,18 @@ module _ (g : LinearHashing) (s : Settings) (filled : ℕ) (row : List Seen) (h 
         (cases_eq j i);
   }
 
-  pub act_row : (b : Seen) → b.head ≡ (get_or row i no_bucket).head → IsRow s filled (set row i b)
-  act_row b e = record {
+  pub act_row : (b : Seen) → b.head ≡ (get_or row i no_bucket).head → HasKeysOnce b → IsRow s filled (set row i b)
+  act_row b e once = record {
     all = length-set row i b ∙ h.all;
     heads = λ j lt.
         ⊎_elim
         (λ (q : j ≡ i). subst (λ x. (get_or (set row i b) x no_bucket).head ≡ head_at s filled x) (sym q) (ap (λ (x : Seen). x.head) (get_or-set_same row i b no_bucket there) ∙ e ∙ h.heads i aim.within))
         (λ (d : j ≡ i → ⊥). ap (λ (x : Seen). x.head) (get_or-set_other row i j b no_bucket d) ∙ h.heads j lt)
+        (cases_eq j i);
+    once = λ j lt.
+        ⊎_elim
+        (λ (q : j ≡ i). subst (λ x. HasKeysOnce (get_or (set row i b) x no_bucket)) (sym q) (subst HasKeysOnce (sym (get_or-set_same row i b no_bucket there)) once))
+        (λ (d : j ≡ i → ⊥). subst HasKeysOnce (sym (get_or-set_other row i j b no_bucket d)) (h.once j lt))
         (cases_eq j i);
   }
 
@@ -238,5 +243,12 @@ module _ (g : LinearHashing) (s : Settings) (size : ℕ) (row : List Seen) (h : 
         ap (λ (x : Seen). x.head) (at_other j d lt) ∙ h.heads j lt
         ∙ ap (headed_by j) (sym (g.levels s.initial size j some from (omega (arith, lt)) ∙ neither j (pointer s.initial size) size (level s.initial size + 1) _ d lt))
 
+    abbrev Once : ℕ → Type 0
+    Once j = HasKeysOnce (get_or bs j no_bucket)
+
     pub split_row : IsRow s (size + 1) bs
-    split_row = record { all = long; heads = by_cases Headed head_pointer head_end head_other }
+    split_row = record {
+      all = long;
+      heads = by_cases Headed head_pointer head_end head_other;
+      once = by_cases Once (subst HasKeysOnce (sym at_pointer) sp.stay_once) (subst HasKeysOnce (sym at_end) sp.go_once) (λ j d lt. subst HasKeysOnce (sym (at_other j d lt)) (h.once j lt));
+    }

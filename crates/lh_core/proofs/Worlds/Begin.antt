@@ -1,6 +1,7 @@
 -- The first state
 use Rattle.std.proofs.Common.{◌≡◌, ℕ, ◌+◌, ◌*◌, ◌^◌, ◌<◌, ◌≤◌, ◌||◌, Bool, true, false, cond, List, [], ◌∷◌, ◌++◌, None, Option, Some, get_or, nat_eq, nat_lt, nat_le, refl, sym, ap, subst, ◌∙◌, arith, ⊎_elim, length-append}
 use Rattle.std.specs.FinMap.{empty, get-empty}
+use Rattle.std.specs.List.{IsDistinct}
 use Rattle.std.specs.Ordering.{nat_cmp}
 use Rattle.std.specs.Cmp.Lexicographic.{slice_cmp}
 use Rattle.std.proofs.Math.ListN.{get_or-append}
@@ -19,7 +20,7 @@ use Rattle.lh_core.specs.Control.{IsControl, state_of, world_of}
 use Rattle.lh_core.specs.Kept.{IsRow, IsWorld, IsEmptyRow, empty_at}
 use Rattle.lh_core.specs.Laws.{LinearHashing}
 use Rattle.lh_core.specs.Sound.{IsSound}
-use Rattle.lh_core.specs.World.{IsPlaced, no_bucket}
+use Rattle.lh_core.specs.World.{IsPlaced, HasKeysOnce, no_bucket}
 use Rattle.lh_core.proofs.Records.PlainMaps.{same, get_kept}
 use Rattle.lh_core.proofs.Logs.Aiming.{first_sound}
 
@@ -46,9 +47,14 @@ first_level g n i one lt =
     let t : n * 2 ^ level n n ≡ n = ap (λ l. n * 2 ^ l) (sym r.0) ∙ (let z : n * 2 ^ 0 ≡ n = omega arith in z) in
     level_test i (pointer n n) (level n n) (n * 2 ^ level n n) n r.0 r.1 t lt
 
+nothing_twice : (s : Settings) (i : ℕ) → HasKeysOnce (empty_at s i)
+unfolding IsDistinct
+nothing_twice s i = tt
+
 pub first_row_is : LinearHashing → (s : Settings) (row : List Seen) → 1 ≤ s.initial → IsEmptyRow s s.initial row → IsRow s s.initial row
 first_row_is g s row one h = record {
   all = h.all;
+  once = λ i lt. subst HasKeysOnce (sym (h.each i lt)) (nothing_twice s i);
   heads = λ i lt. ap (λ (x : Seen). x.head) (h.each i lt) ∙ ap (λ l. record { number = i; initial = s.initial; capacity = s.capacity; level = Some l }) (sym (first_level g s.initial i one lt));
 }
 

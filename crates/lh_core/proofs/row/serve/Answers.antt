@@ -28,7 +28,7 @@ returns-in-Ok-clause-row g c =
     let lt : i < length c.args.buckets.now.items = omega (arith, c.requires.act.aim.within, c.requires.world.row.all, length-map c.args.buckets.now.items g.B.Bucket.seen) in
     let is : g.B.Bucket.seen c.index_mut-bucket.result.now ≡ get_or row i no_bucket = ap g.B.Bucket.seen c.index_mut-bucket.ensures.value ∙ sym (get_or-map g.B.Bucket.seen c.args.buckets.now.items i _ no_bucket lt) in
     rw map-set (act_row c.linear_hashing.ensures c.args.control.now.config c.args.control.now.filled.buckets row c.requires.world.row c.requires.world.sound.some (some_filled c.linear_hashing.ensures c.args.control.now.config (state_of c.args.control.now) c.requires.world.sound) c.args.act.now.call.now c.args.act.now.level i c.requires.act.aim c.requires.act.level
-    (g.B.Bucket.seen c.serve.new.self) (c.serve.ensures.head ∙ ap (λ (x : Seen). x.head) is))
+    (g.B.Bucket.seen c.serve.new.self) (c.serve.ensures.head ∙ ap (λ (x : Seen). x.head) is) c.len.ensures.kept.distinct)
 
 pub returns-in-Ok-clause-reply : goal.returns-in-Ok-clause-reply
 returns-in-Ok-clause-reply g c = λ m p.

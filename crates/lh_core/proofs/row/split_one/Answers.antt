@@ -37,4 +37,6 @@ returns-clause-split g c =
       go_head = c.in_ok-split_into.ensures.new_head ∙ ap (λ (s : Seen). raised s.head (seen c.in_ok-new.new).head) at ∙ ap (raised (get_or (map seen c.args.buckets.now.items) c.args.i no_bucket).head) fresh;
       stay_content = c.in_ok-split_into.ensures.old_content ∙ ap (λ (s : Seen). retain_keys (content s) (stays s.head)) at;
       go_content = c.in_ok-split_into.ensures.new_content ∙ ap (λ (s : Seen). retain_keys (content s) (λ k. not (stays s.head k))) at;
+      stay_once = c.len.ensures.kept.distinct;
+      go_once = c.len-2.ensures.kept.distinct;
     }
