@@ -1,3 +1,4 @@
 -- Levels and segments
 pub mod Levels
 pub mod Logarithms
+pub mod Rows

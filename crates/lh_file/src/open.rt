@@ -3,7 +3,7 @@ ghost use Rattle.std.specs.Prelude.{◌≡◌, ◌-◌, ◌<◌, ◌≤◌, ◌^
 ghost use Rattle.lh_addr.specs.Settings.{Settings};
 ghost use Rattle.lh_bucket.specs.Listing.{size, list_at, count_of};
 ghost use Rattle.lh_file.specs.FileState.{IsOpened};
-ghost use Rattle.lh_file.specs.Buckets.Segments.{head_of};
+ghost use Rattle.lh_file.specs.Buckets.Segments.{head_of, segment_at};
 
 use crate::buckets::segment::{Segment, end_of, first_of, segment_of, unfilled};
 use crate::buckets::segments::Segments;
@@ -46,11 +46,12 @@ impl Segment {
         requires initial { root.now.initial ≡ listing.now.config.initial }
         requires buckets { root.now.buckets ≡ size listing.now }
         requires below { j < 17 }
+        ensures { IfOk result (λ made. made ≡ segment_at listing.now.config j) }
     {
         let config = listing.config();
         let first = first_of(config.initial(), j);
         let end = end_of(&config, j);
-        let mut segment = Segment::with_room(alloc, end.saturating_sub(first) as usize)?;
+        let mut segment = Segment::with_room(alloc, first, end.saturating_sub(first) as usize)?;
         for number in first..end {
             let bucket = if number < listing.buckets() {
                 filled(alloc, listing, root, number)?

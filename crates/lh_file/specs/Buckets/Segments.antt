@@ -1,8 +1,8 @@
 -- How the buckets of a file are divided into segments, which are made when a bucket of theirs is first wanted
-use Rattle.std.specs.Prelude.{◌≡◌, ℕ, Some, zero, suc, ◌*◌, ◌^◌, ◌<◌, ◌≤◌, min}
+use Rattle.std.specs.Prelude.{◌≡◌, ℕ, Some, None, [], zero, suc, ◌-◌, ◌*◌, ◌^◌, ◌<◌, ◌≤◌, min}
 use Rattle.lh_addr.specs.Settings.{Settings}
 use Rattle.lh_addr.specs.Growth.{level_of}
-use Rattle.lh_bucket.specs.Bucket.{Head}
+use Rattle.lh_bucket.specs.Bucket.{Head, Seen}
 use Rattle.lh_bucket.specs.Listing.{Lists, size}
 
 -- the number of the first bucket of segment j
@@ -13,6 +13,25 @@ first_of initial (suc j) = initial * 2 ^ j
 -- the number after that of the last bucket of segment j, in a file of at most `max` buckets
 abbrev pub end_of : ℕ → ℕ → ℕ → ℕ
 end_of initial max j = min (initial * 2 ^ j) max
+
+-- a row of buckets: the number of its first, and how many there are
+pub record Row : Type 0 where
+  pub first : ℕ
+  pub count : ℕ
+
+-- segment j of a file
+abbrev pub segment_at : Settings → ℕ → Row
+segment_at config j = record {
+  first = first_of config.initial j;
+  count = end_of config.initial config.max j - first_of config.initial j;
+}
+
+-- a bucket that no split has filled yet
+abbrev pub unfilled : Settings → ℕ → Seen
+unfilled config number = record {
+  head = record { number = number; initial = config.initial; capacity = config.capacity; level = None };
+  pairs = [];
+}
 
 -- bucket `bucket` stands in segment j
 pub record IsIn (initial j bucket : ℕ) : Type 0 where

@@ -1,17 +1,29 @@
 //! Segments: rows of locked buckets that are made when one of theirs is first wanted.
-ghost use Rattle.std.specs.Prelude.{◌≡◌, ◌+◌, ◌*◌, ◌^◌, ◌<◌, ◌≤◌, length};
+ghost use Rattle.std.specs.Prelude.{◌≡◌, ◌+◌, ◌*◌, ◌^◌, ◌<◌, ◌≤◌, IsSome, IfOk, OnOk};
 ghost use Rattle.lh_addr.specs.Limits.{IsInitial, most_buckets};
-ghost use Rattle.lh_file.specs.Buckets.Segments.{first_of, end_of, IsIn};
+ghost use Rattle.lh_file.specs.Buckets.Segments.{first_of, end_of, segment_at, unfilled, IsIn};
 
 use lh_addr::Config;
 use lh_bucket::{Bucket, Memory, PagedBucket};
 use std::alloc::Global;
+use std::marker::Model;
 use std::sync::RwLock;
 
-/// Some of a file's buckets, each under a lock of its own.
+/// Some of a file's buckets in the order of their numbers, each under a lock of its own.
 #[derive(Drop)]
 pub struct Segment {
+    first: u32,
     buckets: Vec<RwLock<PagedBucket>>,
+}
+
+impl Model for Segment {
+    ghost use Rattle.std.specs.Prelude.{length};
+    ghost use Rattle.lh_file.specs.Buckets.Segments.{Row};
+
+    ghost Value = { Row };
+
+    // A bucket itself is known to whoever holds its lock, and to nobody else.
+    ghost view = { λ s. record { first = s.first; count = length s.buckets.items } };
 }
 
 /// The number of the segment that a bucket stands in: segment 0 has the buckets that the file began
@@ -52,7 +64,9 @@ pub(crate) fn end_of(config: &Config, j: usize) -> u32
 }
 
 /// A bucket that no split has filled yet.
-pub(crate) fn unfilled(alloc: Global, config: &Config, number: u32) -> Result<PagedBucket, Memory> {
+pub(crate) fn unfilled(alloc: Global, config: &Config, number: u32) -> Result<PagedBucket, Memory>
+    ensures { IfOk result (λ bucket. bucket ≡ unfilled config.now number) }
+{
     let bucket = PagedBucket::make(alloc, config.initial(), config.capacity(), number, None)?;
     Ok(bucket)
 }
@@ -61,31 +75,40 @@ impl Segment {
     /// Segment `j` of a file of this configuration: its buckets are numbered, unfilled and empty.
     pub(crate) fn unfilled(alloc: Global, config: &Config, j: usize) -> Result<Segment, Memory>
         requires { j < 17 }
+        ensures { IfOk result (λ made. made ≡ segment_at config.now j) }
     {
         let first = first_of(config.initial(), j);
         let end = end_of(config, j);
-        let mut segment = Segment::with_room(alloc, end.saturating_sub(first) as usize)?;
+        let mut segment = Segment::with_room(alloc, first, end.saturating_sub(first) as usize)?;
         for number in first..end {
             segment.push(unfilled(alloc, config, number)?)?;
         }
         Ok(segment)
     }
 
-    /// A segment with no buckets yet, and room for some.
-    pub(crate) fn with_room(alloc: Global, buckets: usize) -> Result<Segment, Memory> {
+    /// A segment with no buckets yet, and room for some from number `first` on.
+    pub(crate) fn with_room(alloc: Global, first: u32, buckets: usize) -> Result<Segment, Memory>
+        ensures { IfOk result (λ made. made ≡ record { first = first; count = 0 }) }
+    {
         Ok(Segment {
+            first,
             buckets: Vec::with_capacity(alloc, buckets)?,
         })
     }
 
-    /// Puts a bucket behind the others.
-    pub(crate) fn push(&mut self, bucket: PagedBucket) -> Result<(), Memory> {
+    /// Puts the bucket of the next number behind the others.
+    pub(crate) fn push(&mut self, bucket: PagedBucket) -> Result<(), Memory>
+        requires { bucket.head.number ≡ self.old.first + self.old.count }
+        ensures { OnOk result (self.new ≡ record self.old { count = self.old.count + 1 }) }
+    {
         self.buckets.push(RwLock::new(bucket))?;
         Ok(())
     }
 
     /// The lock of the bucket at a place, counted from 0, if there is one.
-    pub(crate) fn lock_at(&self, place: usize) -> Option<&RwLock<PagedBucket>> {
+    pub(crate) fn lock_at(&self, place: usize) -> Option<&RwLock<PagedBucket>>
+        ensures { place < self.now.count → IsSome result }
+    {
         self.buckets.get(place)
     }
 }

@@ -1,5 +1,7 @@
 //! The segments of a file, each made when a bucket of it is first wanted.
 ghost use Rattle.std.specs.Prelude.{◌≡◌, ◌<◌, IfErr};
+ghost use Rattle.std.specs.Box.{box_value};
+ghost use Rattle.lh_file.specs.Buckets.Segments.{segment_at};
 ghost use Rattle.lh_addr.specs.Settings.{IsInRange};
 ghost use Rattle.lh_file.specs.Calls.Served.{IsNotSpent};
 
@@ -84,7 +86,8 @@ impl Segments {
 
     /// Keeps a segment as segment `j`, unless there is one.
     pub(crate) fn keep(&self, j: usize, segment: Box<Segment>) -> &Segment
-        requires { j < 17 }
+        requires below { j < 17 }
+        requires whole { box_value segment ≡ segment_at self.now.config j }
     {
         self.cells[j].get_or_init(move || segment)
     }
