@@ -1,5 +1,5 @@
 // Preloaded into a program by .ci/hostile: refuses one of its requests, for memory, to read or to write, or all from
-// one on. REFUSE says which, as in "memory 5" and "memory 5..", and REFUSE_COUNT names a file of eight bytes in which
+// one on. REFUSE says which, as in "memory 5", "memory 5.." and "interrupt write 5", and REFUSE_COUNT names a file of eight bytes in which
 // the requests of that kind are counted.
 #include <errno.h>
 #include <fcntl.h>
@@ -14,14 +14,18 @@ void *__libc_malloc(size_t), *__libc_calloc(size_t, size_t), *__libc_realloc(voi
 
 static char kind;
 static long at;
-static int from;
+static int from, error = EIO;
 static long *count;
 
 __attribute__((constructor)) static void begin(void) {
     const char *order = getenv("REFUSE"), *file = getenv("REFUSE_COUNT");
     int fd = order && file ? open(file, O_RDWR) : -1;
     if (fd < 0) return;
-    at = atol(strchr(order, ' '));
+    at = atol(strrchr(order, ' '));
+    if (strncmp(order, "interrupt ", 10) == 0) {
+        error = EINTR;
+        order += 10;
+    }
     from = strstr(order, "..") != NULL;
     void *shared = mmap(NULL, sizeof *count, PROT_READ | PROT_WRITE, MAP_SHARED, fd, 0);
     close(fd);
@@ -49,7 +53,7 @@ void *realloc(void *block, size_t size) { return refused('m') ? no_memory() : __
 
 ssize_t read(int fd, void *bytes, size_t most) {
     if (refused('r')) {
-        errno = EIO;
+        errno = error;
         return -1;
     }
     return syscall(SYS_read, fd, bytes, most);
@@ -58,7 +62,7 @@ ssize_t read(int fd, void *bytes, size_t most) {
 ssize_t write(int fd, const void *bytes, size_t most) {
     // What is told on standard error is not refused.
     if (fd != 2 && refused('w')) {
-        errno = EIO;
+        errno = error;
         return -1;
     }
     return syscall(SYS_write, fd, bytes, most);
