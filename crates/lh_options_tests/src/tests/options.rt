@@ -268,7 +268,7 @@ fn subcommands_and_help(rt: HostRuntime) -> Result<(), AllocError> {
     let none = answer(&rt, ["lhash"].as_slice())?;
     assert_eq!(rt;
         none.as_str(),
-        "refused: 'lhash' requires a subcommand but one was not provided"
+        "refused: 'lhash' requires a subcommand but one was not provided; for more information, try '--help'"
     );
     let unknown = answer(&rt, ["lhash", "bogus"].as_slice())?;
     assert_eq!(rt;
