@@ -111,7 +111,7 @@ asked-is words name rows is =
 none-among : (k : ErrorKind) (kinds : Kinds) → IsAmong k kinds → kinds ≡ [] → ⊥
 none-among k kinds among none = subst (IsAmong k) none among
 
--- an error of clap's turns the words away, or is want of memory
+-- an error of clap's turns the words away, or says that memory ran out
 pub refusal-answers : (words : List Text) (e : Error) (r : Request) → HasKind (fault_of program_app words) e → IsRefusal (kind_of e) r → Answers words r
 unfolding Accepts AsksForHelp IsRefused
 refusal-answers words e (request.Help text) (inl memory) (inl h) = cc

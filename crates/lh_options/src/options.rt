@@ -280,7 +280,7 @@ fn first_line(alloc: Global, error: &Error) -> Result<String, AllocError> {
     Ok(reason)
 }
 
-/// What is left of words that clap does not take.
+/// What words ask for that clap doesn't accept: help or the version; otherwise they are refused.
 fn refusal(alloc: Global, error: &Error) -> Result<Request, AllocError>
     ensures { IfOk result (IsRefusal (kind_of error.now)) }
 {

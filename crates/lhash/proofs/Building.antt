@@ -69,7 +69,7 @@ pub unbuilt : (version : Version) (settings : Settings) (status : Status) (left 
 unbuilt version settings status None a h = tt
 unbuilt version settings status (Some input) a h = unread version settings status input a h
 
--- a run in which memory was wanting ends without a write
+-- a run that is out of memory ends without a write
 pub unbuilt_memory : (version : Version) (settings : Settings) (left a : Option (List ℕ)) →
     IfSome left (λ input. EndsBuilding version settings input Memory a a)
 unfolding EndsBuilding

@@ -73,7 +73,7 @@ no_steps settings (Device Write) input a h = absurd h
 no_steps settings Memory input a h = Keeps-refl a
 no_steps settings (NotSettled fault) input a h = absurd h
 
--- a run in which memory was wanting ends without a write
+-- a run that is out of memory ends without a write
 pub no_memory : (settings : Settings) (input : List ℕ) (a : Option (List ℕ)) → EndsSteps settings input Memory a a
 unfolding EndsSteps
 no_memory settings input a = Keeps-refl a

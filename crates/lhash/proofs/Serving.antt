@@ -21,7 +21,7 @@ pub served_as : {r asked : Request} → r ≡ asked → (status : Status) (left 
     Serves asked status left rest before now → Serves r status left rest before now
 served_as is status left rest before now = subst (λ (r : Request). Serves r status left rest before now) (sym is)
 
--- what ended for want of memory, with nothing written, ended in a way that allows it
+-- what ended out of memory, with nothing written, ended in a way that allows it
 unwritten : (EndsWith : Ending) (status : Status) (left before now : Option (List ℕ)) →
     ((input : List ℕ) → Keeps before now → EndsWith input Memory before now) → status ≡ Memory → Keeps before now →
     IfSome left (λ input. EndsWith input status before now)
@@ -41,7 +41,7 @@ below_asked words (Some name) named settings given below r is =
     ap (λ s. asked_by name s (number_given words (codes "threads")) (number_given words (codes "image"))) given in
     refused_alone name (number_given words (codes "threads")) (number_given words (codes "image")) settings r below (sym (one ∙ by) ∙ is)
 
--- a run for words that ask for one thing served it, or ended for want of memory
+-- a run for words that ask for one thing served it, or ran out of memory
 served : (words : List Text) (status : Status) (left rest before now : Option (List ℕ)) (name : Text) (r : Request) (EndsWith : Ending) →
     (Serves r status left rest before now → IfSome left (λ input. EndsWith input status before now)) →
     ((input : List ℕ) → Keeps before now → EndsWith input Memory before now) →
@@ -93,7 +93,7 @@ pub serves_drive : ServesFile (codes "drive") EndsDriving
 serves_drive words status left rest before now settings asks given within run =
     driven words status left rest before now settings (number_given words (codes "threads")) refl asks given within run
 
--- a run for words that ask for a subcommand which takes no settings served it, or ended for want of memory
+-- a run for words that ask for a subcommand which takes no settings served it, or ran out of memory
 serves_alone : (words : List Text) (status : Status) (left rest before now : Option (List ℕ)) (name : Text) (r : Request) (EndsWith : Ending)
     (settings : Option Settings) → settings_given words ≡ settings →
     (Serves r status left rest before now → IfSome left (λ input. EndsWith input status before now)) →

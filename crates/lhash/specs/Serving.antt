@@ -1,4 +1,4 @@
--- What became of the words that a run was given
+-- How a run answers its words
 use Rattle.std.specs.Prelude.{◌≡◌, ◌⊎◌, ℕ, ◌<◌, ◌≤◌, List, Option, Some, IfSome, Result, codes}
 use Rattle.std.specs.String.{string_bytes}
 use Rattle.std.specs.Io.KnownBytes.{Keeps}
@@ -44,7 +44,7 @@ Serves (Help text) status left rest before now = IsHelped status × Keeps left r
 Serves (Refused text) status left rest before now = (status ≡ Words text) × Keeps left rest × Keeps before now
 Serves MaxBelowInitial status left rest before now = IsWordsOf below_initial status × Keeps left rest × Keeps before now
 
--- what became of words that clap does not accept: they are refused and nothing was written, or they ask for help
+-- how a run answers words that clap does not accept: they are refused and nothing was written, or they ask for help
 abbrev pub IsTurnedAway : List Text → Status → Option (List ℕ) → Option (List ℕ) → Type 0
 IsTurnedAway words (Words text) before now = IsRefused words × Keeps before now
 IsTurnedAway words Memory before now = Keeps before now

@@ -18,7 +18,7 @@ pub fn steps_is_served()
 {}
 
 /// Words that ask for `build` have the image written, in the version that they give, of the file that the script's
-/// calls lead to; or they are told why it has none.
+/// calls lead to; or the reason why it has none.
 pub fn build_is_served()
     ensures { ServesBuild }
 {}

@@ -113,7 +113,7 @@ pub fn write_replies<W: Write>(
     write_all(writer, waiting.as_bytes())
 }
 
-/// Writes a line for what is told of each event.
+/// Writes a line for each event.
 pub fn write_entries<W: Write>(
     writer: &mut W,
     waiting: &mut String,
