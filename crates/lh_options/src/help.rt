@@ -17,6 +17,11 @@ pub const STEPS: Help = Help {
     example: "Example: lhash steps < steps.txt",
 };
 
+pub const REPLAY: Help = Help {
+    about: "Read a script of steps, and draw what became of each as an SVG",
+    example: "Example: lhash replay < steps.txt > steps.svg",
+};
+
 pub const BUILD: Help = Help {
     about: "Read a script of commands, and write the file that it leads to as an image",
     example: "Example: lhash build < script.txt > file.lhf",

@@ -10,6 +10,7 @@
 
 mod elements;
 mod lanes;
+pub mod laws;
 mod picture;
 mod shapes;
 mod words;

@@ -2,7 +2,7 @@
 //! `lhash` but its process.
 //!
 //! `lhash commands` reads a command script, answers its calls and writes their replies. `lhash
-//! steps` reads a step script, takes its steps and writes what is told of each. `lhash build` reads a
+//! steps` reads a step script, takes its steps and writes what is told of each; `lhash replay` draws them. `lhash build` reads a
 //! command script and writes the file that it leads to as an image; `lhash check` reads an image and
 //! writes what is counted of it, `lhash dump` its records, `lhash draw` a drawing. `lhash drive` makes the calls of a command
 //! script in threads that share one file, and writes what they did in all. `run` does it from words
@@ -19,6 +19,7 @@ mod images;
 pub mod laws;
 mod output;
 mod program;
+mod replay;
 mod status;
 mod unsettled;
 mod workers;
