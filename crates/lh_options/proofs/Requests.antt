@@ -121,6 +121,7 @@ refusal-answers words e (request.Refused text) (inl memory) h = absurd (h.1 memo
 refusal-answers words e (request.Refused text) (inr among) h = inr (none-among (kind_of e) _ among, (kind_of e, among, h.0))
 refusal-answers words e (request.Commands config) among h = absurd h
 refusal-answers words e (request.Steps config) among h = absurd h
+refusal-answers words e (request.Replay config) among h = absurd h
 refusal-answers words e (request.Build config version) among h = absurd h
 refusal-answers words e (request.Drive config threads) among h = absurd h
 refusal-answers words e request.Check among h = absurd h

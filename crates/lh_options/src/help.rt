@@ -17,6 +17,11 @@ pub const STEPS: Help = Help {
     example: "Example: lhash steps --initial 3 < steps.txt",
 };
 
+pub const REPLAY: Help = Help {
+    about: "Read a script of steps, and draw the effect of each as an SVG",
+    example: "Example: lhash replay --initial 3 < steps.txt > steps.svg",
+};
+
 pub const BUILD: Help = Help {
     about: "Read a script of commands, and write the resulting file as an image",
     example: "Example: lhash build --capacity 2 < script.txt > file.lhf",

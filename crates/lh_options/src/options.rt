@@ -5,7 +5,7 @@ ghost use Rattle.clap.specs.Words.{found_of, kind_of, new_app, rows_of, rule_of}
 ghost use Rattle.lh_options.specs.Options.{Answers, IsMaxBelowInitial, IsServable, number_in, build_app, drive_app, option_rule, version_of, root_app, scripts_app, program_app, with_settings};
 ghost use Rattle.lh_options.specs.OptionSteps.{HasNumber, HasSettings, HasImage, HasThreads, IsFileCommand, IsImageCommand, IsRefusal, Reads, asked_in, settings_in};
 
-use crate::help::{BUILD, CHECK, COMMANDS, DRAW, DRIVE, DUMP, Help, MIGRATE, STEPS};
+use crate::help::{BUILD, CHECK, COMMANDS, DRAW, DRIVE, DUMP, Help, MIGRATE, REPLAY, STEPS};
 use clap::error::ErrorKind;
 use clap::{Arg, ArgAction, ArgMatches, Command, Error};
 use lh_addr::limits::{
@@ -42,6 +42,8 @@ pub enum Request {
     Commands(Config),
     /// The subcommand `steps`, with the configuration that its options give.
     Steps(Config),
+    /// The subcommand `replay`, with the configuration that its options give.
+    Replay(Config),
     /// The subcommand `build`, with the configuration and the version of the image that its options give.
     Build(Config, ImageVersion),
     /// The subcommand `check`.
@@ -180,6 +182,7 @@ fn with_scripts<'a>(alloc: Global) -> Result<Command<'a>, AllocError>
     root(alloc)
         .subcommand(file_command(alloc, "commands", COMMANDS)?)?
         .subcommand(file_command(alloc, "steps", STEPS)?)?
+        .subcommand(file_command(alloc, "replay", REPLAY)?)?
         .subcommand(build_command(alloc)?)
 }
 
@@ -263,6 +266,10 @@ fn asked(name: &str, matches: &ArgMatches<'_>) -> Request
         "migrate" => Request::Migrate,
         "drive" => match config_of(matches) {
             Some(config) => Request::Drive(config, number(matches, "threads")),
+            None => Request::MaxBelowInitial,
+        },
+        "replay" => match config_of(matches) {
+            Some(config) => Request::Replay(config),
             None => Request::MaxBelowInitial,
         },
         _ => unreachable!(),

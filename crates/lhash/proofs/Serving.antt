@@ -1,18 +1,17 @@
 -- What follows of a run for the words of each kind
-use Rattle.std.proofs.Common.{◌≡◌, ◌∙◌, ◌⊎◌, ℕ, ◌<◌, ◌≤◌, List, Option, None, Some, IfSome, Result, inl, inr, refl, sym, ap, subst, codes}
+use Rattle.std.proofs.Common.{◌≡◌, ◌∙◌, ℕ, ◌<◌, ◌≤◌, List, Option, None, Some, IfSome, inl, inr, refl, sym, ap, subst, codes}
 use Rattle.std.specs.Prelude.{option_and_then, option_map}
 use Rattle.std.specs.Io.KnownBytes.{Keeps}
 use Rattle.lh_addr.specs.Settings.{Settings}
-use Rattle.lh_options.specs.Options.{Accepts, Answers, Asks, AsksForHelp, IsTurned, Text, asked_by, asked_for, number_given, settings_given, subcommand_named, version_of}
-use Rattle.lh_options.proofs.Asking.{asked_named, build, commands, drive, refused_alone, steps, undriven}
+use Rattle.lh_options.specs.Options.{Asks, AsksForHelp, IsTurned, Text, asked_by, asked_for, number_given, settings_given, subcommand_named, version_of}
+use Rattle.lh_options.proofs.Asking.{asked_named, build, commands, drive, refused_alone, replay, steps, undriven}
 use Rattle.lh_options.specs.declared.options.Request.{Request}
 use Rattle.lh_options.specs.declared.options.Request.TheVariants as request
 use Rattle.lhash.specs.Driving.{EndsDriving}
 use Rattle.lhash.specs.Images.{EndsBuilding, check_due, draw_due, dump_due, migrate_due, version_asked}
-use Rattle.lhash.specs.Run.{Ends, EndsSteps, commands_due}
+use Rattle.lhash.specs.Run.{EndsReplay, EndsSteps}
 use Rattle.lhash.specs.Serving.{Ending, EndsCommands, EndsTold, IsHelped, IsRun, IsTurnedAway, IsWordsOf, RefusesBelow, Serves, ServesBuild, ServesFile, ServesImage, TurnsAway, below_initial}
 use Rattle.lhash.specs.declared.status.DeviceFault.TheVariants.{Read, Write}
-use Rattle.lhash.specs.declared.status.InputFault.{InputFault}
 use Rattle.lhash.specs.declared.status.Status.{Status}
 use Rattle.lhash.specs.declared.status.Status.TheVariants.{Done, Input, Words, Device, Memory, NotSettled}
 
@@ -64,6 +63,12 @@ unfolding EndsSteps
 serves_steps words status left rest before now settings asks given within run =
     served words status left rest before now (codes "steps") (request.Steps settings) (EndsSteps settings)
     (λ h. h) (λ input keeps. keeps) asks (steps (codes "steps") _ _ _ settings refl given within) run
+
+pub serves_replay : ServesFile (codes "replay") EndsReplay
+unfolding EndsReplay
+serves_replay words status left rest before now settings asks given within run =
+    served words status left rest before now (codes "replay") (request.Replay settings) (EndsReplay settings)
+    (λ h. h) (λ input keeps. keeps) asks (replay (codes "replay") _ _ _ settings refl given within) run
 
 pub serves_build : ServesBuild
 unfolding EndsBuilding
@@ -161,6 +166,7 @@ turned words (request.Refused text) status left rest before now is serves =
     (subst (λ (s : Status). IsTurnedAway words s before now) (sym serves.0) (is, serves.2), serves.1)
 turned words (request.Commands config) status left rest before now is serves = absurd is
 turned words (request.Steps config) status left rest before now is serves = absurd is
+turned words (request.Replay config) status left rest before now is serves = absurd is
 turned words (request.Build config image) status left rest before now is serves = absurd is
 turned words (request.Drive config threads) status left rest before now is serves = absurd is
 turned words request.Check status left rest before now is serves = absurd is

@@ -72,7 +72,7 @@ fn is_want_of_memory(entry: &Result<Effect, Refusal>) -> bool
 }
 
 /// Whether memory ran out at one of some events.
-fn wanted_memory(entries: &[Result<Effect, Refusal>]) -> bool
+pub fn wanted_memory(entries: &[Result<Effect, Refusal>]) -> bool
     ensures { result ≡ list_any is_want entries.now }
 {
     entries.iter().any(|entry| is_want_of_memory(entry))

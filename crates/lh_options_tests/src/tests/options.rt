@@ -9,7 +9,9 @@ use std::process::Abort;
 fn answer(rt: &(impl Abort + AllocGlobal), words: &[&str]) -> Result<String, AllocError> {
     let alloc = rt.alloc();
     match request_of(alloc, words)? {
-        Request::Commands(config) | Request::Steps(config) => settings(rt, &config),
+        Request::Commands(config) | Request::Steps(config) | Request::Replay(config) => {
+            settings(rt, &config)
+        }
         Request::Build(config, version) => {
             let settings = settings(rt, &config)?;
             let version = match version {
