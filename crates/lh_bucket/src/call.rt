@@ -1,4 +1,4 @@
-//! What a caller asks of a file, and what it is told.
+//! Calls and replies.
 ghost use Rattle.std.specs.Prelude.{◌≡◌};
 ghost use Rattle.lh_bucket.specs.Call.{key_of, is_search, is_insert};
 

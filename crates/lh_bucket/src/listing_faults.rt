@@ -34,7 +34,7 @@ fn away_in(root: &Root, bucket: u32, pairs: &[Pair]) -> Option<usize>
     None
 }
 
-/// Lists of so many records at most are searched record by record, which takes no memory.
+/// Lists of at most this many records are searched record by record, which takes no memory.
 const FEW: usize = 32;
 
 /// Whether the key at a place stands before it too.
@@ -130,7 +130,7 @@ fn again_in(alloc: Global, pairs: &[Pair]) -> Result<Option<usize>, Memory>
     Ok(None)
 }
 
-/// The first key that stands twice, or want of memory to look for it: as found in the lists before this one,
+/// The first key that stands twice, or out of memory to look for it: as found in the lists before this one,
 /// else in this one.
 fn twice_by(
     alloc: Global,
@@ -153,8 +153,8 @@ fn twice_by(
     }
 }
 
-/// The first reason why so many lists are no listing. Each list is looked through once, while it is at hand:
-/// a key that stands twice is kept in mind, since a misplaced record behind it is told before it.
+/// The first reason why these lists are no listing. Each list is looked through once, while it is at hand:
+/// a key that stands twice is kept in mind, since a misplaced record behind it comes before it.
 pub(crate) fn first_fault(alloc: Global, root: &Root, lists: &[Vec<Pair>]) -> Option<ListingFault>
     requires { length lists.now ≤ most_buckets }
     ensures home { IfNone result (EachPlace (IsHome root.now.initial root.now.buckets) (map (λ v. v.items) lists.now)) }

@@ -8,7 +8,7 @@ use Rattle.lh_core.specs.declared.effect.Refusal.{Refusal}
 use Rattle.lh_core.specs.declared.event.Event.{Event}
 use Rattle.lh_core.specs.declared.event.Event.TheVariants as event
 
--- what is told of an event: its effect, or why it is refused
+-- an event's effect, or why it is refused
 abbrev pub Entry : Type 0
 Entry = Result Effect Refusal
 

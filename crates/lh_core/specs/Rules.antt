@@ -1,4 +1,4 @@
--- The rules of the steps: which event a state allows, its effect, and the state that it leads to
+-- The rules of the steps: which event a state allows, its effect, and the next state
 use Rattle.std.specs.Prelude.{ℕ, ◌+◌, Option, Some, None, Result, Ok, Err, ◌==◌, if◌then◌else◌, nat_lt, slice_get}
 use Rattle.lh_addr.specs.Fnv.{code_of}
 use Rattle.lh_addr.specs.Growth.{address, level_of, hash_at}

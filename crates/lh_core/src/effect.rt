@@ -1,4 +1,4 @@
-//! What is told of an event.
+//! Effects of events, and refusals.
 
 use lh_bucket::Reply;
 use thiserror::Error;
@@ -26,7 +26,7 @@ pub enum Effect {
     Moved { old: u32, new: u32 },
     /// The splitter holds nothing.
     Freed,
-    /// The split is done, and the file has so many buckets.
+    /// The split is done, and the file has this number of buckets.
     Point { buckets: u32 },
     /// The split was given up.
     Dropped,
@@ -53,8 +53,8 @@ pub enum Refusal {
     /// The file has its greatest number of buckets (C6).
     #[error("the file is full")]
     FileFull,
-    /// A growth was refused (C7). Only the act of an insert and the moving of a split's records may
-    /// be refused so. The same event once more may be accepted.
+    /// Memory ran out (C7), as it may for the act of an insert and for the moving of a split's records
+    /// alone. The same event once more may be accepted.
     #[error("no memory")]
     Memory,
 }

@@ -15,7 +15,7 @@ pub enum Event {
     Rehash(u8),
     /// A worker serves its call at the bucket that it holds.
     Act(u8),
-    /// A worker lets its bucket go and is idle again. Before its act it so gives its call up.
+    /// A worker lets its bucket go and is idle again. Before its act that gives up its call.
     Release(u8),
     /// The splitter takes the right to split.
     SplitBegin,

@@ -9,7 +9,7 @@ use lh_addr::Config;
 use lh_bucket::{Bucket, Memory};
 use std::alloc::Global;
 
-/// What a list of events was told, an entry for each, and the world that it left.
+/// The entries of a list of events, one for each, and the world that it left.
 #[derive(Drop)]
 pub struct Ran<B: Bucket> {
     pub entries: Vec<Result<Effect, Refusal>>,
@@ -37,8 +37,8 @@ impl<B: Bucket> World<B> {
 
 /// Runs a list of events, sensible or not, on an empty file of this configuration.
 ///
-/// A refused event is an entry, also where it is refused for want of memory; it changes nothing. The
-/// error of the call itself means that there was no memory for the empty file or for the entries.
+/// A refused event is an entry, also where memory ran out for it; it changes nothing. The error of the
+/// call itself means that there was no memory for the empty file or for the entries.
 pub fn run<B: Bucket>(alloc: Global, config: Config, events: &[Event]) -> Result<Ran<B>, Memory>
     ensures { IfOk result (λ ran. IsHeadline config events.now ran.entries.items ran.world) }
 {

@@ -15,7 +15,7 @@ use lh_addr::Config;
 use lh_bucket::{Bucket, Call, Memory, Reply};
 use std::alloc::Global;
 
-/// What calls were told, a reply for each, and the world that they left.
+/// The replies to calls, one for each, and the world that they left.
 #[derive(Drop)]
 pub struct SerialRan<B: Bucket> {
     pub replies: Vec<Reply>,
@@ -36,7 +36,7 @@ fn count_after(records: u64, reply: &Reply) -> u64
 }
 
 impl<B: Bucket> World<B> {
-    /// Takes a step that the rules allow: only memory may be wanting.
+    /// Takes a step that the rules allow, so that only memory may run out.
     fn take(&mut self, event: Event) -> Result<Effect, Memory>
         requires { IsOk (allowed self.old.config self.old.state event) }
         ensures { IfOk result (λ effect. IsStep self.old event (Ok effect) self.new) }
@@ -82,7 +82,7 @@ impl<B: Bucket> World<B> {
         Ok(())
     }
 
-    /// Whether the split policy wants a split after a reply that left so many records.
+    /// Whether the split policy wants a split after a reply that left this number of records.
     fn wants(&self, reply: &Reply, records: u64) -> bool
         ensures value { result ≡ grows_after self.now.config records self.now.state.buckets reply.now }
         ensures room { IsTrue result → self.now.state.buckets < self.now.config.max }
@@ -138,8 +138,8 @@ impl<B: Bucket> World<B> {
 /// Serves calls one after another on an empty file of this configuration, which grows by the split
 /// policy.
 ///
-/// Each call takes the five steps of one worker, and each split the five of the splitter. Memory is
-/// all that can be wanting: then there are no replies.
+/// Each call takes the five steps of one worker, and each split the five of the splitter. It fails only
+/// where memory runs out.
 pub fn serial<B: Bucket>(
     alloc: Global,
     config: Config,

@@ -22,8 +22,8 @@ use lh_bucket::{Bucket, Memory};
 use std::alloc::Global;
 use std::marker::Model;
 
-/// A linear hash file, sixteen workers and one splitter. Nothing waits here: whoever asks for a step
-/// that the state does not allow is told so.
+/// A linear hash file, sixteen workers and one splitter. Nothing waits here: a step that the
+/// state does not allow is refused.
 #[derive(Drop)]
 pub struct World<B: Bucket> {
     pub(crate) control: Control,

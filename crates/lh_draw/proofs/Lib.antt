@@ -1,2 +1,3 @@
 pub mod ColumnPlaces
+pub mod Meanings
 pub mod Tallies

@@ -1,6 +1,6 @@
--- What is drawn of a file: a column for each bucket, or for each group of buckets where there are many
-use Rattle.std.specs.Prelude.{ℕ, zero, suc, ◌+◌, ◌-◌, ◌*◌, ◌/◌, min, max, if◌then◌else◌, List, [], ◌++◌, length}
-use Rattle.lh_addr.specs.Growth.{level, pointer}
+-- What is drawn of a file: a column for each bucket, or for each group of buckets where there are many; Meaning.antt says what that means
+use Rattle.std.specs.Prelude.{ℕ, zero, suc, ◌+◌, ◌-◌, ◌*◌, ◌/◌, min, max, if◌then◌else◌, List, [], ◌++◌, length, Option, None, Some}
+use Rattle.lh_addr.specs.Growth.{level, level_of, pointer}
 use Rattle.lh_bucket.specs.Listing.{Lists, size, list_at}
 use Rattle.lh_draw.specs.Columns.{bar_width, centre, chain_length, column_count, end_bucket, first_bucket, group_size, is_detailed, is_next_level, label_step, left, lists_between, tally_of, whole_tally}
 use Rattle.lh_draw.specs.DrawingTexts.{bar_text, canvas_text, caption_text, cuts_text, label_text, legend_text, mark_text, more_text, plot_text, title_text}
@@ -24,9 +24,9 @@ part_of height used slots = height * used / slots
 abbrev pub load_of : ℕ → ℕ → ℕ → ℕ
 load_of records slots most = min (40 * records / slots) most
 
--- the floor is below the title and the longest chain, of which 24 pages are drawn
+-- the floor is below the title and the longest chain, of which 24 pages are drawn and a number stands for the others
 abbrev pub floor_of : ℕ → ℕ
-floor_of longest = 92 + 40 * min longest 24
+floor_of longest = 92 + 40 * min longest 25
 
 unfoldable pub canvas_of : Lists → Canvas
 canvas_of l = record {
@@ -45,10 +45,14 @@ title_of l = record {
   longest = (whole_tally l).longest;
 }
 
+-- the level above the file's, where buckets have it: bucket 0 is the first that a split gives it to
+unfoldable pub level_above : Lists → Option ℕ
+level_above l = if is_next_level l 0 then Some (level_of l.config.initial (size l) 0) else None
+
 unfoldable pub legend_of : Lists → Legend
 legend_of l = record {
   level = level l.config.initial (size l);
-  next = level l.config.initial (size l) + 1;
+  next = level_above l;
   group = group_size (size l);
 }
 
@@ -111,10 +115,10 @@ mark_of l =
 
 -- ---- the drawing
 
--- the texts of the numbers below n, one after another
-unfoldable pub in_turn : (ℕ → List ℕ) → ℕ → List ℕ
-in_turn text zero = []
-in_turn text (suc n) = in_turn text n ++ text n
+-- the items of the numbers below n, one after another
+unfoldable pub in_turn : {A : Type 0} → (ℕ → List A) → ℕ → List A
+in_turn items zero = []
+in_turn items (suc n) = in_turn items n ++ items n
 
 -- a bucket's pages from the floor up, and how many more there are
 unfoldable pub chain_text : Lists → ℕ → List ℕ

@@ -1,5 +1,5 @@
 -- The elements of a drawing as SVG text
-use Rattle.std.specs.Prelude.{ℕ, ◌-◌, Bool, true, false, nat_le, if◌then◌else◌, List, [], ◌++◌, codes}
+use Rattle.std.specs.Prelude.{ℕ, ◌-◌, Bool, true, false, nat_le, if◌then◌else◌, List, [], ◌++◌, Option, None, Some, codes}
 use Rattle.std.specs.Fmt.{decimal}
 use Rattle.lh_draw.specs.declared.elements.Canvas.{Canvas}
 use Rattle.lh_draw.specs.declared.elements.Title.{Title}
@@ -13,45 +13,57 @@ use Rattle.lh_draw.specs.declared.bars.Cuts.{Cuts}
 use Rattle.lh_draw.specs.declared.elements.Label.{Label}
 use Rattle.lh_draw.specs.declared.elements.Mark.{Mark}
 
--- the drawing's beginning, and its white ground
+-- the drawing's beginning
 unfoldable pub canvas_text : Canvas → List ℕ
 canvas_text c =
-    codes "<svg xmlns='http://www.w3.org/2000/svg' viewBox='0 0 " ++ (decimal c.width ++ (codes " " ++ (
-    decimal c.height ++ (codes "' font-family='sans-serif' font-size='12' fill='#333333'>\n<rect width='" ++ (
-    decimal c.width ++ (codes "' height='" ++ (decimal c.height ++ codes "' fill='#ffffff'/>\n")))))))
+    codes "<svg xmlns='http://www.w3.org/2000/svg' width='" ++ (decimal c.width ++ (codes "' height='" ++ (
+    decimal c.height ++ (codes "' viewBox='0 0 " ++ (decimal c.width ++ (codes " " ++ (decimal c.height ++
+    codes "' role='img' aria-labelledby='title desc' font-family='sans-serif' font-size='12' fill='#333333'>\n")))))))
 
 -- the file's numbers
+unfoldable pub numbers_text : Title → List ℕ
+numbers_text t =
+    codes "buckets " ++ (decimal t.buckets ++ (codes ", level " ++ (decimal t.level ++ (codes ", pointer " ++ (
+    decimal t.pointer ++ (codes ", records " ++ (decimal t.records ++ (codes ", pages " ++ (decimal t.pages ++ (
+    codes ", longest chain " ++ decimal t.longest))))))))))
+
+-- the drawing's title, and the same as a line of text on a white ground
 unfoldable pub title_text : Title → List ℕ
 title_text t =
-    codes "<text x='24' y='24'>buckets " ++ (decimal t.buckets ++ (codes ", level " ++ (decimal t.level ++ (
-    codes ", pointer " ++ (decimal t.pointer ++ (codes ", records " ++ (decimal t.records ++ (codes ", pages " ++ (
-    decimal t.pages ++ (codes ", longest chain " ++ (decimal t.longest ++ codes "</text>\n")))))))))))
+    codes "<title id='title'>Linear hash file: " ++ (numbers_text t ++ (
+    codes "</title>\n<rect width='100%' height='100%' fill='#ffffff'/>\n<text x='24' y='24'>" ++ (numbers_text t ++ codes "</text>\n")))
 
--- a square in the colour of each local level, and the number of buckets in a column
+-- a square in the colour of each level that buckets have, and the number of buckets in a column
+abbrev pub legend_of_levels : ℕ → Option ℕ → ℕ → List ℕ
+legend_of_levels level (Some next) group =
+    codes "<path fill='#0072b2' d='M24 50v-12h12v12z'/><text x='42' y='48'>level " ++ (decimal level ++ (
+    codes "</text><path fill='#e69f00' d='M104 50v-12h12v12z'/><text x='122' y='48'>level " ++ (decimal next ++ (
+    codes "</text><text x='184' y='48'>buckets in a column: " ++ (decimal group ++ codes "</text>\n")))))
+legend_of_levels level None group =
+    codes "<path fill='#0072b2' d='M24 50v-12h12v12z'/><text x='42' y='48'>level " ++ (decimal level ++ (
+    codes "</text><text x='104' y='48'>buckets in a column: " ++ (decimal group ++ codes "</text>\n")))
+
 unfoldable pub legend_text : Legend → List ℕ
-legend_text l =
-    codes "<path fill='#4477aa' d='M24 50v-12h12v12z'/><path fill='#ddaa33' d='M104 50v-12h12v12z'/><text x='42' y='48'>level " ++ (
-    decimal l.level ++ (codes "</text><text x='122' y='48'>level " ++ (decimal l.next ++ (
-    codes "</text><text x='184' y='48'>buckets in a column: " ++ (decimal l.group ++ codes "</text>\n")))))
+legend_text l = legend_of_levels l.level l.next l.group
 
--- what a column shows
+-- what a column shows: the drawing's description, and a line of text
 unfoldable pub caption_text : Caption → List ℕ
 caption_text c =
     if c.is_detailed
-    then codes "<text x='24' y='68'>a box is a page, coloured as far as its slots are used</text>\n"
-    else codes "<text x='24' y='68'>a column is as high as the longest chain of its buckets, and coloured as far as one of them is used on average</text>\n"
+    then codes "<desc id='desc'>Columns of boxes, one for each bucket, blue at the level of the file and orange one above: a box is a page, coloured as far as its slots are used. A triangle marks the bucket that splits next.</desc>\n<text x='24' y='68'>a box is a page, coloured as far as its slots are used</text>\n"
+    else codes "<desc id='desc'>Columns, one for each group of buckets, blue at the level of the file and orange one above: a column is as high as its longest chain, and coloured as far as its buckets are used on average. A triangle marks the bucket that splits next.</desc>\n<text x='24' y='68'>a column is as high as its longest chain, 24 pages at most, and coloured as far as its buckets are used on average</text>\n"
 
 -- the columns' origin, where the floor meets the first of them
 unfoldable pub plot_text : Plot → List ℕ
 plot_text p =
     codes "<g transform='translate(24 " ++ (decimal p.floor ++ codes ")'>\n")
 
--- blue for the file's level and yellow for the next one, pale where slots are free
+-- blue for the file's level and orange for the next one, pale where slots are free
 abbrev pub colour_of : Bool → Bool → List ℕ
-colour_of true true = codes "#ddaa33"
-colour_of true false = codes "#f4e6c6"
-colour_of false true = codes "#4477aa"
-colour_of false false = codes "#cbd8e6"
+colour_of true true = codes "#e69f00"
+colour_of true false = codes "#f8e2b3"
+colour_of false true = codes "#0072b2"
+colour_of false false = codes "#b3d5e8"
 
 -- a rectangle on its foot
 unfoldable pub part_text : Part → List ℕ
@@ -67,11 +79,12 @@ bar_text b =
     ++ (part_text (record { left = b.left; foot = b.foot; width = b.width; height = b.used; is_next = b.is_next; is_used = true })
     ++ codes "\n")
 
--- the pages beyond 24, if there are more
+-- the pages beyond 24, if there are more: a number that stands upright above the chain
 unfoldable pub more_text : More → List ℕ
 more_text m =
     if nat_le m.pages 24 then []
-    else (codes "<text x='" ++ (decimal m.centre ++ (codes "' y='-964' text-anchor='middle'>+" ++ (decimal (m.pages - 24) ++ codes "</text>\n"))))
+    else (codes "<text transform='translate(" ++ (decimal m.centre ++ (codes " -964)rotate(-90)' dy='3' font-size='8'>+" ++ (
+    decimal (m.pages - 24) ++ codes "</text>\n"))))
 
 -- white lines across all columns, 40 apart: a broad dashed line from the top to the floor
 unfoldable pub cuts_text : Cuts → List ℕ

@@ -1,3 +1,4 @@
 pub mod Columns
 pub mod Drawing
 pub mod DrawingTexts
+pub mod Meaning

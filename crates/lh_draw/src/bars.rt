@@ -5,14 +5,15 @@ ghost use Rattle.lh_draw.specs.DrawingTexts.{bar_text, colour_of, cuts_text, mor
 use std::fmt;
 
 /// The colour of a bucket that was split at the file's level or came of such a split, or of another;
-/// for slots in use or free ones.
+/// for slots in use or free ones. The orange and the blue are two that colour-blind readers can tell apart (Okabe and
+/// Ito, "Color Universal Design", 2002), and free slots have three parts of ten of them on white.
 fn colour_of(is_next: bool, is_used: bool) -> &'static str
     ensures { result.now ≡ colour_of is_next is_used }
 {
     if is_next {
-        if is_used { "#ddaa33" } else { "#f4e6c6" }
+        if is_used { "#e69f00" } else { "#f8e2b3" }
     } else {
-        if is_used { "#4477aa" } else { "#cbd8e6" }
+        if is_used { "#0072b2" } else { "#b3d5e8" }
     }
 }
 
@@ -93,7 +94,8 @@ impl fmt::Display for Bar {
     }
 }
 
-/// How many pages a chain has beyond the 24 that are drawn, if it has more.
+/// How many pages a chain has beyond the 24 that are drawn, if it has more: a number that stands upright, so that it is
+/// no broader than the column.
 #[derive(Clone, Copy)]
 pub struct More {
     pub centre: u32,
@@ -112,7 +114,7 @@ impl fmt::Display for More {
         let beyond = self.pages - 24;
         write!(
             f,
-            "<text x='{centre}' y='-964' text-anchor='middle'>+{beyond}</text>\n"
+            "<text transform='translate({centre} -964)rotate(-90)' dy='3' font-size='8'>+{beyond}</text>\n"
         )
     }
 }

@@ -1,8 +1,8 @@
 //! The parts of a drawing, made of what is counted of a file.
-ghost use Rattle.std.specs.Prelude.{◌≡◌, ◌+◌, ◌*◌, ◌/◌, ◌^◌, ◌<◌, ◌≤◌, min};
+ghost use Rattle.std.specs.Prelude.{◌≡◌, ◌+◌, ◌*◌, ◌/◌, ◌^◌, ◌<◌, ◌≤◌, IfSome, min};
 ghost use Rattle.lh_bucket.specs.Listing.{IsListing, list_at, size};
 ghost use Rattle.lh_draw.specs.Columns.{chain_length, column_count, is_next_level, whole_tally};
-ghost use Rattle.lh_draw.specs.Drawing.{canvas_of, cuts_of, floor_of, group_bar, label_count, label_of, legend_of, load_of, mark_of, more_of, page_bar, part_of, title_of};
+ghost use Rattle.lh_draw.specs.Drawing.{canvas_of, cuts_of, floor_of, group_bar, label_count, label_of, legend_of, level_above, load_of, mark_of, more_of, page_bar, part_of, title_of};
 
 use crate::bars::{Bar, Cuts, More};
 use crate::elements::{Canvas, Label, Legend, Mark, Title};
@@ -49,12 +49,13 @@ pub fn whole_tally(listing: &Listing) -> Tally
     counted_between(listing, 0, listing.buckets())
 }
 
-/// Where the floor is, below the title and the longest chain that is drawn.
+/// Where the floor is, below the title and the longest chain that is drawn, with its number above it where it has more
+/// pages.
 pub fn floor_of(longest: usize) -> u32
     ensures value { result ≡ floor_of longest }
     ensures high { result ≤ 1100 }
 {
-    92 + 40 * longest.min(24) as u32
+    92 + 40 * longest.min(25) as u32
 }
 
 /// What is drawn on.
@@ -86,14 +87,28 @@ pub fn title_of(listing: &Listing, tally: &Tally) -> Title
     }
 }
 
+/// The level above the file's, where buckets have it: bucket 0 is the first that a split gives it to.
+fn level_above(listing: &Listing) -> Option<u8>
+    ensures value { result ≡ level_above listing.now }
+    ensures most { IfSome result (λ level. level ≤ 16) }
+{
+    let first = listing.root().level_of(0);
+    if is_next_level(listing, 0) {
+        Some(first)
+    } else {
+        None
+    }
+}
+
 /// The legend of a drawing.
 pub fn legend_of(listing: &Listing) -> Legend
-    ensures { result ≡ legend_of listing.now }
+    ensures value { result ≡ legend_of listing.now }
+    ensures most { IfSome result.next (λ level. level ≤ 16) }
 {
     let level = listing.root().level();
     Legend {
         level,
-        next: level + 1,
+        next: level_above(listing),
         group: group_size(listing.buckets()),
     }
 }

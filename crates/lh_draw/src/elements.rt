@@ -1,10 +1,10 @@
 //! What stands around the bars of a drawing, each element as the SVG text that a type displays.
 ghost use Rattle.std.specs.Prelude.{Some};
-ghost use Rattle.lh_draw.specs.DrawingTexts.{canvas_text, caption_text, label_text, legend_text, mark_text, plot_text, title_text};
+ghost use Rattle.lh_draw.specs.DrawingTexts.{canvas_text, caption_text, label_text, legend_text, mark_text, numbers_text, plot_text, title_text};
 
 use std::fmt;
 
-/// What is drawn on.
+/// What is drawn on. Its title and its description name it to readers who don't see it.
 #[derive(Clone, Copy)]
 pub struct Canvas {
     pub width: u32,
@@ -19,12 +19,12 @@ impl fmt::Display for Canvas {
         let Canvas { width, height } = *self;
         write!(
             f,
-            "<svg xmlns='http://www.w3.org/2000/svg' viewBox='0 0 {width} {height}' font-family='sans-serif' font-size='12' fill='#333333'>\n<rect width='{width}' height='{height}' fill='#ffffff'/>\n"
+            "<svg xmlns='http://www.w3.org/2000/svg' width='{width}' height='{height}' viewBox='0 0 {width} {height}' role='img' aria-labelledby='title desc' font-family='sans-serif' font-size='12' fill='#333333'>\n"
         )
     }
 }
 
-/// The numbers of a file, in words.
+/// The numbers of a file, as the drawing's title and as a line of text on the white ground.
 #[derive(Clone, Copy)]
 pub struct Title {
     pub buckets: u32,
@@ -40,6 +40,25 @@ impl fmt::Display for Title {
 
     #[tactic(auto, unfolding(crate::specs::DrawingTexts::title_text))]
     fn fmt<W: fmt::Write>(&self, f: &mut fmt::Formatter<W>) -> fmt::Result {
+        let numbers = Numbers { title: *self };
+        write!(
+            f,
+            "<title id='title'>Linear hash file: {numbers}</title>\n<rect width='100%' height='100%' fill='#ffffff'/>\n<text x='24' y='24'>{numbers}</text>\n"
+        )
+    }
+}
+
+/// What a title says.
+#[derive(Clone, Copy)]
+struct Numbers {
+    title: Title,
+}
+
+impl fmt::Display for Numbers {
+    ghost output = { λ numbers. Some (numbers_text numbers.title) };
+
+    #[tactic(auto, unfolding(crate::specs::DrawingTexts::numbers_text))]
+    fn fmt<W: fmt::Write>(&self, f: &mut fmt::Formatter<W>) -> fmt::Result {
         let Title {
             buckets,
             level,
@@ -47,19 +66,20 @@ impl fmt::Display for Title {
             records,
             pages,
             longest,
-        } = *self;
+        } = self.title;
         write!(
             f,
-            "<text x='24' y='24'>buckets {buckets}, level {level}, pointer {pointer}, records {records}, pages {pages}, longest chain {longest}</text>\n"
+            "buckets {buckets}, level {level}, pointer {pointer}, records {records}, pages {pages}, longest chain {longest}"
         )
     }
 }
 
-/// What the two colours stand for, and how many buckets a column shows.
+/// What the two colours stand for, and how many buckets a column shows. `next` is the level above the file's, where
+/// there are buckets of it.
 #[derive(Clone, Copy)]
 pub struct Legend {
     pub level: u8,
-    pub next: u8,
+    pub next: Option<u8>,
     pub group: u32,
 }
 
@@ -69,14 +89,21 @@ impl fmt::Display for Legend {
     #[tactic(auto, unfolding(crate::specs::DrawingTexts::legend_text))]
     fn fmt<W: fmt::Write>(&self, f: &mut fmt::Formatter<W>) -> fmt::Result {
         let Legend { level, next, group } = *self;
-        write!(
-            f,
-            "<path fill='#4477aa' d='M24 50v-12h12v12z'/><path fill='#ddaa33' d='M104 50v-12h12v12z'/><text x='42' y='48'>level {level}</text><text x='122' y='48'>level {next}</text><text x='184' y='48'>buckets in a column: {group}</text>\n"
-        )
+        match next {
+            Some(next) => write!(
+                f,
+                "<path fill='#0072b2' d='M24 50v-12h12v12z'/><text x='42' y='48'>level {level}</text><path fill='#e69f00' d='M104 50v-12h12v12z'/><text x='122' y='48'>level {next}</text><text x='184' y='48'>buckets in a column: {group}</text>\n"
+            ),
+            None => write!(
+                f,
+                "<path fill='#0072b2' d='M24 50v-12h12v12z'/><text x='42' y='48'>level {level}</text><text x='104' y='48'>buckets in a column: {group}</text>\n"
+            ),
+        }
     }
 }
 
-/// What a column shows: the pages of one bucket, or what a group of buckets has.
+/// What a column shows, as the drawing's description and as a line of text: the pages of one bucket, or what a group of
+/// buckets has.
 #[derive(Clone, Copy)]
 pub struct Caption {
     pub is_detailed: bool,
@@ -90,12 +117,12 @@ impl fmt::Display for Caption {
         if self.is_detailed {
             write!(
                 f,
-                "<text x='24' y='68'>a box is a page, coloured as far as its slots are used</text>\n"
+                "<desc id='desc'>Columns of boxes, one for each bucket, blue at the level of the file and orange one above: a box is a page, coloured as far as its slots are used. A triangle marks the bucket that splits next.</desc>\n<text x='24' y='68'>a box is a page, coloured as far as its slots are used</text>\n"
             )
         } else {
             write!(
                 f,
-                "<text x='24' y='68'>a column is as high as the longest chain of its buckets, and coloured as far as one of them is used on average</text>\n"
+                "<desc id='desc'>Columns, one for each group of buckets, blue at the level of the file and orange one above: a column is as high as its longest chain, and coloured as far as its buckets are used on average. A triangle marks the bucket that splits next.</desc>\n<text x='24' y='68'>a column is as high as its longest chain, 24 pages at most, and coloured as far as its buckets are used on average</text>\n"
             )
         }
     }

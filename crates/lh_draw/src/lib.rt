@@ -10,6 +10,7 @@
 mod bars;
 mod columns;
 mod elements;
+pub mod laws;
 mod measures;
 mod tally;
 

@@ -34,7 +34,7 @@ IsLate Counts = ⊥
 IsLate Trailing = ⊥
 IsLate f = Unit {0}
 
--- want of memory, or the fault that is due
+-- out of memory, or the fault that is due
 abbrev pub IsDue : ImageFault → Option ImageFault → Type 0
 IsDue Memory due = Unit {0}
 IsDue ReadFault due = ⊥

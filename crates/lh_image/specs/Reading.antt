@@ -23,7 +23,7 @@ judged v = judged_by (page_fault v) v
 unfoldable pub reading_of : List ℕ → Result Lists ImageFault
 reading_of bytes = judged_by (image_fault bytes) (view_of bytes)
 
--- A failed read and want of memory say nothing of the bytes; every other fault is the one that is due.
+-- A failed read and out of memory say nothing of the bytes; every other fault is the one that is due.
 abbrev pub IsTold : ImageFault → Result Lists ImageFault → Type 0
 IsTold ReadFault due = Unit {0}
 IsTold Memory due = Unit {0}

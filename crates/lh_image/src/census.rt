@@ -1,4 +1,4 @@
-//! What is counted of an image.
+//! The counts of an image.
 ghost use Rattle.std.specs.Prelude.{◌≡◌, ◌≤◌, IfSome};
 ghost use Rattle.lh_bucket.specs.Listing.{size};
 ghost use Rattle.lh_image.specs.Canonical.{page_total};
@@ -15,7 +15,7 @@ use lh_page::laws::pages_are_pieces;
 use std::alloc::Global;
 use std::io::Read;
 
-/// What is counted of an image.
+/// The counts of an image.
 #[derive(Clone, Copy, Debug, PartialEq, Eq)]
 pub struct Census {
     /// The number of buckets.

@@ -68,14 +68,17 @@ commands_built = shape_at 0 (built program_app).subs
 abbrev steps_built : Shape
 steps_built = shape_at 1 (built program_app).subs
 
+abbrev replay_built : Shape
+replay_built = shape_at 2 (built program_app).subs
+
 abbrev build_built : Shape
-build_built = shape_at 2 (built program_app).subs
+build_built = shape_at 3 (built program_app).subs
 
 abbrev check_built : Shape
-check_built = shape_at 3 (built program_app).subs
+check_built = shape_at 4 (built program_app).subs
 
 abbrev dump_built : Shape
-dump_built = shape_at 4 (built program_app).subs
+dump_built = shape_at 5 (built program_app).subs
 
 commands-options : HasOptions commands_built
 commands-options = record {
@@ -93,6 +96,14 @@ steps-options = record {
   max = (((λ h. cc), ((λ h. cc), ((λ h. cc), ((λ _. refl), ((λ h. cc), tt))))), inr (inr (inr (inl refl))));
 }
 
+replay-options : HasOptions replay_built
+replay-options = record {
+  initial = (((λ _. refl), ((λ h. cc), ((λ h. cc), ((λ h. cc), ((λ h. cc), tt))))), inl refl);
+  capacity = (((λ h. cc), ((λ _. refl), ((λ h. cc), ((λ h. cc), ((λ h. cc), tt))))), inr (inl refl));
+  load = (((λ h. cc), ((λ h. cc), ((λ _. refl), ((λ h. cc), ((λ h. cc), tt))))), inr (inr (inl refl)));
+  max = (((λ h. cc), ((λ h. cc), ((λ h. cc), ((λ _. refl), ((λ h. cc), tt))))), inr (inr (inr (inl refl))));
+}
+
 build-options : HasOptions build_built
 build-options = record {
   initial = (((λ _. refl), ((λ h. cc), ((λ h. cc), ((λ h. cc), ((λ h. cc), ((λ h. cc), tt)))))), inl refl);
@@ -102,13 +113,13 @@ build-options = record {
 }
 
 abbrev draw_built : Shape
-draw_built = shape_at 6 (built program_app).subs
+draw_built = shape_at 7 (built program_app).subs
 
 abbrev migrate_built : Shape
-migrate_built = shape_at 7 (built program_app).subs
+migrate_built = shape_at 8 (built program_app).subs
 
 abbrev drive_built : Shape
-drive_built = shape_at 5 (built program_app).subs
+drive_built = shape_at 6 (built program_app).subs
 
 drive-options : HasOptions drive_built
 drive-options = record {
@@ -159,18 +170,21 @@ accepted-rows words e = entered-some (built program_app) IsEntered (
   (
     (λ t is other ws f. inl (inr (inl refl), settings-after steps_built steps-options ws f, other-name (codes "steps") _ refl, other-name (codes "steps") _ refl)),
     (
-      (λ t is other ws f. inl (inr (inr (inl refl)), settings-after build_built build-options ws f, other-name (codes "build") _ refl, λ _. image-after ws f)),
+      (λ t is other ws f. inl (inr (inr (inr (inr refl))), settings-after replay_built replay-options ws f, other-name (codes "replay") _ refl, other-name (codes "replay") _ refl)),
       (
-        (λ t is other ws f. inr (inl refl, no-settings check_built ((λ h. cc), tt) ws f)),
+        (λ t is other ws f. inl (inr (inr (inl refl)), settings-after build_built build-options ws f, other-name (codes "build") _ refl, λ _. image-after ws f)),
         (
-          (λ t is other ws f. inr (inr (inl refl), no-settings dump_built ((λ h. cc), tt) ws f)),
+          (λ t is other ws f. inr (inl refl, no-settings check_built ((λ h. cc), tt) ws f)),
           (
-            (λ t is other ws f. inl (inr (inr (inr refl)), settings-after drive_built drive-options ws f, (λ _. threads-after ws f), other-name (codes "drive") _ refl)),
+            (λ t is other ws f. inr (inr (inl refl), no-settings dump_built ((λ h. cc), tt) ws f)),
             (
-              (λ t is other ws f. inr (inr (inr (inl refl)), no-settings draw_built ((λ h. cc), tt) ws f)),
+              (λ t is other ws f. inl (inr (inr (inr (inl refl))), settings-after drive_built drive-options ws f, (λ _. threads-after ws f), other-name (codes "drive") _ refl)),
               (
-                (λ t is other ws f. inr (inr (inr (inr refl)), no-settings migrate_built ((λ h. cc), tt) ws f)),
-                ((λ t is other ws f. let same = is_help t is in cc), tt),
+                (λ t is other ws f. inr (inr (inr (inl refl)), no-settings draw_built ((λ h. cc), tt) ws f)),
+                (
+                  (λ t is other ws f. inr (inr (inr (inr refl)), no-settings migrate_built ((λ h. cc), tt) ws f)),
+                  ((λ t is other ws f. let same = is_help t is in cc), tt),
+                ),
               ),
             ),
           ),
@@ -190,7 +204,8 @@ file-reads : (name : Text) → IsFileCommand name → reads_image name ≡ false
 file-reads name (inl is) = ap reads_image is
 file-reads name (inr (inl is)) = ap reads_image is
 file-reads name (inr (inr (inl is))) = ap reads_image is
-file-reads name (inr (inr (inr is))) = ap reads_image is
+file-reads name (inr (inr (inr (inl is)))) = ap reads_image is
+file-reads name (inr (inr (inr (inr is)))) = ap reads_image is
 
 image-reads : (name : Text) → IsImageCommand name → reads_image name ≡ true
 image-reads name (inl is) = ap reads_image is
@@ -212,7 +227,7 @@ entered-settings name rows (inr h) is = absurd (apart name is h.0)
 
 pub entered-threads : (name : Text) (rows : List Row) → IsEntered name rows → name ≡ codes "drive" → HasThreads rows
 entered-threads name rows (inl h) is = h.2 is
-entered-threads name rows (inr h) is = absurd (apart name (inr (inr (inr is))) h.0)
+entered-threads name rows (inr h) is = absurd (apart name (inr (inr (inr (inl is)))) h.0)
 
 pub entered-image : (name : Text) (rows : List Row) → IsEntered name rows → name ≡ codes "build" → HasImage rows
 entered-image name rows (inl h) is = h.3 is

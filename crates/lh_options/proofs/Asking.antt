@@ -25,6 +25,11 @@ pub steps : (name : Text) (settings : Option Settings) (threads image : Option �
 unfolding asked_by
 steps name settings threads image s n e within = (λ i. asked_by (n i) (e i) threads image) ∙ passed_on s (λ x. Some (request.Steps x)) within
 
+pub replay : (name : Text) (settings : Option Settings) (threads image : Option ℕ) (s : Settings) →
+    name ≡ codes "replay" → settings ≡ Some s → s.initial ≤ s.max → asked_by name settings threads image ≡ Some (request.Replay s)
+unfolding asked_by
+replay name settings threads image s n e within = (λ i. asked_by (n i) (e i) threads image) ∙ passed_on s (λ x. Some (request.Replay x)) within
+
 pub build : (name : Text) (settings : Option Settings) (threads image : Option ℕ) (s : Settings) (version : ImageVersion) →
     name ≡ codes "build" → settings ≡ Some s → option_map version_of image ≡ Some version → s.initial ≤ s.max →
     asked_by name settings threads image ≡ Some (request.Build s version)
@@ -79,23 +84,25 @@ out_of_order name None threads image is below = absurd below
 out_of_order name (Some s) threads image (inl n) below = (λ i. asked_by (n i) (Some s) threads image) ∙ refused s (λ x. Some (request.Commands x)) below
 out_of_order name (Some s) threads image (inr (inl n)) below = (λ i. asked_by (n i) (Some s) threads image) ∙ refused s (λ x. Some (request.Steps x)) below
 out_of_order name (Some s) threads image (inr (inr (inl n))) below = (λ i. asked_by (n i) (Some s) threads image) ∙ refused s (λ x. option_map (λ n. request.Build x (version_of n)) image) below
-out_of_order name (Some s) threads image (inr (inr (inr n))) below =
+out_of_order name (Some s) threads image (inr (inr (inr (inl n)))) below =
     (λ i. asked_by (n i) (Some s) threads image) ∙ refused s (λ x. option_map (λ m. request.Drive x m) threads) below
+out_of_order name (Some s) threads image (inr (inr (inr (inr n)))) below = (λ i. asked_by (n i) (Some s) threads image) ∙ refused s (λ x. Some (request.Replay x)) below
 
--- one of four requests, each the same one, or none
-one_of : (a b c d e f g h : Bool) (first second third fourth : Option Request) (m r : Request) →
-    first ≡ Some m → second ≡ Some m → third ≡ Some m → fourth ≡ Some m →
-    (if a then first else if b then second else if c then third else if d then fourth
-    else if e then None else if f then None else if g then None else if h then None else None) ≡ Some r → r ≡ m
-one_of true b c d e f g h first second third fourth m r p q s t is = let k : Some r ≡ Some m = sym is ∙ p in cc
-one_of false true c d e f g h first second third fourth m r p q s t is = let k : Some r ≡ Some m = sym is ∙ q in cc
-one_of false false true d e f g h first second third fourth m r p q s t is = let k : Some r ≡ Some m = sym is ∙ s in cc
-one_of false false false true e f g h first second third fourth m r p q s t is = let k : Some r ≡ Some m = sym is ∙ t in cc
-one_of false false false false true f g h first second third fourth m r p q s t is = absurd cc
-one_of false false false false false true g h first second third fourth m r p q s t is = absurd cc
-one_of false false false false false false true h first second third fourth m r p q s t is = absurd cc
-one_of false false false false false false false true first second third fourth m r p q s t is = absurd cc
-one_of false false false false false false false false first second third fourth m r p q s t is = absurd cc
+-- one of five requests, each the same one, or none
+one_of : (a b c d e f g h k : Bool) (first second third fourth fifth : Option Request) (m r : Request) →
+    first ≡ Some m → second ≡ Some m → third ≡ Some m → fourth ≡ Some m → fifth ≡ Some m →
+    (if a then first else if b then second else if c then third else if d then fourth else if e then fifth
+    else if f then None else if g then None else if h then None else if k then None else None) ≡ Some r → r ≡ m
+one_of true b c d e f g h k first second third fourth fifth m r p q s t u is = let same : Some r ≡ Some m = sym is ∙ p in cc
+one_of false true c d e f g h k first second third fourth fifth m r p q s t u is = let same : Some r ≡ Some m = sym is ∙ q in cc
+one_of false false true d e f g h k first second third fourth fifth m r p q s t u is = let same : Some r ≡ Some m = sym is ∙ s in cc
+one_of false false false true e f g h k first second third fourth fifth m r p q s t u is = let same : Some r ≡ Some m = sym is ∙ t in cc
+one_of false false false false true f g h k first second third fourth fifth m r p q s t u is = let same : Some r ≡ Some m = sym is ∙ u in cc
+one_of false false false false false true g h k first second third fourth fifth m r p q s t u is = absurd cc
+one_of false false false false false false true h k first second third fourth fifth m r p q s t u is = absurd cc
+one_of false false false false false false false true k first second third fourth fifth m r p q s t u is = absurd cc
+one_of false false false false false false false false true first second third fourth fifth m r p q s t u is = absurd cc
+one_of false false false false false false false false false first second third fourth fifth m r p q s t u is = absurd cc
 
 -- whatever is asked for with settings out of order is refused
 pub refused_alone : (name : Text) (threads image : Option ℕ) (s : Settings) (r : Request) →
@@ -104,11 +111,11 @@ unfolding asked_by
 refused_alone name threads image s r below is =
     let build : Settings → Option Request = λ x. option_map (λ n. request.Build x (version_of n)) image in
     let drive : Settings → Option Request = λ x. option_map (λ n. request.Drive x n) threads in
-    one_of _ _ _ _ (bytes_eq name (codes "check")) (bytes_eq name (codes "dump")) (bytes_eq name (codes "draw")) (bytes_eq name (codes "migrate"))
+    one_of _ _ _ _ _ (bytes_eq name (codes "check")) (bytes_eq name (codes "dump")) (bytes_eq name (codes "draw")) (bytes_eq name (codes "migrate"))
     (in_order (Some s) (λ x. Some (request.Commands x))) (in_order (Some s) (λ x. Some (request.Steps x)))
-    (in_order (Some s) build) (in_order (Some s) drive) request.MaxBelowInitial r
+    (in_order (Some s) (λ x. Some (request.Replay x))) (in_order (Some s) build) (in_order (Some s) drive) request.MaxBelowInitial r
     (refused s (λ x. Some (request.Commands x)) below) (refused s (λ x. Some (request.Steps x)) below)
-    (refused s build below) (refused s drive below) is
+    (refused s (λ x. Some (request.Replay x)) below) (refused s build below) (refused s drive below) is
 
 -- what accepted words ask for that name a subcommand
 pub asked_named : (words : List Text) (name : Text) (r : Request) → Asks words name → Answers words r →

@@ -111,7 +111,7 @@ asked-is words name rows is =
 none-among : (k : ErrorKind) (kinds : Kinds) → IsAmong k kinds → kinds ≡ [] → ⊥
 none-among k kinds among none = subst (IsAmong k) none among
 
--- an error of clap's turns the words away, or is want of memory
+-- an error of clap's turns the words away, or says that memory ran out
 pub refusal-answers : (words : List Text) (e : Error) (r : Request) → HasKind (fault_of program_app words) e → IsRefusal (kind_of e) r → Answers words r
 unfolding Accepts AsksForHelp IsRefused
 refusal-answers words e (request.Help text) (inl memory) (inl h) = cc
@@ -121,6 +121,7 @@ refusal-answers words e (request.Refused text) (inl memory) h = absurd (h.1 memo
 refusal-answers words e (request.Refused text) (inr among) h = inr (none-among (kind_of e) _ among, (kind_of e, among, h.0))
 refusal-answers words e (request.Commands config) among h = absurd h
 refusal-answers words e (request.Steps config) among h = absurd h
+refusal-answers words e (request.Replay config) among h = absurd h
 refusal-answers words e (request.Build config version) among h = absurd h
 refusal-answers words e (request.Drive config threads) among h = absurd h
 refusal-answers words e request.Check among h = absurd h

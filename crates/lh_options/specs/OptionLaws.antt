@@ -14,6 +14,9 @@ max_given = codes "lhash" ∷ codes "commands" ∷ codes "--initial" ∷ codes "
 abbrev pub steps_given : List Text
 steps_given = codes "lhash" ∷ codes "steps" ∷ codes "--capacity=2" ∷ codes "--load" ∷ codes "200" ∷ []
 
+abbrev pub replay_given : List Text
+replay_given = codes "lhash" ∷ codes "replay" ∷ codes "--max=9" ∷ codes "--initial=9" ∷ []
+
 abbrev pub no_subcommand : List Text
 no_subcommand = codes "lhash" ∷ []
 
@@ -81,6 +84,10 @@ Gives words s = Asks words (codes "commands") × (settings_given words ≡ Some 
 -- the words are accepted, name `steps`, and give these settings
 abbrev pub GivesSteps : List Text → Settings → Type 0
 GivesSteps words s = Asks words (codes "steps") × (settings_given words ≡ Some s)
+
+-- the words are accepted, name `replay`, and give these settings
+abbrev pub GivesReplay : List Text → Settings → Type 0
+GivesReplay words s = Asks words (codes "replay") × (settings_given words ≡ Some s)
 
 -- the words are accepted, name `build`, and give these settings and this version of the image
 abbrev pub GivesBuild : List Text → Settings → ImageVersion → Type 0

@@ -49,7 +49,7 @@ settings_in rows = settings_from
 
 -- the name of a subcommand with the options of a file's settings
 abbrev pub IsFileCommand : Text → Type 0
-IsFileCommand name = (name ≡ codes "commands") ⊎ ((name ≡ codes "steps") ⊎ ((name ≡ codes "build") ⊎ (name ≡ codes "drive")))
+IsFileCommand name = (name ≡ codes "commands") ⊎ ((name ≡ codes "steps") ⊎ ((name ≡ codes "build") ⊎ ((name ≡ codes "drive") ⊎ (name ≡ codes "replay"))))
 
 -- the name of a subcommand that reads an image, without options
 abbrev pub IsImageCommand : Text → Type 0

@@ -41,6 +41,9 @@ commands_app = with_settings (new_app (codes "commands"))
 abbrev pub steps_app : App
 steps_app = with_settings (new_app (codes "steps"))
 
+abbrev pub replay_app : App
+replay_app = with_settings (new_app (codes "replay"))
+
 -- a command with an option for the version of an image
 abbrev pub with_image : App → App
 with_image app = with_rule app (option_rule (codes "image") (codes "2") 1 2)
@@ -84,7 +87,9 @@ root_app = with_subcommand_required (with_version (new_app (codes "lhash")))
 
 -- with the subcommands that take a script in one thread
 abbrev pub scripts_app : App
-scripts_app = with_subcommand (with_subcommand (with_subcommand root_app commands_app.top) steps_app.top) build_app.top
+scripts_app =
+    with_subcommand (with_subcommand (with_subcommand (with_subcommand root_app
+    commands_app.top) steps_app.top) replay_app.top) build_app.top
 
 -- the program's command
 abbrev pub program_app : App
@@ -167,6 +172,7 @@ unfoldable pub asked_by : Text → Option Settings → Option ℕ → Option ℕ
 asked_by name settings threads image =
     if bytes_eq name (codes "commands") then in_order settings (λ s. Some (request.Commands s))
     else if bytes_eq name (codes "steps") then in_order settings (λ s. Some (request.Steps s))
+    else if bytes_eq name (codes "replay") then in_order settings (λ s. Some (request.Replay s))
     else if bytes_eq name (codes "build") then in_order settings (λ s. option_map (λ n. request.Build s (version_of n)) image)
     else if bytes_eq name (codes "drive") then in_order settings (λ s. option_map (λ n. request.Drive s n) threads)
     else if bytes_eq name (codes "check") then alone settings request.Check

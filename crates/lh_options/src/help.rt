@@ -9,26 +9,31 @@ pub struct Help {
 
 pub const COMMANDS: Help = Help {
     about: "Read a script of commands, and write the reply to each",
-    example: "Example: lhash commands < script.txt",
+    example: "Example: lhash commands --capacity 2 < script.txt",
 };
 
 pub const STEPS: Help = Help {
-    about: "Read a script of steps, and write what became of each",
-    example: "Example: lhash steps < steps.txt",
+    about: "Read a script of steps, and write the effect of each",
+    example: "Example: lhash steps --initial 3 < steps.txt",
+};
+
+pub const REPLAY: Help = Help {
+    about: "Read a script of steps, and draw the effect of each as an SVG",
+    example: "Example: lhash replay --initial 3 < steps.txt > steps.svg",
 };
 
 pub const BUILD: Help = Help {
-    about: "Read a script of commands, and write the file that it leads to as an image",
-    example: "Example: lhash build < script.txt > file.lhf",
+    about: "Read a script of commands, and write the resulting file as an image",
+    example: "Example: lhash build --capacity 2 < script.txt > file.lhf",
 };
 
 pub const MIGRATE: Help = Help {
-    about: "Read an image of either version, and write its records as one of version 2",
+    about: "Read an image of either version, and write the same file as an image of version 2",
     example: "Example: lhash migrate < old.lhf > new.lhf",
 };
 
 pub const CHECK: Help = Help {
-    about: "Read an image, and write what is counted of it",
+    about: "Read an image, and write its counts",
     example: "Example: lhash check < file.lhf",
 };
 
@@ -38,11 +43,11 @@ pub const DUMP: Help = Help {
 };
 
 pub const DRAW: Help = Help {
-    about: "Read an image, and write a drawing of its file as an SVG",
+    about: "Read an image, and draw its file as an SVG",
     example: "Example: lhash draw < file.lhf > file.svg",
 };
 
 pub const DRIVE: Help = Help {
     about: "Read a script of commands, run it in threads, and write totals",
-    example: "Example: lhash drive --threads 4 < script.txt",
+    example: "Example: lhash drive --threads 8 < script.txt",
 };

@@ -4,6 +4,7 @@ ghost use Rattle.lh_options.specs.OptionLaws.{
   Gives,
   GivesBuild,
   GivesDrive,
+  GivesReplay,
   GivesSteps,
   build_given,
   check_alone,
@@ -22,6 +23,7 @@ ghost use Rattle.lh_options.specs.OptionLaws.{
   migrate_alone,
   no_options,
   no_subcommand,
+  replay_given,
   Refuses,
   steps_given,
   third_image,
@@ -41,6 +43,7 @@ pub fn words_give_options()
     ensures given { Gives max_given (record { initial = 3; capacity = 14; load = 100; max = 7 }) }
     ensures below { Gives max_below_initial (record { initial = 8; capacity = 14; load = 100; max = 7 }) }
     ensures steps { GivesSteps steps_given (record { initial = 1; capacity = 2; load = 200; max = 65536 }) }
+    ensures replay { GivesReplay replay_given (record { initial = 9; capacity = 14; load = 100; max = 9 }) }
     ensures build { GivesBuild build_given (record { initial = 1; capacity = 14; load = 100; max = 1 }) Second }
     ensures first { GivesBuild first_image_given (record { initial = 1; capacity = 14; load = 100; max = 65536 }) First }
     ensures migrate { Asks migrate_alone (codes "migrate") }

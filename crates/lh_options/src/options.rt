@@ -5,7 +5,7 @@ ghost use Rattle.clap.specs.Words.{found_of, kind_of, new_app, rows_of, rule_of}
 ghost use Rattle.lh_options.specs.Options.{Answers, IsMaxBelowInitial, IsServable, number_in, build_app, drive_app, option_rule, version_of, root_app, scripts_app, program_app, with_settings};
 ghost use Rattle.lh_options.specs.OptionSteps.{HasNumber, HasSettings, HasImage, HasThreads, IsFileCommand, IsImageCommand, IsRefusal, Reads, asked_in, settings_in};
 
-use crate::help::{BUILD, CHECK, COMMANDS, DRAW, DRIVE, DUMP, Help, MIGRATE, STEPS};
+use crate::help::{BUILD, CHECK, COMMANDS, DRAW, DRIVE, DUMP, Help, MIGRATE, REPLAY, STEPS};
 use clap::error::ErrorKind;
 use clap::{Arg, ArgAction, ArgMatches, Command, Error};
 use lh_addr::limits::{
@@ -42,6 +42,8 @@ pub enum Request {
     Commands(Config),
     /// The subcommand `steps`, with the configuration that its options give.
     Steps(Config),
+    /// The subcommand `replay`, with the configuration that its options give.
+    Replay(Config),
     /// The subcommand `build`, with the configuration and the version of the image that its options give.
     Build(Config, ImageVersion),
     /// The subcommand `check`.
@@ -92,7 +94,7 @@ fn file_command<'a>(alloc: Global, name: &'a str, help: Help) -> Result<Command<
         .arg(option(
             alloc,
             "initial",
-            "Initial number of buckets",
+            "Initial number of buckets, 1 to 256",
             "1",
             MIN_INITIAL,
             MAX_INITIAL,
@@ -100,7 +102,7 @@ fn file_command<'a>(alloc: Global, name: &'a str, help: Help) -> Result<Command<
         .arg(option(
             alloc,
             "capacity",
-            "Records that a page holds",
+            "Records that a page holds, 1 to 24",
             "14",
             MIN_CAPACITY,
             MAX_CAPACITY,
@@ -108,7 +110,7 @@ fn file_command<'a>(alloc: Global, name: &'a str, help: Help) -> Result<Command<
         .arg(option(
             alloc,
             "load",
-            "Load threshold in percent",
+            "Load in percent above which the file grows, 10 to 200",
             "100",
             MIN_LOAD,
             MAX_LOAD,
@@ -116,7 +118,7 @@ fn file_command<'a>(alloc: Global, name: &'a str, help: Help) -> Result<Command<
         .arg(option(
             alloc,
             "max",
-            "Greatest number of buckets",
+            "Greatest number of buckets, --initial to 65536",
             "65536",
             MIN_INITIAL,
             MAX_BUCKETS,
@@ -139,7 +141,7 @@ fn drive_command<'a>(alloc: Global) -> Result<Command<'a>, AllocError>
     file_command(alloc, "drive", DRIVE)?.arg(option(
         alloc,
         "threads",
-        "Number of threads",
+        "Number of threads, 1 to 64",
         "4",
         MIN_THREADS,
         MAX_THREADS,
@@ -153,7 +155,7 @@ fn build_command<'a>(alloc: Global) -> Result<Command<'a>, AllocError>
     file_command(alloc, "build", BUILD)?.arg(option(
         alloc,
         "image",
-        "Version of the image",
+        "Version of the image, 1 or 2",
         "2",
         FIRST_IMAGE,
         LAST_IMAGE,
@@ -165,7 +167,10 @@ fn root<'a>(alloc: Global) -> Command<'a>
     ensures { Reads root_app result }
 {
     Command::new(alloc, "lhash")
-        .about("A linear hash file")
+        .about("Run scripts on a linear hash file, and write, check and draw its images")
+        .after_help(
+            "'lhash COMMAND --help' lists the options of a command.\n\nExample: echo insert 61 31 | lhash commands",
+        )
         .version("0.1.0")
         .subcommand_required(true)
 }
@@ -177,6 +182,7 @@ fn with_scripts<'a>(alloc: Global) -> Result<Command<'a>, AllocError>
     root(alloc)
         .subcommand(file_command(alloc, "commands", COMMANDS)?)?
         .subcommand(file_command(alloc, "steps", STEPS)?)?
+        .subcommand(file_command(alloc, "replay", REPLAY)?)?
         .subcommand(build_command(alloc)?)
 }
 
@@ -262,18 +268,26 @@ fn asked(name: &str, matches: &ArgMatches<'_>) -> Request
             Some(config) => Request::Drive(config, number(matches, "threads")),
             None => Request::MaxBelowInitial,
         },
+        "replay" => match config_of(matches) {
+            Some(config) => Request::Replay(config),
+            None => Request::MaxBelowInitial,
+        },
         _ => unreachable!(),
     }
 }
 
-/// The first line of the error's text, which says what is wrong.
+/// What clap says is wrong: the first line of the error's text; and how to ask for help, where no subcommand is named.
 fn first_line(alloc: Global, error: &Error) -> Result<String, AllocError> {
     let text = error.to_string(alloc)?;
     let line = text.as_str().lines().next().unwrap_or("");
-    String::from_str(alloc, line.strip_prefix("error: ").unwrap_or(line))
+    let mut reason = String::from_str(alloc, line.strip_prefix("error: ").unwrap_or(line))?;
+    if error.kind() == ErrorKind::MissingSubcommand {
+        reason.push_str("; for more information, try '--help'")?;
+    }
+    Ok(reason)
 }
 
-/// What is left of words that clap does not take.
+/// What words ask for that clap doesn't accept: help or the version; otherwise they are refused.
 fn refusal(alloc: Global, error: &Error) -> Result<Request, AllocError>
     ensures { IfOk result (IsRefusal (kind_of error.now)) }
 {

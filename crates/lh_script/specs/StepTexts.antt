@@ -1,4 +1,4 @@
--- What is told of the events of a step script, as lines
+-- The effects and refusals of a step script's events, as lines
 use Rattle.std.specs.Prelude.{ℕ, List, ◌++◌, flat_map, Ok, Err, codes}
 use Rattle.std.specs.Fmt.{decimal}
 use Rattle.lh_core.specs.declared.effect.Effect.{Effect}
@@ -37,7 +37,7 @@ refusal_text refusal.SplitBusy = codes "refused C5"
 refusal_text refusal.FileFull = codes "refused C6"
 refusal_text refusal.Memory = codes "refused C7"
 
--- the text of what is told of an event
+-- the text of an event's effect or refusal
 abbrev pub entry_text : Entry → List ℕ
 entry_text (Ok effect) = effect_text effect
 entry_text (Err refusal) = refusal_text refusal

@@ -1,4 +1,4 @@
-//! The texts of what is told of the events of a step script, each as what a type displays.
+//! The texts of effects and refusals, each as what a type displays.
 ghost use Rattle.std.specs.Prelude.{Some};
 ghost use Rattle.lh_script.specs.StepTexts.{effect_text, entry_text, refusal_text};
 
@@ -51,7 +51,7 @@ impl fmt::Display for RefusalText<'_> {
     }
 }
 
-/// What is told of an event as one line of a text, without the line's end.
+/// The effect of an event or its refusal as one line of a text, without the line's end.
 #[derive(Clone, Copy)]
 pub struct EntryText<'a>(pub &'a Result<Effect, Refusal>);
 

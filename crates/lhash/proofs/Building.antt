@@ -2,7 +2,6 @@
 use Rattle.std.proofs.Common.{◌≡◌, ◌∙◌, ℕ, ◌<◌, List, Option, None, Some, IfSome, map, refl, sym, ap, subst}
 use Rattle.std.specs.Prelude.{Ok, Err, ◌==◌}
 use Rattle.std.specs.FinMap.{empty, retain_keys}
-use Rattle.std.specs.Io.KnownBytes.{Keeps}
 use Rattle.std.proofs.KnownBytes.{Keeps-refl}
 use Rattle.std.proofs.lemmas.List.{length-map}
 use Rattle.std.proofs.Math.ListN.{get_or-map}
@@ -69,7 +68,7 @@ pub unbuilt : (version : Version) (settings : Settings) (status : Status) (left 
 unbuilt version settings status None a h = tt
 unbuilt version settings status (Some input) a h = unread version settings status input a h
 
--- a run in which memory was wanting ends without a write
+-- a run that is out of memory ends without a write
 pub unbuilt_memory : (version : Version) (settings : Settings) (left a : Option (List ℕ)) →
     IfSome left (λ input. EndsBuilding version settings input Memory a a)
 unfolding EndsBuilding

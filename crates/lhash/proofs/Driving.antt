@@ -39,7 +39,7 @@ pub unrun : (settings : Settings) (status : Status) (left a : Option (List ℕ))
 unrun settings status None a h = tt
 unrun settings status (Some input) a h = unread settings status input a h
 
--- a run in which memory was wanting ends without a write
+-- a run that is out of memory ends without a write
 pub undriven_memory : (settings : Settings) (left a : Option (List ℕ)) → IfSome left (λ input. EndsDriving settings input NoMemory a a)
 unfolding EndsDriving
 undriven_memory settings None a = tt

@@ -1,7 +1,7 @@
 -- What was read gives what the input gives.
 use Rattle.std.proofs.Common.{◌≡◌, ◌∙◌, refl, sym, false, inl, inr, ℕ, List, Option, None, Some, IfSome, ap, ap₂, arith}
 use Rattle.std.proofs.KnownBytes.{Keeps-refl}
-use Rattle.std.specs.Io.KnownBytes.{Appends, Keeps}
+use Rattle.std.specs.Io.KnownBytes.{Appends}
 use Rattle.std.specs.List.{list_any}
 use Rattle.std.specs.FinMap.{empty}
 use Rattle.std.proofs.lemmas.Bool.Decides.{nat_tests}
@@ -16,7 +16,8 @@ use Rattle.lh_core.specs.Serial.{size_of}
 use Rattle.lh_core.specs.World.{WorldSeen}
 use Rattle.lh_core.specs.declared.event.Event.{Event}
 use Rattle.lhash.specs.Devices.{IsReadOf, TakesBeginning}
-use Rattle.lhash.specs.Run.{Ends, EndsSteps, ReadsScript, commands_due, due, is_want}
+use Rattle.lhash.specs.Run.{Ends, EndsReplay, EndsSteps, EndsTelling, IsPictured, IsTold, ReadsScript, commands_due, due, is_want}
+use Rattle.lh_replay.specs.Picture.{picture_of}
 use Rattle.lh_script.specs.Commands.{command}
 use Rattle.lh_script.specs.Texts.{commands_text}
 use Rattle.lh_script.specs.StepTexts.{steps_text}
@@ -59,21 +60,30 @@ answered_in_part settings None before now calls told buckets given written repli
 answered_in_part settings (Some input) before now calls told buckets given written replied size =
     (commands_text told buckets, ap (due (λ calls. commands_text (replies empty calls) (size_of settings calls))) given ∙ ap Ok (ap₂ commands_text (sym replied) (sym size)), written)
 
--- a run that read no step script ends without a write
+-- a run that read no script ends without a write
+untold : {A : Type 0} (IsOutput : List A → List ℕ → Type 0) (status : Status) (given : Result (List A) ScriptFault) (a : Option (List ℕ)) →
+    ReadsScript {A = A} (Err status) given → EndsTelling IsOutput status given a a
+untold IsOutput Done given a h = absurd h
+untold IsOutput (Input (Script fault)) given a h = (h, Keeps-refl a)
+untold IsOutput (Input (Image fault)) given a h = absurd h
+untold IsOutput (Input (Unwritten fault)) given a h = absurd h
+untold IsOutput (Words text) given a h = absurd h
+untold IsOutput (Device Read) given a h = Keeps-refl a
+untold IsOutput (Device Write) given a h = absurd h
+untold IsOutput Memory given a h = Keeps-refl a
+untold IsOutput (NotSettled fault) given a h = absurd h
+
 pub no_steps : (settings : Settings) (status : Status) (input : List ℕ) (a : Option (List ℕ)) →
     ReadsScript {A = Event} (Err status) (script step input) → EndsSteps settings input status a a
 unfolding EndsSteps
-no_steps settings Done input a h = absurd h
-no_steps settings (Input (Script fault)) input a h = (h, Keeps-refl a)
-no_steps settings (Input (Image fault)) input a h = absurd h
-no_steps settings (Input (Unwritten fault)) input a h = absurd h
-no_steps settings (Words text) input a h = absurd h
-no_steps settings (Device Read) input a h = Keeps-refl a
-no_steps settings (Device Write) input a h = absurd h
-no_steps settings Memory input a h = Keeps-refl a
-no_steps settings (NotSettled fault) input a h = absurd h
+no_steps settings status input a h = untold (IsTold settings) status (script step input) a h
 
--- a run in which memory was wanting ends without a write
+pub no_schedule : (settings : Settings) (status : Status) (input : List ℕ) (a : Option (List ℕ)) →
+    ReadsScript {A = Event} (Err status) (script step input) → EndsReplay settings input status a a
+unfolding EndsReplay
+no_schedule settings status input a h = untold (IsPictured settings) status (script step input) a h
+
+-- a run that is out of memory ends without a write
 pub no_memory : (settings : Settings) (input : List ℕ) (a : Option (List ℕ)) → EndsSteps settings input Memory a a
 unfolding EndsSteps
 no_memory settings input a = Keeps-refl a
@@ -95,6 +105,24 @@ unfolding EndsSteps
 steps_begun settings None before now events entries world given written headline memory = tt
 steps_begun settings (Some input) before now events entries world given written headline memory =
     (events, steps_text entries, given, record { entries = entries; world = world; headline = headline; memory = memory; lines = refl }, written)
+
+-- the picture was written
+pub schedule_drawn : (settings : Settings) (left before now : Option (List ℕ)) (events : List Event) (entries : List Entry) (world : WorldSeen) →
+    IfSome left (λ input. script step input ≡ Ok events) → Appends before now (picture_of events entries) →
+    IsHeadline settings events entries world → list_any is_want entries ≡ false → IfSome left (λ input. EndsReplay settings input Done before now)
+unfolding EndsReplay
+schedule_drawn settings None before now events entries world given written headline memory = tt
+schedule_drawn settings (Some input) before now events entries world given written headline memory =
+    (events, picture_of events entries, given, record { entries = entries; world = world; headline = headline; memory = memory; picture = refl }, written)
+
+-- a beginning of the picture was written
+pub schedule_begun : (settings : Settings) (left before now : Option (List ℕ)) (events : List Event) (entries : List Entry) (world : WorldSeen) →
+    IfSome left (λ input. script step input ≡ Ok events) → TakesBeginning before now (picture_of events entries) →
+    IsHeadline settings events entries world → list_any is_want entries ≡ false → IfSome left (λ input. EndsReplay settings input (Device Write) before now)
+unfolding EndsReplay
+schedule_begun settings None before now events entries world given written headline memory = tt
+schedule_begun settings (Some input) before now events entries world given written headline memory =
+    (events, picture_of events entries, given, record { entries = entries; world = world; headline = headline; memory = memory; picture = refl }, written)
 
 pub same_script : {A : Type 0} (read : Reading A) (input bytes : List ℕ) → IsReadOf 16777216 input bytes → script read bytes ≡ script read input
 same_script read input bytes (inl e) = ap (script read) e

@@ -1,4 +1,4 @@
--- From the bytes of an image to what is told of it
+-- From the bytes of an image to a text
 use Rattle.std.proofs.Common.{◌≡◌, ◌∙◌, ◌≤◌, ℕ, List, Option, None, Some, IfSome, refl, sym, ap, subst, arith}
 use Rattle.std.specs.Prelude.{Result, Ok, Err}
 use Rattle.std.specs.Io.KnownBytes.{Appends}
@@ -28,7 +28,7 @@ use Rattle.lhash.specs.declared.status.InputFault.TheVariants.{Image}
 use Rattle.lhash.specs.declared.status.Status.{Status}
 use Rattle.lhash.specs.declared.status.Status.TheVariants.{Done, Input, Device, Memory as NoMemory}
 
--- a fault that is neither a failed read nor want of memory
+-- a fault that is neither a failed read nor out of memory
 pub refused_for_bytes : (fault : ImageFault) → (fault ≡ ReadFault → ⊥) → (fault ≡ Memory → ⊥) → Input (Image fault) ≡ refused_as fault
 refused_for_bytes ReadFault a b = absurd (a refl)
 refused_for_bytes Memory a b = absurd (b refl)

@@ -1,18 +1,17 @@
 -- What follows of a run for the words of each kind
-use Rattle.std.proofs.Common.{◌≡◌, ◌∙◌, ◌⊎◌, ℕ, ◌<◌, ◌≤◌, List, Option, None, Some, IfSome, Result, inl, inr, refl, sym, ap, subst, codes}
+use Rattle.std.proofs.Common.{◌≡◌, ◌∙◌, ℕ, ◌<◌, ◌≤◌, List, Option, None, Some, IfSome, inl, inr, refl, sym, ap, subst, codes}
 use Rattle.std.specs.Prelude.{option_and_then, option_map}
 use Rattle.std.specs.Io.KnownBytes.{Keeps}
 use Rattle.lh_addr.specs.Settings.{Settings}
-use Rattle.lh_options.specs.Options.{Accepts, Answers, Asks, AsksForHelp, IsTurned, Text, asked_by, asked_for, number_given, settings_given, subcommand_named, version_of}
-use Rattle.lh_options.proofs.Asking.{asked_named, build, commands, drive, refused_alone, steps, undriven}
+use Rattle.lh_options.specs.Options.{Asks, AsksForHelp, IsTurned, Text, asked_by, asked_for, number_given, settings_given, subcommand_named, version_of}
+use Rattle.lh_options.proofs.Asking.{asked_named, build, commands, drive, refused_alone, replay, steps, undriven}
 use Rattle.lh_options.specs.declared.options.Request.{Request}
 use Rattle.lh_options.specs.declared.options.Request.TheVariants as request
 use Rattle.lhash.specs.Driving.{EndsDriving}
 use Rattle.lhash.specs.Images.{EndsBuilding, check_due, draw_due, dump_due, migrate_due, version_asked}
-use Rattle.lhash.specs.Run.{Ends, EndsSteps, commands_due}
+use Rattle.lhash.specs.Run.{EndsReplay, EndsSteps}
 use Rattle.lhash.specs.Serving.{Ending, EndsCommands, EndsTold, IsHelped, IsRun, IsTurnedAway, IsWordsOf, RefusesBelow, Serves, ServesBuild, ServesFile, ServesImage, TurnsAway, below_initial}
 use Rattle.lhash.specs.declared.status.DeviceFault.TheVariants.{Read, Write}
-use Rattle.lhash.specs.declared.status.InputFault.{InputFault}
 use Rattle.lhash.specs.declared.status.Status.{Status}
 use Rattle.lhash.specs.declared.status.Status.TheVariants.{Done, Input, Words, Device, Memory, NotSettled}
 
@@ -21,7 +20,7 @@ pub served_as : {r asked : Request} → r ≡ asked → (status : Status) (left 
     Serves asked status left rest before now → Serves r status left rest before now
 served_as is status left rest before now = subst (λ (r : Request). Serves r status left rest before now) (sym is)
 
--- what ended for want of memory, with nothing written, ended in a way that allows it
+-- what ended out of memory, with nothing written, ended in a way that allows it
 unwritten : (EndsWith : Ending) (status : Status) (left before now : Option (List ℕ)) →
     ((input : List ℕ) → Keeps before now → EndsWith input Memory before now) → status ≡ Memory → Keeps before now →
     IfSome left (λ input. EndsWith input status before now)
@@ -41,7 +40,7 @@ below_asked words (Some name) named settings given below r is =
     ap (λ s. asked_by name s (number_given words (codes "threads")) (number_given words (codes "image"))) given in
     refused_alone name (number_given words (codes "threads")) (number_given words (codes "image")) settings r below (sym (one ∙ by) ∙ is)
 
--- a run for words that ask for one thing served it, or ended for want of memory
+-- a run for words that ask for one thing served it, or ran out of memory
 served : (words : List Text) (status : Status) (left rest before now : Option (List ℕ)) (name : Text) (r : Request) (EndsWith : Ending) →
     (Serves r status left rest before now → IfSome left (λ input. EndsWith input status before now)) →
     ((input : List ℕ) → Keeps before now → EndsWith input Memory before now) →
@@ -64,6 +63,12 @@ unfolding EndsSteps
 serves_steps words status left rest before now settings asks given within run =
     served words status left rest before now (codes "steps") (request.Steps settings) (EndsSteps settings)
     (λ h. h) (λ input keeps. keeps) asks (steps (codes "steps") _ _ _ settings refl given within) run
+
+pub serves_replay : ServesFile (codes "replay") EndsReplay
+unfolding EndsReplay
+serves_replay words status left rest before now settings asks given within run =
+    served words status left rest before now (codes "replay") (request.Replay settings) (EndsReplay settings)
+    (λ h. h) (λ input keeps. keeps) asks (replay (codes "replay") _ _ _ settings refl given within) run
 
 pub serves_build : ServesBuild
 unfolding EndsBuilding
@@ -93,7 +98,7 @@ pub serves_drive : ServesFile (codes "drive") EndsDriving
 serves_drive words status left rest before now settings asks given within run =
     driven words status left rest before now settings (number_given words (codes "threads")) refl asks given within run
 
--- a run for words that ask for a subcommand which takes no settings served it, or ended for want of memory
+-- a run for words that ask for a subcommand which takes no settings served it, or ran out of memory
 serves_alone : (words : List Text) (status : Status) (left rest before now : Option (List ℕ)) (name : Text) (r : Request) (EndsWith : Ending)
     (settings : Option Settings) → settings_given words ≡ settings →
     (Serves r status left rest before now → IfSome left (λ input. EndsWith input status before now)) →
@@ -161,6 +166,7 @@ turned words (request.Refused text) status left rest before now is serves =
     (subst (λ (s : Status). IsTurnedAway words s before now) (sym serves.0) (is, serves.2), serves.1)
 turned words (request.Commands config) status left rest before now is serves = absurd is
 turned words (request.Steps config) status left rest before now is serves = absurd is
+turned words (request.Replay config) status left rest before now is serves = absurd is
 turned words (request.Build config image) status left rest before now is serves = absurd is
 turned words (request.Drive config threads) status left rest before now is serves = absurd is
 turned words request.Check status left rest before now is serves = absurd is

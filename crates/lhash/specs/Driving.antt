@@ -39,14 +39,14 @@ pub record IsDriven (settings : Settings) (d : Driven) : Type 0 where
   pub counts : Counts (replies_of history) d
   pub records : d.records ≡ min (count_of closed.lists) (2 ^ 64 - 1)
 
--- the threads' work failed: a call was not answered, for another reason than want of memory; a thread could not be started; or memory was wanting
+-- the threads' work failed: a call was not answered, for another reason than out of memory; a thread could not be started; or memory ran out
 abbrev pub IsWorkersFault : DriveFault → Type 0
 IsWorkersFault (Settle fault) = ⊥
 IsWorkersFault (Call fault) = fault ≢ file.Memory
 IsWorkersFault Thread = Unit {0}
 IsWorkersFault Memory = Unit {0}
 
--- why there are no totals: a fault of settling, other than want of memory, that is due for a closed file of the settings and some acts, from an empty file on; or the threads' work failed
+-- why there are no totals: a fault of settling, other than out of memory, that is due for a closed file of the settings and some acts, from an empty file on; or the threads' work failed
 abbrev pub IsDriveFault : Settings → DriveFault → Type 0
 IsDriveFault settings (Settle fault) =
     (closed : ClosedFile) × (acts : List ActLine) × (closed.config ≡ settings) × IsDue (empty_file settings) closed acts fault × (fault ≢ settle.Memory)

@@ -1,4 +1,4 @@
--- What is told of an image, as lines
+-- What `check` and `dump` write of an image, as lines
 use Rattle.std.specs.Prelude.{ℕ, List, ◌++◌, flat_map, codes}
 use Rattle.std.specs.Fmt.{decimal}
 use Rattle.std.specs.List.{range_with_len}

@@ -14,6 +14,7 @@ use Rattle.lh_core.specs.Log.{Entry}
 use Rattle.lh_core.specs.World.{WorldSeen}
 use Rattle.lh_core.specs.declared.effect.Refusal.TheVariants as refusal
 use Rattle.lh_core.specs.declared.event.Event.{Event}
+use Rattle.lh_replay.specs.Picture.{picture_of}
 use Rattle.lh_script.specs.Scripts.{script}
 use Rattle.lh_script.specs.StepTexts.{steps_text}
 use Rattle.lh_script.specs.Steps.{step}
@@ -44,7 +45,7 @@ commands_due settings input = due (λ calls. commands_text (replies empty calls)
 
 -- a status, and what the writer took, where this is due:
 -- done, and it took just the output; a fault, the one that is due, and it took nothing;
--- a failed write, and it took a beginning of the output; a failed read or want of memory, and it took nothing
+-- a failed write, and it took a beginning of the output; a failed read or out of memory, and it took nothing
 abbrev pub Ends : Status → Result (List ℕ) InputFault → Option (List ℕ) → Option (List ℕ) → Type 0
 Ends Done due before now = (output : List ℕ) × (due ≡ Ok output) × Appends before now output
 Ends (Input fault) due before now = (due ≡ Err fault) × Keeps before now
@@ -54,12 +55,12 @@ Ends Memory due before now = Keeps before now
 Ends (Words text) due before now = ⊥
 Ends (NotSettled fault) due before now = ⊥
 
--- whether an event was refused for want of memory
+-- whether memory ran out at an event
 abbrev pub is_want : Entry → Bool
 is_want (Err refusal.Memory) = true
 is_want _ = false
 
--- What `steps` may write for events: with some world, the headline holds of the settings, the events and some entries; none of these is want of memory, and the output is a line for each.
+-- What `steps` may write for events: with some world, the headline holds of the settings, the events and some entries; none of these is out of memory, and the output is a line for each.
 pub record IsTold (settings : Settings) (events : List Event) (output : List ℕ) : Type 0 where
   pub entries : List Entry
   pub world : WorldSeen
@@ -67,9 +68,17 @@ pub record IsTold (settings : Settings) (events : List Event) (output : List ℕ
   pub memory : list_any is_want entries ≡ false
   pub lines : output ≡ steps_text entries
 
--- a status, and what the writer took, where a script gives this, and its statements may have any output that is told of them:
+-- What `replay` may write for events: with some world, the headline holds of the settings, the events and some entries; none of these is out of memory, and the output is the picture of events and entries.
+pub record IsPictured (settings : Settings) (events : List Event) (output : List ℕ) : Type 0 where
+  pub entries : List Entry
+  pub world : WorldSeen
+  pub headline : IsHeadline settings events entries world
+  pub memory : list_any is_want entries ≡ false
+  pub picture : output ≡ picture_of events entries
+
+-- a status, and what the writer took, where a script gives this, and its statements may have any output that this relation allows them:
 -- done, and it took just such an output; a fault, the script's first, and it took nothing;
--- a failed write, and it took a beginning of such an output; a failed read or want of memory, and it took nothing
+-- a failed write, and it took a beginning of such an output; a failed read or out of memory, and it took nothing
 abbrev pub EndsTelling : {A : Type 0} → (List A → List ℕ → Type 0) → Status → Result (List A) ScriptFault → Option (List ℕ) → Option (List ℕ) → Type 0
 EndsTelling {A} IsOutput Done given before now =
     (statements : List A) × (output : List ℕ) × (given ≡ Ok statements) × IsOutput statements output × Appends before now output
@@ -83,3 +92,7 @@ EndsTelling IsOutput _ given before now = ⊥
 -- how `steps` ends on an input: with what the headline tells of the events of its script
 unfoldable pub EndsSteps : Settings → List ℕ → Status → Option (List ℕ) → Option (List ℕ) → Type 0
 EndsSteps settings input status before now = EndsTelling (IsTold settings) status (script step input) before now
+
+-- how `replay` ends on an input: with the picture of the events of its script, and of what the headline tells of them
+unfoldable pub EndsReplay : Settings → List ℕ → Status → Option (List ℕ) → Option (List ℕ) → Type 0
+EndsReplay settings input status before now = EndsTelling (IsPictured settings) status (script step input) before now

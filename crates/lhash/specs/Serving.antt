@@ -1,4 +1,4 @@
--- What became of the words that a run was given
+-- How a run answers its words
 use Rattle.std.specs.Prelude.{◌≡◌, ◌⊎◌, ℕ, ◌<◌, ◌≤◌, List, Option, Some, IfSome, Result, codes}
 use Rattle.std.specs.String.{string_bytes}
 use Rattle.std.specs.Io.KnownBytes.{Keeps}
@@ -6,9 +6,9 @@ use Rattle.lhash.specs.Driving.{EndsDriving}
 use Rattle.lhash.specs.Images.{EndsBuilding, check_due, draw_due, dump_due, migrate_due, version_asked}
 use Rattle.lh_addr.specs.Settings.{Settings}
 use Rattle.lh_options.specs.Options.{Accepts, Answers, Asks, AsksForHelp, IsRefused, Text, number_given, settings_given, version_of}
-use Rattle.lhash.specs.Run.{Ends, EndsSteps, commands_due}
+use Rattle.lhash.specs.Run.{Ends, EndsReplay, EndsSteps, commands_due}
 use Rattle.lh_options.specs.declared.options.Request.{Request}
-use Rattle.lh_options.specs.declared.options.Request.TheVariants.{Commands, Steps, Build, Check, Draw, Dump, Drive, Migrate, Help, Refused, MaxBelowInitial}
+use Rattle.lh_options.specs.declared.options.Request.TheVariants.{Commands, Steps, Replay, Build, Check, Draw, Dump, Drive, Migrate, Help, Refused, MaxBelowInitial}
 use Rattle.lhash.specs.declared.status.DeviceFault.TheVariants.{Write}
 use Rattle.lhash.specs.declared.status.InputFault.{InputFault}
 use Rattle.lhash.specs.declared.status.Status.{Status}
@@ -34,6 +34,7 @@ below_initial = codes "max is less than initial"
 abbrev pub Serves : Request → Status → Option (List ℕ) → Option (List ℕ) → Option (List ℕ) → Option (List ℕ) → Type 0
 Serves (Commands config) status left rest before now = IfSome left (λ input. Ends status (commands_due config input) before now)
 Serves (Steps config) status left rest before now = IfSome left (λ input. EndsSteps config input status before now)
+Serves (Replay config) status left rest before now = IfSome left (λ input. EndsReplay config input status before now)
 Serves (Build config image) status left rest before now = IfSome left (λ input. EndsBuilding (version_asked image) config input status before now)
 Serves Check status left rest before now = IfSome left (λ input. Ends status (check_due input) before now)
 Serves Dump status left rest before now = IfSome left (λ input. Ends status (dump_due input) before now)
@@ -44,7 +45,7 @@ Serves (Help text) status left rest before now = IsHelped status × Keeps left r
 Serves (Refused text) status left rest before now = (status ≡ Words text) × Keeps left rest × Keeps before now
 Serves MaxBelowInitial status left rest before now = IsWordsOf below_initial status × Keeps left rest × Keeps before now
 
--- what became of words that clap does not accept: they are refused and nothing was written, or they ask for help
+-- how a run answers words that clap does not accept: they are refused and nothing was written, or they ask for help
 abbrev pub IsTurnedAway : List Text → Status → Option (List ℕ) → Option (List ℕ) → Type 0
 IsTurnedAway words (Words text) before now = IsRefused words × Keeps before now
 IsTurnedAway words Memory before now = Keeps before now

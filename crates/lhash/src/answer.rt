@@ -1,4 +1,4 @@
-//! The subcommands `commands` and `steps`, from the bytes of a script to the bytes of what is told.
+//! The subcommands `commands` and `steps`, from the bytes of a script to the bytes of the output.
 ghost use Rattle.std.specs.Prelude.{◌≡◌, IfSome};
 ghost use Rattle.std.specs.List.{list_any};
 ghost use Rattle.lh_script.specs.Commands.{command};
@@ -61,7 +61,7 @@ pub fn answer_commands<R: Read, W: Write>(
     }
 }
 
-/// Whether an event was refused for want of memory.
+/// Whether memory ran out at an event.
 fn is_want_of_memory(entry: &Result<Effect, Refusal>) -> bool
     ensures { result ≡ is_want entry.now }
 {
@@ -71,15 +71,15 @@ fn is_want_of_memory(entry: &Result<Effect, Refusal>) -> bool
     }
 }
 
-/// Whether memory was wanting for one of some events.
-fn wanted_memory(entries: &[Result<Effect, Refusal>]) -> bool
+/// Whether memory ran out at one of some events.
+pub fn wanted_memory(entries: &[Result<Effect, Refusal>]) -> bool
     ensures { result ≡ list_any is_want entries.now }
 {
     entries.iter().any(|entry| is_want_of_memory(entry))
 }
 
-/// Reads a step script whole, takes its steps in turn from an empty file, and writes what is told
-/// of each. Nothing is written where memory was wanting for one of them.
+/// Reads a step script whole, takes its steps in turn from an empty file, and writes a line for each.
+/// Nothing is written where memory ran out at one of them.
 #[tactic(auto, using(crate::proofs::Ending::no_steps))]
 pub fn answer_steps<R: Read, W: Write>(
     alloc: Global,

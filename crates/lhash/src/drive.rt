@@ -16,7 +16,7 @@ use std::io::{Read, Write};
 use std::sync::Wait;
 use std::thread::Threads;
 
-/// Why a run in threads has no totals. Want of memory is always [`DriveFault::Memory`].
+/// Why a run in threads has no totals. Out of memory is always [`DriveFault::Memory`].
 #[derive(Clone, Copy, Debug, PartialEq, Eq)]
 pub enum DriveFault {
     /// What the threads did is not settled, by the first fault of the closed file.

@@ -23,7 +23,7 @@ pub struct Driven {
 }
 
 impl Driven {
-    /// A run of no calls that left so many records.
+    /// A run of no calls that left this number of records.
     fn idle(records: u64) -> Driven
         ensures counts { Counts [] result }
         ensures records { result.records ≡ records }
@@ -57,7 +57,7 @@ impl Driven {
         }
     }
 
-    /// The totals of a history, whose file has so many records in the end.
+    /// The totals of a history, whose file has this number of records in the end.
     pub fn of(history: &History, records: u64) -> Driven
         ensures counts { Counts (replies_of history.now) result }
         ensures records { result.records ≡ records }

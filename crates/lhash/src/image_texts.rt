@@ -1,4 +1,4 @@
-//! The texts of what is told of an image, each as what a type displays.
+//! What `check` and `dump` write of an image, each text as what a type displays.
 ghost use Rattle.std.specs.Prelude.{Some};
 ghost use Rattle.lhash.specs.ImageTexts.{check_text, record_text};
 

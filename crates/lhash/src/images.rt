@@ -1,5 +1,5 @@
 //! The subcommands for images: `build`, from a script to an image, `migrate`, from an image to one of version 2, and
-//! `check` and `dump`, from an image to what is told of it.
+//! `check` and `dump`, from an image to a text.
 ghost use Rattle.std.specs.Prelude.{◌≡◌, IfOk, IfSome};
 ghost use Rattle.lh_image.specs.Reading.{IsAnswer};
 ghost use Rattle.lh_image.specs.Writing.{IsWritten};
@@ -112,7 +112,7 @@ pub fn answer_migrate<R: Read, W: Write>(alloc: Global, reader: &mut R, writer: 
     }
 }
 
-/// Reads an image, and writes what is counted of it.
+/// Reads an image, and writes its counts.
 pub fn answer_check<R: Read, W: Write>(alloc: Global, reader: &mut R, writer: &mut W) -> Status
     ensures { IfSome (R.remaining reader.old) (λ input.
         Ends result (check_due input) (W.contents writer.old) (W.contents writer.new)) }

@@ -3,7 +3,7 @@
 ghost use Rattle.std.specs.Prelude.{codes};
 ghost use Rattle.lhash.specs.Driving.{EndsDriving};
 ghost use Rattle.lhash.specs.Images.{check_due, draw_due, dump_due, migrate_due};
-ghost use Rattle.lhash.specs.Run.{EndsSteps};
+ghost use Rattle.lhash.specs.Run.{EndsReplay, EndsSteps};
 ghost use Rattle.lhash.specs.Serving.{EndsCommands, EndsTold, RefusesBelow, ServesBuild, ServesFile, ServesImage, TurnsAway};
 
 /// Words that ask for `commands` have the replies of one plain map to the script's calls written, and the number of
@@ -17,8 +17,13 @@ pub fn steps_is_served()
     ensures { ServesFile (codes "steps") EndsSteps }
 {}
 
+/// Words that ask for `replay` have the picture drawn of the script's events, and of what the headline tells of them.
+pub fn replay_is_served()
+    ensures { ServesFile (codes "replay") EndsReplay }
+{}
+
 /// Words that ask for `build` have the image written, in the version that they give, of the file that the script's
-/// calls lead to; or they are told why it has none.
+/// calls lead to; or the reason why it has none.
 pub fn build_is_served()
     ensures { ServesBuild }
 {}

@@ -2,11 +2,10 @@
 //! `lhash` but its process.
 //!
 //! `lhash commands` reads a command script, answers its calls and writes their replies. `lhash
-//! steps` reads a step script, takes its steps and writes what is told of each. `lhash build` reads a
-//! command script and writes the file that it leads to as an image; `lhash check` reads an image and
-//! writes what is counted of it, `lhash dump` its records, `lhash draw` a drawing. `lhash drive` makes the calls of a command
-//! script in threads that share one file, and writes what they did in all. `run` does it from words
-//! and bytes to bytes and a status.
+//! steps` reads a step script, takes its steps and writes the effect of each; `lhash replay` draws them. `lhash build`
+//! reads a command script and writes the resulting file as an image; `lhash check` reads an image and writes its counts,
+//! `lhash dump` its records, `lhash draw` a drawing. `lhash drive` makes the calls of a command script in threads that
+//! share one file, and writes totals. `run` does it from words and bytes to bytes and a status.
 #![tactic(auto)]
 
 mod answer;
@@ -19,6 +18,7 @@ mod images;
 pub mod laws;
 mod output;
 mod program;
+mod replay;
 mod status;
 mod unsettled;
 mod workers;

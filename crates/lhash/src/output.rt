@@ -21,8 +21,9 @@ use std::io::Write;
 /// How many bytes are written at once.
 const CHUNK: usize = 65_536;
 
-/// No line is longer: key and value take two digits a byte, and all else takes less than 100 bytes.
-const LONGEST_LINE: usize = 100 + 2 * (LONGEST_KEY + LONGEST_VALUE);
+/// No line is longer: key and value take two digits a byte, and all else takes less than 256 bytes; a step of a picture
+/// has none of them, and takes less than 550.
+const LONGEST_LINE: usize = 256 + 2 * (LONGEST_KEY + LONGEST_VALUE);
 
 /// Room for the lines that wait, so that none of them needs memory later.
 pub fn room(alloc: Global) -> Result<String, AllocError>
@@ -113,7 +114,7 @@ pub fn write_replies<W: Write>(
     write_all(writer, waiting.as_bytes())
 }
 
-/// Writes a line for what is told of each event.
+/// Writes a line for each event.
 pub fn write_entries<W: Write>(
     writer: &mut W,
     waiting: &mut String,

@@ -8,6 +8,7 @@ use crate::device::write_all;
 use crate::draw::answer_draw;
 use crate::drive::answer_drive;
 use crate::images::{answer_build, answer_check, answer_dump, answer_migrate};
+use crate::replay::answer_replay;
 use crate::status::{DeviceFault, Status};
 use lh_options::{Request, request_of};
 use std::alloc::Global;
@@ -50,6 +51,7 @@ fn serve<A: Threads + Wait + Sync, R: Read, W: Write>(
     match request {
         Request::Commands(config) => answer_commands(alloc, config, reader, writer),
         Request::Steps(config) => answer_steps(alloc, config, reader, writer),
+        Request::Replay(config) => answer_replay(alloc, config, reader, writer),
         Request::Build(config, version) => answer_build(alloc, config, version, reader, writer),
         Request::Check => answer_check(alloc, reader, writer),
         Request::Dump => answer_dump(alloc, reader, writer),

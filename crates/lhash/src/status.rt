@@ -45,7 +45,7 @@ pub enum Status {
 }
 
 impl Status {
-    /// The exit status: 0 done, 1 a fault in the input, 2 the words, 3 a device, 4 want of memory,
+    /// The exit status: 0 done, 1 a fault in the input, 2 the words, 3 a device, 4 out of memory,
     /// 5 not settled.
     pub fn code(&self) -> u8
         ensures { result ≡ code_of self.now }

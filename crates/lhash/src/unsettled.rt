@@ -6,7 +6,7 @@ use lh_page::Key;
 use lh_script::KeyText;
 use std::fmt;
 
-/// Why what threads did to a file is not settled. Want of memory is no such fault.
+/// Why what threads did to a file is not settled. Running out of memory is no such fault.
 #[derive(Clone, Copy, Debug, PartialEq, Eq)]
 pub enum Unsettled {
     /// A split was under way when the file was closed.

@@ -122,7 +122,7 @@ fn join<G: Gate, R: Threads + Wait>(
     }
 }
 
-/// Makes all calls in so many threads, and joins the hands of all of them into one. Of several faults
+/// Makes all calls in this number of threads, and joins the hands of all of them into one. Of several faults
 /// it is the one of the first thread that has one.
 pub fn work_in_threads<G: Gate + Sync, R: Threads + Wait + Sync>(
     rt: &R,

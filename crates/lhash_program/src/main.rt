@@ -5,12 +5,14 @@ ghost use Rattle.std.specs.Prelude.{codes};
 ghost use Rattle.lhash.specs.Serving.{IsWordsOf};
 
 mod one_try;
+mod progress;
 
 use crate::one_try::OneTry;
+use crate::progress::{Input, Output, Progress};
 use lhash::{Status, run};
 use std::alloc::Global;
 use std::env;
-use std::io::{BufReader, BufWriter, ErrorKind, Read, Write};
+use std::io::{BufReader, BufWriter, ErrorKind, IsTerminal, Read, Write};
 use std::process::ExitCode;
 use std::rt::Runtime;
 use std::sync::Wait;
@@ -68,7 +70,21 @@ fn run_process<A: Runtime + AllocGlobal + Threads + Wait + Sync, R: Read + Drop,
 }
 
 fn main(rt: HostRuntime) -> ExitCode {
-    let status = run_process(&rt, rt.stdin(), rt.stdout());
+    let (stdin, stdout) = (rt.stdin(), rt.stdout());
+    let progress = Progress::new(&rt, rt.stderr().is_terminal() && !stdin.is_terminal());
+    let input = Input {
+        progress: &progress,
+        bytes: 0,
+        reader: stdin,
+    };
+    let output = Output {
+        progress: &progress,
+        is_told: !stdout.is_terminal(),
+        bytes: 0,
+        writer: stdout,
+    };
+    let status = run_process(&rt, input, output);
+    progress.clear();
     let code = status.code();
     if code != 0 {
         let _ = eprintln!(rt; "lhash: {status}");

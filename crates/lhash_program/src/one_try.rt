@@ -5,7 +5,7 @@ ghost use Rattle.std.specs.declared.io.ErrorKind.TheVariants as ErrorKind;
 
 use std::io::{Error, ErrorKind, Result, Write};
 
-/// A writer whose errors tell no more than that a write or a flush failed.
+/// A writer whose errors say only that a write or a flush failed.
 #[derive(Drop)]
 pub struct OneTry<W>(pub W);
 

@@ -4,6 +4,7 @@ mod devices;
 mod draw;
 mod drive;
 mod images;
+mod replay;
 mod steps;
 mod support;
 mod words;

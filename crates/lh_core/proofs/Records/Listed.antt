@@ -98,7 +98,7 @@ module _ (g : LinearHashing) (w : WorldSeen) (h : IsWorld w) (idle : w.state.spl
       let there : address w.config.initial w.state.filled (code_of (key_at b.pairs p)) ≡ i = (g.address w.config.initial w.state.filled (code_of (key_at b.pairs p)) i h.sound.some (subst (λ n. w.config.initial ≤ n) (sym full) h.sound.from_initial)).1 (in_row, leads) in
       subst (λ (ps : List Pair). address w.config.initial w.state.buckets (code_of (key_at ps p)) ≡ i) (sym (at i)) (subst (λ n. address w.config.initial n (code_of (key_at b.pairs p)) ≡ i) full there)
 
-  -- so the only fault is want of memory
+  -- so the only fault is out of memory
   pub no_fault : (f : ListingFault) → (f ≡ Memory → ⊥) → IsFaultOf w.config w.state.buckets lists f → ⊥
   no_fault Shape m f = f shape
   no_fault (Misplaced i p) m f = f.1.fault (home i p f.1.within)

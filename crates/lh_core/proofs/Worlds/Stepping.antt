@@ -73,7 +73,7 @@ serves_none a event.SplitDrop q = refl
 pub refused : (v : WorldSeen) (e : Event) (r : Refusal) → allowed v.config v.state e ≡ Err r → IsStep v e (Err r) v
 refused v e r h = record { config = refl; ruled = (refl, inl h); follows = λ m p. p }
 
--- want of memory
+-- out of memory
 is_ok : {X E : Type 0} {r : Result X E} {x : X} → r ≡ Ok x → IsOk r
 is_ok e = subst IsOk (sym e) refl
 

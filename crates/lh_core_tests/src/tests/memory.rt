@@ -38,7 +38,7 @@ fn run_again<B: Bucket>(alloc: Global, config: Config, events: &[Event]) -> Resu
     }
 }
 
-/// The entries have these effects in their order, and between them are events refused for want of memory, or since
+/// The entries have these effects in their order, and between them are events refused because memory ran out, or because
 /// what they ask for was done.
 fn expect_effects(rt: &impl Abort, entries: &[Result<Effect, Refusal>], dues: &[Effect]) {
     let mut count: usize = 0;
@@ -56,7 +56,7 @@ fn expect_effects(rt: &impl Abort, entries: &[Result<Effect, Refusal>], dues: &[
     assert_eq!(rt; count, dues.len());
 }
 
-/// An act and a move of records come twice: refused for want of memory they are accepted then, and else they are done.
+/// An act and a move of records come twice: refused out of memory they are accepted then, and else they are done.
 fn a_run_goes_on<B: Bucket>(rt: &impl Abort, alloc: Global) -> Result<(), Fail> {
     let events = [
         Event::Call(0, insert(b"a", b"1")?),

@@ -21,7 +21,7 @@ fn entries_are<B: Bucket>(
     Ok(world)
 }
 
-/// Takes steps by hand on an empty file, and compares each entry.
+/// Takes steps one at a time on an empty file, and compares each entry.
 fn steps_are<B: Bucket>(
     rt: &impl Abort,
     alloc: Global,

@@ -1,4 +1,4 @@
--- The lists of an image are refused for want of memory alone.
+-- The lists of an image are refused only where memory runs out.
 use Rattle.std.proofs.Common.{◌≡◌, ℕ, ◌-◌, ◌<◌, List, [], length, None, refl, sym, ◌∙◌, arith}
 use Rattle.std.specs.List.{IsDistinct}
 use Rattle.std.specs.Str.{bytes_eq}

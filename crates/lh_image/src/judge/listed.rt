@@ -80,7 +80,7 @@ pub(crate) fn listing_of_pages(
         Ok(listing) => return Ok(listing),
         Err(refused) => refused,
     };
-    // The lists have no fault where the records have none; of those that have one the least page is told.
+    // The lists have no fault where the records have none; of those that have one the least page is answered.
     let root = header.config.root(header.buckets);
     match least_misfit(alloc, &root, table, &chains)? {
         Some(page) => Err(ImageFault::Misfit(page)),

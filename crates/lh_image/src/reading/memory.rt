@@ -1,4 +1,4 @@
-//! Want of memory as a fault of a reader.
+//! Out of memory as a fault of a reader.
 
 use crate::fault::ImageFault;
 use std::alloc::{AllocError, AllocFailed};

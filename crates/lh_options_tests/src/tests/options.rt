@@ -9,7 +9,9 @@ use std::process::Abort;
 fn answer(rt: &(impl Abort + AllocGlobal), words: &[&str]) -> Result<String, AllocError> {
     let alloc = rt.alloc();
     match request_of(alloc, words)? {
-        Request::Commands(config) | Request::Steps(config) => settings(rt, &config),
+        Request::Commands(config) | Request::Steps(config) | Request::Replay(config) => {
+            settings(rt, &config)
+        }
         Request::Build(config, version) => {
             let settings = settings(rt, &config)?;
             let version = match version {
@@ -268,7 +270,7 @@ fn subcommands_and_help(rt: HostRuntime) -> Result<(), AllocError> {
     let none = answer(&rt, ["lhash"].as_slice())?;
     assert_eq!(rt;
         none.as_str(),
-        "refused: 'lhash' requires a subcommand but one was not provided"
+        "refused: 'lhash' requires a subcommand but one was not provided; for more information, try '--help'"
     );
     let unknown = answer(&rt, ["lhash", "bogus"].as_slice())?;
     assert_eq!(rt;

@@ -2,7 +2,7 @@
 use Rattle.std.proofs.Common.{refl, inl, inr, codes}
 use Rattle.clap.proofs.OnLiterals.{clap_on_literals}
 use Rattle.clap.specs.declared.error.kind.ErrorKind.TheVariants as kind
-use Rattle.lh_options.specs.OptionLaws.{Gives, GivesBuild, GivesDrive, GivesSteps, Refuses, build_given, check_alone, check_with_option, draw_alone, drive_alone, drive_given, dump_alone, first_image_given, help_asked, initial_twice, initial_zero, max_below_initial, max_given, max_over_limit, migrate_alone, no_options, no_subcommand, steps_given, third_image, threads_over_limit, threads_zero, unknown_option, version_asked}
+use Rattle.lh_options.specs.OptionLaws.{Gives, GivesBuild, GivesDrive, GivesReplay, GivesSteps, Refuses, build_given, check_alone, check_with_option, draw_alone, drive_alone, drive_given, dump_alone, first_image_given, help_asked, initial_twice, initial_zero, max_below_initial, max_given, max_over_limit, migrate_alone, no_options, no_subcommand, replay_given, steps_given, third_image, threads_over_limit, threads_zero, unknown_option, version_asked}
 use Rattle.lh_options.specs.declared.options.ImageVersion.TheVariants.{First, Second}
 use Rattle.lh_options.specs.Options.{Accepts, Asks, AsksForHelp, settings_given, subcommand_named}
 use Rattle.lh_options.proofs.laws.words_give_options.Goals as goal
@@ -22,6 +22,10 @@ below = ((refl, refl), refl)
 steps : GivesSteps steps_given (record { initial = 1; capacity = 2; load = 200; max = 65536 })
 unfolding clap_on_literals Accepts settings_given subcommand_named
 steps = ((refl, refl), refl)
+
+replay : GivesReplay replay_given (record { initial = 9; capacity = 14; load = 100; max = 9 })
+unfolding clap_on_literals Accepts settings_given subcommand_named
+replay = ((refl, refl), refl)
 
 build : GivesBuild build_given (record { initial = 1; capacity = 14; load = 100; max = 1 }) Second
 unfolding clap_on_literals Accepts settings_given subcommand_named
@@ -105,6 +109,7 @@ returns c = record {
   given = given;
   below = below;
   steps = steps;
+  replay = replay;
   build = build;
   first = first;
   migrate = migrate;

@@ -1,5 +1,5 @@
 use Rattle.std.proofs.Common.{inl, inr}
-use Rattle.lh_options.proofs.Asking.{build, check, commands, drive, draw, dump, migrate, out_of_order, steps}
+use Rattle.lh_options.proofs.Asking.{build, check, commands, drive, draw, dump, migrate, out_of_order, replay, steps}
 use Rattle.lh_options.proofs.options.asked.Goals as goal
 
 pub returns-in-Some-clause-value : goal.returns-in-Some-clause-value
@@ -38,4 +38,11 @@ returns-in-Some-config_of-3-clause-value c =
     drive _ _ _ _ _ _ c.in-drive.is c.in-Some-config_of-3.ensures.some c.number.ensures c.in-Some-config_of-3.ensures.in_range.max.0
 
 pub returns-in-None-config_of-3-clause-value : goal.returns-in-None-config_of-3-clause-value
-returns-in-None-config_of-3-clause-value c = out_of_order _ _ _ _ (inr (inr (inr c.in-drive.is))) c.in-None-config_of-3.ensures.none
+returns-in-None-config_of-3-clause-value c = out_of_order _ _ _ _ (inr (inr (inr (inl c.in-drive.is)))) c.in-None-config_of-3.ensures.none
+
+pub returns-in-Some-config_of-4-clause-value : goal.returns-in-Some-config_of-4-clause-value
+returns-in-Some-config_of-4-clause-value c =
+    replay _ _ _ _ _ c.in-replay.is c.in-Some-config_of-4.ensures.some c.in-Some-config_of-4.ensures.in_range.max.0
+
+pub returns-in-None-config_of-4-clause-value : goal.returns-in-None-config_of-4-clause-value
+returns-in-None-config_of-4-clause-value c = out_of_order _ _ _ _ (inr (inr (inr (inr c.in-replay.is)))) c.in-None-config_of-4.ensures.none

@@ -30,5 +30,8 @@ returns-in-Dump g c = served_as c.in-Dump.is _ _ _ _ _ search
 pub returns-in-MaxBelowInitial : goal.returns-in-MaxBelowInitial
 returns-in-MaxBelowInitial g c = served_as c.in-MaxBelowInitial.is _ _ _ _ _ (search Keeps-refl)
 
+pub returns-in-Replay : goal.returns-in-Replay
+returns-in-Replay g c = served_as c.in-Replay.is _ _ _ _ _ c.answer_replay.ensures
+
 pub returns-in-Steps : goal.returns-in-Steps
 returns-in-Steps g c = served_as c.in-Steps.is _ _ _ _ _ search

@@ -1,0 +1,27 @@
+-- What a picture means: each step stands in a lane that is drawn, and a box or an arrow reaches down to the step that ends it
+use Rattle.std.specs.Prelude.{◌≡◌, ◌⊎◌, ℕ, ◌+◌, ◌<◌, ◌≤◌, Bool, true, false, List, length}
+use Rattle.lh_core.specs.declared.event.Event.{Event}
+use Rattle.lh_core.specs.Log.{Entry}
+use Rattle.lh_replay.specs.Lanes.{ends_at, lane_count, lane_of, rows_until}
+use Rattle.lh_replay.specs.Picture.{entry_at, event_at}
+
+-- whether the step of a row ends a box of a lane, or an arrow
+abbrev pub ends_row : Bool → ℕ → List Event → List Entry → ℕ → Bool
+ends_row is_lock lane events entries row = ends_at is_lock lane (event_at events row) (entry_at entries row)
+
+-- what is drawn in a lane reaches over so many of these steps: the last of them ends it and none before, or none ends it and there are no more
+pub record Reaches (is_lock : Bool) (lane : ℕ) (events : List Event) (entries : List Entry) (rows : ℕ) : Type 0 where
+  pub within : rows ≤ length events
+  pub goes_on : (row : ℕ) → row + 1 < rows → ends_row is_lock lane events entries row ≡ false
+  pub ends :
+      ((last : ℕ) × (rows ≡ last + 1) × (ends_row is_lock lane events entries last ≡ true))
+      ⊎ ((rows ≡ length events) × ((row : ℕ) → row < rows → ends_row is_lock lane events entries row ≡ false))
+
+-- A box reaches down to the first accepted step of its lane that lets a bucket go, and an arrow to the first that locks one; without such a step, to the last row.
+abbrev pub ReachLaw : Type 0
+ReachLaw = (is_lock : Bool) (lane : ℕ) (events : List Event) (entries : List Entry) → length entries ≡ length events →
+    Reaches is_lock lane events entries (rows_until is_lock lane events entries)
+
+-- The lane of each step is drawn.
+abbrev pub LaneLaw : Type 0
+LaneLaw = (events : List Event) (row : ℕ) → row < length events → lane_of (event_at events row) < lane_count events

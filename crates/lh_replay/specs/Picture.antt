@@ -1,0 +1,68 @@
+-- The picture of a schedule: a row for each step, in the lane of who takes it
+use Rattle.std.specs.Prelude.{ℕ, ◌+◌, ◌*◌, true, false, if◌then◌else◌, max, List, ◌++◌, length, drop, slice_index_or, Ok}
+use Rattle.lh_core.specs.declared.effect.Effect.TheVariants as effect
+use Rattle.lh_core.specs.declared.event.Event.{Event}
+use Rattle.lh_core.specs.declared.event.Event.TheVariants as event
+use Rattle.lh_core.specs.Log.{Entry}
+use Rattle.lh_draw.specs.Drawing.{in_turn}
+use Rattle.lh_replay.specs.Lanes.{is_rehash, lane_count, lane_of, rows_until}
+use Rattle.lh_replay.specs.PictureTexts.{canvas_text, caption_text, end_text, heading_text, step_text}
+use Rattle.lh_replay.specs.declared.elements.Canvas.{Canvas}
+use Rattle.lh_replay.specs.declared.elements.Caption.{Caption}
+use Rattle.lh_replay.specs.declared.elements.Heading.{Heading}
+use Rattle.lh_replay.specs.declared.elements.Step.{Step}
+use Rattle.lh_replay.specs.declared.shapes.Shape.{Shape}
+use Rattle.lh_replay.specs.declared.shapes.Shape.TheVariants as shape
+
+-- ---- the parts of a picture; lengths are in pixels, a lane is 288 wide and a row 24 high
+
+unfoldable pub canvas_of : List Event → Canvas
+canvas_of events = record { width = 48 + 288 * max (lane_count events) 2; height = 84 + 24 * length events }
+
+unfoldable pub caption_of : List Event → Caption
+caption_of events = record { steps = length events }
+
+unfoldable pub heading_of : List Event → ℕ → Heading
+heading_of events lane = record { lane = lane; left = 48 + 288 * lane; height = 20 + 24 * length events }
+
+-- the event of a row, and what was told of it
+abbrev pub event_at : List Event → ℕ → Event
+event_at events row = slice_index_or events row event.SplitDrop
+
+abbrev pub entry_at : List Entry → ℕ → Entry
+entry_at entries row = slice_index_or entries row (Ok effect.Dropped)
+
+-- what is drawn of a step: a box for what is locked, down to the row where it is let go; an arrow for a rehash, down to the row of the next lock; a mark for the move of a split, and for its pointer
+abbrev pub shape_of : Event → Entry → ℕ → ℕ → Shape
+shape_of event (Ok (effect.Locked bucket level)) held way = shape.Held bucket (20 + 24 * held)
+shape_of event (Ok (effect.Both old new)) held way = shape.BothHeld old new (20 + 24 * held)
+shape_of event (Ok (effect.Aim level bucket)) held way = if is_rehash event then shape.Way (24 * way) else shape.Plain
+shape_of event (Ok (effect.Moved old new)) held way = shape.Moved
+shape_of event (Ok (effect.Point buckets)) held way = shape.Pointed
+shape_of event _ held way = shape.Plain
+
+unfoldable pub step_of : List Event → List Entry → ℕ → Step
+step_of events entries row =
+    let lane : ℕ = lane_of (event_at events row) in
+    record {
+      number = row + 1;
+      top = 72 + 24 * row;
+      left = 48 + 288 * lane;
+      words = record { event = event_at events row; entry = entry_at entries row };
+      shape = shape_of (event_at events row) (entry_at entries row)
+          (rows_until false lane (drop (row + 1) events) (drop (row + 1) entries))
+          (rows_until true lane (drop (row + 1) events) (drop (row + 1) entries));
+    }
+
+-- ---- the picture
+
+-- what stands above the steps
+unfoldable pub top_text : List Event → List ℕ
+top_text events =
+    canvas_text (canvas_of events)
+    ++ caption_text (caption_of events)
+    ++ in_turn (λ lane. heading_text (heading_of events lane)) (lane_count events)
+
+-- what `replay` writes
+unfoldable pub picture_of : List Event → List Entry → List ℕ
+picture_of events entries = top_text events ++ in_turn (λ row. step_text (step_of events entries row)) (length events) ++ end_text

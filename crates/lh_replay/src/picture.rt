@@ -1,0 +1,93 @@
+//! The parts of a picture, made of events and what was told of them.
+ghost use Rattle.std.specs.Prelude.{◌≡◌, ◌+◌, ◌<◌, ◌≤◌, drop, false, length, true};
+ghost use Rattle.lh_replay.specs.Lanes.{lane_of, rows_until};
+ghost use Rattle.lh_replay.specs.Picture.{canvas_of, caption_of, entry_at, event_at, heading_of, shape_of, step_of};
+
+use crate::elements::{Canvas, Caption, Heading, Step};
+use crate::lanes::{is_rehash, lane_count, lane_of, rows_until};
+use crate::shapes::Shape;
+use crate::words::Words;
+use lh_core::{Effect, Event, Refusal};
+
+/// What is drawn on.
+#[tactic(auto, unfolding(crate::specs::Picture::canvas_of))]
+pub fn canvas_of(events: &[Event]) -> Canvas
+    ensures { result ≡ canvas_of events.now }
+{
+    Canvas {
+        width: 48 + 288 * lane_count(events).max(2),
+        height: 84 + 24 * events.len() as u128,
+    }
+}
+
+/// What the picture is of.
+#[tactic(auto, unfolding(crate::specs::Picture::caption_of))]
+pub fn caption_of(events: &[Event]) -> Caption
+    ensures { result ≡ caption_of events.now }
+{
+    Caption {
+        steps: events.len(),
+    }
+}
+
+/// The heading of a lane.
+#[tactic(auto, unfolding(crate::specs::Picture::heading_of))]
+pub fn heading_of(events: &[Event], lane: u32) -> Heading
+    requires { lane ≤ 256 }
+    ensures { result ≡ heading_of events.now lane }
+{
+    Heading {
+        lane,
+        left: 48 + 288 * lane,
+        height: 20 + 24 * events.len() as u128,
+    }
+}
+
+/// What is drawn of a step beside its words.
+fn shape_at(events: &[Event], entries: &[Result<Effect, Refusal>], row: usize) -> Shape
+    requires same { length entries.now ≡ length events.now }
+    requires row { row < length events.now }
+    ensures { result ≡ shape_of (event_at events.now row) (entry_at entries.now row)
+        (rows_until false (lane_of (event_at events.now row)) (drop (row + 1) events.now) (drop (row + 1) entries.now))
+        (rows_until true (lane_of (event_at events.now row)) (drop (row + 1) events.now) (drop (row + 1) entries.now)) }
+{
+    let event = events[row];
+    let lane = lane_of(&event);
+    let held = rows_until(false, lane, events, entries, row + 1) as u128;
+    match entries[row] {
+        Ok(Effect::Locked { bucket, .. }) => Shape::Held {
+            bucket,
+            height: 20 + 24 * held,
+        },
+        Ok(Effect::Both { old, new }) => Shape::BothHeld {
+            old,
+            new,
+            height: 20 + 24 * held,
+        },
+        Ok(Effect::Aim { .. }) if is_rehash(&event) => Shape::Way {
+            down: 24 * rows_until(true, lane, events, entries, row + 1) as u128,
+        },
+        Ok(Effect::Moved { .. }) => Shape::Moved,
+        Ok(Effect::Point { .. }) => Shape::Pointed,
+        _ => Shape::Plain,
+    }
+}
+
+/// A step of the picture.
+pub fn step_of(events: &[Event], entries: &[Result<Effect, Refusal>], row: usize) -> Step
+    requires same { length entries.now ≡ length events.now }
+    requires row { row < length events.now }
+    ensures { result ≡ step_of events.now entries.now row }
+{
+    let event = events[row];
+    Step {
+        number: row as u128 + 1,
+        top: 72 + 24 * row as u128,
+        left: 48 + 288 * lane_of(&event),
+        words: Words {
+            event,
+            entry: entries[row],
+        },
+        shape: shape_at(events, entries, row),
+    }
+}
