@@ -68,7 +68,7 @@ pub record IsTold (settings : Settings) (events : List Event) (output : List ℕ
   pub memory : list_any is_want entries ≡ false
   pub lines : output ≡ steps_text entries
 
--- What `replay` may write for events: with some world, the headline holds of the settings, the events and some entries; none of these is want of memory, and the output is the picture of events and entries.
+-- What `replay` may write for events: with some world, the headline holds of the settings, the events and some entries; none of these is out of memory, and the output is the picture of events and entries.
 pub record IsPictured (settings : Settings) (events : List Event) (output : List ℕ) : Type 0 where
   pub entries : List Entry
   pub world : WorldSeen

@@ -77,8 +77,8 @@ fn write_picture<W: Write>(
     write_all(writer, waiting.as_bytes())
 }
 
-/// Reads a step script whole, takes its steps in turn from an empty file, and draws what is told of each. Nothing is
-/// written where memory was wanting for one of them.
+/// Reads a step script whole, takes its steps in turn from an empty file, and draws the effect of each. Nothing is
+/// written where memory ran out at one of them.
 #[tactic(auto, using(crate::proofs::Ending::no_schedule))]
 pub fn answer_replay<R: Read, W: Write>(
     alloc: Global,
