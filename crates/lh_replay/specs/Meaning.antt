@@ -1,7 +1,15 @@
 -- What a picture means: each step stands in a lane that is drawn, and a box or an arrow reaches down to the step that ends it
-use Rattle.std.specs.Prelude.{◌≡◌, ◌⊎◌, ℕ, ◌+◌, ◌<◌, ◌≤◌, Bool, true, false, List, length}
+use Rattle.std.specs.Prelude.{◌≡◌, ◌⊎◌, ℕ, ◌+◌, ◌<◌, ◌≤◌, Bool, true, false, List, ◌∷◌, ◌++◌, length, Some, Ok, slice_get}
+use Rattle.std.specs.List.{list_any}
+use Rattle.lh_addr.specs.Settings.{Settings}
+use Rattle.lh_core.specs.declared.effect.Effect.TheVariants as effect
 use Rattle.lh_core.specs.declared.event.Event.{Event}
-use Rattle.lh_core.specs.Log.{Entry}
+use Rattle.lh_core.specs.declared.event.Event.TheVariants as event
+use Rattle.lh_core.specs.declared.state.WorkerState.{WorkerState}
+use Rattle.lh_core.specs.History.{IsHistory}
+use Rattle.lh_core.specs.Holds.{holds, split_holds}
+use Rattle.lh_core.specs.Log.{Entry, Log}
+use Rattle.lh_core.specs.State.{State}
 use Rattle.lh_replay.specs.Lanes.{ends_at, lane_count, lane_of, rows_until}
 use Rattle.lh_replay.specs.Picture.{entry_at, event_at}
 
@@ -25,3 +33,20 @@ ReachLaw = (is_lock : Bool) (lane : ℕ) (events : List Event) (entries : List E
 -- The lane of each step is drawn.
 abbrev pub LaneLaw : Type 0
 LaneLaw = (events : List Event) (row : ℕ) → row < length events → lane_of (event_at events row) < lane_count events
+
+-- a worker holds a bucket in a state
+abbrev pub DoesHold : State → ℕ → ℕ → Type 0
+DoesHold state worker bucket = (doing : WorkerState) × (slice_get state.workers worker ≡ Some doing) × (holds bucket doing ≡ true)
+
+-- As far as its box reaches, a bucket is held by its worker: after an accepted lock and later steps of which none ends the box, the worker holds the bucket.
+abbrev pub HeldLaw : Type 0
+HeldLaw = (config : Settings) (worker bucket level : ℕ) (earlier later : Log) (state : State) →
+    IsHistory config (later ++ (event.Lock worker, Ok (effect.Locked bucket level)) ∷ earlier) state →
+    list_any (λ step. ends_at false (worker + 1) step.0 step.1) later ≡ false → DoesHold state worker bucket
+
+-- As far as their boxes reach, two buckets are held by the splitter.
+abbrev pub BothHeldLaw : Type 0
+BothHeldLaw = (config : Settings) (old new : ℕ) (earlier later : Log) (state : State) →
+    IsHistory config (later ++ (event.SplitLock, Ok (effect.Both old new)) ∷ earlier) state →
+    list_any (λ step. ends_at false 0 step.0 step.1) later ≡ false →
+    (split_holds config state old ≡ true) × (split_holds config state new ≡ true)
