@@ -1,0 +1,185 @@
+#!/usr/bin/env python3
+"""Runs lh_bench and the peers in rounds and prints the tables. README.md says what the workloads are.
+
+In one round each workload is run by all peers one after the other, so that a ratio compares runs that stand
+close in time. The table gives the median over the rounds, of speeds and of ratios apart.
+"""
+import argparse
+import json
+import os
+import statistics
+import subprocess
+import sys
+import tempfile
+import time
+
+HERE = os.path.dirname(os.path.abspath(__file__))
+# Those that keep a file come last; within a group the order is that of the table.
+PEERS = ["null", "lh_bench", "twin", "twin_nostamp", "twin_tags", "rust_shard", "rust_shard_sip", "dashmap_fnv", "dashmap", "absl_shard", "libcuckoo", "tbb", "urcu_sized", "urcu",
+         "std_shard", "std_onelock", "kc_stash", "kc_hash", "tc_hash", "lmdb", "tdb", "gdbm", "bdb_hash"]
+PROGRAM = {"libcuckoo": "cuckoo", "bdb_hash": "bdb", "lh_bench": "../../crates/lh_bench/out/lh_bench"}
+UNRANKED = {"null"}
+REFERENCE = "std_onelock"  # its digests at one thread are those due
+
+
+def run(name, path, workload, threads, args):
+    words = [path, "--workload", workload, "--threads", str(threads), "--records", str(args.records),
+             "--seed", str(args.seed)]
+    with tempfile.TemporaryDirectory(dir=args.dir, prefix="bench-") as scratch:
+        start = time.time()
+        try:
+            done = subprocess.run(words, cwd=scratch, capture_output=True, text=True, timeout=args.limit)
+            lines = done.stdout.strip().splitlines()
+            row = json.loads(lines[-1]) if lines else {"check": "no line: " + done.stderr.strip()[:80]}
+        except subprocess.TimeoutExpired:
+            row = {"check": "timeout"}
+        except (OSError, ValueError) as e:
+            row = {"check": "no line: %s" % e}
+    row.update(peer=name, workload=workload, threads=threads, whole_s=round(time.time() - start, 3),
+               load_average=os.getloadavg()[0])
+    return row
+
+
+def measure(args, contestants):
+    paths = {p: os.path.join(HERE, "build", PROGRAM.get(p, p)) for p in PEERS}
+    paths = {p: f for p, f in paths.items() if os.access(f, os.X_OK)}
+    if args.peers:
+        paths = {p: f for p, f in paths.items() if p in args.peers.split(",")}
+    paths.update(contestants)
+    shapes = [(w, t) for w in args.workloads.split(",")
+              for t in ([int(x) for x in args.threads.split(",")] if w in ("W3", "W4") else [1])]
+    rows, left_out, first = [], set(), 0
+    if args.append and os.path.exists(args.out):
+        first = 1 + max([json.loads(line)["round"] for line in open(args.out)], default=-1)
+    with open(args.out, "a" if args.append else "w") as out:
+        for n in range(first, first + args.rounds):
+            for w, t in shapes:
+                for name, path in paths.items():
+                    if (name, w, t) in left_out:
+                        continue
+                    row = run(name, path, w, t, args)
+                    row["round"] = n
+                    if row["check"] != "ok" or row["whole_s"] > args.long:
+                        left_out.add((name, w, t))
+                    if row["check"] == "unsupported":
+                        continue
+                    rows.append(row)
+                    out.write(json.dumps(row) + "\n")
+                    out.flush()
+                    print("round %d %s x%d %-15s %-12s %12s ops/s" % (
+                        n, w, t, name, row["check"][:12], row.get("ops_per_s", "-")), file=sys.stderr)
+    return rows
+
+
+def speed(row):
+    return row.get("ops_per_s") or row["ops"] / row["seconds"]
+
+
+def digests_due(good):
+    """Those of the reference, and where it didn't run those that most peers share."""
+    due = {}
+    for key in {(r["workload"], r["records"], r["seed"]) for r in good}:
+        found = [(r["peer"], r["digest"]) for r in good
+                 if (r["workload"], r["records"], r["seed"]) == key and r["threads"] == 1 and r["peer"] not in UNRANKED]
+        if found:
+            due[key] = dict(found).get(REFERENCE) or statistics.mode(d for _, d in found)
+    return due
+
+
+def table(rows, to):
+    good = [r for r in rows if r["check"] == "ok"]
+    names = [p for p in PEERS if any(r["peer"] == p for r in rows)]
+    names += sorted({r["peer"] for r in rows} - set(names))
+    shapes = sorted({(r["workload"], r["threads"]) for r in good})
+    best = {}  # in each round the fastest, or the one that is named
+    for r in good:
+        if r["peer"] == to if to else r["peer"] not in UNRANKED:
+            k = (r["round"], r["workload"], r["threads"])
+            best[k] = max(best.get(k, 0), speed(r))
+    due = digests_due(good)
+
+    def picked(name, shape):
+        return [r for r in good if (r["peer"], r["workload"], r["threads"]) == (name, *shape)]
+
+    def show(title, cell, tail):
+        print("\n" + title)
+        heads = ["%s x%d" % s if s[0] in ("W3", "W4") else s[0] for s in shapes] + [t for t, _ in tail]
+        print("%-15s" % "peer" + "".join("%9s" % h for h in heads))
+        for name in names:
+            cells = [cell(picked(name, s)) for s in shapes] + [f(name) for _, f in tail]
+            print("%-15s" % name + "".join("%9s" % c for c in cells))
+
+    def median(values, form):
+        return form % statistics.median(values) if values else "-"
+
+    def per_record(field, workload):
+        return lambda name: median([r[field] / r["records"] for r in picked(name, (workload, 1)) if r.get(field)],
+                                   "%.0f")
+
+    def checked(name):
+        for r in rows:
+            if r["peer"] != name or r["check"] == "unsupported":
+                continue
+            want = due.get((r["workload"], r.get("records"), r.get("seed")))
+            if r["check"] != "ok":
+                return r["check"][:8]
+            if r["threads"] == 1 and want and r.get("digest") != want:
+                return "DIGEST"
+        return "ok"
+
+    show("Million operations a second (median of the rounds)",
+         lambda rs: median([speed(r) / 1e6 for r in rs], "%.2f"),
+         [("B/record", per_record("rss_bytes", "W1")), ("file B/r", per_record("file_bytes", "W5")),
+          ("check", checked)])
+    show("Relative to %s of the same round (median; 'null' isn't ranked)" % (to or "the fastest"),
+         lambda rs: median([speed(r) / best[(r["round"], r["workload"], r["threads"])] for r in rs
+                            if (r["round"], r["workload"], r["threads"]) in best], "%.3f"), [])
+    if any("cpu_s" in r for r in good):
+        show("Processor time of all threads, nanoseconds an operation (median)",
+             lambda rs: median([r["cpu_s"] / r["ops"] * 1e9 for r in rs if "cpu_s" in r], "%.0f"), [])
+    if len({r["round"] for r in good}) > 1:
+        show("Rounds measured, and the fastest of them over the slowest",
+             lambda rs: "%d: %.2f" % (len(rs), max(map(speed, rs)) / min(map(speed, rs))) if rs else "-", [])
+    files = [n for n in names if picked(n, ("W5", 1))]
+    if files:
+        print("\nW5 in seconds (median)\n%-15s%9s%9s" % ("peer", "write", "read"))
+        for n in files:
+            rs = picked(n, ("W5", 1))
+            print("%-15s%9s%9s" % (n, median([r["write_s"] for r in rs], "%.2f"),
+                                   median([r["read_s"] for r in rs], "%.2f")))
+
+
+def main():
+    a = argparse.ArgumentParser(description=__doc__, formatter_class=argparse.RawDescriptionHelpFormatter)
+    a.add_argument("--contestant", action="append", default=[], metavar="NAME=PATH", help="one more program")
+    a.add_argument("--peers", default="", help="only these, with commas between them")
+    a.add_argument("--workloads", default="W1,W2,W3,W4,W5")
+    a.add_argument("--threads", default="1,2,4", help="of W3 and W4")
+    a.add_argument("--records", type=int, default=1000000)
+    a.add_argument("--seed", type=int, default=1)
+    a.add_argument("--rounds", type=int, default=3)
+    a.add_argument("--quick", action="store_true", help="100,000 records, one round")
+    a.add_argument("--long", type=float, default=30, help="a run that takes more seconds than this isn't repeated")
+    a.add_argument("--limit", type=float, default=120, help="a run is given up after so many seconds")
+    a.add_argument("--dir", default=os.environ.get("BENCH_DIR", "/dev/shm"))
+    a.add_argument("--out", default=os.path.join(HERE, "results", "results.jsonl"))
+    a.add_argument("--append", action="store_true", help="keep the lines in the file and go on with their rounds")
+    a.add_argument("--to", metavar="PEER", help="ratios to this peer, in place of the fastest")
+    a.add_argument("--show", nargs="+", metavar="FILE", help="only print the table of these result files")
+    args = a.parse_args()
+    os.makedirs(os.path.dirname(args.out), exist_ok=True)
+    if args.show:
+        rows = [json.loads(line) for f in args.show for line in open(f)]
+    else:
+        if args.quick:
+            args.records, args.rounds = 100000, 1
+        contestants = {}
+        for c in args.contestant:
+            name, _, path = c.rpartition("=")
+            contestants[name or os.path.basename(path)] = os.path.abspath(path)
+        rows = measure(args, contestants)
+    table(rows, args.to)
+    return 0 if all(r["check"] in ("ok", "unsupported") for r in rows) else 1
+
+
+sys.exit(main())
