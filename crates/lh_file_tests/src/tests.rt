@@ -16,4 +16,5 @@ mod stage;
 mod tasks;
 mod texts;
 mod threads;
+mod traced;
 mod turns;

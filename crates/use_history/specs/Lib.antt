@@ -1,1 +1,1 @@
-pub mod Booked
+pub mod Hands

@@ -1,4 +1,4 @@
-//! Hands of one thread: the right to split, sizes, acts and their counts, and running out of memory.
+//! Hands of one thread: the right to split, sizes, acts and their counts, and want of memory.
 ghost use Rattle.std.specs.Prelude.{◌≡◌, ◌≤◌, true, false, IfOk, OnOk};
 ghost use Rattle.lh_file.specs.FileState.{IsOf};
 
@@ -86,7 +86,7 @@ fn join(rt: &impl Abort, file: &Words, first: Hand, second: Hand) -> Result<Hand
     }
 }
 
-/// The answers to two hands that ask for the right: the first, the second, and the first again, and once
+/// What two hands are told that ask for the right: the first, the second, and the first again, and once
 /// the first has dropped it, the second.
 fn rights(file: &Words, first: &mut Hand, second: &mut Hand) -> [Right; 4]
     requires first { IsOf file.now first.old }

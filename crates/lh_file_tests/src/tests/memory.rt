@@ -16,7 +16,7 @@ use std::alloc::Global;
 use std::sync::Wait;
 use std::test::Fail;
 
-/// The answer to a call for which there was no memory.
+/// What a hand is told whose call was refused for want of memory.
 const REFUSED: Told = Told::Fault(FileFault::Memory);
 
 /// Makes a call, and counts it as a step of the test where it is answered. A call that was refused leaves the hand as
