@@ -1,6 +1,7 @@
 -- How records lie in memory: each in a row of a unit, which is a line and a cold row.
-use Rattle.std.specs.Prelude.{◌≡◌, ℕ, ◌+◌, ◌≤◌, Bool, List, [], ◌∷◌, length, take, nat_le, if◌then◌else◌}
+use Rattle.std.specs.Prelude.{◌≡◌, ℕ, ◌+◌, ◌*◌, ◌<◌, ◌≤◌, Bool, List, [], ◌∷◌, length, take, slice_index_or, nat_le, if◌then◌else◌, Option, Some, None}
 use Rattle.std.specs.List.{All}
+use Rattle.std.specs.Global.{Box}
 use Rattle.lh_page.specs.declared.line.Line.{Line}
 use Rattle.lh_page.specs.declared.pair.Pair.{Pair}
 use Rattle.lh_page.specs.Limits.{longest_key, longest_value}
@@ -50,6 +51,15 @@ pub record IsUnit (hot : List Line) (cold : List (List ℕ)) : Type 0 where
   pub rows : length cold ≡ unit_size
   pub sound : All IsLine hot
 
--- units of records are full
-abbrev pub AreUnits : List (List Pair) → Type 0
-AreUnits units = All (λ unit. length unit ≡ unit_size) units
+-- the records of a unit that may not be there
+abbrev pub boxed : Option (Box (List Pair)) → List Pair
+boxed None = []
+boxed (Some unit) = unit.value
+
+-- how many units have their pointers in a list of records itself
+abbrev pub near_units : ℕ
+near_units = 4
+
+-- there are units for the first n records
+abbrev pub HasUnits : ℕ → List (List Pair) → Type 0
+HasUnits n units = (i : ℕ) → unit_size * i < n → length (slice_index_or units i []) ≡ unit_size

@@ -6,7 +6,7 @@ ghost use Rattle.lh_page.specs.Limits.{IsCapacity};
 ghost use Rattle.lh_page.specs.PackedList.{IsPackedList, pages_of};
 ghost use Rattle.lh_page.specs.Records.{keys_of, place_of, value_at, with_value, AbsentBelow, StandsFirst};
 
-use crate::division::{Division, Part, copied, divided};
+use crate::division::{Part, close_up, copied, leaving};
 use crate::key::Key;
 use crate::key_set::KeySet;
 use crate::marks::{MARKED, find_marked, mark_at, marks_of, put_mark};
@@ -143,11 +143,8 @@ impl Chain {
             (self.new ≡ record self.old { pairs = filter (λ p. not (S.member keys.now p.key)) self.old.pairs }) }
         ensures err { OnErr result (self.new ≡ self.old) }
     {
-        let Division { gone, kept } = divided(self.pairs.allocator(), &self.pairs, keys)?;
-        let Part { pairs, marks } = kept;
-        self.pairs = pairs;
-        self.marks = marks;
-        let Part { pairs, marks } = gone;
+        let Part { pairs, marks } = leaving(&self.pairs, keys)?;
+        self.marks = close_up(&mut self.pairs, keys);
         Ok(Chain {
             capacity: self.capacity,
             marks,

@@ -1,6 +1,7 @@
 //! Dividing a list of records in two, each part in the order of the whole.
 ghost use Rattle.std.specs.Prelude.{not, ◌≡◌, ◌<◌, [], ◌∷◌, ◌++◌, length, slice_index_or, IfOk, OnOk};
 ghost use Rattle.std.specs.List.{filter};
+ghost use Rattle.lh_page.specs.Marks.{IsMarked};
 ghost use Rattle.lh_page.specs.Records.{key_at, no_pair};
 
 use crate::key::Key;
@@ -11,13 +12,6 @@ use crate::pair::Pair;
 use crate::record_list::RecordList;
 use std::alloc::Global;
 use std::marker::Model;
-
-/// The two parts of a list of records.
-#[derive(Drop)]
-pub struct Division {
-    pub gone: Part,
-    pub kept: Part,
-}
 
 /// Records and their marks.
 #[derive(Drop)]
@@ -39,14 +33,14 @@ impl Model for Part {
 }
 
 impl Part {
-    /// No records, with memory for as many as are to come.
-    fn with_room(alloc: Global, records: usize) -> Result<Self, Memory>
-        ensures { IfOk result (λ part. part ≡ []) }
+    /// No records.
+    fn new(alloc: Global) -> Self
+        ensures { result ≡ [] }
     {
-        Ok(Part {
-            pairs: RecordList::with_room(alloc, records)?,
+        Part {
+            pairs: RecordList::new(alloc),
             marks: [0; MARKED],
-        })
+        }
     }
 
     /// Appends the record at a place of a list, whose key is at hand. After an error nothing has changed.
@@ -67,30 +61,44 @@ impl Part {
 pub fn copied(alloc: Global, pairs: &[Pair]) -> Result<RecordList, Memory>
     ensures { IfOk result (λ copy. copy ≡ pairs.now) }
 {
-    let mut copy = RecordList::with_room(alloc, pairs.len())?;
+    let mut copy = RecordList::new(alloc);
     for pair in pairs {
         copy.push(pair)?;
     }
     Ok(copy)
 }
 
-/// Divides records into those whose keys are in a set and the others. Each part gets the memory of as many units
-/// as half of the records fill, and more where it has more of them.
+/// Copies of the records whose keys are in a set, in their order.
 #[tactic(auto, using(crate::proofs::Parts::filter_taken, crate::proofs::Parts::filter_left))]
-pub fn divided<S: KeySet>(alloc: Global, pairs: &RecordList, keys: &S) -> Result<Division, Memory>
-    ensures gone { IfOk result (λ parts. parts.gone ≡ filter (λ p. S.member keys.now p.key) pairs.now) }
-    ensures kept { IfOk result (λ parts. parts.kept ≡ filter (λ p. not (S.member keys.now p.key)) pairs.now) }
+pub fn leaving<S: KeySet>(pairs: &RecordList, keys: &S) -> Result<Part, Memory>
+    ensures { IfOk result (λ gone. gone ≡ filter (λ p. S.member keys.now p.key) pairs.now) }
 {
-    let room = pairs.len().div_ceil(2);
-    let mut gone = Part::with_room(alloc, room)?;
-    let mut kept = Part::with_room(alloc, room)?;
+    let mut gone = Part::new(pairs.allocator());
     for place in 0..pairs.len() {
         let key = pairs.key_at(place);
         if keys.contains(&key) {
             gone.push_from(pairs, place, &key)?;
-        } else {
-            kept.push_from(pairs, place, &key)?;
         }
     }
-    Ok(Division { gone, kept })
+    Ok(gone)
+}
+
+/// Leaves the records alone whose keys aren't in a set, close together and in their order, and gives their marks.
+pub fn close_up<S: KeySet>(pairs: &mut RecordList, keys: &S) -> [u8; MARKED]
+    ensures kept { pairs.new ≡ filter (λ p. not (S.member keys.now p.key)) pairs.old }
+    ensures marked { IsMarked result pairs.new }
+    ensures room { length result ≡ MARKED }
+{
+    let mut marks = [0; MARKED];
+    let mut kept = 0;
+    for place in 0..pairs.len() {
+        let key = pairs.key_at(place);
+        if !keys.contains(&key) {
+            pairs.copy_over(kept, place);
+            put_mark(&mut marks, kept, &key);
+            kept += 1;
+        }
+    }
+    pairs.truncate(kept);
+    marks
 }

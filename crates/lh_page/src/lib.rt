@@ -31,6 +31,8 @@ mod record_list;
 mod rows;
 mod slot;
 mod unit;
+mod unit_box;
+mod unit_list;
 mod value;
 mod writing;
 

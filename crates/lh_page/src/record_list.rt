@@ -1,15 +1,16 @@
 //! Lists of records, kept in units of four.
-ghost use Rattle.std.specs.Prelude.{◌≡◌, ◌*◌, ◌<◌, ◌≤◌, [], ◌∷◌, ◌++◌, length, take, slice_get, slice_index_or, Some, IfOk, OnOk, OnErr};
+ghost use Rattle.std.specs.Prelude.{◌≡◌, ◌+◌, ◌<◌, ◌≤◌, [], ◌∷◌, ◌++◌, length, take, slice_get, slice_set, slice_index_or, Some, OnOk, OnErr};
 ghost use Rattle.std.specs.List.{swap_remove};
 ghost use Rattle.std.specs.Str.{bytes_eq};
-ghost use Rattle.lh_page.specs.Lines.{AreUnits};
+ghost use Rattle.lh_page.specs.Lines.{HasUnits};
 ghost use Rattle.lh_page.specs.PackedList.{joined};
 ghost use Rattle.lh_page.specs.Records.{key_at, value_at, with_value, no_pair};
 
 use crate::key::Key;
 use crate::memory::Memory;
 use crate::pair::Pair;
-use crate::unit::{UNIT, Unit};
+use crate::unit::UNIT;
+use crate::unit_list::UnitList;
 use crate::value::Value;
 use std::alloc::Global;
 use std::marker::Model;
@@ -18,21 +19,21 @@ use std::marker::Model;
 /// replaced in its place.
 #[derive(Debug, Drop)]
 pub struct RecordList {
-    units: Vec<Unit>,
     len: usize,
+    units: UnitList,
 }
 
 impl Model for RecordList {
-    ghost use Rattle.std.specs.Prelude.{◌*◌, ◌≤◌, List, length, take};
+    ghost use Rattle.std.specs.Prelude.{List, take};
     ghost use Rattle.lh_page.specs.declared.pair.Pair.{Pair};
-    ghost use Rattle.lh_page.specs.Lines.{unit_size, AreUnits};
+    ghost use Rattle.lh_page.specs.Lines.{HasUnits};
     ghost use Rattle.lh_page.specs.PackedList.{joined};
 
     ghost Value = { List Pair };
 
-    ghost view = { λ r. take r.len (joined r.units.items) };
+    ghost view = { λ r. take r.len (joined r.units) };
 
-    ghost invariant = { λ r. AreUnits r.units.items × (r.len ≤ unit_size * length r.units.items) };
+    ghost invariant = { λ r. HasUnits r.len r.units };
 }
 
 impl RecordList {
@@ -41,17 +42,9 @@ impl RecordList {
         ensures { result ≡ [] }
     {
         RecordList {
-            units: Vec::new(alloc),
             len: 0,
+            units: UnitList::new(alloc),
         }
-    }
-
-    /// No records, with memory for as many as are to come.
-    pub fn with_room(alloc: Global, records: usize) -> Result<Self, Memory>
-        ensures { IfOk result (λ list. list ≡ []) }
-    {
-        let units = Vec::with_capacity(alloc, records.div_ceil(UNIT))?;
-        Ok(RecordList { units, len: 0 })
     }
 
     /// The number of records.
@@ -64,7 +57,7 @@ impl RecordList {
 
     /// The allocator of the records' memory.
     pub fn allocator(&self) -> Global {
-        *self.units.allocator()
+        self.units.allocator()
     }
 
     /// The record at a place.
@@ -73,8 +66,7 @@ impl RecordList {
         requires { place < length self.now }
         ensures { slice_get self.now place ≡ Some result }
     {
-        let unit = &self.units[place / UNIT];
-        unit.pair_at(place % UNIT)
+        self.units.at(place / UNIT).pair_at(place % UNIT)
     }
 
     /// The key of the record at a place.
@@ -83,8 +75,7 @@ impl RecordList {
         requires { place < length self.now }
         ensures { result ≡ key_at self.now place }
     {
-        let unit = &self.units[place / UNIT];
-        unit.key_at(place % UNIT)
+        self.units.at(place / UNIT).key_at(place % UNIT)
     }
 
     /// Whether the record at a place has a key.
@@ -93,8 +84,7 @@ impl RecordList {
         requires { place < length self.now }
         ensures { result ≡ bytes_eq (key_at self.now place) key.now }
     {
-        let unit = &self.units[place / UNIT];
-        unit.has_key(place % UNIT, key)
+        self.units.at(place / UNIT).has_key(place % UNIT, key)
     }
 
     /// Appends a record. After an error the list is as it was.
@@ -104,8 +94,7 @@ impl RecordList {
         ensures err { OnErr result (self.new ≡ self.old) }
     {
         make_room(&mut self.units, self.len)?;
-        let unit = &mut self.units[self.len / UNIT];
-        unit.put(self.len % UNIT, pair);
+        self.units.put(self.len / UNIT, self.len % UNIT, pair);
         self.len += 1;
         Ok(())
     }
@@ -118,9 +107,9 @@ impl RecordList {
         ensures err { OnErr result (self.new ≡ self.old) }
     {
         make_room(&mut self.units, self.len)?;
-        let from = &other.units[place / UNIT];
-        let unit = &mut self.units[self.len / UNIT];
-        unit.copy_row(self.len % UNIT, from, place % UNIT);
+        let from = other.units.at(place / UNIT);
+        self.units
+            .copy_row(self.len / UNIT, self.len % UNIT, from, place % UNIT);
         self.len += 1;
         Ok(())
     }
@@ -132,8 +121,29 @@ impl RecordList {
         ensures replaced { result ≡ value_at self.old place }
         ensures changed { self.new ≡ with_value self.old place value.now }
     {
-        let unit = &mut self.units[place / UNIT];
-        unit.replace(place % UNIT, value)
+        self.units.replace(place / UNIT, place % UNIT, value)
+    }
+
+    /// Copies the record at a place over another one.
+    #[inline]
+    pub fn copy_over(&mut self, place: usize, from: usize)
+        requires place { place < length self.old }
+        requires from { from < length self.old }
+        ensures { self.new ≡ slice_set self.old place (slice_index_or self.old from no_pair) }
+    {
+        if place != from {
+            let pair = self.pair_at(from);
+            self.units.put(place / UNIT, place % UNIT, &pair);
+        }
+    }
+
+    /// Leaves the first records alone, and gives the memory of the others back.
+    pub fn truncate(&mut self, len: usize)
+        requires { len ≤ length self.old }
+        ensures { self.new ≡ take len self.old }
+    {
+        self.units.truncate(len.div_ceil(UNIT));
+        self.len = len;
     }
 
     /// Takes the record at a place out, and moves the last record into the hole.
@@ -144,26 +154,22 @@ impl RecordList {
     {
         let removed = self.pair_at(place);
         let last = self.pair_at(self.len - 1);
-        let unit = &mut self.units[place / UNIT];
-        unit.put(place % UNIT, &last);
+        self.units.put(place / UNIT, place % UNIT, &last);
         self.len -= 1;
         removed
     }
 }
 
-/// Takes the memory of a unit more where all rows are in use. After an error nothing has changed.
+/// Takes the memory of a unit more where there is none for the next record. After an error nothing has changed.
 #[inline]
-fn make_room(units: &mut Vec<Unit>, len: usize) -> Result<(), Memory>
-    requires units { AreUnits units.old.items }
-    requires within { len ≤ UNIT * length units.old.items }
-    ensures units { AreUnits units.new.items }
-    ensures room { OnOk result (len < UNIT * length units.new.items) }
-    ensures same { take len (joined units.new.items) ≡ take len (joined units.old.items) }
-    ensures err { OnErr result (units.new.items ≡ units.old.items) }
+fn make_room(units: &mut UnitList, len: usize) -> Result<(), Memory>
+    requires { HasUnits len units.old }
+    ensures room { OnOk result (HasUnits (len + 1) units.new) }
+    ensures same { OnOk result (take len (joined units.new) ≡ take len (joined units.old)) }
+    ensures err { OnErr result (units.new ≡ units.old) }
 {
-    if len / UNIT == units.len() {
-        units.reserve_exact(1)?;
-        units.push_reserved(Unit::blank());
+    if !units.has(len / UNIT) {
+        units.add(len / UNIT)?;
     }
     Ok(())
 }

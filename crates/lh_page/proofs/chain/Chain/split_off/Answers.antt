@@ -8,17 +8,18 @@ invariant_of-result g c =
     let h = c.self.invariant in
     let test : Pair → Bool = λ p. g.S.KeySet.member c.args.keys.now p.key in
     record {
-      list = record { capacity = h.list.capacity; distinct = rw (c.gone.view_is ∙ c.in_ok-gone.ensures.gone) (distinct_filter test c.self.inside.pairs h.list.distinct) };
-      room = c.gone.invariant.0;
-      marked = c.gone.invariant.1;
+      list = record { capacity = h.list.capacity; distinct = rw (c.pairs.view_is ∙ c.in_ok-pairs.ensures) (distinct_filter test c.self.inside.pairs h.list.distinct) };
+      room = c.pairs.invariant.0;
+      marked = c.pairs.invariant.1;
     }
 
 pub invariant_of-self : goal.invariant_of-self
 invariant_of-self g c =
     let h = c.self.invariant in
     let test : Pair → Bool = λ p. not (g.S.KeySet.member c.args.keys.now p.key) in
+    let closed = c.close_up-self-inside.ensures in
     record {
-      list = record { capacity = h.list.capacity; distinct = rw (c.kept.view_is ∙ c.in_ok-gone.ensures.kept) (distinct_filter test c.self.inside.pairs h.list.distinct) };
-      room = c.kept.invariant.0;
-      marked = c.kept.invariant.1;
+      list = record { capacity = h.list.capacity; distinct = rw closed.kept (distinct_filter test c.self.inside.pairs h.list.distinct) };
+      room = closed.room;
+      marked = closed.marked;
     }
