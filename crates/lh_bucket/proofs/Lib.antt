@@ -1,8 +1,9 @@
-pub mod PlacedLaw
-pub mod RecordLaws
-pub mod Listings
 pub mod Chained
-pub mod MapOf
-pub mod PlainBuckets
-pub mod Kept
 pub mod Filling
+pub mod Kept
+pub mod Listings
+pub mod MapOf
+pub mod PlacedLaw
+pub mod PlainBuckets
+pub mod PlainMaps
+pub mod RecordLaws

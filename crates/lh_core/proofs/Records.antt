@@ -1,4 +1,3 @@
 -- Where the records of a map stand, in a row of buckets and in a listing
-pub mod PlainMaps
 pub mod Placing
 pub mod Listed

@@ -1,4 +1,5 @@
 pub mod OfBuckets
 pub mod OfCalls
+pub mod OfHistory
 pub mod OfSettling
 pub mod OfWords

@@ -1,13 +1,24 @@
--- The words of a closed file, and the hand that closed it
-use Rattle.std.specs.Prelude.{◌≡◌, ℕ, ◌+◌, ◌^◌, true, List, length}
+-- The words of a closed file, the hand that closed it, and the buckets that it gathered
+use Rattle.std.specs.Prelude.{◌≡◌, ℕ, ◌+◌, ◌^◌, ◌≤◌, Bool, true, false, List, [], length, map}
+use Rattle.std.specs.List.{IsDistinct}
+use Rattle.std.specs.Str.{bytes_eq}
 use mathlib.Core.Option.{some}
 use lib.ListN.{get_elem?}
 use Rattle.lh_addr.specs.Settings.{Settings}
+use Rattle.lh_page.specs.declared.pair.Pair.{Pair}
+use Rattle.lh_page.specs.Records.{keys_of}
+use Rattle.lh_bucket.specs.Bucket.{Seen}
+use Rattle.lh_bucket.specs.Listing.{list_at}
 use Rattle.lh_file.specs.Acts.{stamps_of}
+use Rattle.lh_file.specs.FileState.{FileState}
+use Rattle.lh_file.specs.History.History.{History}
 use Rattle.lh_file.specs.Words.HandState.{HandState}
-use Rattle.lh_file.specs.Words.Rule.{IsRule}
+use Rattle.lh_file.specs.Words.Rule.{Each, IsRule}
 use Rattle.lh_file.specs.Words.Sums.{times, once_below}
+use Rattle.lh_file.specs.Words.Table.{shown}
 use Rattle.lh_file.specs.declared.words.numbers.FileWords.{FileWords}
+use Rattle.lh_file.specs.declared.words.seat_view.Entry.{Entry}
+use Rattle.lh_file.specs.declared.words.seat_view.SeatView.{SeatView}
 use Rattle.lh_file.specs.declared.words.view.View.{View}
 
 -- the rule holds of these words and of some views, of which this is one
@@ -20,3 +31,24 @@ abbrev pub NoneIsLost : HandState → ℕ → Type 0
 NoneIsLost hand drawn =
     hand.recording ≡ true → hand.view.left + length hand.acts ≡ 2 ^ 63 →
     (x : ℕ) → times x (stamps_of hand.acts) ≡ once_below x drawn
+
+-- the rule of a file holds of these words and of some seats, of which this is one
+pub record IsEnd (traced : Bool) (file : FileState) (words : FileWords) (seat : SeatView) : Type 0 where
+  pub seats : List SeatView
+  pub id : ℕ
+  pub here : get_elem? seats id ≡ some seat
+  pub config : file.listing.config ≡ file.config
+  pub rule : IsRule file.config.initial file.config.max words (map shown seats)
+  pub history : traced ≡ true → History file.listing words seats
+
+-- the first of these lists are the records of some buckets, each in the place of its number; no list has a key twice; and where they are clean the lists past those have no record
+pub record AreGathered (buckets : List Seen) (lists : List (List Pair)) (whole : ℕ) (clean : Bool) : Type 0 where
+  pub within : whole ≤ length lists
+  pub count : length buckets ≡ whole
+  pub each : (place : ℕ) (bucket : Seen) → get_elem? buckets place ≡ some bucket → (bucket.head.number ≡ place) × (list_at lists place ≡ bucket.pairs)
+  pub distinct : (place : ℕ) → IsDistinct bytes_eq (keys_of (list_at lists place))
+  pub beyond : clean ≡ true → (place : ℕ) → whole ≤ place → list_at lists place ≡ []
+
+-- none of these acts was made on a bucket that isn't the file's
+abbrev pub NoneLent : List Entry → Type 0
+NoneLent entries = Each entries (λ e. e.lent ≡ false)

@@ -3,15 +3,17 @@ use Rattle.std.specs.Prelude.{◌≡◌, ℕ, ◌+◌, ◌%◌, ◌≤◌, Bool,
 use Rattle.atomic_table.specs.Seated.{TableId}
 use Rattle.lh_addr.specs.RootWord.{buckets_of}
 use Rattle.lh_addr.specs.Settings.{Settings}
+use Rattle.lh_bucket.specs.Listing.{Lists}
 use Rattle.lh_file.specs.Words.HandState.{HandState}
 use Rattle.lh_file.specs.Words.Views.{first_view}
 
--- the table of its words, its configuration, whether acts are recorded, and how many records it was opened with
+-- the table of its words, its configuration, whether acts are recorded, how many records it was opened with, and the listing that it was opened from
 pub record FileState : Type 0 where
   pub table : TableId
   pub config : Settings
   pub recording : Bool
   pub opening : ℕ
+  pub listing : Lists
 
 -- the hand is one of this file
 pub record IsOf (file : FileState) (hand : HandState) : Type 0 where
@@ -35,4 +37,5 @@ pub record IsOpened (config : Settings) (buckets : ℕ) (recording : Bool) (reco
   pub opening_is : file.opening ≡ records
   pub is_of : IsOf file hand
   pub view : hand.view ≡ first_view (record { initial = config.initial; opened = buckets; max = config.max })
+  pub entries : hand.entries ≡ []
   pub acts : hand.acts ≡ []

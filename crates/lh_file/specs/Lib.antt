@@ -4,5 +4,6 @@ pub mod Calls
 pub mod Closing
 pub mod FileState
 pub mod HashFile
+pub mod History
 pub mod Settling
 pub mod Words

@@ -1,16 +1,25 @@
 //! How a file is closed.
-ghost use Rattle.std.specs.Prelude.{◌≡◌, ℕ, ◌<◌, ◌≤◌, length, IfOk};
-ghost use Rattle.lh_file.specs.Closing.{NoneIsLost};
+ghost use Rattle.std.specs.Prelude.{◌≡◌, ℕ, ◌+◌, ◌-◌, ◌%◌, ◌^◌, ◌<◌, ◌≤◌, true, [], length, map, IfOk, OnOk};
+ghost use Rattle.lh_bucket.specs.Bucket.{IsKept};
+ghost use Rattle.lh_file.specs.Closing.{NoneIsLost, AreGathered, NoneLent};
 ghost use Rattle.lh_file.specs.FileState.{IsOf};
 ghost use Rattle.lh_file.specs.HashFile.{IsClosing};
+ghost use Rattle.lh_file.specs.Settling.Settled.{Settled};
 
 use crate::act::Acts;
+use crate::buckets::room::Room;
 use crate::buckets::segments::Segments;
+use crate::buckets::slot::Slot;
 use crate::file::HashFile;
 use crate::gate::Gate;
 use crate::settling::closed_file::Closed;
+use crate::words::Words;
 use crate::words::hand::Hand;
+use crate::words::mode::Mode;
+use crate::words::seat_view::SeatView;
+use atomic_table::Seat;
 use lh_addr::RootWord;
+use lh_addr::laws::address_is_only_bucket;
 use lh_bucket::{Bucket, Memory, PagedBucket};
 use lh_page::Pair;
 use std::alloc::Global;
@@ -18,7 +27,8 @@ use std::sync::Wait;
 
 /// The records of a bucket, in the order of their places.
 fn pairs_of(alloc: Global, bucket: &PagedBucket) -> Result<Vec<Pair>, Memory>
-    ensures { IfOk result (λ pairs. pairs.items ≡ bucket.now.pairs) }
+    ensures pairs { IfOk result (λ pairs. pairs.items ≡ bucket.now.pairs) }
+    ensures kept { IsKept bucket.now }
 {
     let count = bucket.len();
     let mut pairs = Vec::with_capacity(alloc, count)?;
@@ -28,29 +38,87 @@ fn pairs_of(alloc: Global, bucket: &PagedBucket) -> Result<Vec<Pair>, Memory>
     Ok(pairs)
 }
 
-impl Segments {
-    /// The records of each bucket, each copied under its lock: of the first `buckets`, and of those past
-    /// them that were made.
-    fn copied<R: Wait>(&self, rt: &R, buckets: u32) -> Result<Vec<Vec<Pair>>, Memory>
-        ensures { IfOk result (λ lists. length lists.items ≤ self.now.config.max) }
+/// What is copied from a file that is closed, bucket after bucket.
+#[derive(Drop)]
+struct Copies {
+    lists: Vec<Vec<Pair>>,
+    // How many buckets from the first on were met in their places with their seats.
+    whole: u32,
+    // Whether no bucket after those had a record.
+    clean: bool,
+}
+
+impl Copies {
+    /// Copies the next bucket. In a traced file its seat is taken in, if those of all buckets before it were.
+    fn add<M: Mode, J: Room>(
+        &mut self,
+        alloc: Global,
+        words: &Words<M>,
+        seat: &mut Seat<(), SeatView>,
+        slot: &Slot<J>,
+    ) -> Result<(), Memory>
+        requires at { seat.old.table_id ≡ words.now.table }
+        requires room { M.traced ≡ true → words.now.table ≡ J.table }
+        requires few { length self.old.lists.items < 2 ^ 32 - 1 }
+        requires before { AreGathered seat.old.me.0.parts (map (λ v. v.items) self.old.lists.items) self.old.whole self.old.clean }
+        ensures at { seat.new.table_id ≡ seat.old.table_id }
+        ensures kept { seat.new.me ≡ (record (seat.old.me.0) { parts = seat.new.me.0.parts }, seat.old.me.1) }
+        ensures more { OnOk result (length self.new.lists.items ≡ length self.old.lists.items + 1) }
+        ensures after { OnOk result (AreGathered seat.new.me.0.parts (map (λ v. v.items) self.new.lists.items) self.new.whole self.new.clean) }
     {
-        let mut lists = Vec::with_capacity(self.alloc, buckets as usize)?;
-        for number in 0..self.config.max() {
-            let pairs = match self.made(number) {
-                Some(lock) => pairs_of(self.alloc, &lock.read(rt))?,
-                None if number < buckets => Vec::new(self.alloc),
-                None => break,
-            };
-            lists.push(pairs)?;
+        let pairs = pairs_of(alloc, slot.bucket())?;
+        if self.whole as usize == self.lists.len() && words.gather(seat, slot, self.whole) {
+            self.whole += 1;
+        } else if !pairs.is_empty() {
+            self.clean = false;
         }
-        Ok(lists)
+        self.lists.push(pairs)?;
+        Ok(())
     }
 }
 
-impl<G: Gate> HashFile<G> {
+impl<J: Room> Segments<J> {
+    /// The records of each bucket that was made, each copied under its lock. In a traced file the seats of the buckets
+    /// come into this one.
+    fn copied<M: Mode, R: Wait>(
+        &self,
+        rt: &R,
+        words: &Words<M>,
+        seat: &mut Seat<(), SeatView>,
+        buckets: u32,
+    ) -> Result<Copies, Memory>
+        requires at { seat.old.table_id ≡ words.now.table }
+        requires room { M.traced ≡ true → words.now.table ≡ J.table }
+        requires bucketless { seat.old.me.0.parts ≡ [] }
+        ensures few { IfOk result (λ copies. length copies.lists.items ≤ self.now.config.max) }
+        ensures at { seat.new.table_id ≡ seat.old.table_id }
+        ensures kept { seat.new.me ≡ (record (seat.old.me.0) { parts = seat.new.me.0.parts }, seat.old.me.1) }
+        ensures gathered { IfOk result (λ copies.
+            AreGathered seat.new.me.0.parts (map (λ v. v.items) copies.lists.items) copies.whole copies.clean) }
+    {
+        let mut copies = Copies {
+            lists: Vec::with_capacity(self.alloc, buckets as usize)?,
+            whole: 0,
+            clean: true,
+        };
+        for number in 0..self.config.max() {
+            let Some(lock) = self.made(number) else {
+                break;
+            };
+            copies.add(self.alloc, words, seat, &lock.read(rt))?;
+        }
+        Ok(copies)
+    }
+}
+
+impl<G: Gate, M: Mode, J: Room> HashFile<G, M, J> {
     /// Closes the file: how far it has grown, with the records of its buckets, and the acts of the hand
     /// that closes it. A hand that was not joined into this one is lost with its acts. Without memory
     /// for the records, the file and the hand are gone.
+    ///
+    /// What was done with a traced file is one legal history, and the closed file holds just what that leaves: where all
+    /// buckets were met with their seats ([`Closed::gathered`]), no split was under way, no call was left with a hand
+    /// that wasn't joined, and no act was made on a bucket of the caller's own.
     ///
     /// No call can be under way, since the file is owned; the locks are taken nevertheless.
     pub fn close<R: Wait>(self, rt: &R, hand: Hand) -> Result<(Closed, Acts), Memory>
@@ -60,16 +128,33 @@ impl<G: Gate> HashFile<G> {
         ensures closed { IfOk result (λ r. IsClosing self.state hand r.0) }
         ensures acts { IfOk result (λ r. r.1 ≡ hand.acts) }
         ensures none_is_lost { IfOk result (λ r. NoneIsLost hand r.0.stamps) }
+        ensures history { IfOk result (λ r. M.traced ≡ true → r.0.gathered ≡ true → r.0.root % 2 ≡ 0 →
+            hand.view.left + length hand.acts ≡ 2 ^ 63 → NoneLent hand.entries → Settled self.state.listing r.0 r.1) }
     {
+        // Its law: a code has one address.
+        address_is_only_bucket();
         let HashFile {
             words,
             segments,
             gate: _,
         } = self;
+        let Hand {
+            mut seat,
+            known,
+            has_right: _,
+            left: _,
+            recording: _,
+            acts,
+        } = hand;
+        let Copies {
+            lists,
+            whole,
+            clean,
+        } = segments.copied(rt, &words, &mut seat, known)?;
         let config = words.config;
-        let (last, acts) = words.close(hand);
-        let lists = segments.copied(rt, RootWord::buckets_of(last.root))?;
-        let closed = Closed::new(config, last.root, last.stamps, lists);
+        let last = words.end(seat);
+        let gathered = clean && whole == RootWord::buckets_of(last.root);
+        let closed = Closed::ended(config, last.root, last.stamps, lists, gathered);
         Ok((closed, Acts::new(acts)))
     }
 }

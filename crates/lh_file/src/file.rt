@@ -1,12 +1,14 @@
 //! The file.
-ghost use Rattle.std.specs.Prelude.{◌≡◌, true, false};
+ghost use Rattle.std.specs.Prelude.{◌≡◌, ◌≤◌, true, false};
 
+use crate::buckets::room::{Loose, Room};
 use crate::buckets::segments::Segments;
 use crate::fault::{FileFault, JoinFault};
 use crate::gate::{Gate, Point};
 use crate::words::Words;
 use crate::words::hand::Hand;
 use crate::words::load::Load;
+use crate::words::mode::{Mode, Untraced};
 use crate::words::right::Right;
 use std::marker::Model;
 
@@ -14,27 +16,32 @@ use std::marker::Model;
 ///
 /// A search takes the lock of its bucket shared; an insert, a delete or a replace takes it exclusively. A
 /// call holds one bucket at a time, and a split the two that it divides; the other buckets stay free.
+///
+/// `M` says whether the file's history is traced, and `J` names the table whose seats lie under a traced file's locks. A
+/// file whose type says neither is untraced.
 #[derive(Drop)]
-pub struct HashFile<G: Gate> {
-    pub(crate) words: Words,
-    pub(crate) segments: Segments,
+pub struct HashFile<G: Gate, M: Mode = Untraced, J: Room = Loose> {
+    pub(crate) words: Words<M>,
+    pub(crate) segments: Segments<J>,
     pub(crate) gate: G,
 }
 
-impl<G: Gate> Model for HashFile<G> {
+impl<G: Gate, M: Mode, J: Room> Model for HashFile<G, M, J> {
     ghost use Rattle.lh_file.specs.HashFile.{Shared, shared_of, IsShared};
 
     ghost Value = { Shared };
 
     ghost view = { shared_of };
 
-    ghost invariant = { IsShared };
+    ghost invariant = { IsShared M.traced J.named J.table };
 }
 
-impl<G: Gate> HashFile<G> {
+impl<G: Gate, M: Mode, J: Room> HashFile<G, M, J> {
     ghost use Rattle.lh_file.specs.FileState.{IsOf};
+    ghost use Rattle.lh_file.specs.History.Told.{IsTold};
     ghost use Rattle.lh_file.specs.Words.Calls.{IsBuckets, IsLoadOf, IsDivided, IsUnited};
-    ghost use Rattle.lh_file.specs.Words.HandState.{with_right};
+    ghost use Rattle.lh_file.specs.Words.HandState.{with_right, seeing};
+    ghost use Rattle.lh_file.specs.Words.Views.{floored};
     ghost use Rattle.lh_file.specs.Words.Rights.{IsAnswer};
 
     /// The number of buckets. It is never less than the hand has seen before, and the hand has seen it
@@ -52,6 +59,19 @@ impl<G: Gate> HashFile<G> {
         ensures { IsLoadOf self.now.state hand.old result hand.new }
     {
         self.words.load(hand)
+    }
+
+    /// How many acts there were so far. In a traced file they are one legal history of a plain map, from the records that
+    /// it was opened with, and each act of this hand stands in it at its stamp. No hand needs to be joined for that, and
+    /// no call to have ended. The hand's later acts have no smaller stamps than the answer, so an act that was made before it
+    /// comes before them, whoever made it.
+    pub fn told(&self, hand: &mut Hand) -> u64
+        requires { IsOf self.now.state hand.old }
+        ensures same { hand.new ≡ seeing hand.old (floored hand.old.view result) }
+        ensures rises { hand.old.view.floor ≤ result }
+        ensures history { M.traced ≡ true → IsTold self.now.state.listing result hand.old.entries }
+    {
+        self.words.told(hand)
     }
 
     /// Asks once for the right to split, which one hand at a time may have. A hand that has got it is to give it back,

@@ -1,5 +1,6 @@
 //! Laws of the rule, over the definitions of `specs/Words/Rule.antt`: what its sums say of single hands. Each
 //! is the contract of a function that does nothing.
+ghost use Rattle.lh_file.specs.History.RealTime.{RealTimeLaw};
 ghost use Rattle.lh_file.specs.Words.RuleLaws.{OneRight, NoRight, DrawnOnce, NotDrawn};
 
 /// At most one hand has the right to split: exactly one where the root word is odd, else none.
@@ -12,4 +13,11 @@ pub fn right_is_one_hands()
 pub fn stamps_are_drawn_once()
     ensures below { DrawnOnce }
     ensures above { NotDrawn }
+{}
+
+/// What a hand did before it was told how many acts there were comes, in the log of a traced file, before what any hand
+/// does after it was told of as many (see [`HashFile::told`](crate::HashFile::told)). So the log keeps the order of real
+/// time: an act that has returned before another begins comes first.
+pub fn acts_keep_real_time()
+    ensures { RealTimeLaw }
 {}

@@ -1,8 +1,9 @@
-//! A linear hash file that many threads use at once, and how it is settled what they did.
+//! A linear hash file that many threads use at once. Of a traced one the history is proved: whatever the schedule, its
+//! calls are those of one plain map. Of any other, recorded acts can be settled after the run.
 //!
 //! Each thread takes part with a [`Hand`] of its own. What all of them change stands in four words: the
 //! root with the right to split, the next stamp, and the counts of inserts and of deletes. They change
-//! in single atomic steps of eight kinds, under one rule about the words and about what each hand knows,
+//! in single atomic steps of a few kinds, under one rule about the words and about what each hand knows,
 //! has and did; the rule holds between any two steps. Each bucket has a reader-writer lock of its own.
 //! A call holds one bucket at a time, a split the two that it divides, the lower number first.
 //!
@@ -30,16 +31,19 @@ mod file;
 mod gate;
 pub mod laws;
 mod open;
+mod opening;
 mod settling;
 mod words;
 
 pub use act::{ActLine, Acts};
+pub use buckets::room::{Loose, Room};
 pub use buckets::segment::Segment;
 pub use calls::parts;
 pub use fault::{FileFault, JoinFault};
 pub use file::HashFile;
 pub use gate::{Gate, NoGate, Point};
 pub use lh_bucket::Memory;
+pub use opening::Opening;
 pub use settling::closed_file::Closed;
 pub use settling::history::History;
 pub use settling::settle_fault::SettleFault;
@@ -47,6 +51,7 @@ pub use settling::{settle, settle_laws};
 pub use words::Words;
 pub use words::hand::Hand;
 pub use words::load::Load;
+pub use words::mode::{Mode, Traced, Untraced};
 pub use words::numbers::FileWords;
 pub use words::right::Right;
 pub use words::view::View;

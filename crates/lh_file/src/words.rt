@@ -1,45 +1,51 @@
 //! The words of a running file, and what it was opened with.
 ghost use Rattle.std.specs.Prelude.{◌≡◌, ◌≤◌, IfOk};
+ghost use Rattle.lh_bucket.specs.Listing.{size};
 
+mod begin;
 mod counts;
+mod end;
+mod halves;
 pub(crate) mod hand;
+mod history;
 pub(crate) mod load;
 mod looks;
+pub(crate) mod mode;
 pub(crate) mod numbers;
 mod places;
 mod plays;
 pub(crate) mod right;
 mod root;
 mod rule;
+pub(crate) mod seat_view;
 mod shares;
-mod sizes;
+pub(crate) mod tokens;
 pub(crate) mod view;
 
 use crate::act::ActLine;
 use crate::words::hand::Hand;
+use crate::words::mode::{Mode, Untraced};
 use crate::words::numbers::FileWords;
-use crate::words::places::{DELETES, INSERTS, ROOT, STAMPS, WIDTH};
 use crate::words::rule::RunningRule;
-use crate::words::sizes::Sizes;
-use crate::words::view::View;
+use crate::words::seat_view::SeatView;
 use atomic_table::Table;
-use lh_addr::{Config, RootWord};
-use lh_bucket::Memory;
+use lh_addr::Config;
+use lh_bucket::{Listing, Memory};
 use std::alloc::Global;
 use std::marker::Model;
 
 /// A running file but for its buckets: the words under their rule, the configuration, whether acts are
-/// recorded, and how many records the file was opened with.
+/// recorded, and how many records the file was opened with. `M` says whether the file's history is traced.
 #[derive(Drop)]
-pub struct Words {
-    pub(crate) table: Table<(), View, Sizes, RunningRule, Global>,
+pub struct Words<M: Mode = Untraced> {
+    pub(crate) table: Table<(), SeatView, Listing, RunningRule<M>, Global>,
     pub(crate) config: Config,
     pub(crate) recording: bool,
     pub(crate) opening: u64,
     pub(crate) alloc: Global,
 }
 
-impl Model for Words {
+impl<M: Mode> Model for Words<M> {
     ghost use Rattle.lh_file.specs.FileState.{FileState};
 
     ghost Value = { FileState };
@@ -51,9 +57,21 @@ impl Model for Words {
     ghost invariant = { IsFile };
 }
 
+/// A listing of this number of buckets, none of which has a record.
+fn blank(alloc: Global, config: Config, buckets: u32) -> Result<Listing, Memory>
+    ensures config { IfOk result (λ listing. listing.config ≡ config) }
+    ensures buckets { IfOk result (λ listing. size listing ≡ buckets) }
+{
+    let mut lists = Vec::with_capacity(alloc, buckets as usize)?;
+    for _ in 0..buckets {
+        lists.push(Vec::new(alloc))?;
+    }
+    // Lists with no record are a listing, where there are no more than the file may have buckets.
+    Listing::new(alloc, config, buckets, lists).map_err(|_| Memory)
+}
+
 impl Words {
-    ghost use Rattle.lh_file.specs.FileState.{IsOf, IsOpened, IsRootWord};
-    ghost use Rattle.lh_file.specs.Closing.{RuleHolds, NoneIsLost};
+    ghost use Rattle.lh_file.specs.FileState.{IsOpened};
 
     /// The words of an empty file, with its first hand. The file has the initial buckets of its
     /// configuration. Where it records, each hand keeps its acts.
@@ -76,31 +94,28 @@ impl Words {
         requires greatest { buckets ≤ config.max }
         ensures { IfOk result (λ made. IsOpened config buckets recording records made.0 made.1) }
     {
-        let sizes = Sizes {
-            initial: config.initial(),
-            opened: buckets,
-            max: config.max(),
-        };
-        let mut words = [0; WIDTH];
-        words[ROOT] = RootWord::new(buckets, false);
-        let (table, seat) = Table::of_words(alloc, &words, &sizes)?;
-        let file = Words {
-            table,
-            config,
-            recording,
-            opening: records,
-            alloc,
-        };
-        let hand = Hand {
-            seat,
-            known: buckets,
-            has_right: false,
-            left: 1 << 63,
-            recording,
-            acts: Vec::new(alloc),
-        };
+        let listing = blank(alloc, config, buckets)?;
+        Words::open_from(alloc, &listing, recording, records)
+    }
+
+    /// The words of a file that is opened from a listing and has so many records.
+    pub(crate) fn open_from(
+        alloc: Global,
+        listing: &Listing,
+        recording: bool,
+        records: u64,
+    ) -> Result<(Words, Hand), Memory>
+        ensures { IfOk result (λ made. IsOpened listing.now.config (size listing.now) recording records made.0 made.1) }
+    {
+        let (file, seat) = Words::begun(alloc, listing, recording, records)?;
+        let hand = file.first_hand(seat, listing);
         Ok((file, hand))
     }
+}
+
+impl<M: Mode> Words<M> {
+    ghost use Rattle.lh_file.specs.FileState.{IsOf, IsRootWord};
+    ghost use Rattle.lh_file.specs.Closing.{RuleHolds, NoneIsLost};
 
     /// The last words of the file, and the acts of the hand that closes it. A hand that was not joined
     /// into this one is lost with its acts.
@@ -111,13 +126,6 @@ impl Words {
         ensures acts { result.1.items ≡ hand.acts }
         ensures none_is_lost { NoneIsLost hand result.0.stamps }
     {
-        let Words {
-            table,
-            config: _,
-            recording: _,
-            opening: _,
-            alloc: _,
-        } = self;
         let Hand {
             seat,
             known: _,
@@ -126,14 +134,6 @@ impl Words {
             recording: _,
             acts,
         } = hand;
-        let closed = table.close_with(seat);
-        let words = FileWords {
-            root: closed.word(ROOT),
-            stamps: closed.word(STAMPS),
-            inserts: closed.word(INSERTS),
-            deletes: closed.word(DELETES),
-        };
-        closed.free();
-        (words, acts)
+        (self.end(seat), acts)
     }
 }

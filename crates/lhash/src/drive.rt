@@ -10,7 +10,7 @@ use crate::unsettled::Unsettled;
 use crate::workers::work_in_threads;
 use lh_addr::Config;
 use lh_bucket::{Call, Listing, Memory};
-use lh_file::{FileFault, Gate, HashFile, NoGate, SettleFault, settle};
+use lh_file::{Acts, Closed, FileFault, Gate, HashFile, NoGate, SettleFault, settle};
 use std::alloc::Global;
 use std::io::{Read, Write};
 use std::sync::Wait;
@@ -65,6 +65,22 @@ impl From<SettleFault> for DriveFault {
     }
 }
 
+/// Settles what was done with a file that was empty when it was opened.
+fn settled(
+    alloc: Global,
+    config: Config,
+    closed: &Closed,
+    acts: &Acts,
+) -> Result<Driven, DriveFault>
+    requires { closed.now.config ≡ config }
+    ensures ok { IfOk result (IsDriven config) }
+    ensures err { IfErr result (IsDriveFault config) }
+{
+    let opening = Listing::empty(alloc, config)?;
+    let history = settle(alloc, &opening, closed, acts)?;
+    Ok(Driven::of(&history, closed.records()))
+}
+
 /// Runs calls in threads on an empty file of this configuration, and settles what they did. The call
 /// at place `j` is made by thread `j % threads`, and each thread makes its calls in their order.
 ///
@@ -85,12 +101,10 @@ pub fn drive_with<G: Gate + Drop + Sync, R: Threads + Wait + Sync>(
     ensures ok { IfOk result (IsDriven config) }
     ensures err { IfErr result (IsDriveFault config) }
 {
-    let opening = Listing::empty(alloc, config)?;
-    let (file, hand) = HashFile::create(alloc, config, true, gate)?;
+    let (file, hand) = HashFile::create(alloc, config, true, &gate)?;
     let hand = work_in_threads(rt, alloc, &file, hand, calls, threads as usize)?;
     let (closed, acts) = file.close(rt, hand)?;
-    let history = settle(alloc, &opening, &closed, &acts)?;
-    Ok(Driven::of(&history, closed.records()))
+    settled(alloc, config, &closed, &acts)
 }
 
 /// How a run ends that has no totals.

@@ -158,9 +158,16 @@ pub fn work_in_threads<G: Gate + Sync, R: Threads + Wait + Sync>(
                         break;
                     }
                 };
-                let Ok(worker) = scope.spawn_with(OfFile(file), move || {
-                    work(rt, file, part, calls, first, threads)
-                }) else {
+                let Ok(worker) = scope.spawn_with(
+                    OfFile(file),
+                    move || -> Worked
+                        requires of { IsOf file.now.state part }
+                        requires right { part.view.has_right ≡ false }
+                        requires threads { 0 < threads }
+                        ensures of { IsOf file.entry.now.state result.hand }
+                        ensures right { result.hand.view.has_right ≡ false }
+                    { work(rt, file, part, calls, first, threads) },
+                ) else {
                     missing = Some(DriveFault::Thread);
                     break;
                 };

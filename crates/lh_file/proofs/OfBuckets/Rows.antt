@@ -1,5 +1,6 @@
 -- A segment while it is made
-use Rattle.std.proofs.Common.{◌≡◌, ℕ, ◌+◌, ◌-◌, ◌≤◌, arith, ap, ◌∙◌}
+use Rattle.std.proofs.Common.{◌≡◌, ℕ, ◌+◌, ◌-◌, ◌≤◌, ◌⊎◌, inl, inr, arith, ap, ◌∙◌}
+use Rattle.std.proofs.lemmas.Bool.{cases_lt}
 use Rattle.lh_addr.specs.Settings.{Settings}
 use Rattle.lh_file.specs.Buckets.Segments.{Row, first_of, end_of, segment_at}
 
@@ -9,6 +10,12 @@ pub record ReachesTo (row : Row) (first end number : ℕ) : Type 0 where
   pub counts : row.count ≡ number - first
   pub from_first : first ≤ number
   pub within : number ≤ first + (end - first)
+
+pub not_past : (row : Row) (first end number : ℕ) → ReachesTo row first end number → (number ≤ end) ⊎ (number ≡ first)
+not_past row first end number h = elim (cases_lt end first) [
+  | inl none ↦ inr (omega (arith, h.from_first, h.within))
+  | inr some ↦ inl (omega (arith, h.within))
+]
 
 row_is : (row : Row) (first count : ℕ) → row.first ≡ first → row.count ≡ count → row ≡ record { first = first; count = count }
 row_is row first count e f = ap (λ n. record { first = n; count = row.count }) e ∙ ap (λ n. record { first = first; count = n }) f

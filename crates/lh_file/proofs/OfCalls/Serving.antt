@@ -1,8 +1,19 @@
 -- What the parts of a call do to its hand, one after another
-use Rattle.std.proofs.Common.{◌≡◌, ℕ, ◌+◌, ◌-◌, ◌<◌, ◌≤◌, true, false, [], ◌∷◌, ◌++◌, All, refl, sym, ap, ◌∙◌, subst, arith}
+use Rattle.std.proofs.Common.{◌≡◌, ℕ, ◌+◌, ◌-◌, ◌<◌, ◌≤◌, Bool, true, false, [], ◌∷◌, ◌++◌, All, refl, sym, ap, ◌∙◌, subst, arith, eqb, eq-eqb}
+use Rattle.std.specs.Option.{unwrap_or}
+use Rattle.std.proofs.lemmas.Bool.{false≢true}
+use Rattle.lh_addr.specs.Growth.{hash_at}
+use Rattle.lh_bucket.specs.Bucket.{Seen, verdict}
+use Rattle.lh_bucket.specs.Laws.{HereLaw}
+use Rattle.lh_bucket.specs.PlainMap.{Records, after, IsSearch}
 use Rattle.lh_bucket.specs.declared.call.Call.{Call}
+use Rattle.lh_bucket.specs.declared.call.Call.TheVariants.{Search, Insert, Delete, Replace}
+use Rattle.lh_bucket.specs.declared.verdict.Verdict.TheVariants.{Here}
+use Rattle.lh_file.specs.History.Buckets.{owns}
 use Rattle.lh_bucket.specs.declared.call.Reply.{Reply}
 use Rattle.lh_file.specs.FileState.{FileState, IsOf}
+use Rattle.lh_file.specs.History.Log.{entry}
+use Rattle.lh_file.specs.History.Told.{HasEntered}
 use Rattle.lh_file.specs.Words.HandState.{HandState, IsSame, knowing, with_right}
 use Rattle.lh_file.specs.Words.Recording.{Acted, inserts_of, deletes_of, kept_of}
 use Rattle.lh_file.specs.Calls.Served.{HasLooked, HasServed}
@@ -11,16 +22,16 @@ use Rattle.lh_file.specs.declared.words.view.View.{View}
 
 -- a hand that nothing happened to
 pub looked_same : (h : HandState) → HasLooked h h
-looked_same h = record { known = h.view.known; rises = omega arith; view = refl; acts = refl; table = refl; recording = refl }
+looked_same h = record { known = h.view.known; rises = omega arith; view = refl; entries = refl; acts = refl; table = refl; recording = refl }
 
 pub looked_equal : (a b : HandState) → b ≡ a → HasLooked a b
 looked_equal a b e = subst (HasLooked a) (sym e) (looked_same a)
 
 pub looked_room : (a b : HandState) → IsSame a b → HasLooked a b
-looked_room a b same = record { known = a.view.known; rises = omega arith; view = same.view; acts = same.acts; table = same.table; recording = same.recording }
+looked_room a b same = record { known = a.view.known; rises = omega arith; view = same.view; entries = same.entries; acts = same.acts; table = same.table; recording = same.recording }
 
 pub looked_knowing : (h : HandState) (n : ℕ) → h.view.known ≤ n → HasLooked h (knowing h n)
-looked_knowing h n rises = record { known = n; rises = rises; view = refl; acts = refl; table = refl; recording = refl }
+looked_knowing h n rises = record { known = n; rises = rises; view = refl; entries = refl; acts = refl; table = refl; recording = refl }
 
 -- two looks are one
 pub looked_twice : (a b c : HandState) → HasLooked a b → HasLooked b c → HasLooked a c
@@ -28,6 +39,7 @@ looked_twice a b c first second = record {
   known = second.known;
   rises = let k = ap (λ (v : View). v.known) first.view in omega (arith, first.rises, second.rises, k);
   view = second.view ∙ ap (λ (v : View). rooted v second.known v.has_right) first.view;
+  entries = second.entries ∙ first.entries;
   acts = second.acts ∙ first.acts;
   table = second.table ∙ first.table;
   recording = second.recording ∙ first.recording;
@@ -39,6 +51,7 @@ looked_right a b n m none rises more is = record {
   known = m;
   rises = omega (arith, rises, more);
   view = ap (λ (h : HandState). h.view) is ∙ ap (λ r. rooted a.view m r) (sym none);
+  entries = ap (λ (h : HandState). h.entries) is;
   acts = ap (λ (h : HandState). h.acts) is;
   table = ap (λ (h : HandState). h.table) is;
   recording = ap (λ (h : HandState). h.recording) is;
@@ -97,3 +110,22 @@ looked_then_served a b c call reply looked served = record {
   table = served.table ∙ looked.table;
   recording = served.recording ∙ looked.recording;
 }
+
+-- an act that was entered between two looks is entered
+pub looked_then_entered : (lent : Bool) (a b c : HandState) (call : Call) (reply : Reply) → HasLooked a b → HasEntered lent b call reply c → HasEntered lent a call reply c
+looked_then_entered lent a b c call reply looked (stamp, above, entered) = (stamp, (let f = ap (λ (v : View). v.floor) looked.view in omega arith), entered ∙ ap (λ es. es ++ entry lent stamp call reply ∷ []) looked.entries)
+
+pub entered_then_looked : (lent : Bool) (a b c : HandState) (call : Call) (reply : Reply) → HasEntered lent a call reply b → HasLooked b c → HasEntered lent a call reply c
+entered_then_looked lent a b c call reply (stamp, above, entered) looked = (stamp, above, looked.entries ∙ entered)
+
+-- a bucket at which a call is owns the call's key
+pub here_owns : HereLaw → (p : Seen) (c k : ℕ) → verdict p.head c k ≡ Here → owns c p ≡ true
+here_owns law p c k here = let v = (law p.head c k).0 here in
+    ap (λ l. eqb (hash_at p.head.initial (unwrap_or l 0) c) p.head.number) v.1 ∙ eq-eqb (hash_at p.head.initial k c) p.head.number v.0
+
+-- a search leaves the map
+pub searched : (m : Records) (call : Call) → IsSearch call → m ≡ after m call
+searched m (Search key) is = refl
+searched m (Insert key value) is = absurd (false≢true is)
+searched m (Delete key) is = absurd (false≢true is)
+searched m (Replace key value) is = absurd (false≢true is)

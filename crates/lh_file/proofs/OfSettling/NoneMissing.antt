@@ -8,10 +8,10 @@ use Rattle.std.proofs.lemmas.List.Sorted.{sum_by-IsPermutation}
 use mathlib.Core.Logic.{dite}
 use native.Mathlib.Decide.{dec_le}
 use Rattle.lh_file.specs.declared.act.ActLine.{ActLine}
-use Rattle.lh_file.specs.Acts.{stamps_of}
+use Rattle.lh_file.specs.Acts.{stamps_of, IsInOrder}
 use Rattle.lh_file.specs.Settling.SettleLaws.{NoneMissingLaw}
 use Rattle.lh_file.specs.Words.Sums.{times, once_below}
-use Rattle.lh_file.proofs.OfSettling.Verdicts.{tail, head}
+use Rattle.lh_file.proofs.OfSettling.Verdicts.{tail}
 use Rattle.lh_file.proofs.OfWords.Lists.{times-cons, once-yes, once-no, once-more, same-yes}
 
 module _ {X : Type 0} (g : X → ℕ) where
@@ -46,15 +46,17 @@ module _ {X : Type 0} (g : X → ℕ) where
       (λ x. omega (arith, h x, times-cons x (g y) (map g ys), times-cons x (g y) [], ap (λ z. times x (z ∷ [])) same, once-more x s, ap (once_below x) (let e : s + suc m ≡ (s + 1) + m = omega arith in e))) in
       λ i. same i ∷ rest i
 
+-- acts that have each stamp below a number once, and no other, have these numbers in their order
+pub all_drawn : (acts history : List ActLine) (q : ℕ) → IsInOrder acts history → ((x : ℕ) → times x (stamps_of acts) ≡ once_below x q) → stamps_of history ≡ range_with_len 0 q
+all_drawn acts history q order once =
+    let counted : (x : ℕ) → times x (stamps_of history) ≡ once_below x q = λ x.
+    times-map (λ (a : ActLine). a.stamp) x history
+    ∙ sum_by-IsPermutation (λ (a : ActLine). cond (nat_eq x a.stamp) 1 0) acts history order.same
+    ∙ sym (times-map (λ (a : ActLine). a.stamp) x acts)
+    ∙ once x in
+    rising_once (λ (a : ActLine). a.stamp) history 0 q order.rising
+    (λ x. omega (arith, counted x, once-no x 0 (omega arith), ap (once_below x) (let e : 0 + q ≡ q = omega arith in e)))
+
 pub none_missing_law : NoneMissingLaw
 none_missing_law hand closed stamp recording all lost missing =
-    let history = missing.history in
-    let once = lost recording all in
-    let counted : (x : ℕ) → times x (stamps_of history) ≡ once_below x closed.stamps = λ x.
-    times-map (λ (a : ActLine). a.stamp) x history
-    ∙ sum_by-IsPermutation (λ (a : ActLine). cond (nat_eq x a.stamp) 1 0) hand.acts history missing.order.same
-    ∙ sym (times-map (λ (a : ActLine). a.stamp) x hand.acts)
-    ∙ once x in
-    missing.differ.here (ap (λ (l : List ℕ). slice_get l stamp)
-    (rising_once (λ (a : ActLine). a.stamp) history 0 closed.stamps missing.order.rising
-    (λ x. omega (arith, counted x, once-no x 0 (omega arith), ap (once_below x) (let e : 0 + closed.stamps ≡ closed.stamps = omega arith in e)))))
+    missing.differ.here (ap (λ (l : List ℕ). slice_get l stamp) (all_drawn hand.acts missing.history closed.stamps missing.order (lost recording all)))

@@ -3,7 +3,7 @@ use Rattle.std.proofs.Common.{◌≡◌, ◌≢◌, ℕ, zero, suc, ◌+◌, ◌
 use Rattle.std.specs.Option.{option_to_list, IsSome}
 use Rattle.std.specs.Str.{bytes_eq}
 use Rattle.std.specs.List.{filter, slice_get, AllByRecursion, IsDistinct, list_any}
-use Rattle.std.specs.FinMap.{get}
+use Rattle.std.specs.FinMap.{get, retain_keys}
 use Rattle.std.proofs.lemmas.Bool.{cases_lt, false≢true}
 use Rattle.std.proofs.lemmas.Bool.Decides.{nat_tests}
 use Rattle.std.proofs.lemmas.Map.Keys.{IsDistinct-head, IsDistinct-tail, IsDistinct-cons}
@@ -168,19 +168,37 @@ module _ (initial size : ℕ) (m : Records) (lists : List (List Pair)) (within :
           let other : Home q ≡ b = sym (ap Home same) ∙ home b p below in
           false≢true (sym e ∙ equal_true (Home q) b other)))
 
-  -- and the other way round
-  pub placed_home : IsPlaced initial size m lists → EachPlace (IsHome initial size) lists
-  placed_home h b p below = ⊎_elim
+  -- and the other way round: each bucket has just the pairs of its address,
+  abbrev Filled : Type 0
+  Filled = (b : ℕ) → b < size → map_of (list_at lists b) ≡ retain_keys m (λ key. nat_eq (Home key) b)
+
+  abbrev Shut : Type 0
+  Shut = (b : ℕ) → size ≤ b → list_at lists b ≡ []
+
+  filled_home : Filled → Shut → EachPlace (IsHome initial size) lists
+  filled_home each beyond b p below = ⊎_elim
       (λ (inside : b < size).
       let key = key_at (list_at lists b) p in
-      let some : IsSome (cond (nat_eq (Home key) b) (get m key) None) = subst IsSome (ap (λ (r : Records). get r key) (h.each b inside) ∙ get-retained m (λ key. nat_eq (Home key) b) key) (values_there (list_at lists b) p below) in
+      let some : IsSome (cond (nat_eq (Home key) b) (get m key) None) = subst IsSome (ap (λ (r : Records). get r key) (each b inside) ∙ get-retained m (λ key. nat_eq (Home key) b) key) (values_there (list_at lists b) p below) in
       exact_unsigned_eq (Home key) b (tested (nat_eq (Home key) b) (get m key) some))
-      (λ (past : size ≤ b). absurd (omega (arith, below, ap length (h.beyond b past))))
+      (λ (past : size ≤ b). absurd (omega (arith, below, ap length (beyond b past))))
       (cases_lt b size)
     where
       tested : (t : Bool) (o : Option (List ℕ)) → IsSome (cond t o None) → t ≡ true
       tested true o some = refl
       tested false o some = absurd (false≢true some)
+
+  pub placed_home : IsPlaced initial size m lists → EachPlace (IsHome initial size) lists
+  placed_home h = filled_home h.each h.beyond
+
+  -- so no key stands twice, where none does in one bucket
+  pub filled_placed : Filled → Shut → ((b : ℕ) → IsDistinct bytes_eq (keys_of (list_at lists b))) → IsPlaced initial size m lists
+  filled_placed each beyond own = record {
+    each = each;
+    beyond = beyond;
+    distinct = distinct_few (all_of lists) (λ q.
+        subst (λ (xs : List (List ℕ)). length xs ≤ 1) (sym (at_home Home 0 lists (from_zero (filled_home each beyond)) q (Home q) (omega arith))) (few_distinct (list_at lists (Home q)) q (own (Home q))));
+  }
 
   pub placed_stands : IsPlaced initial size m lists → (q : List ℕ) → StandsAs m lists q
   placed_stands h q =

@@ -1,22 +1,26 @@
 -- What a step may change of the words and of one hand, and that the rule outlives it
-use Rattle.std.proofs.Common.{◌≡◌, ℕ, ◌+◌, ◌%◌, ◌<◌, ◌≤◌, ◌≢◌, ◌⊎◌, Bool, true, false, List, [], ◌∷◌, ◌++◌, length, set, sym, refl, ap, ◌∙◌, subst, inr, ⊎_elim, arith, cond, length-set, get_or-set_other, get_or-set_same}
+use Rattle.std.proofs.Common.{◌≡◌, ℕ, ◌+◌, ◌%◌, ◌<◌, ◌≤◌, ◌≢◌, ◌⊎◌, Bool, true, false, List, length, map, set, sym, refl, ap, ◌∙◌, subst, inr, ⊎_elim, arith, cond, length-set, get_or-set_other, get_or-set_same}
 use mathlib.Core.Option.{some}
 use lib.ListN.{get_elem?}
-use Rattle.atomic_table.specs.Table.{State, stepped}
-use Rattle.atomic_table.proofs.Lists.{at_set, at_snoc}
+use Rattle.atomic_table.specs.Table.{State, keeps, stepped}
+use Rattle.atomic_table.proofs.Lists.{at_map, at_set}
 use Rattle.lh_addr.specs.RootWord.{buckets_of}
+use Rattle.lh_bucket.specs.Listing.{Lists}
+use Rattle.lh_file.specs.History.History.{History}
 use Rattle.lh_file.specs.Words.Sums.{times, once_below}
-use Rattle.lh_file.specs.Words.Rule.{Each, rights_of, HasLimits, IsRule, words_of, Holds}
+use Rattle.lh_file.specs.Words.Rule.{rights_of, HasLimits, IsRule, words_of}
+use Rattle.lh_file.specs.Words.Table.{shown, Holds}
 use Rattle.lh_file.specs.Words.Plays.{Seated}
 use Rattle.lh_file.specs.Words.Views.{spent}
 use Rattle.lh_file.specs.declared.words.numbers.FileWords.{FileWords}
 use Rattle.lh_file.specs.declared.words.places.TheConstants.{ROOT, STAMPS, INSERTS, DELETES, WIDTH}
-use Rattle.lh_file.specs.declared.words.sizes.Sizes.{Sizes}
+use Rattle.lh_file.specs.declared.words.seat_view.SeatView.{SeatView}
 use Rattle.lh_file.specs.declared.words.view.View.{View}
+use Rattle.lh_file.proofs.OfHistory.Rows.{map-set, each_set}
 use Rattle.lh_file.proofs.OfWords.Lists.{total-set, terms_le}
 
 abbrev pub Words : Type 0
-Words = State (Unit {0}) View
+Words = State (Unit {0}) SeatView
 
 -- the words go from `old` to `new`, and one hand's view from v to w
 pub record Change (initial max : ℕ) (old new : FileWords) (v w : View) : Type 0 where
@@ -36,16 +40,8 @@ pub record Change (initial max : ℕ) (old new : FileWords) (v w : View) : Type 
   pub inserts : w.inserted + old.inserts ≡ new.inserts + v.inserted
   pub deletes : w.deleted + old.deletes ≡ new.deletes + v.deleted
   pub few : w.inserted + w.deleted ≤ length w.stamps
-
--- a fact of every view holds after one changed, and after one came
-pub each_set : (P : View → Type 0) (l : List View) (id : ℕ) (w : View) → Each l P → P w → Each (set l id w) P
-each_set P l id w all here j u e = ⊎_elim
-    (λ (t : (j ≡ id) × (w ≡ u)). subst P t.1 here)
-    (λ (t : (j ≢ id) × (get_elem? l j ≡ some u)). all j u t.1)
-    (at_set l id j w u e)
-
-pub each_snoc : (P : View → Type 0) (l : List View) (w : View) → Each l P → P w → Each (l ++ w ∷ []) P
-each_snoc P l w all here j u e = ⊎_elim (λ (t : get_elem? l j ≡ some u). all j u t) (λ (t : w ≡ u). subst P t here) (at_snoc l w u j e)
+  pub more : old.stamps ≤ new.stamps
+  pub floor : w.floor ≤ new.stamps
 
 pub rights-one : (v : View) → v.has_right ≡ true → rights_of v ≡ 1
 rights-one v e = ap (λ b. cond b 1 0) e
@@ -89,6 +85,7 @@ module _ (initial max : ℕ) where
     inserts = let a = total-set (λ (u : View). u.inserted) views id v w me in let b = rule.inserts in let d = c.inserts in omega arith;
     deletes = let a = total-set (λ (u : View). u.deleted) views id v w me in let b = rule.deletes in let d = c.deletes in omega arith;
     few = each_set (λ u. u.inserted + u.deleted ≤ length u.stamps) views id w rule.few c.few;
+    floors = each_set (λ u. u.floor ≤ new.stamps) views id w (λ j u e. let low = rule.floors j u e in let up = c.more in omega arith) c.floor;
   }
 
 -- one word of the table is stored, and the others stay
@@ -124,12 +121,16 @@ deletes_stored ws n m wide e i = record {
   deletes = (get_or-set_same ws DELETES n 0 (omega arith) ∙ e) i;
 }
 
--- the rule holds of a table after a step on the word i that stores n
-pub after_step : (k : Sizes) (s : Words) (o : Holds k s) (i id n : ℕ) (m : Seated) (w : View) (new : FileWords)
-    → get_elem? s.views id ≡ some m.0 → words_of (set s.words i n) ≡ new → Change k.initial k.max (words_of s.words) new m.0 w
-    → Holds k (stepped s i n id m.1 w Rattle.atomic_table.specs.Table.keeps)
-after_step k s o i id n m w new me is c = record {
-  wide = length-set s.words i n ∙ o.wide;
-  rule = subst (λ (z : FileWords). IsRule k.initial k.max z (set s.views id w)) (sym is)
-      (changed k.initial k.max (words_of s.words) new s.views id m.0 w o.rule me c);
-}
+-- the rule holds of a table after a step on the word i that stores n and changes one seat, where the history outlives it
+module _ (traced : Bool) (k : Lists) where
+  pub after_step : (s : Words) (o : Holds traced k s) (i id n : ℕ) (m : Seated) (d : SeatView) (new : FileWords)
+      → get_elem? s.views id ≡ some m.0 → words_of (set s.words i n) ≡ new → Change k.config.initial k.config.max (words_of s.words) new m.0.view d.view
+      → (traced ≡ true → History k (words_of s.words) s.views → History k new (set s.views id d))
+      → Holds traced k (stepped s i n id m.1 d keeps)
+  after_step s o i id n m d new me is c past = record {
+    wide = length-set s.words i n ∙ o.wide;
+    rule = subst (λ (z : FileWords). IsRule k.config.initial k.config.max z (map shown (set s.views id d))) (sym is)
+        (subst (IsRule k.config.initial k.config.max new) (sym (map-set shown s.views id d))
+        (changed k.config.initial k.config.max (words_of s.words) new (map shown s.views) id m.0.view d.view o.rule (at_map shown s.views id m.0 me) c));
+    history = λ on. subst (λ (z : FileWords). History k z (set s.views id d)) (sym is) (past on (o.history on));
+  }

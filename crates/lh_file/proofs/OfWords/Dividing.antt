@@ -1,19 +1,27 @@
 -- A division of a hand, a union of two, and the opening keep the rule
-use Rattle.std.proofs.Common.{◌≡◌, ◌≢◌, ℕ, ◌+◌, ◌*◌, ◌<◌, ◌≤◌, ◌⊎◌, true, false, List, [], ◌∷◌, ◌++◌, length, set, sym, refl, subst, inl, inr, ⊎_elim, arith, length-append, replicate}
-use mathlib.Core.Option.{some, some-ne-none}
+use Rattle.std.proofs.Common.{◌≡◌, ◌≢◌, ℕ, ◌+◌, ◌*◌, ◌<◌, ◌≤◌, ◌⊎◌, Bool, true, false, List, [], ◌∷◌, ◌++◌, length, map, set, sym, refl, ap, ◌∙◌, subst, inl, inr, ⊎_elim, arith, length-append, replicate}
+use Rattle.std.proofs.lemmas.Bool.{false≢true}
+use Rattle.std.proofs.lemmas.List.{map-append}
+use mathlib.Core.Option.{some}
 use lib.ListN.{get_elem?}
 use Rattle.atomic_table.specs.Table.{Splits, Joins, opening}
-use Rattle.atomic_table.proofs.Lists.{at_set}
+use Rattle.atomic_table.proofs.Lists.{at_map, at_set}
 use Rattle.lh_addr.specs.RootWord.{buckets_of}
+use Rattle.lh_bucket.specs.Listing.{Lists, size}
 use Rattle.lh_file.specs.Words.Sums.{total, times}
-use Rattle.lh_file.specs.Words.Rule.{Each, rights_of, HasLimits, IsRule, words_of, Holds}
+use Rattle.lh_file.specs.Words.Rule.{Each, rights_of, HasLimits, IsRule, words_of}
+use Rattle.lh_file.specs.Words.Seats.{sizes_of, first_seat, holder, lessened_seat, branch_seat, joined_seats}
+use Rattle.lh_file.specs.Words.Table.{shown, Holds}
 use Rattle.lh_file.specs.Words.Views.{first_view, spent, lessened, branch, joined}
 use Rattle.lh_file.specs.declared.words.numbers.FileWords.{FileWords}
 use Rattle.lh_file.specs.declared.words.places.TheConstants.{ROOT, WIDTH}
-use Rattle.lh_file.specs.declared.words.sizes.Sizes.{Sizes}
+use Rattle.lh_file.specs.declared.words.seat_view.SeatView.{SeatView}
 use Rattle.lh_file.specs.declared.words.view.View.{View}
 use Rattle.lh_file.proofs.OfWords.Lists.{total-append, total-set, times-append, once-no}
-use Rattle.lh_file.proofs.OfWords.Changes.{limits_of, rights-none, each_set, each_snoc}
+use Rattle.lh_file.proofs.OfHistory.Dividing as history
+use Rattle.lh_file.proofs.OfHistory.Dividing.{shares}
+use Rattle.lh_file.proofs.OfHistory.Rows.{map-set, each_set, each_snoc, each_one}
+use Rattle.lh_file.proofs.OfWords.Changes.{limits_of, rights-none}
 
 -- a sum over the views, after one was divided
 divided : (g : View → ℕ) (l : List View) (id : ℕ) (v a b : View) → get_elem? l id ≡ some v → total g (set l id a ++ b ∷ []) + g v ≡ total g l + g a + g b
@@ -40,6 +48,7 @@ module _ (initial max : ℕ) where
         inserts = omega (arith, divided (λ (u : View). u.inserted) vs id v a b me, o.inserts);
         deletes = omega (arith, divided (λ (u : View). u.deleted) vs id v a b me, o.deletes);
         few = every (λ u. u.inserted + u.deleted ≤ length u.stamps) o.few (o.few id v me) (omega arith);
+        floors = every (λ u. u.floor ≤ words.stamps) o.floors (o.floors id v me) (o.floors id v me);
       }
 
   unites : (words : FileWords) (views : List View) (id other : ℕ) (v w : View) → IsRule initial max words views → get_elem? views id ≡ some v → other ≢ id
@@ -61,39 +70,51 @@ module _ (initial max : ℕ) where
         inserts = omega (arith, united (λ (u : View). u.inserted) vs id other v w a spent me it, o.inserts);
         deletes = omega (arith, united (λ (u : View). u.deleted) vs id other v w a spent me it, o.deletes);
         few = every (λ u. u.inserted + u.deleted ≤ length u.stamps) o.few (omega arith) (omega arith);
+        floors = every (λ u. u.floor ≤ words.stamps) o.floors (let a = o.floors id v me in let b = o.floors other w itself in omega arith) (omega arith);
       }
 
-pub splits : (k : Sizes) (calls id : ℕ) (v : View) → 0 < v.initial → calls ≤ v.left → Splits (Holds k) id v (lessened calls v) (branch calls v)
-splits k calls id v live enough s o me = record { wide = o.wide; rule = divides k.initial k.max (words_of s.words) s.views id calls v o.rule me live enough }
+module _ (traced : Bool) (k : Lists) where
+  pub splits : (calls id : ℕ) (d : SeatView) → 0 < d.view.initial → calls ≤ d.view.left → Splits (Holds traced k) id d (lessened_seat calls d) (branch_seat calls d)
+  splits calls id d live enough s o me = record {
+    wide = o.wide;
+    rule = subst (IsRule k.config.initial k.config.max (words_of s.words))
+        (sym (map-append shown (set s.views id (lessened_seat calls d)) (branch_seat calls d ∷ []) ∙ ap (λ l. l ++ branch calls d.view ∷ []) (map-set shown s.views id (lessened_seat calls d))))
+        (divides k.config.initial k.config.max (words_of s.words) (map shown s.views) id calls d.view o.rule (at_map shown s.views id d me) live enough);
+    history = λ on. shares k (words_of s.words) s.views id d me (o.history on) calls;
+  }
 
-pub joins : (k : Sizes) (id other : ℕ) (v w : View) → 0 < v.initial → w.has_right ≡ false → Joins (Holds k) id v other w (joined v w) spent
-joins k id other v w live none_there s o me apart it = record { wide = o.wide; rule = unites k.initial k.max (words_of s.words) s.views id other v w o.rule me apart it live none_there }
+  pub joins : (id other : ℕ) (d e : SeatView) → 0 < d.view.initial → e.view.has_right ≡ false → e.moved ≡ false → Joins (Holds traced k) id d other e (joined_seats d e) (holder [])
+  joins id other d e live none_there unmoved s o me apart it =
+      let a : SeatView = joined_seats d e in
+      let there : get_elem? (set (map shown s.views) id (joined d.view e.view)) other ≡ some e.view = subst (λ l. get_elem? l other ≡ some e.view) (map-set shown s.views id a) (at_map shown (set s.views id a) other e it) in record {
+        wide = o.wide;
+        rule = subst (IsRule k.config.initial k.config.max (words_of s.words))
+            (sym (map-set shown (set s.views id a) other (holder []) ∙ ap (λ l. set l other spent) (map-set shown s.views id a)))
+            (unites k.config.initial k.config.max (words_of s.words) (map shown s.views) id other d.view e.view o.rule (at_map shown s.views id d me) apart there live none_there);
+        history = λ on. history.unites k (words_of s.words) s.views id d me (o.history on) other e unmoved apart it;
+      }
 
 -- a file's words when it is opened
-opened : (k : Sizes) → k.initial ≤ k.opened → k.opened ≤ k.max → IsRule k.initial k.max (record { root = 2 * k.opened; stamps = 0; inserts = 0; deletes = 0 }) (first_view k ∷ [])
+opened : (k : Lists) → k.config.initial ≤ size k → size k ≤ k.config.max → IsRule k.config.initial k.config.max (record { root = 2 * size k; stamps = 0; inserts = 0; deletes = 0 }) (first_view (sizes_of k) ∷ [])
 opened k low high = record {
   least = omega arith;
   greatest = omega arith;
-  known = only (λ u. u.known ≤ buckets_of (2 * k.opened)) (omega arith);
+  known = each_one (λ (u : View). u.known ≤ buckets_of (2 * size k)) (first_view (sizes_of k)) (omega arith);
   right = omega arith;
-  exact = only (λ u. u.has_right ≡ true → u.known ≡ buckets_of (2 * k.opened)) (λ (no : false ≡ true). absurd (cc));
-  limits = only (λ u. (u ≡ spent) ⊎ HasLimits k.initial k.max u) (inr (refl, refl));
+  exact = each_one (λ (u : View). u.has_right ≡ true → u.known ≡ buckets_of (2 * size k)) (first_view (sizes_of k)) (λ (no : false ≡ true). absurd (cc));
+  limits = each_one (λ (u : View). (u ≡ spent) ⊎ HasLimits k.config.initial k.config.max u) (first_view (sizes_of k)) (inr (refl, refl));
   once = λ x. sym (once-no x 0 (omega arith));
   drawn = refl;
   budget = refl;
   inserts = refl;
   deletes = refl;
-  few = only (λ u. u.inserted + u.deleted ≤ length u.stamps) (omega arith);
+  few = each_one (λ (u : View). u.inserted + u.deleted ≤ length u.stamps) (first_view (sizes_of k)) (omega arith);
+  floors = each_one (λ (u : View). u.floor ≤ 0) (first_view (sizes_of k)) (omega arith);
 }
-  where
-    nothing : (P : View → Type 0) → Each [] P
-    nothing P j u e = absurd (some-ne-none u (sym e))
 
-    only : (P : View → Type 0) → P (first_view k) → Each (first_view k ∷ []) P
-    only P here = each_snoc P [] (first_view k) (nothing P) here
-
-pub opens : (k : Sizes) (word : ℕ) → word ≡ 2 * k.opened → k.initial ≤ k.opened → k.opened ≤ k.max → Holds k (opening (set (replicate WIDTH 0) ROOT word) [] (first_view k))
+pub opens : (k : Lists) (word : ℕ) → word ≡ 2 * size k → k.config.initial ≤ size k → size k ≤ k.config.max → Holds false k (opening (set (replicate WIDTH 0) ROOT word) [] (first_seat false k))
 opens k word is low high = record {
   wide = refl;
-  rule = subst (λ (n : ℕ). IsRule k.initial k.max (record { root = n; stamps = 0; inserts = 0; deletes = 0 }) (first_view k ∷ [])) (sym is) (opened k low high);
+  rule = subst (λ (n : ℕ). IsRule k.config.initial k.config.max (record { root = n; stamps = 0; inserts = 0; deletes = 0 }) (first_view (sizes_of k) ∷ [])) (sym is) (opened k low high);
+  history = λ on. absurd (false≢true on);
 }

@@ -1,19 +1,25 @@
 -- Each kind of step on the root word keeps the rule
-use Rattle.std.proofs.Common.{◌≡◌, ℕ, ◌+◌, ◌-◌, ◌%◌, ◌^◌, ◌<◌, ◌≤◌, ◌⊎◌, Bool, true, false, List, eqb, get_or, refl, ap, inl, inr, arith, cond}
+use Rattle.std.proofs.Common.{◌≡◌, ℕ, ◌+◌, ◌-◌, ◌%◌, ◌^◌, ◌<◌, ◌≤◌, ◌⊎◌, Bool, true, false, List, map, eqb, get_or, refl, ap, inl, inr, arith, cond}
 use mathlib.Core.Option.{none, some}
 use lib.ListN.{get_elem?}
 use lib.Seq.{set-get_or}
 use prog.Atomic.{either}
 use Rattle.atomic_table.specs.Table.{step, Act, Valid, carried_after, keeps, stepped, Allows}
-use Rattle.atomic_table.proofs.Lists.{exchanged}
+use Rattle.atomic_table.proofs.Lists.{at_map, exchanged}
 use Rattle.lh_addr.specs.RootWord.{buckets_of}
-use Rattle.lh_file.specs.Words.Rule.{rights_of, IsRule, words_of, Holds}
+use Rattle.lh_bucket.specs.Listing.{Lists}
+use Rattle.lh_file.specs.History.Buckets.{bit}
+use Rattle.lh_file.specs.Words.Rule.{rights_of, IsRule, words_of}
+use Rattle.lh_file.specs.Words.Seats.{with_view}
+use Rattle.lh_file.specs.Words.Table.{shown, Holds}
 use Rattle.lh_file.specs.Words.Plays.{Seated, IsFound, loaded_root, claimed, pointed, dropped}
 use Rattle.lh_file.specs.Words.Views.{rooted}
 use Rattle.lh_file.specs.declared.words.numbers.FileWords.{FileWords}
 use Rattle.lh_file.specs.declared.words.places.TheConstants.{ROOT}
-use Rattle.lh_file.specs.declared.words.sizes.Sizes.{Sizes}
+use Rattle.lh_file.specs.declared.words.seat_view.SeatView.{SeatView}
 use Rattle.lh_file.specs.declared.words.view.View.{View}
+use Rattle.lh_file.proofs.OfHistory.Quiet.{quiet, passes}
+use Rattle.lh_file.proofs.OfHistory.Rows.{at_most_one}
 use Rattle.lh_file.proofs.OfWords.Lists.{term_le}
 use Rattle.lh_file.proofs.OfWords.Changes.{Words, Change, limits_of, rights-one, no_right, root_stored, after_step}
 
@@ -46,6 +52,8 @@ module _ (initial max : ℕ) where
     inserts = omega arith;
     deletes = omega arith;
     few = rule.few id v me;
+    more = omega arith;
+    floor = rule.floors id v me;
   }
 
   -- the root word becomes n, and the hand knows its size
@@ -69,68 +77,82 @@ module _ (initial max : ℕ) where
     inserts = omega arith;
     deletes = omega arith;
     few = rule.few id v me;
+    more = omega arith;
+    floor = rule.floors id v me;
   }
 
-module _ (k : Sizes) where
+module _ (traced : Bool) (k : Lists) where
   -- what a step on the word i needs that stores n
   abbrev Next : Words → ℕ → ℕ → Seated → (ℕ → Seated → Type 0) → ℕ → Type 0
-  Next s i id m then n = (w : View) × (a : Act (Unit {0})) × Valid s.homes m.1 a × Holds k (stepped s i n id m.1 w a) × then (get_or s.words i 0) (w, carried_after m.1 a)
+  Next s i id m then n = (d : SeatView) × (a : Act (Unit {0})) × Valid s.homes m.1 a × Holds traced k (stepped s i n id m.1 d a) × then (get_or s.words i 0) (d, carried_after m.1 a)
 
-  pub loads_root : (slots id : ℕ) (m : Seated) → 0 < m.0.initial → Allows (Holds k) slots id m ROOT (λ n. n) (loaded_root (step slots ROOT 0 0 none) m)
-  loads_root slots id m live s o _ me _ = let size : ℕ = buckets_of (get_or s.words ROOT 0) in let w : View = rooted m.0 size m.0.has_right in (
-    w,
-    keeps,
-    tt,
-    after_step k s o ROOT id (get_or s.words ROOT 0) m w (words_of s.words) me (ap words_of (set-get_or s.words ROOT 0))
-        (seen k.initial k.max (words_of s.words) s.views o.rule id m.0 size me live (omega arith) (λ _. refl)),
-    (found k.initial k.max (words_of s.words) s.views o.rule id m.0 me live, refl),
-  )
+  pub loads_root : (slots id : ℕ) (m : Seated) → 0 < m.0.view.initial → Allows (Holds traced k) slots id m ROOT (λ n. n) (loaded_root (step slots ROOT 0 0 none) m)
+  loads_root slots id m live s o _ me _ = let size : ℕ = buckets_of (get_or s.words ROOT 0) in let v : View = m.0.view in let w : View = rooted v size v.has_right in
+      let vs : List View = map shown s.views in let there = at_map shown s.views id m.0 me in (
+        with_view m.0 w,
+        keeps,
+        tt,
+        after_step traced k s o ROOT id (get_or s.words ROOT 0) m (with_view m.0 w) (words_of s.words) me (ap words_of (set-get_or s.words ROOT 0))
+            (seen k.config.initial k.config.max (words_of s.words) vs o.rule id v size there live (omega arith) (λ _. refl))
+            (λ _. quiet k (words_of s.words) (words_of s.words) s.views id m.0 me refl w refl refl (λ le. le)),
+        (found k.config.initial k.config.max (words_of s.words) vs o.rule id v there live, refl),
+      )
 
-  pub claims_right : (slots id : ℕ) (m : Seated) (old new : ℕ) → 0 < m.0.initial → old % 2 ≡ 0 → buckets_of old < m.0.max → new ≡ old + 1
-      → Allows (Holds k) slots id m ROOT (λ n. either (eqb n old) new n) (claimed (step slots ROOT old new none) m)
-  claims_right slots id m old new live even room is s o _ me _ = let r : ℕ = get_or s.words ROOT 0 in let size : ℕ = buckets_of r in let rule = o.rule in
-      let at = found k.initial k.max (words_of s.words) s.views rule id m.0 me live in
+  pub claims_right : (slots id : ℕ) (m : Seated) (old new : ℕ) → 0 < m.0.view.initial → old % 2 ≡ 0 → buckets_of old < m.0.view.max → new ≡ old + 1
+      → Allows (Holds traced k) slots id m ROOT (λ n. either (eqb n old) new n) (claimed (step slots ROOT old new none) m)
+  claims_right slots id m old new live even room is s o _ me _ = let r : ℕ = get_or s.words ROOT 0 in let size : ℕ = buckets_of r in let rule = o.rule in let v : View = m.0.view in
+      let vs : List View = map shown s.views in let there = at_map shown s.views id m.0 me in
+      let at = found k.config.initial k.config.max (words_of s.words) vs rule id v there live in
       exchanged r old new (Next s ROOT id m (claimed (step slots ROOT old new none) m))
-      (λ hit. let t = term_le rights_of s.views id m.0 me in let q = rule.right in let l = rule.least in let g = rule.greatest in
-      let lim = (limits_of k.initial k.max (words_of s.words) s.views rule id m.0 me live).1 in
-      let nobody : rights_of m.0 ≡ 0 = omega arith in
-      let w : View = rooted m.0 size true in (
-        w,
+      (λ hit. let t = term_le rights_of vs id v there in let q = rule.right in let l = rule.least in let g = rule.greatest in
+      let lim = (limits_of k.config.initial k.config.max (words_of s.words) vs rule id v there live).1 in
+      let nobody : rights_of v ≡ 0 = omega arith in
+      let w : View = rooted v size true in
+      let next : FileWords = record (words_of s.words) { root = new } in (
+        with_view m.0 w,
         keeps,
         tt,
-        after_step k s o ROOT id new m w (record (words_of s.words) { root = new }) me (root_stored s.words new new o.wide refl)
-            (rooted_anew k.initial k.max (words_of s.words) s.views rule id m.0 new size true me live (omega arith) (omega arith) (omega arith) (omega arith) (omega arith) (inl (omega arith))),
-        (at, (λ _. (no_right m.0 nobody, refl)), λ miss. absurd (miss hit)),
+        after_step traced k s o ROOT id new m (with_view m.0 w) next me (root_stored s.words new new o.wide refl)
+            (rooted_anew k.config.initial k.config.max (words_of s.words) vs rule id v new size true there live (omega arith) (omega arith) (omega arith) (omega arith) (omega arith) (inl (omega arith)))
+            (λ _. quiet k (words_of s.words) next s.views id m.0 me refl w (omega arith) refl (λ _. at_most_one m.0.moved)),
+        (at, (λ _. (no_right v nobody, refl)), λ miss. absurd (miss hit)),
       ))
-      (λ miss. let w : View = rooted m.0 size m.0.has_right in (
-        w,
+      (λ miss. let w : View = rooted v size v.has_right in (
+        with_view m.0 w,
         keeps,
         tt,
-        after_step k s o ROOT id r m w (words_of s.words) me (ap words_of (set-get_or s.words ROOT 0))
-            (seen k.initial k.max (words_of s.words) s.views rule id m.0 size me live (omega arith) (λ _. refl)),
+        after_step traced k s o ROOT id r m (with_view m.0 w) (words_of s.words) me (ap words_of (set-get_or s.words ROOT 0))
+            (seen k.config.initial k.config.max (words_of s.words) vs rule id v size there live (omega arith) (λ _. refl))
+            (λ _. quiet k (words_of s.words) (words_of s.words) s.views id m.0 me refl w refl refl (λ le. le)),
         (at, (λ hit. absurd (miss hit)), λ _. refl),
       ))
 
-  pub moves_pointer : (slots id : ℕ) (m : Seated) → 0 < m.0.initial → m.0.has_right ≡ true → k.max < 2 ^ 32
-      → Allows (Holds k) slots id m ROOT (λ n. (n + 1) % 2 ^ 64) (pointed (step slots ROOT 1 0 none) m)
-  moves_pointer slots id m live has small s o _ me _ = let r : ℕ = get_or s.words ROOT 0 in let rule = o.rule in let w : View = rooted m.0 (m.0.known + 1) false in
-      let t = term_le rights_of s.views id m.0 me in let p = rights-one m.0 has in let q = rule.right in let l = rule.least in let g = rule.greatest in let e = rule.exact id m.0 me has in (
-        w,
+  pub moves_pointer : (slots id : ℕ) (m : Seated) → 0 < m.0.view.initial → m.0.view.has_right ≡ true → (traced ≡ true → m.0.moved ≡ true) → k.config.max < 2 ^ 32
+      → Allows (Holds traced k) slots id m ROOT (λ n. (n + 1) % 2 ^ 64) (pointed (step slots ROOT 1 0 none) m)
+  moves_pointer slots id m live has moved small s o _ me _ = let r : ℕ = get_or s.words ROOT 0 in let rule = o.rule in let v : View = m.0.view in let w : View = rooted v (v.known + 1) false in
+      let vs : List View = map shown s.views in let there = at_map shown s.views id m.0 me in
+      let t = term_le rights_of vs id v there in let p = rights-one v has in let q = rule.right in let l = rule.least in let g = rule.greatest in let e = rule.exact id v there has in
+      let next : FileWords = record (words_of s.words) { root = r + 1 } in let d : SeatView = record (m.0) { view = w; moved = false } in (
+        d,
         keeps,
         tt,
-        after_step k s o ROOT id ((r + 1) % 2 ^ 64) m w (record (words_of s.words) { root = r + 1 }) me (root_stored s.words ((r + 1) % 2 ^ 64) (r + 1) o.wide (omega arith))
-            (rooted_anew k.initial k.max (words_of s.words) s.views rule id m.0 (r + 1) (m.0.known + 1) false me live (omega arith) (omega arith) (omega arith) (omega arith) (omega arith) (inr has)),
+        after_step traced k s o ROOT id ((r + 1) % 2 ^ 64) m d next me (root_stored s.words ((r + 1) % 2 ^ 64) (r + 1) o.wide (omega arith))
+            (rooted_anew k.config.initial k.config.max (words_of s.words) vs rule id v (r + 1) (v.known + 1) false there live (omega arith) (omega arith) (omega arith) (omega arith) (omega arith) (inr has))
+            (λ on. passes k (words_of s.words) next s.views id m.0 me refl w (omega arith) refl (moved on)),
         (omega arith, refl),
       )
 
-  pub drops_right : (slots id : ℕ) (m : Seated) → 0 < m.0.initial → m.0.has_right ≡ true → k.max < 2 ^ 32
-      → Allows (Holds k) slots id m ROOT (λ n. (n + (2 ^ 64 - 1)) % 2 ^ 64) (dropped (step slots ROOT 1 0 none) m)
-  drops_right slots id m live has small s o _ me _ = let r : ℕ = get_or s.words ROOT 0 in let rule = o.rule in let w : View = rooted m.0 m.0.known false in
-      let t = term_le rights_of s.views id m.0 me in let p = rights-one m.0 has in let q = rule.right in let l = rule.least in let g = rule.greatest in let e = rule.exact id m.0 me has in (
-        w,
+  pub drops_right : (slots id : ℕ) (m : Seated) → 0 < m.0.view.initial → m.0.view.has_right ≡ true → m.0.moved ≡ false → k.config.max < 2 ^ 32
+      → Allows (Holds traced k) slots id m ROOT (λ n. (n + (2 ^ 64 - 1)) % 2 ^ 64) (dropped (step slots ROOT 1 0 none) m)
+  drops_right slots id m live has unmoved small s o _ me _ = let r : ℕ = get_or s.words ROOT 0 in let rule = o.rule in let v : View = m.0.view in let w : View = rooted v v.known false in
+      let vs : List View = map shown s.views in let there = at_map shown s.views id m.0 me in
+      let t = term_le rights_of vs id v there in let p = rights-one v has in let q = rule.right in let l = rule.least in let g = rule.greatest in let e = rule.exact id v there has in
+      let next : FileWords = record (words_of s.words) { root = r - 1 } in (
+        with_view m.0 w,
         keeps,
         tt,
-        after_step k s o ROOT id ((r + (2 ^ 64 - 1)) % 2 ^ 64) m w (record (words_of s.words) { root = r - 1 }) me (root_stored s.words ((r + (2 ^ 64 - 1)) % 2 ^ 64) (r - 1) o.wide (omega arith))
-            (rooted_anew k.initial k.max (words_of s.words) s.views rule id m.0 (r - 1) m.0.known false me live (omega arith) (omega arith) (omega arith) (omega arith) (omega arith) (inr has)),
+        after_step traced k s o ROOT id ((r + (2 ^ 64 - 1)) % 2 ^ 64) m (with_view m.0 w) next me (root_stored s.words ((r + (2 ^ 64 - 1)) % 2 ^ 64) (r - 1) o.wide (omega arith))
+            (rooted_anew k.config.initial k.config.max (words_of s.words) vs rule id v (r - 1) v.known false there live (omega arith) (omega arith) (omega arith) (omega arith) (omega arith) (inr has))
+            (λ _. quiet k (words_of s.words) next s.views id m.0 me refl w (omega arith) refl (λ _. let z = ap bit unmoved in omega arith)),
         (omega arith, refl),
       )

@@ -15,6 +15,7 @@ pub record HasLooked (old new : HandState) : Type 0 where
   pub known : ℕ
   pub rises : old.view.known ≤ known
   pub view : new.view ≡ rooted old.view known old.view.has_right
+  pub entries : new.entries ≡ old.entries
   pub acts : new.acts ≡ old.acts
   pub table : new.table ≡ old.table
   pub recording : new.recording ≡ old.recording

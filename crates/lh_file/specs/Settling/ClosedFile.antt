@@ -1,15 +1,16 @@
 -- A file that is closed
-use Rattle.std.specs.Prelude.{ℕ, ◌≤◌, List, length}
+use Rattle.std.specs.Prelude.{ℕ, ◌≤◌, Bool, List, length}
 use Rattle.lh_addr.specs.RootWord.{buckets_of}
 use Rattle.lh_addr.specs.Settings.{Settings, IsInRange}
 use Rattle.lh_page.specs.declared.pair.Pair.{Pair}
 
--- its configuration, its root word, its stamp word, and the records of each bucket that it has, in the order of their places
+-- its configuration, its root word, its stamp word, the records of each bucket that it has, in the order of their places, and whether the seat of each bucket was there
 pub record ClosedFile : Type 0 where
   pub config : Settings
   pub root : ℕ
   pub stamps : ℕ
   pub lists : List (List Pair)
+  pub gathered : Bool
 
 -- the number of buckets that its root word tells
 abbrev pub size_of : ℕ → ℕ

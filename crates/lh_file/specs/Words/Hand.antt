@@ -1,6 +1,6 @@
 -- What a hand's fields are
 use Rattle.std.specs.Prelude.{◌≡◌, ◌+◌, ◌-◌, ◌<◌, ◌≤◌, true, false, [], vec_len, vec_capacity}
-use Rattle.lh_file.specs.Acts.{stamps_of}
+use Rattle.lh_file.specs.History.Log.{lines_of, stamps_in}
 use Rattle.lh_file.specs.Words.HandState.{HandState}
 use Rattle.lh_file.specs.Words.Rule.{rights_of}
 use Rattle.lh_file.specs.declared.words.hand.Hand.TheInside.{Inside}
@@ -9,20 +9,24 @@ use Rattle.lh_file.specs.declared.words.hand.Hand.TheInside.{Inside}
 abbrev pub state_of : Inside → HandState
 state_of hand = record {
   table = hand.seat.table_id;
-  view = hand.seat.me.0;
+  view = hand.seat.me.0.view;
   recording = hand.recording;
+  entries = hand.seat.me.0.entries;
   acts = hand.acts.items;
   room = vec_capacity hand.acts - vec_len hand.acts;
 }
 
--- the fields say what the hand's view says, and the acts are those of its stamps where the file records
+-- the fields say what the hand's view says, no bucket lies with the hand, it has moved no split, its stamps are those of its acts, and it keeps their lines where the file records
 pub record IsHand (hand : Inside) : Type 0 where
-  pub known : hand.known ≡ hand.seat.me.0.known
-  pub right : hand.has_right ≡ hand.seat.me.0.has_right
-  pub left : hand.left ≡ hand.seat.me.0.left
-  pub live : 0 < hand.seat.me.0.initial
-  pub least : hand.seat.me.0.initial ≤ hand.seat.me.0.known
-  pub greatest : hand.seat.me.0.known + rights_of hand.seat.me.0 ≤ hand.seat.me.0.max
+  pub known : hand.known ≡ hand.seat.me.0.view.known
+  pub right : hand.has_right ≡ hand.seat.me.0.view.has_right
+  pub left : hand.left ≡ hand.seat.me.0.view.left
+  pub live : 0 < hand.seat.me.0.view.initial
+  pub least : hand.seat.me.0.view.initial ≤ hand.seat.me.0.view.known
+  pub greatest : hand.seat.me.0.view.known + rights_of hand.seat.me.0.view ≤ hand.seat.me.0.view.max
   pub free : hand.seat.me.1 ≡ []
-  pub recorded : hand.recording ≡ true → stamps_of hand.acts.items ≡ hand.seat.me.0.stamps
+  pub bucketless : hand.seat.me.0.parts ≡ []
+  pub unmoved : hand.seat.me.0.moved ≡ false
+  pub entered : stamps_in hand.seat.me.0.entries ≡ hand.seat.me.0.view.stamps
+  pub recorded : hand.recording ≡ true → hand.acts.items ≡ lines_of hand.seat.me.0.entries
   pub silent : hand.recording ≡ false → hand.acts.items ≡ []

@@ -3,13 +3,15 @@ use Rattle.std.specs.Prelude.{◌≡◌, ℕ, Bool, List, [], ◌++◌}
 use Rattle.atomic_table.specs.Seated.{TableId}
 use Rattle.lh_file.specs.Words.Views.{rooted, branch, joined}
 use Rattle.lh_file.specs.declared.act.ActLine.{ActLine}
+use Rattle.lh_file.specs.declared.words.seat_view.Entry.{Entry}
 use Rattle.lh_file.specs.declared.words.view.View.{View}
 
--- the table that a hand belongs to, what the rule knows of it, whether its file records, the acts that it keeps, and for how many more it has room
+-- the table that a hand belongs to, what the rule knows of it, whether its file records, what the rule knows of its acts, those that it keeps, and for how many more it has room
 pub record HandState : Type 0 where
   pub table : TableId
   pub view : View
   pub recording : Bool
+  pub entries : List Entry
   pub acts : List ActLine
   pub room : ℕ
 
@@ -30,6 +32,7 @@ pub record IsSame (old new : HandState) : Type 0 where
   pub table : new.table ≡ old.table
   pub recording : new.recording ≡ old.recording
   pub view : new.view ≡ old.view
+  pub entries : new.entries ≡ old.entries
   pub acts : new.acts ≡ old.acts
 
 -- a hand that got so many calls of another: it knows the root that the other knows, has no right and no stamps, and has done nothing
@@ -37,6 +40,7 @@ pub record IsBranch (calls : ℕ) (old new : HandState) : Type 0 where
   pub table : new.table ≡ old.table
   pub recording : new.recording ≡ old.recording
   pub view : new.view ≡ branch calls old.view
+  pub entries : new.entries ≡ []
   pub acts : new.acts ≡ []
 
 -- two hands in one
@@ -44,4 +48,5 @@ pub record IsJoined (first second new : HandState) : Type 0 where
   pub table : new.table ≡ first.table
   pub recording : new.recording ≡ first.recording
   pub view : new.view ≡ joined first.view second.view
+  pub entries : new.entries ≡ first.entries ++ second.entries
   pub acts : new.acts ≡ first.acts ++ second.acts

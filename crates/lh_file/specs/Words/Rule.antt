@@ -2,18 +2,16 @@
 use Rattle.std.specs.Prelude.{◌≡◌, ℕ, ◌+◌, ◌^◌, ◌%◌, ◌≤◌, ◌⊎◌, true, List, length, slice_index, if◌then◌else◌}
 use mathlib.Core.Option.{some}
 use lib.ListN.{get_elem?}
-use Rattle.atomic_table.specs.Table.{State}
 use Rattle.lh_addr.specs.RootWord.{buckets_of}
 use Rattle.lh_file.specs.Words.Sums.{total, times, once_below}
 use Rattle.lh_file.specs.Words.Views.{spent}
 use Rattle.lh_file.specs.declared.words.numbers.FileWords.{FileWords}
-use Rattle.lh_file.specs.declared.words.places.TheConstants.{ROOT, STAMPS, INSERTS, DELETES, WIDTH}
-use Rattle.lh_file.specs.declared.words.sizes.Sizes.{Sizes}
+use Rattle.lh_file.specs.declared.words.places.TheConstants.{ROOT, STAMPS, INSERTS, DELETES}
 use Rattle.lh_file.specs.declared.words.view.View.{View}
 
--- a fact of every view
-abbrev pub Each : List View → (View → Type 0) → Type 0
-Each views P = (id : ℕ) (view : View) → get_elem? views id ≡ some view → P view
+-- a fact of every element of a list
+abbrev pub Each : {A : Type 0} → List A → (A → Type 0) → Type 0
+Each {A} list P = (place : ℕ) (element : A) → get_elem? list place ≡ some element → P element
 
 -- how many rights to split a view has: one or none
 abbrev pub rights_of : View → ℕ
@@ -46,6 +44,8 @@ pub record IsRule (initial max : ℕ) (words : FileWords) (views : List View) : 
   pub deletes : total (λ view. view.deleted) views ≡ words.deletes
   -- No hand has counted more than it has drawn stamps
   pub few : Each views (λ view. view.inserted + view.deleted ≤ length view.stamps)
+  -- No hand was told of more acts than there are
+  pub floors : Each views (λ view. view.floor ≤ words.stamps)
   -- Each hand has the file's limits, or was joined into another
   pub limits : Each views (λ view. (view ≡ spent) ⊎ HasLimits initial max view)
 
@@ -57,8 +57,3 @@ words_of words = record {
   inserts = slice_index words INSERTS;
   deletes = slice_index words DELETES;
 }
-
--- the rule holds of a file's table
-pub record Holds (sizes : Sizes) (table : State (Unit {0}) View) : Type 0 where
-  pub wide : length table.words ≡ WIDTH
-  pub rule : IsRule sizes.initial sizes.max (words_of table.words) table.views

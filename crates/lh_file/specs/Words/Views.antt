@@ -1,7 +1,12 @@
 -- What the rule knows of a hand: how such views begin, and how they are divided and joined
 use Rattle.std.specs.Prelude.{ℕ, ◌+◌, ◌-◌, ◌^◌, Bool, false, [], ◌∷◌, ◌++◌, max}
 use Rattle.lh_file.specs.declared.words.view.View.{View}
-use Rattle.lh_file.specs.declared.words.sizes.Sizes.{Sizes}
+
+-- the number of buckets that a file began with, that it was opened with, and that it may have
+pub record Sizes : Type 0 where
+  pub initial : ℕ
+  pub opened : ℕ
+  pub max : ℕ
 
 -- the view of a file's first hand: it knows the size that the file was opened with, and may draw 2^63 stamps
 abbrev pub first_view : Sizes → View
@@ -12,6 +17,7 @@ first_view sizes = record {
   left = 2 ^ 63;
   inserted = 0;
   deleted = 0;
+  floor = 0;
   initial = sizes.initial;
   max = sizes.max;
 }
@@ -25,6 +31,7 @@ spent = record {
   left = 0;
   inserted = 0;
   deleted = 0;
+  floor = 0;
   initial = 0;
   max = 0;
 }
@@ -37,11 +44,15 @@ rooted view known has_right = record view { known = known; has_right = has_right
 abbrev pub stamped_with : View → ℕ → View
 stamped_with view stamp = record view { stamps = view.stamps ++ stamp ∷ []; left = view.left - 1 }
 
+-- the hand was told that there were so many acts
+abbrev pub floored : View → ℕ → View
+floored view floor = record view { floor = floor }
+
 -- a hand that gave so many calls away
 abbrev pub lessened : ℕ → View → View
 lessened calls view = record view { left = view.left - calls }
 
--- the hand that got them: it knows what the other knows of the root, and has done nothing
+-- the hand that got them: it knows what the other knows of the root and was told of the history, and has done nothing
 abbrev pub branch : ℕ → View → View
 branch calls view = record {
   known = view.known;
@@ -50,11 +61,12 @@ branch calls view = record {
   left = calls;
   inserted = 0;
   deleted = 0;
+  floor = view.floor;
   initial = view.initial;
   max = view.max;
 }
 
--- two hands in one: it knows the greater size, has the first one's right, and did what both did
+-- two hands in one: it knows the greater size, was told the greater number of acts, has the first one's right, and did what both did
 abbrev pub joined : View → View → View
 joined first second = record {
   known = max first.known second.known;
@@ -63,6 +75,7 @@ joined first second = record {
   left = first.left + second.left;
   inserted = first.inserted + second.inserted;
   deleted = first.deleted + second.deleted;
+  floor = max first.floor second.floor;
   initial = first.initial;
   max = first.max;
 }

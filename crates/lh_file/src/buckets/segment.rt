@@ -3,6 +3,8 @@ ghost use Rattle.std.specs.Prelude.{◌≡◌, ◌+◌, ◌*◌, ◌^◌, ◌<�
 ghost use Rattle.lh_addr.specs.Limits.{IsInitial, most_buckets};
 ghost use Rattle.lh_file.specs.Buckets.Segments.{first_of, end_of, segment_at, unfilled, IsIn};
 
+use crate::buckets::room::{Loose, Room};
+use crate::buckets::slot::Slot;
 use lh_addr::Config;
 use lh_bucket::{Bucket, Memory, PagedBucket};
 use std::alloc::Global;
@@ -11,12 +13,12 @@ use std::sync::RwLock;
 
 /// Some of a file's buckets in the order of their numbers, each under a lock of its own.
 #[derive(Drop)]
-pub struct Segment {
+pub struct Segment<J: Room = Loose> {
     first: u32,
-    buckets: Vec<RwLock<PagedBucket>>,
+    buckets: Vec<RwLock<Slot<J>>>,
 }
 
-impl Model for Segment {
+impl<J: Room> Model for Segment<J> {
     ghost use Rattle.std.specs.Prelude.{length};
     ghost use Rattle.lh_file.specs.Buckets.Segments.{Row};
 
@@ -71,9 +73,9 @@ pub(crate) fn unfilled(alloc: Global, config: &Config, number: u32) -> Result<Pa
     Ok(bucket)
 }
 
-impl Segment {
+impl<J: Room> Segment<J> {
     /// Segment `j` of a file of this configuration: its buckets are numbered, unfilled and empty.
-    pub(crate) fn unfilled(alloc: Global, config: &Config, j: usize) -> Result<Segment, Memory>
+    pub(crate) fn unfilled(alloc: Global, config: &Config, j: usize) -> Result<Segment<J>, Memory>
         requires { j < 17 }
         ensures { IfOk result (λ made. made ≡ segment_at config.now j) }
     {
@@ -81,13 +83,13 @@ impl Segment {
         let end = end_of(config, j);
         let mut segment = Segment::with_room(alloc, first, end.saturating_sub(first) as usize)?;
         for number in first..end {
-            segment.push(unfilled(alloc, config, number)?)?;
+            segment.push(Slot::bare(unfilled(alloc, config, number)?))?;
         }
         Ok(segment)
     }
 
     /// A segment with no buckets yet, and room for some from number `first` on.
-    pub(crate) fn with_room(alloc: Global, first: u32, buckets: usize) -> Result<Segment, Memory>
+    pub(crate) fn with_room(alloc: Global, first: u32, buckets: usize) -> Result<Segment<J>, Memory>
         ensures { IfOk result (λ made. made ≡ record { first = first; count = 0 }) }
     {
         Ok(Segment {
@@ -97,16 +99,16 @@ impl Segment {
     }
 
     /// Puts the bucket of the next number behind the others.
-    pub(crate) fn push(&mut self, bucket: PagedBucket) -> Result<(), Memory>
-        requires { bucket.head.number ≡ self.old.first + self.old.count }
+    pub(crate) fn push(&mut self, slot: Slot<J>) -> Result<(), Memory>
+        requires { slot.head.number ≡ self.old.first + self.old.count }
         ensures { OnOk result (self.new ≡ record self.old { count = self.old.count + 1 }) }
     {
-        self.buckets.push(RwLock::new(bucket))?;
+        self.buckets.push(RwLock::new(slot))?;
         Ok(())
     }
 
     /// The lock of the bucket at a place, counted from 0, if there is one.
-    pub(crate) fn lock_at(&self, place: usize) -> Option<&RwLock<PagedBucket>>
+    pub(crate) fn lock_at(&self, place: usize) -> Option<&RwLock<Slot<J>>>
         ensures { place < self.now.count → IsSome result }
     {
         self.buckets.get(place)

@@ -5,10 +5,12 @@ ghost use Rattle.lh_file.specs.Buckets.Segments.{segment_at};
 ghost use Rattle.lh_addr.specs.Settings.{IsInRange};
 ghost use Rattle.lh_file.specs.Calls.Served.{IsNotSpent};
 
+use crate::buckets::room::Room;
 use crate::buckets::segment::{Segment, first_of, segment_of};
+use crate::buckets::slot::Slot;
 use crate::fault::FileFault;
 use lh_addr::Config;
-use lh_bucket::{Memory, PagedBucket};
+use lh_bucket::Memory;
 use once_cell::race::OnceBox;
 use std::alloc::Global;
 use std::array;
@@ -17,8 +19,8 @@ use std::sync::RwLock;
 /// A cell for each segment that a file may have. Two threads may each make a segment; one of the two
 /// is kept, and both see that one.
 #[derive(Drop)]
-pub(crate) struct Segments {
-    pub(crate) cells: [OnceBox<Segment>; 17],
+pub(crate) struct Segments<J: Room> {
+    pub(crate) cells: [OnceBox<Segment<J>>; 17],
     pub(crate) config: Config,
     pub(crate) alloc: Global,
 }
@@ -35,9 +37,9 @@ pub(crate) fn no_bucket(bucket: u32, level: u8) -> FileFault
     }
 }
 
-impl Segments {
+impl<J: Room> Segments<J> {
     /// No segments yet.
-    pub(crate) fn new(alloc: Global, config: Config) -> Segments
+    pub(crate) fn new(alloc: Global, config: Config) -> Segments<J>
         ensures { result.config ≡ config }
     {
         Segments {
@@ -48,7 +50,7 @@ impl Segments {
     }
 
     /// The lock of a bucket that is wanted at a level. Its segment is made where it isn't there yet.
-    pub(crate) fn lock_of(&self, bucket: u32, level: u8) -> Result<&RwLock<PagedBucket>, FileFault>
+    pub(crate) fn lock_of(&self, bucket: u32, level: u8) -> Result<&RwLock<Slot<J>>, FileFault>
         ensures { IfErr result IsNotSpent }
     {
         if bucket >= self.config.max() {
@@ -66,7 +68,7 @@ impl Segments {
     }
 
     /// The lock of a bucket, if its segment was made.
-    pub(crate) fn made(&self, bucket: u32) -> Option<&RwLock<PagedBucket>>
+    pub(crate) fn made(&self, bucket: u32) -> Option<&RwLock<Slot<J>>>
         requires { bucket < self.now.config.max }
     {
         let initial = self.config.initial();
@@ -77,7 +79,7 @@ impl Segments {
 
     /// Makes segment `j`, unless another thread is sooner.
     #[inline(never)]
-    fn make(&self, j: usize) -> Result<&Segment, Memory>
+    fn make(&self, j: usize) -> Result<&Segment<J>, Memory>
         requires { j < 17 }
     {
         let segment = Segment::unfilled(self.alloc, &self.config, j)?;
@@ -85,7 +87,7 @@ impl Segments {
     }
 
     /// Keeps a segment as segment `j`, unless there is one.
-    pub(crate) fn keep(&self, j: usize, segment: Box<Segment>) -> &Segment
+    pub(crate) fn keep(&self, j: usize, segment: Box<Segment<J>>) -> &Segment<J>
         requires below { j < 17 }
         requires whole { box_value segment ≡ segment_at self.now.config j }
     {

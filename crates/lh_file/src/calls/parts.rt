@@ -11,15 +11,20 @@ ghost use Rattle.lh_file.specs.FileState.{IsOf};
 ghost use Rattle.lh_file.specs.Words.HandState.{IsSame};
 ghost use Rattle.lh_file.specs.Words.Recording.{Acted};
 
+use crate::buckets::room::Room;
 use crate::buckets::segment::Segment;
 use crate::file::HashFile;
 use crate::gate::Gate;
 use crate::words::hand::Hand;
+use crate::words::mode::Mode;
 use lh_bucket::{Answer, Bucket, Call, Memory, PagedBucket};
 use once_cell::race::Note;
 
 /// Makes room for one act in the hand, where the file records. Nothing else changes.
-pub fn make_room<G: Gate>(file: &HashFile<G>, hand: &mut Hand) -> Result<(), Memory>
+pub fn make_room<G: Gate, M: Mode, J: Room>(
+    file: &HashFile<G, M, J>,
+    hand: &mut Hand,
+) -> Result<(), Memory>
     requires { IsOf file.now.state hand.old }
     ensures same { IsSame hand.old hand.new }
     ensures ok { OnOk result (file.now.state.recording ≡ true → 1 ≤ hand.new.room) }
@@ -30,8 +35,8 @@ pub fn make_room<G: Gate>(file: &HashFile<G>, hand: &mut Hand) -> Result<(), Mem
 /// The act of a search at its bucket, whose lock the caller has: the bucket answers, and the hand draws
 /// a stamp for it and keeps the act where the file records.
 #[tactic(auto, using(crate::proofs::OfCalls::Serving::acted_of))]
-pub fn look_on<G: Gate>(
-    file: &HashFile<G>,
+pub fn look_on<G: Gate, M: Mode, J: Room>(
+    file: &HashFile<G, M, J>,
     bucket: &PagedBucket,
     hand: &mut Hand,
     call: &Call,
@@ -55,8 +60,8 @@ pub fn look_on<G: Gate>(
 /// hand draws a stamp for it, counts the reply and keeps the act where the file records. Where an insert
 /// finds no memory in the bucket, nothing has changed.
 #[tactic(auto, using(crate::proofs::OfCalls::Serving::acted_of))]
-pub fn act_on<G: Gate>(
-    file: &HashFile<G>,
+pub fn act_on<G: Gate, M: Mode, J: Room>(
+    file: &HashFile<G, M, J>,
     bucket: &mut PagedBucket,
     hand: &mut Hand,
     call: &Call,
@@ -89,7 +94,10 @@ pub fn act_on<G: Gate>(
 }
 
 /// A note of segment `j`, which doesn't know it yet.
-pub fn segment_note<G: Gate>(file: &HashFile<G>, j: usize) -> Note<Segment>
+pub fn segment_note<G: Gate, M: Mode, J: Room>(
+    file: &HashFile<G, M, J>,
+    j: usize,
+) -> Note<Segment<J>>
     requires { j < 17 }
     ensures cell { result.cell ≡ slice_index file.now.cells j }
     ensures new { result.known ≡ None }
@@ -99,11 +107,11 @@ pub fn segment_note<G: Gate>(file: &HashFile<G>, j: usize) -> Note<Segment>
 
 /// A look at segment `j` by a note of it. The note knows the segment once it was seen, and a note that
 /// knows a segment never meets another one, nor none.
-pub fn segment<'a, G: Gate>(
-    file: &'a HashFile<G>,
-    note: &mut Note<Segment>,
+pub fn segment<'a, G: Gate, M: Mode, J: Room>(
+    file: &'a HashFile<G, M, J>,
+    note: &mut Note<Segment<J>>,
     j: usize,
-) -> Option<&'a Segment>
+) -> Option<&'a Segment<J>>
     requires below { j < 17 }
     requires cell { note.old.cell ≡ slice_index file.now.cells j }
     ensures cell { note.new.cell ≡ note.old.cell }

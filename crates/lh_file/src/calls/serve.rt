@@ -1,61 +1,50 @@
 //! Searches, inserts, deletes and replaces.
-ghost use Rattle.std.specs.Prelude.{◌≡◌, ◌≤◌};
+ghost use Rattle.std.specs.Prelude.{◌≡◌, ◌≤◌, true, false, IfOk, IfErr, OnErr};
 ghost use Rattle.std.specs.Sync.RwLock.{read_guard_value};
 ghost use Rattle.lh_bucket.specs.declared.call.Call.TheVariants as call;
 ghost use Rattle.lh_bucket.specs.declared.verdict.Verdict.TheVariants.{Here};
 ghost use Rattle.lh_bucket.specs.Bucket.{verdict};
-ghost use Rattle.lh_bucket.specs.PlainMap.{IsSearch};
+ghost use Rattle.lh_addr.specs.Fnv.{code_of};
+ghost use Rattle.lh_bucket.specs.PlainMap.{key_of, IsSearch};
 ghost use Rattle.lh_file.specs.Calls.Aiming.{IsAimOf, IsReady};
 ghost use Rattle.lh_file.specs.FileState.{IsOf};
-ghost use Rattle.lh_file.specs.Calls.Served.{HasLooked, HasServed, Serves};
+ghost use Rattle.lh_file.specs.Calls.Served.{HasLooked, HasServed, IsNotSpent, Serves};
+ghost use Rattle.lh_file.specs.History.Told.{HasEntered};
 
-use crate::calls::aim::Aim;
+use crate::buckets::room::Room;
+use crate::buckets::slot::Slot;
+use crate::calls::aim::{Aim, defect};
 use crate::calls::parts;
 use crate::fault::FileFault;
 use crate::file::HashFile;
 use crate::gate::{Gate, Point};
 use crate::words::hand::Hand;
+use crate::words::mode::Mode;
 use crate::words::right::Right;
-use lh_bucket::{Answer, Call, PagedBucket, Reply};
+use crate::words::tokens::perched;
+use lh_bucket::laws::here_is_own_level;
+use lh_bucket::{Answer, Bucket, Call, Reply};
 use lh_page::{Key, Value};
 use std::sync::{RwLockReadGuard, RwLockWriteGuard, Wait};
 
-impl<G: Gate> HashFile<G> {
+impl<G: Gate, M: Mode, J: Room> HashFile<G, M, J> {
     /// Searches for a key: the answer's reply is the value, or that the key is absent.
     pub fn search<R: Wait>(&self, rt: &R, hand: &mut Hand, key: Key) -> Result<Answer, FileFault>
         requires { IsOf self.now.state hand.old }
-        ensures { Serves self.now.state hand.old (call.Search key) result hand.new }
+        ensures served { Serves self.now.state hand.old (call.Search key) result hand.new }
+        ensures entered { M.traced ≡ true → IfOk result (λ a. HasEntered false hand.old a.call a.reply hand.new) }
     {
         let call = Call::Search(key);
         let aim = self.begin(hand, &call)?;
-        let (guard, aim) = self.walk::<RwLockReadGuard<PagedBucket>, R>(rt, aim)?;
-        Ok(self.look(guard, hand, &call, aim))
-    }
-
-    /// Inserts a record, unless the key is there. Where the record is new, the load of the file asks for a
-    /// split and the hand hasn't the right to one, the call asks once for it, and splits a bucket if it
-    /// gets it; whether that succeeds makes no difference to the answer.
-    pub fn insert<R: Wait>(
-        &self,
-        rt: &R,
-        hand: &mut Hand,
-        key: Key,
-        value: Value,
-    ) -> Result<Answer, FileFault>
-        requires { IsOf self.now.state hand.old }
-        ensures { Serves self.now.state hand.old (call.Insert key value) result hand.new }
-    {
-        let answer = self.change(rt, hand, &Call::Insert(key, value))?;
-        if answer.reply() == Reply::Inserted {
-            self.grow(rt, hand);
-        }
-        Ok(answer)
+        let (guard, aim) = self.walk::<RwLockReadGuard<Slot<J>>, R>(rt, aim)?;
+        self.look(rt, guard, hand, &call, aim)
     }
 
     /// Deletes a record: the answer's reply is whether the key was there.
     pub fn delete<R: Wait>(&self, rt: &R, hand: &mut Hand, key: Key) -> Result<Answer, FileFault>
         requires { IsOf self.now.state hand.old }
-        ensures { Serves self.now.state hand.old (call.Delete key) result hand.new }
+        ensures served { Serves self.now.state hand.old (call.Delete key) result hand.new }
+        ensures entered { M.traced ≡ true → IfOk result (λ a. HasEntered false hand.old a.call a.reply hand.new) }
     {
         self.change(rt, hand, &Call::Delete(key))
     }
@@ -71,7 +60,8 @@ impl<G: Gate> HashFile<G> {
         value: Value,
     ) -> Result<Answer, FileFault>
         requires { IsOf self.now.state hand.old }
-        ensures { Serves self.now.state hand.old (call.Replace key value) result hand.new }
+        ensures served { Serves self.now.state hand.old (call.Replace key value) result hand.new }
+        ensures entered { M.traced ≡ true → IfOk result (λ a. HasEntered false hand.old a.call a.reply hand.new) }
     {
         self.change(rt, hand, &Call::Replace(key, value))
     }
@@ -81,11 +71,12 @@ impl<G: Gate> HashFile<G> {
     #[inline(always)]
     fn change<R: Wait>(&self, rt: &R, hand: &mut Hand, call: &Call) -> Result<Answer, FileFault>
         requires { IsOf self.now.state hand.old }
-        ensures { Serves self.now.state hand.old call.now result hand.new }
+        ensures served { Serves self.now.state hand.old call.now result hand.new }
+        ensures entered { M.traced ≡ true → IfOk result (λ a. HasEntered false hand.old a.call a.reply hand.new) }
     {
         let aim = self.begin(hand, call)?;
-        let (mut guard, aim) = self.walk::<RwLockWriteGuard<PagedBucket>, R>(rt, aim)?;
-        match parts::act_on(self, &mut guard, hand, call, aim.level) {
+        let (mut guard, aim) = self.walk::<RwLockWriteGuard<Slot<J>>, R>(rt, aim)?;
+        match self.act(rt, &mut guard, hand, call, aim.level) {
             Ok(answer) => {
                 self.gate.at(Point::Acted { bucket: aim.bucket });
                 self.release(guard, aim);
@@ -93,29 +84,118 @@ impl<G: Gate> HashFile<G> {
             }
             Err(fault) => {
                 self.release(guard, aim);
-                Err(FileFault::from(fault))
+                Err(fault)
             }
         }
     }
 
-    /// Answers a search at its bucket, and drops the bucket's lock.
-    fn look(
+    /// Serves a call at its bucket, whose lock the caller has. In a traced file the act enters the history with the
+    /// bucket's seat; a bucket without one is a defect of the file.
+    #[inline(always)]
+    fn act<R: Wait>(
         &self,
-        guard: RwLockReadGuard<'_, PagedBucket>,
+        rt: &R,
+        slot: &mut Slot<J>,
+        hand: &mut Hand,
+        call: &Call,
+        k: u8,
+    ) -> Result<Answer, FileFault>
+        requires ready { IsReady self.now.state hand.old }
+        requires low { k ≤ 16 }
+        requires here { verdict slot.old.head (code_of (key_of call.now)) k ≡ Here }
+        ensures call { IfOk result (λ a. a.call ≡ call.now) }
+        ensures served { IfOk result (λ a. HasServed hand.old a.call a.reply hand.new) }
+        ensures entered { M.traced ≡ true → IfOk result (λ a. HasEntered false hand.old a.call a.reply hand.new) }
+        ensures of { IsOf self.now.state hand.new }
+        ensures err { OnErr result (hand.new ≡ hand.old) }
+        ensures fault { IfErr result IsNotSpent }
+    {
+        // Its law: a bucket at which a call is owns the call's key.
+        here_is_own_level();
+        let words = &self.words;
+        let Slot {
+            bucket,
+            perch,
+            room: _,
+        } = slot;
+        if !M::keeps_history() {
+            return Ok(parts::act_on(self, bucket, hand, call, k)?);
+        }
+        let Some(seat) = perch else {
+            return Err(defect(bucket.number(), k, bucket));
+        };
+        // Act
+        let answer = bucket.serve(call, k)?;
+        let token = words.enter_act(rt, seat, hand, call, answer.reply(), bucket);
+        *seat = perched(token);
+        Ok(answer)
+    }
+
+    /// Answers a search at its bucket, whose lock the caller has, in the same way.
+    #[inline(always)]
+    fn look_at<R: Wait>(
+        &self,
+        rt: &R,
+        slot: &Slot<J>,
+        hand: &mut Hand,
+        call: &Call,
+        k: u8,
+    ) -> Result<Answer, FileFault>
+        requires ready { IsReady self.now.state hand.old }
+        requires search { IsSearch call.now }
+        requires low { k ≤ 16 }
+        requires here { verdict slot.now.head (code_of (key_of call.now)) k ≡ Here }
+        ensures call { IfOk result (λ a. a.call ≡ call.now) }
+        ensures served { IfOk result (λ a. HasServed hand.old a.call a.reply hand.new) }
+        ensures entered { M.traced ≡ true → IfOk result (λ a. HasEntered false hand.old a.call a.reply hand.new) }
+        ensures of { IsOf self.now.state hand.new }
+        ensures err { OnErr result (hand.new ≡ hand.old) }
+        ensures fault { IfErr result IsNotSpent }
+    {
+        here_is_own_level();
+        let words = &self.words;
+        let Slot {
+            bucket,
+            perch,
+            room: _,
+        } = slot;
+        if !M::keeps_history() {
+            return Ok(parts::look_on(self, bucket, hand, call, k));
+        }
+        let Some(seat) = perch else {
+            return Err(defect(bucket.number(), k, bucket));
+        };
+        // Act
+        let answer = bucket.look(call, k);
+        let token = words.enter_act(rt, seat, hand, call, answer.reply(), bucket);
+        let _ = seat.give(token, 0, 2);
+        Ok(answer)
+    }
+
+    /// Answers a search at its bucket, and drops the bucket's lock.
+    fn look<R: Wait>(
+        &self,
+        rt: &R,
+        guard: RwLockReadGuard<'_, Slot<J>>,
         hand: &mut Hand,
         call: &Call,
         aim: Aim,
-    ) -> Answer
+    ) -> Result<Answer, FileFault>
         requires ready { IsReady self.now.state hand.old }
         requires aim { IsAimOf call.now aim }
         requires search { IsSearch call.now }
         requires here { verdict (read_guard_value guard).head aim.code aim.level ≡ Here }
-        ensures call { result.call ≡ call.now }
-        ensures served { HasServed hand.old result.call result.reply hand.new }
+        ensures call { IfOk result (λ a. a.call ≡ call.now) }
+        ensures served { IfOk result (λ a. HasServed hand.old a.call a.reply hand.new) }
+        ensures entered { M.traced ≡ true → IfOk result (λ a. HasEntered false hand.old a.call a.reply hand.new) }
         ensures of { IsOf self.now.state hand.new }
+        ensures err { OnErr result (hand.new ≡ hand.old) }
+        ensures fault { IfErr result IsNotSpent }
     {
-        let answer = parts::look_on(self, &guard, hand, call, aim.level);
-        self.gate.at(Point::Acted { bucket: aim.bucket });
+        let answer = self.look_at(rt, &guard, hand, call, aim.level);
+        if answer.is_ok() {
+            self.gate.at(Point::Acted { bucket: aim.bucket });
+        }
         self.release(guard, aim);
         answer
     }
@@ -125,6 +205,29 @@ impl<G: Gate> HashFile<G> {
         // Release
         drop(guard);
         self.gate.at(Point::Released { bucket: aim.bucket });
+    }
+}
+
+impl<G: Gate, M: Mode, J: Room> HashFile<G, M, J> {
+    /// Inserts a record, unless the key is there. Where the record is new, the load of the file asks for a
+    /// split and the hand hasn't the right to one, the call asks once for it, and splits a bucket if it
+    /// gets it; whether that succeeds makes no difference to the answer.
+    pub fn insert<R: Wait>(
+        &self,
+        rt: &R,
+        hand: &mut Hand,
+        key: Key,
+        value: Value,
+    ) -> Result<Answer, FileFault>
+        requires { IsOf self.now.state hand.old }
+        ensures served { Serves self.now.state hand.old (call.Insert key value) result hand.new }
+        ensures entered { M.traced ≡ true → IfOk result (λ a. HasEntered false hand.old a.call a.reply hand.new) }
+    {
+        let answer = self.change(rt, hand, &Call::Insert(key, value))?;
+        if answer.reply() == Reply::Inserted {
+            self.grow(rt, hand);
+        }
+        Ok(answer)
     }
 
     /// One split, where the load of the file asks for it and the right to split is free.

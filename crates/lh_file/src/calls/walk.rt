@@ -7,7 +7,9 @@ ghost use Rattle.lh_file.specs.FileState.{IsOf};
 ghost use Rattle.lh_file.specs.Calls.Served.{HasLooked, IsNotSpent};
 ghost use Rattle.lh_file.specs.declared.fault.FileFault.TheVariants.{Spent};
 
+use crate::buckets::room::Room;
 use crate::buckets::segments::no_bucket;
+use crate::buckets::slot::Slot;
 use crate::calls::aim::Aim;
 use crate::calls::hold::Hold;
 use crate::calls::parts;
@@ -15,11 +17,12 @@ use crate::fault::FileFault;
 use crate::file::HashFile;
 use crate::gate::{Gate, Point};
 use crate::words::hand::Hand;
+use crate::words::mode::Mode;
 use lh_addr::fnv1a;
 use lh_bucket::{Bucket, Call, PagedBucket, Verdict};
 use std::sync::Wait;
 
-impl<G: Gate> HashFile<G> {
+impl<G: Gate, M: Mode, J: Room> HashFile<G, M, J> {
     /// Begins a call: the hand may make it, and has room for its act where the file records. The call's
     /// aim is by the root as it is now.
     // Inlined, since a search waits for its aim: it is then handed on in registers.
@@ -60,7 +63,7 @@ impl<G: Gate> HashFile<G> {
     /// as long as they were split since.
     // Inlined, so that the lock is handed on in a register.
     #[inline(always)]
-    pub(crate) fn walk<'a, L: Hold<'a>, R: Wait>(
+    pub(crate) fn walk<'a, L: Hold<'a, Kept = Slot<J>>, R: Wait>(
         &'a self,
         rt: &R,
         aim: Aim,

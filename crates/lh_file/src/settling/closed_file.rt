@@ -1,5 +1,5 @@
 //! Files that are closed.
-ghost use Rattle.std.specs.Prelude.{◌≡◌, ℕ, ◌+◌, ◌-◌, ◌*◌, ◌/◌, ◌%◌, ◌^◌, ◌<◌, ◌≤◌, ◌↔◌, length, map, min, take, IsTrue, IfOk, IfErr};
+ghost use Rattle.std.specs.Prelude.{◌≡◌, ℕ, ◌+◌, ◌-◌, ◌*◌, ◌/◌, ◌%◌, ◌^◌, ◌<◌, ◌≤◌, ◌↔◌, false, length, map, min, take, IsTrue, IfOk, IfErr};
 ghost use Rattle.lh_addr.specs.Limits.{most_buckets};
 
 use lh_addr::Config;
@@ -18,6 +18,7 @@ pub struct Closed {
     stamps: u64,
     // Buckets that were made and never filled stand behind the others, with empty lists.
     lists: Vec<Vec<Pair>>,
+    gathered: bool,
 }
 
 impl Model for Closed {
@@ -26,9 +27,21 @@ impl Model for Closed {
 
     ghost Value = { ClosedFile };
 
-    ghost view = { λ c. record { config = c.config; root = c.root; stamps = c.stamps; lists = map (λ v. v.items) c.lists.items } };
+    ghost view = { λ c. record {
+      config = c.config;
+      root = c.root;
+      stamps = c.stamps;
+      lists = map (λ v. v.items) c.lists.items;
+      gathered = c.gathered;
+    } };
 
-    ghost invariant = { λ c. IsClosed (record { config = c.config; root = c.root; stamps = c.stamps; lists = map (λ v. v.items) c.lists.items }) };
+    ghost invariant = { λ c. IsClosed (record {
+      config = c.config;
+      root = c.root;
+      stamps = c.stamps;
+      lists = map (λ v. v.items) c.lists.items;
+      gathered = c.gathered;
+    }) };
 }
 
 /// Copies lists of records.
@@ -60,6 +73,29 @@ impl Closed {
           root = root;
           stamps = stamps;
           lists = map (λ v. v.items) lists.items;
+          gathered = false;
+        } }
+    {
+        Closed::ended(config, root, stamps, lists, false)
+    }
+
+    /// The same, of a file whose buckets' seats were all there or not.
+    pub(crate) fn ended(
+        config: Config,
+        root: u64,
+        stamps: u64,
+        lists: Vec<Vec<Pair>>,
+        gathered: bool,
+    ) -> Closed
+        requires from_initial { config.initial ≤ size_of root }
+        requires to_max { size_of root ≤ config.max }
+        requires few { length lists.items ≤ config.max }
+        ensures { result ≡ record {
+          config = config;
+          root = root;
+          stamps = stamps;
+          lists = map (λ v. v.items) lists.items;
+          gathered = gathered;
         } }
     {
         let _initial = config.initial();
@@ -68,6 +104,7 @@ impl Closed {
             root,
             stamps,
             lists,
+            gathered,
         }
     }
 
@@ -99,6 +136,15 @@ impl Closed {
         ensures { result ≡ self.now.stamps }
     {
         self.stamps
+    }
+
+    /// Whether the file was traced, each of its buckets was met with its seat, and no bucket past them had a record. A
+    /// file that was traced never answers no, as far as is known; nothing proves it, and one comparison a bucket tells it.
+    /// Where it is so, what the hands have done needs no settling: see [`HashFile::close`](crate::HashFile::close).
+    pub fn gathered(&self) -> bool
+        ensures { result ≡ self.now.gathered }
+    {
+        self.gathered
     }
 
     /// The number of records in its buckets, where it is below 2^64; a memory that held more would
@@ -145,6 +191,7 @@ impl Closed {
             root: _,
             stamps: _,
             mut lists,
+            gathered: _,
         } = self;
         lists.truncate(buckets as usize);
         Listing::new(alloc, config, buckets, lists)

@@ -2,7 +2,7 @@
 ghost use Rattle.std.specs.Prelude.{◌≡◌, ◌+◌, ◌≤◌};
 
 use crate::act::ActLine;
-use crate::words::view::View;
+use crate::words::seat_view::SeatView;
 use atomic_table::Seat;
 use std::fmt;
 use std::marker::Model;
@@ -17,7 +17,7 @@ use std::marker::Model;
 /// that its caller keeps. The calls of the file never keep the right: an insert gives it back whether or not it split.
 #[derive(Drop)]
 pub struct Hand {
-    pub(crate) seat: Seat<(), View>,
+    pub(crate) seat: Seat<(), SeatView>,
     pub(crate) known: u32,
     pub(crate) has_right: bool,
     pub(crate) left: u64,

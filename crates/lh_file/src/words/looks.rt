@@ -1,5 +1,5 @@
 //! The stamps of searches.
-ghost use Rattle.std.specs.Prelude.{◌≡◌, ◌≤◌, true};
+ghost use Rattle.std.specs.Prelude.{◌≡◌, ◌+◌, ◌<◌, ◌≤◌, true, length, All};
 ghost use Rattle.lh_addr.specs.Fnv.{code_of};
 ghost use Rattle.lh_bucket.specs.declared.verdict.Verdict.TheVariants.{Here};
 ghost use Rattle.lh_bucket.specs.Bucket.{verdict, answer};
@@ -8,13 +8,39 @@ ghost use Rattle.lh_bucket.specs.PlainMap.{key_of, IsSearch};
 use crate::act::ActLine;
 use crate::words::Words;
 use crate::words::hand::Hand;
+use crate::words::mode::Mode;
 use crate::words::places::STAMPS;
-use crate::words::plays::DrawStamp;
+use crate::words::plays::{Deed, LendStamp};
+use crate::words::seat_view::SeatView;
+use atomic_table::Seat;
 use lh_bucket::{Answer, Bucket, Call, PagedBucket};
+use std::marker::Brand;
 
-impl Words {
+impl<M: Mode> Words<M> {
     ghost use Rattle.lh_file.specs.FileState.{IsOf};
     ghost use Rattle.lh_file.specs.Words.Recording.{Acted};
+    ghost use Rattle.lh_file.specs.Words.Seats.{acted};
+
+    /// One stamp, for a search at a bucket that isn't the file's and hasn't answered yet. A call picks what is done by
+    /// the last two arguments.
+    // Inlined: it is one step.
+    #[inline(always)]
+    fn lend_look<D: Deed>(
+        &self,
+        seat: &mut Seat<(), SeatView>,
+        _call: &Call,
+        _bucket: &PagedBucket,
+    ) -> u64
+        requires at { seat.old.table_id ≡ self.now.table }
+        requires live { 0 < seat.old.me.0.view.initial }
+        requires left { 0 < seat.old.me.0.view.left }
+        ensures at { seat.new.table_id ≡ seat.old.table_id }
+        ensures newest { All (λ x. x < result) seat.old.me.0.view.stamps }
+        ensures few { seat.old.me.0.view.inserted + seat.old.me.0.view.deleted ≤ length seat.old.me.0.view.stamps }
+        ensures acted { seat.new.me ≡ (acted true D.call D.reply seat.old.me.0.parts result seat.old.me.0, seat.old.me.1) }
+    {
+        self.table.shared.fetch_add::<LendStamp<D>>(seat, STAMPS, 1)
+    }
 
     /// Answers a search at its bucket, which its caller holds, draws its stamp, and keeps the act where the file records.
     // The stamp comes before the look: the wait for its word goes on beside the wait for the record. None is lost by that,
@@ -29,8 +55,7 @@ impl Words {
         ensures answer { result ≡ answer bucket.now call.now k }
         ensures acted { Acted hand.old call.now result.reply hand.new }
     {
-        let shared = &self.table.shared;
-        let stamp = shared.fetch_add::<DrawStamp>(&mut hand.seat, STAMPS, 1);
+        let stamp = self.lend_look::<Brand>(&mut hand.seat, call, bucket);
         let answer = bucket.look(call, k);
         hand.left -= 1;
         if self.recording {

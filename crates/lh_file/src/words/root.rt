@@ -3,12 +3,15 @@ ghost use Rattle.std.specs.Prelude.{◌≡◌, ◌*◌, ◌+◌, ◌^◌, ◌<�
 
 use crate::words::Words;
 use crate::words::hand::Hand;
+use crate::words::mode::Mode;
 use crate::words::places::ROOT;
 use crate::words::plays::{ClaimRight, DropRight, LoadRoot, MovePointer};
 use crate::words::right::Right;
+use crate::words::seat_view::SeatView;
+use atomic_table::Seat;
 use lh_addr::RootWord;
 
-impl Words {
+impl<M: Mode> Words<M> {
     ghost use Rattle.lh_addr.specs.RootWord.{buckets_of};
     ghost use Rattle.lh_file.specs.Words.HandState.{knowing, with_right};
     ghost use Rattle.lh_file.specs.FileState.{IsOf, IsRootWord};
@@ -76,6 +79,27 @@ impl Words {
             .fetch_sub::<DropRight>(&mut hand.seat, ROOT, 1);
         hand.has_right = false;
     }
+}
+
+impl<M: Mode> Words<M> {
+    ghost use Rattle.lh_file.specs.Words.Seats.{pointed_seat};
+
+    /// Moves the split pointer past the bucket that was divided. In a traced file its records were moved before.
+    pub(crate) fn move_pointer(&self, seat: &mut Seat<(), SeatView>)
+        requires at { seat.old.table_id ≡ self.now.table }
+        requires live { 0 < seat.old.me.0.view.initial }
+        requires right { seat.old.me.0.view.has_right ≡ true }
+        requires moved { M.traced ≡ true → seat.old.me.0.moved ≡ true }
+        ensures at { seat.new.table_id ≡ seat.old.table_id }
+        ensures pointed { seat.new.me ≡ (pointed_seat seat.old.me.0, seat.old.me.1) }
+    {
+        self.table.shared.fetch_add::<MovePointer>(seat, ROOT, 1);
+    }
+}
+
+impl Words {
+    ghost use Rattle.lh_file.specs.Words.HandState.{knowing, with_right};
+    ghost use Rattle.lh_file.specs.FileState.{IsOf};
 
     /// Moves the split pointer past the bucket that was divided, so that the file has one bucket more,
     /// and gives the right to split up.

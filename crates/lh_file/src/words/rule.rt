@@ -1,16 +1,21 @@
 //! The rule of the words.
-ghost use Rattle.lh_file.specs.Words.Rule.{Holds};
-ghost use Rattle.lh_file.specs.Words.Views.{first_view};
+ghost use Rattle.lh_file.specs.Words.Seats.{first_seat};
+ghost use Rattle.lh_file.specs.Words.Table.{Holds};
 
-use crate::words::sizes::Sizes;
-use crate::words::view::View;
+use crate::words::mode::Mode;
+use crate::words::seat_view::SeatView;
 use atomic_table::TableRule;
+use lh_bucket::Listing;
+use std::marker::PhantomData;
 
-/// The rule that holds of a running file's words and of all its hands, between any two steps.
-pub struct RunningRule;
+/// The rule that holds of a running file's words and of all its seats, between any two steps. The listing is what the
+/// file was opened from.
+pub struct RunningRule<M> {
+    of: PhantomData<M>,
+}
 
-impl TableRule<(), View, Sizes> for RunningRule {
-    ghost holds = { Holds };
+impl<M: Mode> TableRule<(), SeatView, Listing> for RunningRule<M> {
+    ghost holds = { Holds M.traced };
 
-    ghost first = { first_view };
+    ghost first = { first_seat M.traced };
 }

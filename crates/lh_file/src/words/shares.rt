@@ -4,27 +4,28 @@ ghost use Rattle.std.specs.Prelude.{◌≡◌, ◌<◌, ◌≤◌, [], false, le
 use crate::fault::{FileFault, JoinFault};
 use crate::words::Words;
 use crate::words::hand::Hand;
+use crate::words::mode::Mode;
 use crate::words::places::INSERTS;
 use crate::words::plays::{Amount, Divide, LoadInserts, Unite};
-use crate::words::view::View;
+use crate::words::seat_view::SeatView;
 use atomic_table::Seat;
 use std::marker::Brand;
 
-impl Words {
-    ghost use Rattle.lh_file.specs.Words.Views.{lessened, branch};
+impl<M: Mode> Words<M> {
+    ghost use Rattle.lh_file.specs.Words.Seats.{lessened_seat, branch_seat};
     ghost use Rattle.lh_file.specs.FileState.{IsOf};
     ghost use Rattle.lh_file.specs.Words.Calls.{IsDivided, IsUnited};
 
     /// Divides a seat: `A.calls` of what it may draw go to a new one. A call picks that number by the last
     /// argument.
-    fn divide<A: Amount>(&self, seat: &mut Seat<(), View>, _calls: u64) -> Seat<(), View>
+    fn divide<A: Amount>(&self, seat: &mut Seat<(), SeatView>, _calls: u64) -> Seat<(), SeatView>
         requires at { seat.old.table_id ≡ self.now.table }
-        requires live { 0 < seat.old.me.0.initial }
-        requires enough { A.calls ≤ seat.old.me.0.left }
+        requires live { 0 < seat.old.me.0.view.initial }
+        requires enough { A.calls ≤ seat.old.me.0.view.left }
         ensures first_table { seat.new.table_id ≡ seat.old.table_id }
-        ensures first { seat.new.me ≡ (lessened A.calls seat.old.me.0, seat.old.me.1) }
+        ensures first { seat.new.me ≡ (lessened_seat A.calls seat.old.me.0, seat.old.me.1) }
         ensures second_table { result.table_id ≡ seat.old.table_id }
-        ensures second { result.me ≡ (branch A.calls seat.old.me.0, []) }
+        ensures second { result.me ≡ (branch_seat A.calls seat.old.me.0, []) }
     {
         self.table.shared.split_seat::<Divide<A>>(seat)
     }

@@ -61,9 +61,13 @@ pub(crate) fn beside<G: Gate + Sync, R: Threads + Wait + Sync>(
                 × IsOf file.entry.now.state both.second) }
         {
             let child = scope
-                .spawn_with(OfFile(file), move || {
-                    work(rt, file, progress, first, first_tasks)
-                })
+                .spawn_with(
+                    OfFile(file),
+                    move || -> Worked
+                        requires { IsOf file.now.state first }
+                        ensures { IsOf file.entry.now.state result.hand }
+                    { work(rt, file, progress, first, first_tasks) },
+                )
                 .ok()?;
             let Worked {
                 hand: second,

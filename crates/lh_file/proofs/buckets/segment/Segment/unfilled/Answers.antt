@@ -3,4 +3,4 @@ use Rattle.lh_file.proofs.OfBuckets.Rows.{segment_made}
 use Rattle.lh_file.proofs.buckets.segment.Segment.unfilled.Goals as goal
 
 pub returns : goal.returns
-returns c = segment_made c.args.config.now c.args.j c.initial.result c.first_of-first.result c.end_of-end.result c.loop-number.number c.loop-number.segment c.initial.ensures.value c.first_of-first.ensures c.end_of-end.ensures c.loop-number.invariant (omega (arith, c.loop-number-test.false))
+returns g c = segment_made c.args.config.now c.args.j c.initial.result c.first_of-first.result c.end_of-end.result c.loop-number.number c.loop-number.segment c.initial.ensures.value c.first_of-first.ensures c.end_of-end.ensures c.loop-number.invariant (omega (arith, c.loop-number-test.false))

@@ -1,0 +1,6 @@
+-- The history of a traced file: a log of its acts, and what its buckets hold of what the log leaves
+pub mod Buckets
+pub mod History
+pub mod Log
+pub mod RealTime
+pub mod Told

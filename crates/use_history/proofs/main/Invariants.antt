@@ -1,0 +1,5 @@
+use Rattle.std.proofs.Common.{true}
+use Rattle.use_history.proofs.main.Given as goal
+
+abbrev pub ghosts-take_bookings : goal.ghosts-take_bookings
+ghosts-take_bookings g a = record { named = true; table = a.opening.table }
