@@ -1,0 +1,4 @@
+mod alone;
+mod crowd;
+mod ended;
+mod memory;
