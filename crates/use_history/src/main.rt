@@ -1,16 +1,16 @@
-//! A traced file: two threads book seats, and whatever was done so far is one legal history at any moment.
+//! A traced file: two threads book seats, and whatever was done so far is one legal history at any moment. When the file is
+//! closed, that history is settled by proof.
 #![tactic(auto)]
 
-ghost use Rattle.std.specs.Prelude.{[], true, IfOk, IfSome};
+ghost use Rattle.std.specs.Prelude.{true, IfOk, IfSome};
 ghost use Rattle.lh_file.specs.Buckets.Rooms.{IsRoomOf};
-ghost use Rattle.lh_file.specs.FileState.{IsOf};
-ghost use Rattle.lh_file.specs.History.Told.{IsTold};
-ghost use Rattle.use_history.specs.Booked.{IsBooked};
+ghost use Rattle.lh_file.specs.Settling.Settled.{Settled};
+ghost use Rattle.use_history.specs.Booked.{IsOwn, IsBooked};
 
 use anyhow::Context;
 use lh_addr::Config;
-use lh_bucket::Listing;
-use lh_file::{Hand, HashFile, NoGate, Opening, Room, Traced};
+use lh_bucket::{Call, Listing};
+use lh_file::{Acts, Closed, Hand, HashFile, NoGate, Opening, Room, Traced};
 use lh_page::{Key, Value};
 use std::marker::Brand;
 use std::sync::Wait;
@@ -34,17 +34,30 @@ impl<'a, J: Room> Promise<Booked> for OfFile<'a, J> {
     ghost kept_by = { λ file booked. IsBooked file.0.now.state booked };
 }
 
+/// Makes a call. Whether a seat was free doesn't matter here.
+fn make<J: Room, R: Wait>(rt: &R, file: &File<J>, hand: &mut Hand, call: Call)
+    requires { IsOwn file.now.state hand.old }
+    ensures { IsOwn file.now.state hand.new }
+{
+    let _ = match call {
+        Call::Search(key) => file.search(rt, hand, key),
+        Call::Insert(key, value) => file.insert(rt, hand, key, value),
+        Call::Delete(key) => file.delete(rt, hand, key),
+        Call::Replace(key, value) => file.replace(rt, hand, key, value),
+    };
+}
+
 /// What one thread does with its hand: it books each seat that is free, looks who has it, and gives up those before `m`.
 fn book<J: Room, R: Wait>(rt: &R, file: &File<J>, mut hand: Hand, name: u8) -> Booked
-    requires { IsOf file.now.state hand }
+    requires { IsOwn file.now.state hand }
     ensures { IsBooked file.now.state result }
 {
     for seat in b'a'..b'y' {
         if let (Ok(key), Ok(name)) = (Key::new(&[seat]), Value::new(&[name])) {
-            let _ = file.insert(rt, &mut hand, key, name);
-            let _ = file.search(rt, &mut hand, key);
+            make(rt, file, &mut hand, Call::Insert(key, name));
+            make(rt, file, &mut hand, Call::Search(key));
             if seat < b'm' {
-                let _ = file.delete(rt, &mut hand, key);
+                make(rt, file, &mut hand, Call::Delete(key));
             }
         }
     }
@@ -55,30 +68,51 @@ fn book<J: Room, R: Wait>(rt: &R, file: &File<J>, mut hand: Hand, name: u8) -> B
     Booked { hand, told }
 }
 
+/// A hand for a thread, with so many of the calls of this one.
+fn split_own<J: Room>(file: &File<J>, hand: &mut Hand, calls: u64) -> Option<Hand>
+    requires { IsOwn file.now.state hand.old }
+    ensures first { IsOwn file.now.state hand.new }
+    ensures second { IfSome result (IsOwn file.now.state) }
+{
+    file.split_hand(hand, calls).ok()
+}
+
+/// One hand of two.
+fn join_own<J: Room>(file: &File<J>, first: Hand, second: Booked) -> Option<Hand>
+    requires first { IsOwn file.now.state first }
+    requires second { IsBooked file.now.state second }
+    ensures { IfSome result (IsOwn file.now.state) }
+{
+    match file.join_hands(first, second.hand) {
+        Ok(hand) => Some(hand),
+        Err(_) => None,
+    }
+}
+
 /// Two threads, each with a hand of its own. All hands are joined into the first.
 fn book_in_threads<J: Room + Send + Sync, R: Threads + Wait + Sync>(
     rt: &R,
     file: &File<J>,
     hand: Hand,
 ) -> Option<(Hand, [u64; 2])>
-    requires { IsOf file.now.state hand }
-    ensures { IfSome result (λ all. IsOf file.now.state all.0) }
+    requires { IsOwn file.now.state hand }
+    ensures { IfSome result (λ all. IsOwn file.now.state all.0) }
 {
     thread::scope(
         thread::scope_env(),
         rt,
         |scope| -> Option<(Hand, [u64; 2])>
-            requires { IsOf file.now.state hand }
-            ensures { IfSome result (λ all. IsOf file.entry.now.state all.0) }
+            requires { IsOwn file.now.state hand }
+            ensures { IfSome result (λ all. IsOwn file.entry.now.state all.0) }
         {
             let mut hand = hand;
-            let one = file.split_hand(&mut hand, 100).ok()?;
-            let two = file.split_hand(&mut hand, 100).ok()?;
+            let one = split_own(file, &mut hand, 100)?;
+            let two = split_own(file, &mut hand, 100)?;
             let one = scope
                 .spawn_with(
                     OfFile(file),
                     move || -> Booked
-                        requires { IsOf file.now.state one }
+                        requires { IsOwn file.now.state one }
                         ensures { IsBooked file.entry.now.state result }
                     { book(rt, file, one, b'1') },
                 )
@@ -87,26 +121,41 @@ fn book_in_threads<J: Room + Send + Sync, R: Threads + Wait + Sync>(
                 .spawn_with(
                     OfFile(file),
                     move || -> Booked
-                        requires { IsOf file.now.state two }
+                        requires { IsOwn file.now.state two }
                         ensures { IsBooked file.entry.now.state result }
                     { book(rt, file, two, b'2') },
                 )
                 .ok()?;
             let (one, two) = (one.join(rt), two.join(rt));
-            let hand = file.join_hands(hand, one.hand).ok()?;
-            let hand = file.join_hands(hand, two.hand).ok()?;
-            Some((hand, [one.told, two.told]))
+            let told = [one.told, two.told];
+            let hand = join_own(file, hand, one)?;
+            let hand = join_own(file, hand, two)?;
+            Some((hand, told))
         },
     )
 }
 
-/// What came of the bookings: what each thread was told in the midst, what the joined hand was told at the end, and how
-/// many seats are taken.
-#[derive(Clone, Copy)]
+/// Closes a file. What was done with it is one legal history, and the closed file holds just what that leaves. None where
+/// memory ran out, a call is left with another hand, a bucket wasn't met, or a split is under way.
+fn close<J: Room, R: Wait>(rt: &R, file: File<J>, hand: Hand) -> Option<(Closed, Acts)>
+    requires { IsOwn file.state hand }
+    ensures { IfSome result (λ r. Settled file.state.listing r.0 r.1) }
+{
+    let left = hand.left();
+    let (closed, acts) = file.close(rt, hand).ok()?;
+    let calls = left.checked_add(acts.len() as u64)?;
+    if calls != 1 << 63 || !closed.gathered() || closed.split_open() {
+        return None;
+    }
+    Some((closed, acts))
+}
+
+/// What came of the bookings: what each thread was told in the midst, and the file with all acts, settled.
+#[derive(Drop)]
 struct Bookings {
     midst: [u64; 2],
-    told: u64,
-    seats: u64,
+    closed: Closed,
+    acts: Acts,
 }
 
 /// Opens a file, lets two threads book its seats, and closes it.
@@ -115,23 +164,25 @@ fn take_bookings<J: Room + Send + Sync, R: Threads + Wait + Sync>(
     opening: Opening<'_, NoGate>,
 ) -> anyhow::Result<Bookings>
     requires { IsRoomOf true J.named J.table opening.table }
-    ensures { IfOk result (λ made. IsTold opening.entry.listing made.told []) }
+    ensures { IfOk result (λ made. Settled opening.entry.listing made.closed made.acts) }
 {
     let (file, hand) = opening.file::<J>()?;
-    let (mut hand, midst) = book_in_threads(rt, &file, hand).context("a thread was refused")?;
-    let told = file.told(&mut hand);
-    let (closed, _) = file.close(rt, hand)?;
-    let seats = closed.records();
-    Ok(Bookings { midst, told, seats })
+    let (hand, midst) = book_in_threads(rt, &file, hand).context("a thread was refused")?;
+    let (closed, acts) = close(rt, file, hand).context("a call or a bucket is missing")?;
+    Ok(Bookings {
+        midst,
+        closed,
+        acts,
+    })
 }
 
 fn main(rt: HostRuntime) -> anyhow::Result<()> {
     let alloc = rt.alloc();
     let empty = Listing::empty(alloc, Config::new(1, 2, 100, 65_536)?)?;
-    let made = take_bookings::<Brand, _>(&rt, Opening::of(alloc, &empty, false, NoGate)?)?;
+    let made = take_bookings::<Brand, _>(&rt, Opening::of(alloc, &empty, true, NoGate)?)?;
     let own = made.midst.iter().all(|told| (60..=120).contains(told));
     println!(rt; "each was told of its own 60 acts in the midst: {own}")?;
-    println!(rt; "{} acts, one legal history", made.told)?;
-    println!(rt; "{} seats are taken", made.seats)?;
+    println!(rt; "{} acts, one legal history", made.acts.len())?;
+    println!(rt; "{} seats are taken", made.closed.records())?;
     Ok(())
 }

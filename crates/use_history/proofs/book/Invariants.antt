@@ -1,5 +1,5 @@
-use Rattle.lh_file.specs.FileState.{IsOf}
+use Rattle.use_history.specs.Booked.{IsOwn}
 use Rattle.use_history.proofs.book.Given as goal
 
 abbrev pub invariant-loop-seat : goal.invariant-loop-seat
-invariant-loop-seat g l = IsOf l.file.state l.hand
+invariant-loop-seat g l = IsOwn l.file.state l.hand
