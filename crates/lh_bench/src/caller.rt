@@ -5,7 +5,7 @@ ghost use Rattle.lh_file.specs.FileState.{IsOf};
 use crate::streams::{Step, Stream, is_value_of, key_of, other_value_of, value_of};
 use crate::tally::Tally;
 use lh_bucket::Reply;
-use lh_file::{Hand, HashFile, NoGate};
+use lh_file::{Hand, HashFile, Mode, NoGate, Room};
 use std::sync::Wait;
 
 /// A hand, and what was answered to it.
@@ -27,7 +27,13 @@ impl Caller {
         }
     }
 
-    fn search<R: Wait>(&mut self, rt: &R, file: &HashFile<NoGate>, record: u64, is_there: bool)
+    fn search<M: Mode, J: Room, R: Wait>(
+        &mut self,
+        rt: &R,
+        file: &HashFile<NoGate, M, J>,
+        record: u64,
+        is_there: bool,
+    )
         requires { IsOf file.now.state self.old.hand }
         ensures { IsOf file.now.state self.new.hand }
     {
@@ -46,7 +52,13 @@ impl Caller {
         }
     }
 
-    fn insert<R: Wait>(&mut self, rt: &R, file: &HashFile<NoGate>, record: u64, is_new: bool)
+    fn insert<M: Mode, J: Room, R: Wait>(
+        &mut self,
+        rt: &R,
+        file: &HashFile<NoGate, M, J>,
+        record: u64,
+        is_new: bool,
+    )
         requires { IsOf file.now.state self.old.hand }
         ensures { IsOf file.now.state self.new.hand }
     {
@@ -63,7 +75,12 @@ impl Caller {
         }
     }
 
-    fn delete<R: Wait>(&mut self, rt: &R, file: &HashFile<NoGate>, record: u64)
+    fn delete<M: Mode, J: Room, R: Wait>(
+        &mut self,
+        rt: &R,
+        file: &HashFile<NoGate, M, J>,
+        record: u64,
+    )
         requires { IsOf file.now.state self.old.hand }
         ensures { IsOf file.now.state self.new.hand }
     {
@@ -73,7 +90,13 @@ impl Caller {
         }
     }
 
-    fn replace<R: Wait>(&mut self, rt: &R, file: &HashFile<NoGate>, record: u64, length: u8)
+    fn replace<M: Mode, J: Room, R: Wait>(
+        &mut self,
+        rt: &R,
+        file: &HashFile<NoGate, M, J>,
+        record: u64,
+        length: u8,
+    )
         requires { IsOf file.now.state self.old.hand }
         ensures { IsOf file.now.state self.new.hand }
     {
@@ -87,7 +110,7 @@ impl Caller {
 
     /// Makes a call. One that is not answered counts as wrong.
     #[inline]
-    fn take<R: Wait>(&mut self, rt: &R, file: &HashFile<NoGate>, step: Step)
+    fn take<M: Mode, J: Room, R: Wait>(&mut self, rt: &R, file: &HashFile<NoGate, M, J>, step: Step)
         requires { IsOf file.now.state self.old.hand }
         ensures { IsOf file.now.state self.new.hand }
     {
@@ -101,9 +124,9 @@ impl Caller {
 }
 
 /// Makes so many calls of a stream.
-pub fn play<S: Stream, R: Wait>(
+pub fn play<S: Stream, M: Mode, J: Room, R: Wait>(
     rt: &R,
-    file: &HashFile<NoGate>,
+    file: &HashFile<NoGate, M, J>,
     mut caller: Caller,
     mut stream: S,
     calls: u64,

@@ -6,10 +6,10 @@ use crate::caller::{Caller, play};
 use crate::meter::{Spent, Stopwatch};
 use crate::order::{Order, Workload};
 use crate::starter::Starter;
-use crate::streams::{Mixed, MostlySearches, Part};
+use crate::streams::{Mixed, MostlySearches, OneKey, Part};
 use crate::tally::Tally;
 use anyhow::{Result, bail};
-use lh_file::{Hand, HashFile, NoGate};
+use lh_file::{Hand, HashFile, Mode, NoGate, Room};
 use std::rt::Clock;
 use std::sync::Wait;
 use std::thread;
@@ -18,13 +18,13 @@ use std::time::CpuClock;
 
 /// The hand that comes back from a thread is one of this file.
 #[derive(Clone, Copy)]
-struct OfFile<'a>(&'a HashFile<NoGate>);
+struct OfFile<'a, M: Mode, J: Room>(&'a HashFile<NoGate, M, J>);
 
-impl<'a> Promise<Caller> for OfFile<'a> {
+impl<'a, M: Mode, J: Room> Promise<Caller> for OfFile<'a, M, J> {
     ghost kept_by = { λ p r. IsOf p.0.now.state r.hand };
 }
 
-type Worker<'a> = PromisedHandle<Caller, OfFile<'a>>;
+type Worker<'a, M, J> = PromisedHandle<Caller, OfFile<'a, M, J>>;
 
 /// What threads did, and the hand that theirs were joined to.
 #[derive(Drop)]
@@ -39,15 +39,16 @@ pub struct Shift {
 fn calls_of(order: Order) -> u64 {
     match order.workload {
         Workload::MostlySearches => MostlySearches::calls(&order),
+        Workload::OneKey => OneKey::calls(&order),
         _ => Mixed::calls(&order),
     }
 }
 
 /// The part of one thread, which begins when all do.
-fn work<R: Wait>(
+fn work<M: Mode, J: Room, R: Wait>(
     rt: &R,
     starter: &Starter,
-    file: &HashFile<NoGate>,
+    file: &HashFile<NoGate, M, J>,
     hand: Hand,
     order: Order,
     thread: u64,
@@ -63,6 +64,10 @@ fn work<R: Wait>(
             let stream = MostlySearches::of_thread(&order, thread);
             play(rt, file, caller, stream, calls)
         }
+        Workload::OneKey => {
+            let stream = OneKey::of_thread(&order, thread);
+            play(rt, file, caller, stream, calls)
+        }
         _ => {
             let stream = Mixed::of_thread(&order, thread);
             play(rt, file, caller, stream, calls)
@@ -71,23 +76,27 @@ fn work<R: Wait>(
 }
 
 /// Keeps a worker beside the others, or answers that there is no memory for it.
-fn keep<'a>(file: &'a HashFile<NoGate>, workers: &mut Vec<Worker<'a>>, worker: Worker<'a>) -> bool
-    requires others { All (λ worker. worker.promise.0.now ≡ file.now) workers.old.items }
-    requires new { worker.promise.0.now ≡ file.now }
-    ensures { All (λ worker. worker.promise.0.now ≡ file.now) workers.new.items }
+fn keep<'a, M: Mode, J: Room>(
+    file: &'a HashFile<NoGate, M, J>,
+    workers: &mut Vec<Worker<'a, M, J>>,
+    worker: Worker<'a, M, J>,
+) -> bool
+    requires others { All (λ worker. worker.promise.0.now.state ≡ file.now.state) workers.old.items }
+    requires new { worker.promise.0.now.state ≡ file.now.state }
+    ensures { All (λ worker. worker.promise.0.now.state ≡ file.now.state) workers.new.items }
 {
     workers.push(worker).is_ok()
 }
 
 /// Joins the hands of all workers into the first, and adds what they were told.
-fn join_all<R: Threads + Wait>(
+fn join_all<M: Mode, J: Room, R: Threads + Wait>(
     rt: &R,
-    file: &HashFile<NoGate>,
+    file: &HashFile<NoGate, M, J>,
     mut all: Caller,
-    workers: Vec<Worker<'_>>,
+    workers: Vec<Worker<'_, M, J>>,
 ) -> Result<Caller>
     requires first { IsOf file.now.state all.hand }
-    requires others { All (λ worker. worker.promise.0.now ≡ file.now) workers.items }
+    requires others { All (λ worker. worker.promise.0.now.state ≡ file.now.state) workers.items }
     ensures { IfOk result (λ all. IsOf file.now.state all.hand) }
 {
     for worker in workers {
@@ -98,7 +107,11 @@ fn join_all<R: Threads + Wait>(
 }
 
 /// Joins a hand into another, and adds what it was told.
-fn join_two(file: &HashFile<NoGate>, all: Caller, part: Caller) -> Result<Caller>
+fn join_two<M: Mode, J: Room>(
+    file: &HashFile<NoGate, M, J>,
+    all: Caller,
+    part: Caller,
+) -> Result<Caller>
     requires first { IsOf file.now.state all.hand }
     requires second { IsOf file.now.state part.hand }
     ensures { IfOk result (λ all. IsOf file.now.state all.hand) }
@@ -119,14 +132,16 @@ fn join_two(file: &HashFile<NoGate>, all: Caller, part: Caller) -> Result<Caller
 }
 
 /// Plays the parts of an order in as many threads.
-pub fn play_in_threads<R>(
+pub fn play_in_threads<M, J, R>(
     rt: &R,
     starter: &Starter,
-    file: &HashFile<NoGate>,
+    file: &HashFile<NoGate, M, J>,
     hand: Hand,
     order: Order,
 ) -> Result<Shift>
 where
+    M: Mode + Send + Sync,
+    J: Room + Send + Sync,
     R: Threads + Wait + Sync + Clock + CpuClock + AllocGlobal,
     requires { IsOf file.now.state hand }
     ensures { IfOk result (λ shift. IsOf file.now.state shift.hand) }
@@ -146,9 +161,13 @@ where
                 let Ok(part) = file.split_hand(&mut all, 1 << 40) else {
                     break;
                 };
-                let Ok(worker) = scope.spawn_with(OfFile(file), move || {
-                    work(rt, starter, file, part, order, thread)
-                }) else {
+                let Ok(worker) = scope.spawn_with(
+                    OfFile(file),
+                    move || -> Caller
+                        requires { IsOf file.now.state part }
+                        ensures { IsOf file.entry.now.state result.hand }
+                    { work(rt, starter, file, part, order, thread) },
+                ) else {
                     break;
                 };
                 if !keep(file, &mut workers, worker) {

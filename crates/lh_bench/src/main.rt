@@ -4,11 +4,14 @@
 //! ```text
 //! lh_bench --workload W3 --threads 4 --records 1000000 --seed 1
 //! ```
+//!
+//! With `--traced` each workload runs on an untraced file and then on a traced one, whose line says so.
 #![tactic(auto)]
 
 mod caller;
 mod crew;
 mod image;
+mod kinds;
 mod meter;
 mod order;
 mod replacing;
@@ -31,7 +34,7 @@ use std::sync::Wait;
 use std::thread::Threads;
 use std::time::CpuClock;
 
-/// Runs one workload and prints its line.
+/// Runs one workload on a file of one kind, and prints its line.
 fn run_one<R>(rt: &R, order: &Order, form: Form) -> Result<()>
 where
     R: Runtime + AllocGlobal + CpuClock + Threads + Wait + Sync,
@@ -40,19 +43,28 @@ where
         return Ok(unsupported(rt)?);
     }
     let outcome = match order.workload {
-        Workload::Inserts => workloads::inserts(rt, order)?,
-        Workload::Searches => workloads::searches(rt, order)?,
-        Workload::MostlySearches => workloads::mostly_searches(rt, order)?,
-        Workload::Mixed => workloads::mixed(rt, order)?,
         Workload::Image => image::write_and_read(rt, order)?,
-        Workload::Replaces => replacing::replaces(rt, order)?,
         Workload::Steps => return steps::measure(rt, order),
         Workload::Settling => return settling::measure(rt, order),
         Workload::All => return Ok(()),
+        _ if order.traced => kinds::run_traced(rt, order)?,
+        _ => kinds::run_untraced(rt, order)?,
     };
     outcome.print(rt, order, form)?;
     if !outcome.is_right() {
         bail!("a reply or a value is not the one due");
+    }
+    Ok(())
+}
+
+/// Runs one workload, in turns on both kinds of file where that is asked for.
+fn run_in_turns<R>(rt: &R, order: &Order, form: Form) -> Result<()>
+where
+    R: Runtime + AllocGlobal + CpuClock + Threads + Wait + Sync,
+{
+    run_one(rt, &Order { traced: false, ..*order }, form)?;
+    if order.traced && order.workload.may_trace() {
+        run_one(rt, order, form)?;
     }
     Ok(())
 }
@@ -71,11 +83,11 @@ where
         }
     };
     if order.workload != Workload::All {
-        run_one(rt, &order, form)?;
+        run_in_turns(rt, &order, form)?;
         return Ok(0);
     }
     for workload in Workload::MEASURED {
-        run_one(rt, &Order { workload, ..order }, form)?;
+        run_in_turns(rt, &Order { workload, ..order }, form)?;
     }
     Ok(0)
 }

@@ -20,6 +20,8 @@ pub enum Workload {
     Image,
     /// Replaces of records that are there, in no order, by values of other lengths.
     Replaces,
+    /// Searches for one record, by all threads.
+    OneKey,
     /// The single atomic steps of a file's words.
     Steps,
     /// The settling of a file's acts.
@@ -47,6 +49,7 @@ impl Workload {
             Workload::Mixed => "W4",
             Workload::Image => "W5",
             Workload::Replaces => "W6",
+            Workload::OneKey => "hot",
             Workload::Steps => "steps",
             Workload::Settling => "settle",
             Workload::All => "all",
@@ -61,6 +64,7 @@ impl Workload {
             "W4" => Workload::Mixed,
             "W5" => Workload::Image,
             "W6" => Workload::Replaces,
+            "hot" => Workload::OneKey,
             "steps" => Workload::Steps,
             "settle" => Workload::Settling,
             _ => Workload::All,
@@ -71,7 +75,19 @@ impl Workload {
     pub fn is_shared(self) -> bool {
         matches!(
             self,
-            Workload::MostlySearches | Workload::Mixed | Workload::Steps | Workload::All
+            Workload::MostlySearches
+                | Workload::Mixed
+                | Workload::OneKey
+                | Workload::Steps
+                | Workload::All
+        )
+    }
+
+    /// Whether it may run on a traced file.
+    pub fn may_trace(self) -> bool {
+        !matches!(
+            self,
+            Workload::Image | Workload::Steps | Workload::Settling | Workload::All
         )
     }
 }
@@ -83,6 +99,8 @@ pub struct Order {
     pub threads: u64,
     pub records: u64,
     pub seed: u64,
+    /// Whether the file is traced; of what is asked for, whether such a file has its turn too.
+    pub traced: bool,
 }
 
 /// What the words ask for.
@@ -93,7 +111,9 @@ pub enum Asked {
     Told(Error),
 }
 
-const WORDS: [&str; 9] = ["W1", "W2", "W3", "W4", "W5", "W6", "steps", "settle", "all"];
+const WORDS: [&str; 10] = [
+    "W1", "W2", "W3", "W4", "W5", "W6", "hot", "steps", "settle", "all",
+];
 
 fn number<'a>(
     alloc: Global,
@@ -121,6 +141,10 @@ fn command<'a>(alloc: Global) -> Result<Command<'a>, Error> {
         .long("counts")
         .help("Print what is the same in every run, and times on standard error")
         .action(ArgAction::SetTrue);
+    let traced = Arg::new(alloc, "traced")
+        .long("traced")
+        .help("Run each workload on a traced file too, in turns")
+        .action(ArgAction::SetTrue);
     let threads = ValueParser::Unsigned(1, 64);
     let records = ValueParser::Unsigned(1, 1_000_000_000);
     let seed = ValueParser::Unsigned(0, u64::MAX);
@@ -131,6 +155,7 @@ fn command<'a>(alloc: Global) -> Result<Command<'a>, Error> {
             .arg(number(alloc, "threads", "Threads", "1", threads))?
             .arg(number(alloc, "records", "Records", "1000", records))?
             .arg(number(alloc, "seed", "Seed of the streams", "1", seed))?
+            .arg(traced)?
             .arg(counts)?,
     )
 }
@@ -141,6 +166,7 @@ fn order_of(matches: &ArgMatches<'_>) -> Order {
         threads: matches.get_one("threads").unwrap_or(1),
         records: matches.get_one("records").unwrap_or(1),
         seed: matches.get_one("seed").unwrap_or(1),
+        traced: matches.get_flag("traced"),
     }
 }
 

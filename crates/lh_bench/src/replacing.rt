@@ -6,10 +6,10 @@ use crate::meter::Stopwatch;
 use crate::order::Order;
 use crate::report::Outcome;
 use crate::streams::{Replaces, is_value_of, key_of, other_value_of};
-use crate::workloads::{empty_file, load};
+use crate::workloads::load;
 use anyhow::Result;
 use lh_bucket::Reply;
-use lh_file::{Hand, HashFile, NoGate};
+use lh_file::{Hand, HashFile, Mode, NoGate, Room};
 use std::alloc::Global;
 use std::rt::Clock;
 use std::sync::Wait;
@@ -42,9 +42,9 @@ fn is_last_given(reply: &Reply, seed: u64, record: u64, length: u8) -> bool {
 }
 
 /// Whether each record has the value that it was last given.
-fn are_last_given<R: Wait>(
+fn are_last_given<M: Mode, J: Room, R: Wait>(
     rt: &R,
-    file: &HashFile<NoGate>,
+    file: &HashFile<NoGate, M, J>,
     mut hand: Hand,
     seed: u64,
     lengths: &[u8],
@@ -65,19 +65,22 @@ fn are_last_given<R: Wait>(
 }
 
 /// Replaces of records that are there.
-pub fn replaces<R: Wait + Clock + CpuClock + AllocGlobal>(
+pub fn replaces<M: Mode, J: Room, R: Wait + Clock + CpuClock + AllocGlobal>(
     rt: &R,
+    file: &HashFile<NoGate, M, J>,
+    hand: Hand,
     order: &Order,
-) -> Result<Outcome> {
+) -> Result<Outcome>
+    requires { IsOf file.now.state hand }
+{
     let lengths = last_lengths(rt.alloc(), order)?;
-    let (file, hand) = empty_file(rt.alloc(), false)?;
-    let loaded = load(rt, &file, hand, order, 1);
+    let loaded = load(rt, file, hand, order, 1);
     let caller = Caller::new(loaded.hand, order.seed);
     let watch = Stopwatch::start(rt)?;
-    let caller = play(rt, &file, caller, Replaces::new(order), order.records);
+    let caller = play(rt, file, caller, Replaces::new(order), order.records);
     let spent = watch.stop(rt)?;
     let tally = caller.tally;
     let is_due = tally.replaced == order.records
-        && are_last_given(rt, &file, caller.hand, order.seed, lengths.as_slice());
+        && are_last_given(rt, file, caller.hand, order.seed, lengths.as_slice());
     Ok(Outcome::new(order.records, spent, tally, is_due))
 }

@@ -54,6 +54,9 @@ impl Outcome {
         print!(rt;
             "{{\"workload\":\"{workload}\",\"threads\":{threads},\"records\":{records},\"seed\":{seed}"
         )?;
+        if order.traced {
+            print!(rt; ",\"traced\":true")?;
+        }
         let calls = self.calls;
         print!(rt; ",\"ops\":{calls}")?;
         if let Form::Line = form {

@@ -290,3 +290,26 @@ impl Part for Mixed {
         order.records.wrapping_mul(4) / order.threads.max(1)
     }
 }
+
+/// Searches for one record.
+#[derive(Drop)]
+pub struct OneKey;
+
+impl Stream for OneKey {
+    fn next(&mut self) -> Step {
+        Step::Search {
+            record: 0,
+            is_there: true,
+        }
+    }
+}
+
+impl Part for OneKey {
+    fn of_thread(_order: &Order, _thread: u64) -> OneKey {
+        OneKey
+    }
+
+    fn calls(order: &Order) -> u64 {
+        order.records.wrapping_mul(4) / order.threads.max(1)
+    }
+}

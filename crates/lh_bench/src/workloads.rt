@@ -1,4 +1,4 @@
-//! The workloads on a file in memory.
+//! The workloads on a file in memory, which is empty at first.
 ghost use Rattle.std.specs.Prelude.{IfOk};
 ghost use Rattle.lh_file.specs.FileState.{IsOf};
 
@@ -12,27 +12,32 @@ use crate::streams::{Inserts, Picks, Searches};
 use crate::tally::Tally;
 use anyhow::{Result, bail};
 use lh_addr::Config;
-use lh_file::{Hand, HashFile, NoGate};
+use lh_file::{Hand, HashFile, Mode, NoGate, Room};
 use std::alloc::Global;
 use std::rt::{Clock, Files};
 use std::sync::Wait;
 use std::thread::Threads;
 use std::time::CpuClock;
 
-/// An empty file with the settings that the program `lhash` takes by default.
-pub fn empty_file(alloc: Global, recording: bool) -> Result<(HashFile<NoGate>, Hand)>
-    ensures { IfOk result (λ made. IsOf made.0.state made.1) }
-{
+/// The settings that the program `lhash` takes by default.
+pub fn settings() -> Result<Config> {
     let Ok(config) = Config::new(1, 14, 100, 65_536) else {
         bail!("no such configuration");
     };
-    Ok(HashFile::create(alloc, config, recording, NoGate)?)
+    Ok(config)
+}
+
+/// An empty file with these settings.
+pub fn empty_file(alloc: Global, recording: bool) -> Result<(HashFile<NoGate>, Hand)>
+    ensures { IfOk result (λ made. IsOf made.0.state made.1) }
+{
+    Ok(HashFile::create(alloc, settings()?, recording, NoGate)?)
 }
 
 /// The inserts of each `stride`th record.
-pub fn load<R: Wait>(
+pub fn load<M: Mode, J: Room, R: Wait>(
     rt: &R,
-    file: &HashFile<NoGate>,
+    file: &HashFile<NoGate, M, J>,
     hand: Hand,
     order: &Order,
     stride: u64,
@@ -45,15 +50,20 @@ pub fn load<R: Wait>(
     play(rt, file, caller, stream, order.records)
 }
 
-/// Inserts into an empty file.
-pub fn inserts<R>(rt: &R, order: &Order) -> Result<Outcome>
+/// Inserts. The process had so many bytes of memory before the file was made.
+pub fn inserts<M: Mode, J: Room, R>(
+    rt: &R,
+    file: &HashFile<NoGate, M, J>,
+    hand: Hand,
+    order: &Order,
+    before: u64,
+) -> Result<Outcome>
 where
     R: Wait + Clock + CpuClock + Files + AllocGlobal,
+    requires { IsOf file.now.state hand }
 {
-    let before = resident_bytes(rt);
-    let (file, hand) = empty_file(rt.alloc(), false)?;
     let watch = Stopwatch::start(rt)?;
-    let caller = load(rt, &file, hand, order, 1);
+    let caller = load(rt, file, hand, order, 1);
     let spent = watch.stop(rt)?;
     let tally = caller.tally;
     let is_due = tally.inserted == order.records;
@@ -64,22 +74,30 @@ where
 }
 
 /// Searches for records that are there.
-pub fn searches<R: Wait + Clock + CpuClock + AllocGlobal>(
+pub fn searches<M: Mode, J: Room, R: Wait + Clock + CpuClock>(
     rt: &R,
+    file: &HashFile<NoGate, M, J>,
+    hand: Hand,
     order: &Order,
-) -> Result<Outcome> {
-    let (file, hand) = empty_file(rt.alloc(), false)?;
-    let loaded = load(rt, &file, hand, order, 1);
+) -> Result<Outcome>
+    requires { IsOf file.now.state hand }
+{
+    let loaded = load(rt, file, hand, order, 1);
     let caller = Caller::new(loaded.hand, order.seed);
     let watch = Stopwatch::start(rt)?;
-    let caller = play(rt, &file, caller, Picks::new(order), order.records);
+    let caller = play(rt, file, caller, Picks::new(order), order.records);
     let spent = watch.stop(rt)?;
     let is_due = caller.tally.found == order.records;
     Ok(Outcome::new(order.records, spent, caller.tally, is_due))
 }
 
 /// How many of the first `2 * records` records are there.
-fn records_there<R: Wait>(rt: &R, file: &HashFile<NoGate>, hand: Hand, order: &Order) -> Tally
+fn records_there<M: Mode, J: Room, R: Wait>(
+    rt: &R,
+    file: &HashFile<NoGate, M, J>,
+    hand: Hand,
+    order: &Order,
+) -> Tally
     requires { IsOf file.now.state hand }
 {
     let stream = Searches {
@@ -91,9 +109,9 @@ fn records_there<R: Wait>(rt: &R, file: &HashFile<NoGate>, hand: Hand, order: &O
 }
 
 /// What came of threads that shared a file, which had so many records before.
-fn outcome_of<R: Wait>(
+fn outcome_of<M: Mode, J: Room, R: Wait>(
     rt: &R,
-    file: &HashFile<NoGate>,
+    file: &HashFile<NoGate, M, J>,
     shift: Shift,
     order: &Order,
     before: u64,
@@ -109,23 +127,23 @@ fn outcome_of<R: Wait>(
     Outcome::new(shift.calls, shift.spent, tally, is_due)
 }
 
-/// One insert to nineteen searches, in a file that begins empty.
-pub fn mostly_searches<R>(rt: &R, order: &Order) -> Result<Outcome>
+/// Calls of several threads, in a file that has so many records before them: each `stride`th from the first on.
+pub fn shared<M, J, R>(
+    rt: &R,
+    file: &HashFile<NoGate, M, J>,
+    hand: Hand,
+    order: &Order,
+    records: u64,
+    stride: u64,
+) -> Result<Outcome>
 where
+    M: Mode + Send + Sync,
+    J: Room + Send + Sync,
     R: Threads + Wait + Sync + Clock + CpuClock + AllocGlobal,
+    requires { IsOf file.now.state hand }
 {
-    let (file, hand) = empty_file(rt.alloc(), false)?;
-    let shift = play_in_threads(rt, &Starter::new(), &file, hand, *order)?;
-    Ok(outcome_of(rt, &file, shift, order, 0))
-}
-
-/// Two searches to one insert and one delete.
-pub fn mixed<R>(rt: &R, order: &Order) -> Result<Outcome>
-where
-    R: Threads + Wait + Sync + Clock + CpuClock + AllocGlobal,
-{
-    let (file, hand) = empty_file(rt.alloc(), false)?;
-    let loaded = load(rt, &file, hand, order, 2);
-    let shift = play_in_threads(rt, &Starter::new(), &file, loaded.hand, *order)?;
-    Ok(outcome_of(rt, &file, shift, order, order.records))
+    let first = Order { records, ..*order };
+    let loaded = load(rt, file, hand, &first, stride);
+    let shift = play_in_threads(rt, &Starter::new(), file, loaded.hand, *order)?;
+    Ok(outcome_of(rt, file, shift, order, records))
 }

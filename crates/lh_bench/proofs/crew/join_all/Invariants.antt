@@ -6,5 +6,5 @@ use Rattle.lh_bench.proofs.crew.join_all.Given as goal
 abbrev pub invariant-loop-worker : goal.invariant-loop-worker
 invariant-loop-worker g l = record {
   first : IsOf l.file.state l.all.hand;
-  each : All (λ worker. worker.promise.0.now ≡ l.file) (into_iter_items l.worker-iterator);
+  each : All (λ worker. worker.promise.0.now.state ≡ l.file.state) (into_iter_items l.worker-iterator);
 }

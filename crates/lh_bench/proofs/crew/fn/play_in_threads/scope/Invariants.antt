@@ -5,5 +5,5 @@ use Rattle.lh_bench.proofs.crew.fn.play_in_threads.scope.Given as goal
 abbrev pub invariant-loop-thread : goal.invariant-loop-thread
 invariant-loop-thread g l = record {
   first : IsOf l.file.now.state l.all;
-  each : All (λ worker. worker.promise.0.now ≡ l.file.now) l.workers.items;
+  each : All (λ worker. worker.promise.0.now.state ≡ l.file.now.state) l.workers.items;
 }
