@@ -5,7 +5,7 @@
 //! lh_bench --workload W3 --threads 4 --records 1000000 --seed 1
 //! ```
 //!
-//! With `--traced` each workload runs on an untraced file and then on a traced one, whose line says so.
+//! With `--traced` the file is traced, and the line says so. `--workload all` runs on both kinds then.
 #![tactic(auto)]
 
 mod caller;
@@ -39,7 +39,8 @@ fn run_one<R>(rt: &R, order: &Order, form: Form) -> Result<()>
 where
     R: Runtime + AllocGlobal + CpuClock + Threads + Wait + Sync,
 {
-    if order.threads != 1 && !order.workload.is_shared() {
+    let is_alone = order.threads == 1 || order.workload.is_shared();
+    if !is_alone || order.traced && !order.workload.may_trace() {
         return Ok(unsupported(rt)?);
     }
     let outcome = match order.workload {
@@ -57,12 +58,19 @@ where
     Ok(())
 }
 
-/// Runs one workload, in turns on both kinds of file where that is asked for.
-fn run_in_turns<R>(rt: &R, order: &Order, form: Form) -> Result<()>
+/// Runs one workload on an untraced file, and then on a traced one where that is asked for too.
+fn run_on_each<R>(rt: &R, order: &Order, form: Form) -> Result<()>
 where
     R: Runtime + AllocGlobal + CpuClock + Threads + Wait + Sync,
 {
-    run_one(rt, &Order { traced: false, ..*order }, form)?;
+    run_one(
+        rt,
+        &Order {
+            traced: false,
+            ..*order
+        },
+        form,
+    )?;
     if order.traced && order.workload.may_trace() {
         run_one(rt, order, form)?;
     }
@@ -83,11 +91,11 @@ where
         }
     };
     if order.workload != Workload::All {
-        run_in_turns(rt, &order, form)?;
+        run_one(rt, &order, form)?;
         return Ok(0);
     }
     for workload in Workload::MEASURED {
-        run_in_turns(rt, &Order { workload, ..order }, form)?;
+        run_on_each(rt, &Order { workload, ..order }, form)?;
     }
     Ok(0)
 }

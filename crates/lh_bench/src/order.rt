@@ -99,7 +99,7 @@ pub struct Order {
     pub threads: u64,
     pub records: u64,
     pub seed: u64,
-    /// Whether the file is traced; of what is asked for, whether such a file has its turn too.
+    /// Whether the file is traced. Where all workloads are asked for: whether they run on such a file too.
     pub traced: bool,
 }
 
@@ -143,7 +143,7 @@ fn command<'a>(alloc: Global) -> Result<Command<'a>, Error> {
         .action(ArgAction::SetTrue);
     let traced = Arg::new(alloc, "traced")
         .long("traced")
-        .help("Run each workload on a traced file too, in turns")
+        .help("Run on a traced file, and with all on both kinds")
         .action(ArgAction::SetTrue);
     let threads = ValueParser::Unsigned(1, 64);
     let records = ValueParser::Unsigned(1, 1_000_000_000);

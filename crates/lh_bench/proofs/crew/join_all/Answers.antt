@@ -10,7 +10,7 @@ pub loop-worker-preserved : goal.loop-worker-preserved
 loop-worker-preserved g c = record {
   first = search rules;
   each =
-    let met = λ (worker : PromisedHandle Caller (OfFile g.row.M.Denot g.row.J.Denot)). worker.promise.0.now.state ≡ c.args.file.now.state in
-    let e : into_iter_items c.loop-worker.worker-iterator ≡ c.in-Some.worker ∷ into_iter_items c.next.new.self = search rules in
-    All-tail met c.in-Some.worker (into_iter_items c.next.new.self) (subst (All met) e c.loop-worker.invariant.each);
+      let met = λ (worker : PromisedHandle Caller (OfFile g.row.M.Denot g.row.J.Denot)). worker.promise.0.now.state ≡ c.args.file.now.state in
+      let e : into_iter_items c.loop-worker.worker-iterator ≡ c.in-Some.worker ∷ into_iter_items c.next.new.self = search rules in
+      All-tail met c.in-Some.worker (into_iter_items c.next.new.self) (subst (All met) e c.loop-worker.invariant.each);
 }
