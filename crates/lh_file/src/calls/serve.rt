@@ -37,6 +37,9 @@ impl<G: Gate, M: Mode, J: Room> HashFile<G, M, J> {
         let call = Call::Search(key);
         let aim = self.begin(hand, &call)?;
         let (guard, aim) = self.walk::<RwLockReadGuard<Slot<J>>, R>(rt, aim)?;
+        if !M::keeps_history() {
+            return Ok(self.look_untraced(guard, hand, &call, aim));
+        }
         self.look(rt, guard, hand, &call, aim)
     }
 
@@ -131,7 +134,7 @@ impl<G: Gate, M: Mode, J: Room> HashFile<G, M, J> {
         Ok(answer)
     }
 
-    /// Answers a search at its bucket, whose lock the caller has, in the same way.
+    /// Answers a search of a traced file at its bucket, whose lock the caller has, in the same way.
     #[inline(always)]
     fn look_at<R: Wait>(
         &self,
@@ -141,13 +144,14 @@ impl<G: Gate, M: Mode, J: Room> HashFile<G, M, J> {
         call: &Call,
         k: u8,
     ) -> Result<Answer, FileFault>
+        requires traced { M.traced ≡ true }
         requires ready { IsReady self.now.state hand.old }
         requires search { IsSearch call.now }
         requires low { k ≤ 16 }
         requires here { verdict slot.now.head (code_of (key_of call.now)) k ≡ Here }
         ensures call { IfOk result (λ a. a.call ≡ call.now) }
         ensures served { IfOk result (λ a. HasServed hand.old a.call a.reply hand.new) }
-        ensures entered { M.traced ≡ true → IfOk result (λ a. HasEntered false hand.old a.call a.reply hand.new) }
+        ensures entered { IfOk result (λ a. HasEntered false hand.old a.call a.reply hand.new) }
         ensures of { IsOf self.now.state hand.new }
         ensures err { OnErr result (hand.new ≡ hand.old) }
         ensures fault { IfErr result IsNotSpent }
@@ -159,9 +163,6 @@ impl<G: Gate, M: Mode, J: Room> HashFile<G, M, J> {
             perch,
             room: _,
         } = slot;
-        if !M::keeps_history() {
-            return Ok(parts::look_on(self, bucket, hand, call, k));
-        }
         let Some(seat) = perch else {
             return Err(defect(bucket.number(), k, bucket));
         };
@@ -172,7 +173,7 @@ impl<G: Gate, M: Mode, J: Room> HashFile<G, M, J> {
         Ok(answer)
     }
 
-    /// Answers a search at its bucket, and drops the bucket's lock.
+    /// Answers a search of a traced file at its bucket, and drops the bucket's lock.
     fn look<R: Wait>(
         &self,
         rt: &R,
@@ -181,13 +182,14 @@ impl<G: Gate, M: Mode, J: Room> HashFile<G, M, J> {
         call: &Call,
         aim: Aim,
     ) -> Result<Answer, FileFault>
+        requires traced { M.traced ≡ true }
         requires ready { IsReady self.now.state hand.old }
         requires aim { IsAimOf call.now aim }
         requires search { IsSearch call.now }
         requires here { verdict (read_guard_value guard).head aim.code aim.level ≡ Here }
         ensures call { IfOk result (λ a. a.call ≡ call.now) }
         ensures served { IfOk result (λ a. HasServed hand.old a.call a.reply hand.new) }
-        ensures entered { M.traced ≡ true → IfOk result (λ a. HasEntered false hand.old a.call a.reply hand.new) }
+        ensures entered { IfOk result (λ a. HasEntered false hand.old a.call a.reply hand.new) }
         ensures of { IsOf self.now.state hand.new }
         ensures err { OnErr result (hand.new ≡ hand.old) }
         ensures fault { IfErr result IsNotSpent }
@@ -196,6 +198,29 @@ impl<G: Gate, M: Mode, J: Room> HashFile<G, M, J> {
         if answer.is_ok() {
             self.gate.at(Point::Acted { bucket: aim.bucket });
         }
+        self.release(guard, aim);
+        answer
+    }
+
+    /// Answers a search of an untraced file at its bucket, and drops the bucket's lock.
+    // The answer is made where it is given; one that goes up inside another result is copied.
+    fn look_untraced(
+        &self,
+        guard: RwLockReadGuard<'_, Slot<J>>,
+        hand: &mut Hand,
+        call: &Call,
+        aim: Aim,
+    ) -> Answer
+        requires ready { IsReady self.now.state hand.old }
+        requires aim { IsAimOf call.now aim }
+        requires search { IsSearch call.now }
+        requires here { verdict (read_guard_value guard).head aim.code aim.level ≡ Here }
+        ensures call { result.call ≡ call.now }
+        ensures served { HasServed hand.old result.call result.reply hand.new }
+        ensures of { IsOf self.now.state hand.new }
+    {
+        let answer = parts::look_on(self, guard.bucket(), hand, call, aim.level);
+        self.gate.at(Point::Acted { bucket: aim.bucket });
         self.release(guard, aim);
         answer
     }
