@@ -6,6 +6,7 @@ ghost use Rattle.lh_bucket.specs.declared.verdict.Verdict.TheVariants.{Here};
 ghost use Rattle.lh_bucket.specs.Bucket.{verdict};
 ghost use Rattle.lh_addr.specs.Fnv.{code_of};
 ghost use Rattle.lh_bucket.specs.PlainMap.{key_of, IsSearch};
+ghost use Rattle.lh_file.specs.Buckets.Rooms.{IsPerchOf};
 ghost use Rattle.lh_file.specs.Calls.Aiming.{IsAimOf, IsReady};
 ghost use Rattle.lh_file.specs.FileState.{IsOf};
 ghost use Rattle.lh_file.specs.Calls.Served.{HasLooked, HasServed, IsNotSpent, Serves};
@@ -21,9 +22,11 @@ use crate::gate::{Gate, Point};
 use crate::words::hand::Hand;
 use crate::words::mode::Mode;
 use crate::words::right::Right;
+use crate::words::seat_view::SeatView;
 use crate::words::tokens::perched;
+use atomic_table::Perch;
 use lh_bucket::laws::here_is_own_level;
-use lh_bucket::{Answer, Bucket, Call, Reply};
+use lh_bucket::{Answer, Bucket, Call, PagedBucket, Reply};
 use lh_page::{Key, Value};
 use std::sync::{RwLockReadGuard, RwLockWriteGuard, Wait};
 
@@ -156,8 +159,6 @@ impl<G: Gate, M: Mode, J: Room> HashFile<G, M, J> {
         ensures err { OnErr result (hand.new ≡ hand.old) }
         ensures fault { IfErr result IsNotSpent }
     {
-        here_is_own_level();
-        let words = &self.words;
         let Slot {
             bucket,
             perch,
@@ -166,11 +167,39 @@ impl<G: Gate, M: Mode, J: Room> HashFile<G, M, J> {
         let Some(seat) = perch else {
             return Err(defect(bucket.number(), k, bucket));
         };
+        Ok(self.look_seated(rt, bucket, seat, hand, call, k))
+    }
+
+    /// Answers a search of a traced file at its bucket, whose seat rests there, and enters it in the history.
+    // Its answer is made where it is given; one that goes up through another result is copied.
+    fn look_seated<R: Wait>(
+        &self,
+        rt: &R,
+        bucket: &PagedBucket,
+        seat: &Perch<(), SeatView>,
+        hand: &mut Hand,
+        call: &Call,
+        k: u8,
+    ) -> Answer
+        requires traced { M.traced ≡ true }
+        requires ready { IsReady self.now.state hand.old }
+        requires search { IsSearch call.now }
+        requires low { k ≤ 16 }
+        requires here { verdict bucket.now.head (code_of (key_of call.now)) k ≡ Here }
+        requires seat { IsPerchOf J.named J.table bucket.now seat.now.table_id seat.now.view }
+        ensures call { result.call ≡ call.now }
+        ensures served { HasServed hand.old result.call result.reply hand.new }
+        ensures entered { HasEntered false hand.old result.call result.reply hand.new }
+        ensures of { IsOf self.now.state hand.new }
+    {
+        here_is_own_level();
         // Act
         let answer = bucket.look(call, k);
-        let token = words.enter_act(rt, seat, hand, call, answer.reply(), bucket);
+        let token = self
+            .words
+            .enter_act(rt, seat, hand, call, answer.reply(), bucket);
         let _ = seat.give(token, 0, 2);
-        Ok(answer)
+        answer
     }
 
     /// Answers a search of a traced file at its bucket, and drops the bucket's lock.
