@@ -20,6 +20,11 @@ PEERS = ["null", "lh_bench", "twin", "twin_nostamp", "twin_tags", "rust_shard", 
 PROGRAM = {"libcuckoo": "cuckoo", "bdb_hash": "bdb", "lh_bench": "../../crates/lh_bench/out/lh_bench"}
 UNRANKED = {"null"}
 REFERENCE = "std_onelock"  # its digests at one thread are those due
+# What the picture shows, and under which names.
+SHOWN = {"lh_bench": "this file", "twin_tags": "the same in C++", "dashmap": "DashMap", "tbb": "oneTBB", "libcuckoo": "libcuckoo",
+         "std_onelock": "one lock", "kc_hash": "Kyoto Cabinet", "lmdb": "LMDB", "tdb": "TDB", "gdbm": "GDBM", "bdb_hash": "Berkeley DB"}
+TITLES = {"W1": "W1 inserts", "W2": "W2 searches", "W3": "W3, 1 insert to 19 searches", "W4": "W4, half are writes",
+          "W5": "W5, to a file and back", "W6": "W6 new values"}
 
 
 def run(name, path, workload, threads, args):
@@ -86,16 +91,57 @@ def digests_due(good):
     return due
 
 
+def fastest(good, to=None):
+    """The speed of the fastest of each round, or of the one that is named."""
+    best = {}
+    for r in good:
+        if r["peer"] == to if to else r["peer"] not in UNRANKED:
+            k = (r["round"], r["workload"], r["threads"])
+            best[k] = max(best.get(k, 0), speed(r))
+    return best
+
+
+def title_of(workload, threads):
+    return TITLES[workload] + (", %d thread%s" % (threads, "s" * (threads > 1)) if workload in ("W3", "W4") else "")
+
+
+def picture(rows, path):
+    """Bars in SVG: of each workload the speed of the tables in SHOWN, over that of the fastest of them in the same round."""
+    good = [r for r in rows if r["check"] == "ok" and r["peer"] in SHOWN]
+    best = fastest(good)
+    shapes = [s for s in sorted({(r["workload"], r["threads"]) for r in good}) if s[1] in (1, 4)]
+    wide, bar, head, room = 330, 15, 26, 96
+    tall = head + bar * len(SHOWN) + 10
+    out = []
+    for n, shape in enumerate(shapes):
+        x, y = (n % 2) * wide, (n // 2) * tall
+        out.append('<text x="%d" y="%d" class="t">%s</text>' % (x + 4, y + 16, title_of(*shape)))
+        for k, (peer, name) in enumerate(SHOWN.items()):
+            ratios = [speed(r) / best[(r["round"], *shape)] for r in good if (r["peer"], r["workload"], r["threads"]) == (peer, *shape)]
+            top, here = y + head + k * bar, peer == "lh_bench"
+            label = '<text x="%d" y="%d" class="%s">%s</text>'
+            out.append(label % (x + room, top + 11, "n me" if here else "n", name))
+            if not ratios:
+                out.append(label % (x + room + 6, top + 11, "v", "not run"))
+                continue
+            ratio = statistics.median(ratios)
+            length = ratio * (wide - room - 50)
+            out.append('<rect x="%d" y="%d" width="%.1f" height="%d" class="%s"/>' % (x + room + 4, top + 1, length, bar - 4, "b me" if here else "b"))
+            out.append(label % (x + room + 9 + length, top + 11, "v", "%.2f" % ratio))
+    style = ("text{font:11px sans-serif;fill:#444}.t{font-weight:bold;fill:#111}.n{text-anchor:end}.me{font-weight:bold;fill:#111}"
+             ".b{fill:#a9b8c6}.b.me{fill:#c2452d}")
+    with open(path, "w") as f:
+        f.write('<svg xmlns="http://www.w3.org/2000/svg" width="%d" height="%d" role="img" aria-label="Speeds over that of the fastest">\n'
+                '<style>%s</style>\n<rect width="100%%" height="100%%" fill="#fff"/>\n%s\n</svg>\n'
+                % (2 * wide, (len(shapes) + 1) // 2 * tall, style, "\n".join(out)))
+
+
 def table(rows, to):
     good = [r for r in rows if r["check"] == "ok"]
     names = [p for p in PEERS if any(r["peer"] == p for r in rows)]
     names += sorted({r["peer"] for r in rows} - set(names))
     shapes = sorted({(r["workload"], r["threads"]) for r in good})
-    best = {}  # in each round the fastest, or the one that is named
-    for r in good:
-        if r["peer"] == to if to else r["peer"] not in UNRANKED:
-            k = (r["round"], r["workload"], r["threads"])
-            best[k] = max(best.get(k, 0), speed(r))
+    best = fastest(good, to)
     due = digests_due(good)
 
     def picked(name, shape):
@@ -166,6 +212,7 @@ def main():
     a.add_argument("--append", action="store_true", help="keep the lines in the file and go on with their rounds")
     a.add_argument("--to", metavar="PEER", help="ratios to this peer, in place of the fastest")
     a.add_argument("--show", nargs="+", metavar="FILE", help="only print the table of these result files")
+    a.add_argument("--svg", metavar="FILE", help="draw the ratios to the fastest, too")
     args = a.parse_args()
     os.makedirs(os.path.dirname(args.out), exist_ok=True)
     if args.show:
@@ -179,6 +226,8 @@ def main():
             contestants[name or os.path.basename(path)] = os.path.abspath(path)
         rows = measure(args, contestants)
     table(rows, args.to)
+    if args.svg:
+        picture(rows, args.svg)
     return 0 if all(r["check"] in ("ok", "unsupported") for r in rows) else 1
 
 

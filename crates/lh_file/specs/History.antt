@@ -2,5 +2,6 @@
 pub mod Buckets
 pub mod History
 pub mod Log
+pub mod Own
 pub mod RealTime
 pub mod Told

@@ -1,5 +1,6 @@
 //! Laws of the rule, over the definitions of `specs/Words/Rule.antt`: what its sums say of single hands. Each
 //! is the contract of a function that does nothing.
+ghost use Rattle.lh_file.specs.History.Own.{ServedLaw, DividedLaw, JoinedLaw};
 ghost use Rattle.lh_file.specs.History.RealTime.{RealTimeLaw};
 ghost use Rattle.lh_file.specs.Words.RuleLaws.{OneRight, NoRight, DrawnOnce, NotDrawn};
 
@@ -20,4 +21,13 @@ pub fn stamps_are_drawn_once()
 /// time: an act that has returned before another begins comes first.
 pub fn acts_keep_real_time()
     ensures { RealTimeLaw }
+{}
+
+/// The public calls of a traced file keep a hand its file's own: none of its acts was made on another bucket. Where the file
+/// records they keep its share too, which is how many calls it has made or may still make. So a hand into which all others
+/// were joined has, at [`HashFile::close`](crate::HashFile::close), what that asks for.
+pub fn hands_keep_their_shares()
+    ensures served { ServedLaw }
+    ensures divided { DividedLaw }
+    ensures joined { JoinedLaw }
 {}

@@ -1,13 +1,16 @@
 -- What a run of calls in threads may tell: the totals of a settled history, or why there are none
-use Rattle.std.specs.Prelude.{◌≡◌, ◌≢◌, ℕ, ◌-◌, ◌^◌, min, List, [], Option, Ok, replicate}
+use Rattle.std.specs.Prelude.{◌≡◌, ◌≢◌, ℕ, ◌-◌, ◌%◌, ◌^◌, true, false, min, List, [], Option, Ok, replicate}
 use Rattle.std.specs.Io.KnownBytes.{Keeps}
 use Rattle.lh_addr.specs.Settings.{Settings}
 use Rattle.lh_bucket.specs.declared.call.Call.{Call as CallOf}
 use Rattle.lh_bucket.specs.Listing.{Lists, count_of}
 use Rattle.lh_file.specs.Acts.{replies_of}
+use Rattle.lh_file.specs.FileState.{FileState}
+use Rattle.lh_file.specs.History.Own.{IsOwn, share_of}
 use Rattle.lh_file.specs.Settling.ClosedFile.{ClosedFile}
 use Rattle.lh_file.specs.Settling.SettleFault.{IsDue}
 use Rattle.lh_file.specs.Settling.Settled.{IsSettled}
+use Rattle.lh_file.specs.Words.HandState.{HandState}
 use Rattle.lh_file.specs.declared.act.ActLine.{ActLine}
 use Rattle.lh_file.specs.declared.fault.FileFault.{FileFault}
 use Rattle.lh_file.specs.declared.fault.FileFault.TheVariants as file
@@ -39,6 +42,12 @@ pub record IsDriven (settings : Settings) (d : Driven) : Type 0 where
   pub counts : Counts (replies_of history) d
   pub records : d.records ≡ min (count_of closed.lists) (2 ^ 64 - 1)
 
+-- a thread's hand of these calls: it is its file's own, and hasn't the right to split
+pub record IsPartOf (file : FileState) (calls : ℕ) (hand : HandState) : Type 0 where
+  pub own : IsOwn file hand
+  pub right : hand.view.has_right ≡ false
+  pub share : share_of hand ≡ calls
+
 -- the threads' work failed: a call was not answered, for another reason than out of memory; a thread could not be started; or memory ran out
 abbrev pub IsWorkersFault : DriveFault → Type 0
 IsWorkersFault (Settle fault) = ⊥
@@ -46,10 +55,11 @@ IsWorkersFault (Call fault) = fault ≢ file.Memory
 IsWorkersFault Thread = Unit {0}
 IsWorkersFault Memory = Unit {0}
 
--- why there are no totals: a fault of settling, other than out of memory, that is due for a closed file of the settings and some acts, from an empty file on; or the threads' work failed
+-- why there are no totals: a fault of settling, other than out of memory, that is due for a closed file of the settings and some acts, from an empty file on, where a bucket was not gathered or a split was under way; or the threads' work failed
 abbrev pub IsDriveFault : Settings → DriveFault → Type 0
 IsDriveFault settings (Settle fault) =
     (closed : ClosedFile) × (acts : List ActLine) × (closed.config ≡ settings) × IsDue (empty_file settings) closed acts fault × (fault ≢ settle.Memory)
+    × (closed.gathered ≡ true → closed.root % 2 ≡ 0 → ⊥)
 IsDriveFault settings fault = IsWorkersFault fault
 
 -- the fault of a call that was not answered

@@ -1,6 +1,8 @@
 //! The subcommand `drive`: a command script in threads, settled, from its bytes to its totals.
-ghost use Rattle.std.specs.Prelude.{◌≡◌, ◌≤◌, IfOk, IfErr, IfSome};
-ghost use Rattle.lhash.specs.Driving.{EndsDriving, IsDriven, IsDriveFault, ended_by, unsettled_as};
+ghost use Rattle.std.specs.Prelude.{◌≡◌, ◌%◌, ◌≤◌, true, IfOk, IfErr, IfSome};
+ghost use Rattle.lh_file.specs.Buckets.Rooms.{IsRoomOf};
+ghost use Rattle.lh_file.specs.Settling.Settled.{Settled};
+ghost use Rattle.lhash.specs.Driving.{EndsDriving, IsDriven, IsDriveFault, empty_file, ended_by, unsettled_as};
 
 use crate::answer::read_script;
 use crate::device::write_all;
@@ -10,9 +12,10 @@ use crate::unsettled::Unsettled;
 use crate::workers::work_in_threads;
 use lh_addr::Config;
 use lh_bucket::{Call, Listing, Memory};
-use lh_file::{Acts, Closed, FileFault, Gate, HashFile, NoGate, SettleFault, settle};
+use lh_file::{Acts, Closed, FileFault, Gate, NoGate, Opening, Room, SettleFault, settle};
 use std::alloc::Global;
 use std::io::{Read, Write};
+use std::marker::Brand;
 use std::sync::Wait;
 use std::thread::Threads;
 
@@ -65,20 +68,44 @@ impl From<SettleFault> for DriveFault {
     }
 }
 
-/// Settles what was done with a file that was empty when it was opened.
+/// Counts what was done with a file that was empty when it was opened. That it is settled is known; settling says so again,
+/// on its own.
 fn settled(
     alloc: Global,
-    config: Config,
+    empty: &Listing,
     closed: &Closed,
     acts: &Acts,
 ) -> Result<Driven, DriveFault>
-    requires { closed.now.config ≡ config }
-    ensures ok { IfOk result (IsDriven config) }
-    ensures err { IfErr result (IsDriveFault config) }
+    requires empty { empty.now ≡ empty_file closed.now.config }
+    requires known { closed.now.gathered ≡ true → closed.now.root % 2 ≡ 0 → Settled empty.now closed.now acts.now }
+    ensures ok { IfOk result (IsDriven closed.now.config) }
+    ensures err { IfErr result (IsDriveFault closed.now.config) }
 {
-    let opening = Listing::empty(alloc, config)?;
-    let history = settle(alloc, &opening, closed, acts)?;
+    let history = settle(alloc, empty, closed, acts)?;
     Ok(Driven::of(&history, closed.records()))
+}
+
+/// Runs calls in threads on a file that is opened empty, and settles what they did.
+fn driven_in<G: Gate + Sync, J: Room + Send + Sync, R: Threads + Wait + Sync>(
+    rt: &R,
+    alloc: Global,
+    opening: Opening<'_, &G>,
+    empty: &Listing,
+    calls: &[Call],
+    threads: u32,
+) -> Result<Driven, DriveFault>
+    requires room { IsRoomOf true J.named J.table opening.table }
+    requires records { opening.recording ≡ true }
+    requires from { opening.listing ≡ empty.now }
+    requires empty { empty.now ≡ empty_file empty.now.config }
+    requires threads { 1 ≤ threads }
+    ensures ok { IfOk result (IsDriven empty.now.config) }
+    ensures err { IfErr result (IsDriveFault empty.now.config) }
+{
+    let (file, hand) = opening.file::<J>()?;
+    let hand = work_in_threads(rt, alloc, &file, hand, calls, threads as usize)?;
+    let (closed, acts) = file.close(rt, hand)?;
+    settled(alloc, empty, &closed, &acts)
 }
 
 /// Runs calls in threads on an empty file of this configuration, and settles what they did. The call
@@ -86,6 +113,10 @@ fn settled(
 ///
 /// The totals are those of the history that is settled. Which one it is depends on how the threads'
 /// calls fall together; where all calls on each key go to one thread, the replies don't.
+///
+/// The file is a traced one, so closing it says that its history is settled; `settle` finds the same out again, by itself.
+/// It answers a fault only where a bucket of the file was not met when it was closed or a split was under way, or where
+/// memory ran out.
 ///
 /// If a thread can't be started, or a call isn't answered, all threads that run are waited for, and
 /// the fault is answered.
@@ -101,10 +132,9 @@ pub fn drive_with<G: Gate + Drop + Sync, R: Threads + Wait + Sync>(
     ensures ok { IfOk result (IsDriven config) }
     ensures err { IfErr result (IsDriveFault config) }
 {
-    let (file, hand) = HashFile::create(alloc, config, true, &gate)?;
-    let hand = work_in_threads(rt, alloc, &file, hand, calls, threads as usize)?;
-    let (closed, acts) = file.close(rt, hand)?;
-    settled(alloc, config, &closed, &acts)
+    let empty = Listing::empty(alloc, config)?;
+    let opening = Opening::of(alloc, &empty, true, &gate)?;
+    driven_in::<G, Brand, R>(rt, alloc, opening, &empty, calls, threads)
 }
 
 /// How a run ends that has no totals.

@@ -1,11 +1,12 @@
-//! Threads that share a file, and do a script's calls between them.
-ghost use Rattle.std.specs.Prelude.{◌≡◌, ◌<◌, false, All, IfOk, IfErr};
-ghost use Rattle.lh_file.specs.FileState.{IsOf};
-ghost use Rattle.lhash.specs.Driving.{IsWorkersFault};
+//! Threads that share a traced file, and do a script's calls between them.
+ghost use Rattle.std.specs.Prelude.{◌≡◌, ◌+◌, ◌<◌, true, false, All, IfOk, IfErr, OnOk, sum_by};
+ghost use Rattle.lh_file.specs.History.Own.{IsOwn, share_of};
+ghost use Rattle.lhash.specs.Driving.{IsWorkersFault, IsPartOf};
 
 use crate::drive::DriveFault;
 use lh_bucket::{Answer, Call};
-use lh_file::{FileFault, Gate, Hand, HashFile};
+use lh_file::laws::hands_keep_their_shares;
+use lh_file::{FileFault, Gate, Hand, HashFile, Room, Traced};
 use std::alloc::Global;
 use std::sync::Wait;
 use std::thread;
@@ -18,26 +19,32 @@ struct Worked {
     fault: Option<FileFault>,
 }
 
-/// The hand that comes back is one of this file, and hasn't the right to split.
+/// The hand that comes back is one of this file, hasn't the right to split, and made its calls out of this number.
 #[derive(Clone, Copy)]
-struct OfFile<'a, G: Gate>(&'a HashFile<G>);
+struct Part<'a, G: Gate, J: Room> {
+    file: &'a HashFile<G, Traced, J>,
+    calls: u64,
+}
 
-impl<'a, G: Gate> Promise<Worked> for OfFile<'a, G> {
-    ghost kept_by = { λ file worked. IsOf file.0.now.state worked.hand × (worked.hand.view.has_right ≡ false) };
+impl<'a, G: Gate, J: Room> Promise<Worked> for Part<'a, G, J> {
+    ghost kept_by = { λ part worked. IsPartOf part.file.now.state part.calls worked.hand };
 }
 
 /// Makes a call.
-fn make<G: Gate, R: Wait>(
+fn make<G: Gate, J: Room, R: Wait>(
     rt: &R,
-    file: &HashFile<G>,
+    file: &HashFile<G, Traced, J>,
     hand: &mut Hand,
     call: &Call,
 ) -> Result<Answer, FileFault>
-    requires { IsOf file.now.state hand.old }
+    requires own { IsOwn file.now.state hand.old }
+    requires records { file.now.state.recording ≡ true }
     ensures call { IfOk result (λ answer. answer.call ≡ call.now) }
-    ensures of { IsOf file.now.state hand.new }
+    ensures own { IsOwn file.now.state hand.new }
+    ensures share { share_of hand.new ≡ share_of hand.old }
     ensures right { hand.new.view.has_right ≡ hand.old.view.has_right }
 {
+    hands_keep_their_shares();
     match *call {
         Call::Search(key) => file.search(rt, hand, key),
         Call::Insert(key, value) => file.insert(rt, hand, key, value),
@@ -48,19 +55,18 @@ fn make<G: Gate, R: Wait>(
 
 /// Makes every call of a script whose place is `first` plus a multiple of `threads`, in turn, up to
 /// the first that isn't answered.
-fn work<G: Gate, R: Wait>(
+fn work<G: Gate, J: Room, R: Wait>(
     rt: &R,
-    file: &HashFile<G>,
+    file: &HashFile<G, Traced, J>,
     mut hand: Hand,
     calls: &[Call],
     first: usize,
     threads: usize,
 ) -> Worked
-    requires of { IsOf file.now.state hand }
-    requires right { hand.view.has_right ≡ false }
+    requires part { IsPartOf file.now.state (share_of hand) hand }
+    requires records { file.now.state.recording ≡ true }
     requires threads { 0 < threads }
-    ensures of { IsOf file.now.state result.hand }
-    ensures right { result.hand.view.has_right ≡ false }
+    ensures { IsPartOf file.now.state (share_of hand) result.hand }
 {
     for place in (first..calls.len()).step_by(threads) {
         if let Err(fault) = make(rt, file, &mut hand, &calls[place]) {
@@ -81,69 +87,128 @@ fn share_of(calls: &[Call], first: usize, threads: usize) -> usize
 }
 
 /// Keeps a worker beside the others, or answers that there is no memory for it.
-fn keep<'a, G: Gate>(
-    file: &'a HashFile<G>,
-    workers: &mut Vec<PromisedHandle<Worked, OfFile<'a, G>>>,
-    worker: PromisedHandle<Worked, OfFile<'a, G>>,
+fn keep<'a, G: Gate, J: Room>(
+    file: &'a HashFile<G, Traced, J>,
+    workers: &mut Vec<PromisedHandle<Worked, Part<'a, G, J>>>,
+    worker: PromisedHandle<Worked, Part<'a, G, J>>,
 ) -> bool
-    requires others { All (λ worker. worker.promise.0.now.state ≡ file.now.state) workers.old.items }
-    requires new { worker.promise.0.now.state ≡ file.now.state }
-    ensures { All (λ worker. worker.promise.0.now.state ≡ file.now.state) workers.new.items }
+    requires others { All (λ worker. worker.promise.file.now.state ≡ file.now.state) workers.old.items }
+    requires new { worker.promise.file.now.state ≡ file.now.state }
+    ensures all { All (λ worker. worker.promise.file.now.state ≡ file.now.state) workers.new.items }
+    ensures shares { result ≡ true →
+        sum_by (λ worker. worker.promise.calls) workers.new.items ≡ sum_by (λ worker. worker.promise.calls) workers.old.items + worker.entry.promise.calls }
 {
     workers.push(worker).is_ok()
 }
 
+/// A hand of this many of the calls that another one may make.
+fn divide<G: Gate, J: Room>(
+    file: &HashFile<G, Traced, J>,
+    hand: &mut Hand,
+    calls: u64,
+) -> Result<Hand, FileFault>
+    requires { IsOwn file.now.state hand.old }
+    ensures own { IsOwn file.now.state hand.new }
+    ensures part { IfOk result (IsPartOf file.now.state calls) }
+    ensures share { OnOk result (share_of hand.new + calls ≡ share_of hand.old) }
+{
+    hands_keep_their_shares();
+    file.split_hand(hand, calls)
+}
+
+/// One hand of two.
+fn unite<G: Gate, J: Room>(
+    file: &HashFile<G, Traced, J>,
+    first: Hand,
+    second: Hand,
+) -> Result<Hand, DriveFault>
+    requires first { IsOwn file.now.state first }
+    requires second { IsOwn file.now.state second }
+    requires right { second.view.has_right ≡ false }
+    ensures own { IfOk result (IsOwn file.now.state) }
+    ensures share { IfOk result (λ all. share_of all ≡ share_of first + share_of second) }
+    ensures err { IfErr result IsWorkersFault }
+{
+    hands_keep_their_shares();
+    match file.join_hands(first, second) {
+        Ok(joined) => Ok(joined),
+        Err(_) => Err(DriveFault::Memory),
+    }
+}
+
 /// Waits for a worker, and makes one hand of its hand and another one. A hand that did nothing is joined
 /// into the worker's, so that no act is copied.
-fn join<G: Gate, R: Threads + Wait>(
+fn join<G: Gate, J: Room, R: Threads + Wait>(
     rt: &R,
-    file: &HashFile<G>,
+    file: &HashFile<G, Traced, J>,
     hand: Hand,
     did_nothing: bool,
-    worker: PromisedHandle<Worked, OfFile<'_, G>>,
+    worker: PromisedHandle<Worked, Part<'_, G, J>>,
 ) -> Result<Hand, DriveFault>
-    requires hand { IsOf file.now.state hand }
-    requires worker { worker.promise.0.now.state ≡ file.now.state }
-    ensures ok { IfOk result (IsOf file.now.state) }
+    requires hand { IsOwn file.now.state hand }
+    requires worker { worker.promise.file.now.state ≡ file.now.state }
+    ensures own { IfOk result (IsOwn file.now.state) }
+    ensures share { IfOk result (λ all. share_of all ≡ share_of hand + worker.entry.promise.calls) }
     ensures err { IfErr result IsWorkersFault }
 {
     let Worked { hand: part, fault } = worker.join(rt);
     if let Some(fault) = fault {
         return Err(DriveFault::from(fault));
     }
-    let joined = if did_nothing && !hand.has_right() {
-        file.join_hands(part, hand)
+    if did_nothing && !hand.has_right() {
+        unite(file, part, hand)
     } else {
-        file.join_hands(hand, part)
-    };
-    match joined {
-        Ok(joined) => Ok(joined),
-        Err(_) => Err(DriveFault::Memory),
+        unite(file, hand, part)
     }
+}
+
+/// Waits for all workers, and makes one hand of theirs and another one, which did nothing.
+fn join_all<G: Gate, J: Room, R: Threads + Wait>(
+    rt: &R,
+    file: &HashFile<G, Traced, J>,
+    mut hand: Hand,
+    workers: Vec<PromisedHandle<Worked, Part<'_, G, J>>>,
+) -> Result<Hand, DriveFault>
+    requires hand { IsOwn file.now.state hand }
+    requires workers { All (λ worker. worker.promise.file.now.state ≡ file.now.state) workers.items }
+    ensures own { IfOk result (IsOwn file.now.state) }
+    ensures share { IfOk result (λ all. share_of all ≡ share_of hand + sum_by (λ worker. worker.promise.calls) workers.entry.items) }
+    ensures err { IfErr result IsWorkersFault }
+{
+    let mut did_nothing = true;
+    for worker in workers {
+        hand = join(rt, file, hand, did_nothing, worker)?;
+        did_nothing = false;
+    }
+    Ok(hand)
 }
 
 /// Makes all calls in this number of threads, and joins the hands of all of them into one. Of several faults
 /// it is the one of the first thread that has one.
-pub fn work_in_threads<G: Gate + Sync, R: Threads + Wait + Sync>(
+pub fn work_in_threads<G: Gate + Sync, J: Room + Send + Sync, R: Threads + Wait + Sync>(
     rt: &R,
     alloc: Global,
-    file: &HashFile<G>,
+    file: &HashFile<G, Traced, J>,
     hand: Hand,
     calls: &[Call],
     threads: usize,
 ) -> Result<Hand, DriveFault>
-    requires hand { IsOf file.now.state hand }
+    requires hand { IsOwn file.now.state hand }
+    requires records { file.now.state.recording ≡ true }
     requires threads { 0 < threads }
-    ensures ok { IfOk result (IsOf file.now.state) }
+    ensures own { IfOk result (IsOwn file.now.state) }
+    ensures share { IfOk result (λ all. share_of all ≡ share_of hand) }
     ensures err { IfErr result IsWorkersFault }
 {
     thread::scope(
         thread::scope_env(),
         rt,
         |scope| -> Result<Hand, DriveFault>
-            requires hand { IsOf file.now.state hand }
+            requires hand { IsOwn file.now.state hand }
+            requires records { file.now.state.recording ≡ true }
             requires threads { 0 < threads }
-            ensures ok { IfOk result (IsOf file.entry.now.state) }
+            ensures own { IfOk result (IsOwn file.entry.now.state) }
+            ensures share { IfOk result (λ all. share_of all ≡ share_of hand) }
             ensures err { IfErr result IsWorkersFault }
         {
             let mut all = hand;
@@ -151,7 +216,7 @@ pub fn work_in_threads<G: Gate + Sync, R: Threads + Wait + Sync>(
             let mut missing = None;
             for first in 0..threads {
                 let share = share_of(calls, first, threads) as u64;
-                let part = match file.split_hand(&mut all, share) {
+                let part = match divide(file, &mut all, share) {
                     Ok(part) => part,
                     Err(fault) => {
                         missing = Some(DriveFault::from(fault));
@@ -159,13 +224,12 @@ pub fn work_in_threads<G: Gate + Sync, R: Threads + Wait + Sync>(
                     }
                 };
                 let Ok(worker) = scope.spawn_with(
-                    OfFile(file),
+                    Part { file, calls: share },
                     move || -> Worked
-                        requires of { IsOf file.now.state part }
-                        requires right { part.view.has_right ≡ false }
+                        requires part { IsPartOf file.now.state (share_of part) part }
+                        requires records { file.now.state.recording ≡ true }
                         requires threads { 0 < threads }
-                        ensures of { IsOf file.entry.now.state result.hand }
-                        ensures right { result.hand.view.has_right ≡ false }
+                        ensures { IsPartOf file.entry.now.state (share_of part) result.hand }
                     { work(rt, file, part, calls, first, threads) },
                 ) else {
                     missing = Some(DriveFault::Thread);
@@ -176,11 +240,7 @@ pub fn work_in_threads<G: Gate + Sync, R: Threads + Wait + Sync>(
                     break;
                 }
             }
-            let mut did_nothing = true;
-            for worker in workers {
-                all = join(rt, file, all, did_nothing, worker)?;
-                did_nothing = false;
-            }
+            let all = join_all(rt, file, all, workers)?;
             match missing {
                 Some(fault) => Err(fault),
                 None => Ok(all),

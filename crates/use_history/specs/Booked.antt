@@ -1,15 +1,9 @@
--- What a thread has, and what it hands back
+-- What a thread hands back
 use Rattle.std.specs.Prelude.{◌≡◌, false}
-use Rattle.lh_file.specs.Closing.{NoneLent}
-use Rattle.lh_file.specs.FileState.{FileState, IsOf}
+use Rattle.lh_file.specs.FileState.{FileState}
+use Rattle.lh_file.specs.History.Own.{IsOwn}
 use Rattle.lh_file.specs.History.Told.{IsTold}
-use Rattle.lh_file.specs.Words.HandState.{HandState}
 use Rattle.use_history.specs.declared.Booked.{Booked}
-
--- The hand is one of this file, and none of its acts was made on another bucket.
-pub record IsOwn (file : FileState) (hand : HandState) : Type 0 where
-  pub of : IsOf file hand
-  pub own : NoneLent hand.entries
 
 -- The hand has no right to split; and what it was told of is one legal log, in which each of its acts stands at its stamp.
 pub record IsBooked (file : FileState) (booked : Booked) : Type 0 where

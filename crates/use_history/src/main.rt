@@ -4,12 +4,14 @@
 
 ghost use Rattle.std.specs.Prelude.{true, IfOk, IfSome};
 ghost use Rattle.lh_file.specs.Buckets.Rooms.{IsRoomOf};
+ghost use Rattle.lh_file.specs.History.Own.{IsOwn};
 ghost use Rattle.lh_file.specs.Settling.Settled.{Settled};
-ghost use Rattle.use_history.specs.Booked.{IsOwn, IsBooked};
+ghost use Rattle.use_history.specs.Booked.{IsBooked};
 
 use anyhow::Context;
 use lh_addr::Config;
 use lh_bucket::{Call, Listing};
+use lh_file::laws::hands_keep_their_shares;
 use lh_file::{Acts, Closed, Hand, HashFile, NoGate, Opening, Room, Traced};
 use lh_page::{Key, Value};
 use std::marker::Brand;
@@ -39,6 +41,8 @@ fn make<J: Room, R: Wait>(rt: &R, file: &File<J>, hand: &mut Hand, call: Call)
     requires { IsOwn file.now.state hand.old }
     ensures { IsOwn file.now.state hand.new }
 {
+    // Its law: a hand stays its file's own.
+    hands_keep_their_shares();
     let _ = match call {
         Call::Search(key) => file.search(rt, hand, key),
         Call::Insert(key, value) => file.insert(rt, hand, key, value),
@@ -68,12 +72,13 @@ fn book<J: Room, R: Wait>(rt: &R, file: &File<J>, mut hand: Hand, name: u8) -> B
     Booked { hand, told }
 }
 
-/// A hand for a thread, with so many of the calls of this one.
+/// A hand for a thread, with this many of the calls of this one.
 fn split_own<J: Room>(file: &File<J>, hand: &mut Hand, calls: u64) -> Option<Hand>
     requires { IsOwn file.now.state hand.old }
     ensures first { IsOwn file.now.state hand.new }
     ensures second { IfSome result (IsOwn file.now.state) }
 {
+    hands_keep_their_shares();
     file.split_hand(hand, calls).ok()
 }
 
@@ -83,6 +88,7 @@ fn join_own<J: Room>(file: &File<J>, first: Hand, second: Booked) -> Option<Hand
     requires second { IsBooked file.now.state second }
     ensures { IfSome result (IsOwn file.now.state) }
 {
+    hands_keep_their_shares();
     match file.join_hands(first, second.hand) {
         Ok(hand) => Some(hand),
         Err(_) => None,

@@ -1,4 +1,4 @@
-use Rattle.use_history.specs.Booked.{IsOwn}
+use Rattle.lh_file.specs.History.Own.{IsOwn}
 use Rattle.use_history.proofs.book.Given as goal
 
 abbrev pub invariant-loop-seat : goal.invariant-loop-seat

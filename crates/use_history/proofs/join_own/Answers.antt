@@ -1,10 +1,5 @@
-use Rattle.std.proofs.Common.{sym, subst, rules}
-use Rattle.lh_file.specs.Closing.{NoneLent}
-use Rattle.use_history.proofs.Own.{own-append}
 use Rattle.use_history.proofs.join_own.Goals as goal
 
 pub returns-in-Ok : goal.returns-in-Ok
-returns-in-Ok g c = record {
-  of = search rules;
-  own = subst NoneLent (sym c.in-Ok.ensures.ok.entries) (own-append c.args.first.entries c.args.second.hand.entries c.requires.first.own c.requires.second.own.own);
-}
+returns-in-Ok g c =
+    (c.hands_keep_their_shares.ensures.joined c.args.file.now.state c.args.first c.args.second.hand c.in-Ok.hand c.in-Ok.ensures.ok).0 c.requires.first c.requires.second.own

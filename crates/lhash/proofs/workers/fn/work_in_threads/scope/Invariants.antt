@@ -1,18 +1,12 @@
-use Rattle.std.specs.Prelude.{◌≡◌, All, IfSome}
-use Rattle.std.specs.Vec.Iter.{into_iter_items}
-use Rattle.lh_file.specs.FileState.{IsOf}
+use Rattle.std.specs.Prelude.{◌≡◌, ◌+◌, All, IfSome, sum_by}
+use Rattle.lh_file.specs.History.Own.{IsOwn, share_of}
 use Rattle.lhash.specs.Driving.{IsWorkersFault}
 use Rattle.lhash.proofs.workers.fn.work_in_threads.scope.Given as goal
 
 abbrev pub invariant-loop-first : goal.invariant-loop-first
 invariant-loop-first g l = record {
-  hand : IsOf l.file.now.state l.all;
-  each : All (λ worker. worker.promise.0.now.state ≡ l.file.now.state) l.workers.items;
+  hand : IsOwn l.file.now.state l.all;
+  each : All (λ worker. worker.promise.file.now.state ≡ l.file.now.state) l.workers.items;
+  shares : share_of l.all + sum_by (λ worker. worker.promise.calls) l.workers.items ≡ share_of l.initial.all;
   missing : IfSome l.missing IsWorkersFault;
-}
-
-abbrev pub invariant-loop-worker : goal.invariant-loop-worker
-invariant-loop-worker g l = record {
-  hand : IsOf l.file.now.state l.all;
-  each : All (λ worker. worker.promise.0.now.state ≡ l.file.now.state) (into_iter_items l.worker-iterator);
 }
