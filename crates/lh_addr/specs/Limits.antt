@@ -9,7 +9,7 @@ most_initial = 256
 abbrev pub most_capacity : ℕ
 most_capacity = 24
 
--- the load threshold is at least and at most so many percent
+-- the load threshold is at least and at most this many percent
 abbrev pub least_load : ℕ
 least_load = 10
 
@@ -32,6 +32,6 @@ IsCapacity capacity = (1 ≤ capacity) × (capacity ≤ most_capacity)
 abbrev pub IsLoad : ℕ → Type 0
 IsLoad load = (least_load ≤ load) × (load ≤ most_load)
 
--- a file that began with `initial` buckets has at least so many
+-- a file that began with `initial` buckets has at least this many
 abbrev pub IsSize : ℕ → ℕ → Type 0
 IsSize initial buckets = (initial ≤ buckets) × (buckets ≤ most_buckets)

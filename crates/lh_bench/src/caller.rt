@@ -123,7 +123,7 @@ impl Caller {
     }
 }
 
-/// Makes so many calls of a stream.
+/// Makes this many calls of a stream.
 pub fn play<S: Stream, M: Mode, J: Room, R: Wait>(
     rt: &R,
     file: &HashFile<NoGate, M, J>,

@@ -17,7 +17,7 @@ use std::sync::Wait;
 use std::thread::Threads;
 use std::time::CpuClock;
 
-/// Runs a workload on an empty file. The process had so many bytes of memory before that was made.
+/// Runs a workload on an empty file. The process had this many bytes of memory before that was made.
 fn run_on<M, J, R>(
     rt: &R,
     file: &HashFile<NoGate, M, J>,

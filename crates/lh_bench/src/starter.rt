@@ -30,7 +30,7 @@ impl Starter {
         }
     }
 
-    /// Waits until so many threads stand by.
+    /// Waits until this many threads stand by.
     pub fn await_all(&self, rt: &impl Wait, threads: u64) {
         for _ in rt.forever() {
             if self.ready.load(Ordering::SeqCst) >= threads {

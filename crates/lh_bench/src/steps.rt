@@ -61,7 +61,7 @@ impl Kind for Stamp {
     }
 }
 
-/// Takes so many steps, and answers how many did what they were to do.
+/// Takes this many steps, and answers how many did what they were to do.
 #[inline(never)]
 fn repeat<K: Kind>(words: &Words, mut hand: Hand, call: Call, steps: u64) -> u64
     requires { IsOf words.now hand }
@@ -83,7 +83,7 @@ enum Name {
     Stamp,
 }
 
-/// Takes so many steps of a kind.
+/// Takes this many steps of a kind.
 fn repeat_named(words: &Words, hand: Hand, call: Call, steps: u64, name: Name) -> u64
     requires { IsOf words.now hand }
 {
@@ -111,7 +111,7 @@ fn hands_of<R: AllocGlobal>(
     Ok(hands)
 }
 
-/// Takes the steps of one kind in so many threads, and prints what each cost.
+/// Takes the steps of one kind in this many threads, and prints what each cost.
 fn run<R>(rt: &R, order: &Order, name: Name, text: &str) -> Result<()>
 where
     R: Threads + Wait + Sync + Clock + CpuClock + Print + AllocGlobal,

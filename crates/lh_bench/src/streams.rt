@@ -73,7 +73,7 @@ pub fn value_of(seed: u64, number: u64) -> Value {
     }
 }
 
-/// The value that a record is given in place of its own: so many bytes of 40, which go with its number.
+/// The value that a record is given in place of its own: this many bytes of 40, which go with its number.
 pub fn other_value_of(seed: u64, number: u64, length: u8) -> Value {
     let seed = seed ^ 0x5a5a_5a5a_5a5a_5a5a;
     let mut bytes = [0; 48];

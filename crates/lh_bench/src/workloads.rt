@@ -50,7 +50,7 @@ pub fn load<M: Mode, J: Room, R: Wait>(
     play(rt, file, caller, stream, order.records)
 }
 
-/// Inserts. The process had so many bytes of memory before the file was made.
+/// Inserts. The process had this many bytes of memory before the file was made.
 pub fn inserts<M: Mode, J: Room, R>(
     rt: &R,
     file: &HashFile<NoGate, M, J>,
@@ -108,7 +108,7 @@ fn records_there<M: Mode, J: Room, R: Wait>(
     play(rt, file, caller, stream, order.records.wrapping_mul(2)).tally
 }
 
-/// What came of threads that shared a file, which had so many records before.
+/// What came of threads that shared a file, which had this many records before.
 fn outcome_of<M: Mode, J: Room, R: Wait>(
     rt: &R,
     file: &HashFile<NoGate, M, J>,
@@ -127,7 +127,7 @@ fn outcome_of<M: Mode, J: Room, R: Wait>(
     Outcome::new(shift.calls, shift.spent, tally, is_due)
 }
 
-/// Calls of several threads, in a file that has so many records before them: each `stride`th from the first on.
+/// Calls of several threads, in a file that has this many records before them: each `stride`th from the first on.
 pub fn shared<M, J, R>(
     rt: &R,
     file: &HashFile<NoGate, M, J>,

@@ -42,7 +42,7 @@ left buckets column = pitch buckets * column
 abbrev pub centre : ℕ → ℕ → ℕ
 centre buckets column = left buckets column + bar_width buckets / 2
 
--- each so many columns have a label
+-- every this many columns have a label
 abbrev pub label_step : ℕ → ℕ
 label_step buckets = if nat_le (column_count buckets) 32 then 1 else if nat_le (column_count buckets) 128 then 8 else 64
 

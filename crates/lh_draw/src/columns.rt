@@ -190,7 +190,7 @@ pub fn label_count(listing: &Listing) -> u32
     (column_count(buckets) - 1) / label_step(buckets) + 1
 }
 
-/// The label of every so many columns.
+/// The label of every this many columns.
 pub fn label_of(listing: &Listing, place: u32) -> Label
     requires { place < label_count listing.now }
     ensures { result ≡ label_of listing.now place }

@@ -22,7 +22,7 @@ pub record IsOf (file : FileState) (hand : HandState) : Type 0 where
   pub max : hand.view.max ≡ file.config.max
   pub recording : hand.recording ≡ file.recording
 
--- the file may have so many buckets
+-- the file may have this many buckets
 abbrev pub IsSize : FileState → ℕ → Type 0
 IsSize file buckets = (file.config.initial ≤ buckets) × (buckets ≤ file.config.max)
 
@@ -30,7 +30,7 @@ IsSize file buckets = (file.config.initial ≤ buckets) × (buckets ≤ file.con
 abbrev pub IsRootWord : FileState → ℕ → Type 0
 IsRootWord file word = (file.config.initial ≤ buckets_of word) × (buckets_of word + word % 2 ≤ file.config.max)
 
--- a file that was just opened with so many buckets and records, and its first hand, which knows that number of buckets, may make 2^63 calls, and has neither the right to split nor acts
+-- a file that was just opened with this many buckets and records, and its first hand, which knows that number of buckets, may make 2^63 calls, and has neither the right to split nor acts
 pub record IsOpened (config : Settings) (buckets : ℕ) (recording : Bool) (records : ℕ) (file : FileState) (hand : HandState) : Type 0 where
   pub config_is : file.config ≡ config
   pub recording_is : file.recording ≡ recording

@@ -81,7 +81,7 @@ impl Words {
         Words::open(alloc, config, config.initial(), recording, 0)
     }
 
-    /// The words of a file that was opened with so many buckets and records, with its first hand, which
+    /// The words of a file that was opened with this many buckets and records, with its first hand, which
     /// may make 2^63 calls.
     pub fn open(
         alloc: Global,
@@ -98,7 +98,7 @@ impl Words {
         Words::open_from(alloc, &listing, recording, records)
     }
 
-    /// The words of a file that is opened from a listing and has so many records.
+    /// The words of a file that is opened from a listing and has this many records.
     pub(crate) fn open_from(
         alloc: Global,
         listing: &Listing,

@@ -9,7 +9,7 @@ pub record Links : Type 0 where
   pub heads : ℕ
   pub pages : ℕ
 
--- the pages that come from page p by `next`, itself first and no more than so many; 0 stands for none
+-- the pages that come from page p by `next`, itself first and no more than this many; 0 stands for none
 unfoldable pub pages_from : (ℕ → ℕ) → ℕ → ℕ → List ℕ
 pages_from next zero p = []
 pages_from next (suc k) p = if p == 0 then [] else p ∷ pages_from next k (next p)

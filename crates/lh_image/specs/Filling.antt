@@ -24,7 +24,7 @@ pub record FillsWhole (bytes buffer : List ℕ) (now : Option (List ℕ)) : Type
   pub rest : now ≡ Some (drop (length buffer) bytes)
   pub each_byte : AreBytes buffer
 
--- why fewer bytes came than so many
+-- why fewer bytes came than this many
 abbrev pub IsCut : List ℕ → ℕ → ImageFault → Type 0
 IsCut bytes size Short = length bytes < size
 IsCut bytes size ReadFault = Unit {0}

@@ -32,7 +32,7 @@ record_count v = v.header.records
 
 -- ---- the pages
 
--- the numbers of all pages but the header, of so many pages
+-- the numbers of all pages but the header, of this many pages
 unfoldable pub numbers : ℕ → List ℕ
 numbers pages = range_with_len 1 (pages - 1)
 

@@ -22,7 +22,7 @@ abbrev pub IsSent : {E : Type 0} → List ℕ → Result (Unit {0}) E → Option
 IsSent text (Ok done) before now = Appends before now text
 IsSent text (Err e) before now = TakesBeginning before now text
 
--- Why a listing is not written in a version: the pages have not so many slots, or these no room for a record, or there would be too many pages. The first that holds is answered, and of records the one of the least bucket, there at the least place.
+-- Why a listing is not written in a version: the pages have not this many slots, or these no room for a record, or there would be too many pages. The first that holds is answered, and of records the one of the least bucket, there at the least place.
 abbrev pub IsRefused : Version → Lists → WriteImageFault → Type 0
 IsRefused version l OldCapacity = slots version < l.config.capacity
 IsRefused version l (OldRecord bucket place) = (l.config.capacity ≤ slots version) × IsFirst (IsFitting (format_of version)) (IsTooLong (format_of version)) l.lists bucket place

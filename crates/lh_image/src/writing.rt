@@ -139,7 +139,7 @@ fn write_pages<W: Write>(
     write_overflow_pages(listing, version, &root, writer)
 }
 
-/// The number of pages of an image, if an image may have so many.
+/// The number of pages of an image, if an image may have this many.
 fn image_pages(listing: &Listing) -> Result<u32, WriteImageFault>
     ensures kept { IsListing listing.now }
     ensures pages { IfOk result (λ pages. pages ≡ page_total listing.now) }

@@ -1,4 +1,4 @@
--- What the pages of an image have room for: so many slots, and in each so many bytes of a key and of a value.
+-- What the pages of an image have room for: this many slots, and in each this many bytes of a key and of a value.
 use Rattle.std.specs.Prelude.{ℕ, ◌+◌, ◌*◌, ◌≤◌, List, length}
 use Rattle.std.specs.List.{All}
 use Rattle.lh_page.specs.declared.format.Format.{Format}

@@ -2,7 +2,7 @@
 ghost use Rattle.std.specs.Prelude.{◌≡◌, ◌≤◌};
 ghost use Rattle.lh_page.specs.PackedList.{pages_needed};
 
-/// The number of pages of a chain with so many records, at `capacity` records a page. The primary page is
+/// The number of pages of a chain with this many records, at `capacity` records a page. The primary page is
 /// counted, so it is at least one.
 pub fn pages_needed(records: usize, capacity: u32) -> usize
     requires { 1 ≤ capacity }

@@ -23,7 +23,7 @@ use Rattle.lh_replay.specs.Lanes.{ends_at}
 use Rattle.lh_replay.specs.Meaning.{BothHeldLaw}
 use Rattle.lh_replay.proofs.Holding.{neither}
 
--- the splitter has its locks, at a file of so many buckets
+-- the splitter has its locks, at a file of this many buckets
 abbrev HasLocks : State → ℕ → Type 0
 HasLocks state size = (has_locks state.splitter ≡ true) × (state.buckets ≡ size)
 

@@ -17,7 +17,7 @@ use Rattle.lh_replay.specs.Picture.{entry_at, event_at}
 abbrev pub ends_row : Bool → ℕ → List Event → List Entry → ℕ → Bool
 ends_row is_lock lane events entries row = ends_at is_lock lane (event_at events row) (entry_at entries row)
 
--- what is drawn in a lane reaches over so many of these steps: the last of them ends it and none before, or none ends it and there are no more
+-- what is drawn in a lane reaches over this many of these steps: the last of them ends it and none before, or none ends it and there are no more
 pub record Reaches (is_lock : Bool) (lane : ℕ) (events : List Event) (entries : List Entry) (rows : ℕ) : Type 0 where
   pub within : rows ≤ length events
   pub goes_on : (row : ℕ) → row + 1 < rows → ends_row is_lock lane events entries row ≡ false

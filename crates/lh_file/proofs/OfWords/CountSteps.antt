@@ -72,7 +72,7 @@ module _ (initial max : ℕ) where
         floor = floor;
       }
 
-  -- no word changes, and the hand was told of so many acts
+  -- no word changes, and the hand was told of this many acts
   floor_told : (words : FileWords) (views : List View) → IsRule initial max words views → (id : ℕ) (v : View) (floor : ℕ) → get_elem? views id ≡ some v → 0 < v.initial → floor ≤ words.stamps
       → Change initial max words words v (floored v floor)
   floor_told words views rule id v floor me live low = record {

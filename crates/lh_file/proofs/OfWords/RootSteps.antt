@@ -33,7 +33,7 @@ module _ (initial max : ℕ) where
     exact = λ has. let e = rule.exact id v me has in let t = term_le rights_of views id v me in let p = rights-one v has in let q = rule.right in omega arith;
   }
 
-  -- no word changes, and the hand knows of so many buckets
+  -- no word changes, and the hand knows of this many buckets
   pub seen : (words : FileWords) (views : List View) → IsRule initial max words views → (id : ℕ) (v : View) (known : ℕ) → get_elem? views id ≡ some v → 0 < v.initial → known ≤ buckets_of words.root
       → (v.has_right ≡ true → known ≡ buckets_of words.root) → Change initial max words words v (rooted v known v.has_right)
   seen words views rule id v known me live low exact = record {

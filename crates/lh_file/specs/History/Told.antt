@@ -9,7 +9,7 @@ use Rattle.lh_file.specs.Words.HandState.{HandState}
 use Rattle.lh_file.specs.Words.Rule.{Each}
 use Rattle.lh_file.specs.declared.words.seat_view.Entry.{Entry}
 
--- There is one legal log of so many acts, from the opening's map on, in which these acts stand at their stamps.
+-- There is one legal log of this many acts, from the opening's map on, in which these acts stand at their stamps.
 abbrev pub IsTold : Lists → ℕ → List Entry → Type 0
 IsTold opening count entries =
     (log : List Entry) × (length log ≡ count) × IsLegalLog (map_in opening) log × Each entries (StandsIn log)

@@ -25,7 +25,7 @@ pub record IsFirstWrong (opening : Lists) (history : List ActLine) (stamp : ℕ)
   pub was : slice_get (replies_of history) stamp ≡ Some given
   pub was_due : slice_get (replies (map_in opening) (calls_of history)) stamp ≡ Some due
 
--- When each fault is answered: the first, in their order, whose condition holds. Want of memory may come at any point.
+-- When each fault is answered: the first, in their order, whose condition holds. Out of memory may come at any point.
 abbrev pub IsDue : Lists → ClosedFile → List ActLine → SettleFault → Type 0
 IsDue opening closed acts SplitUnderWay = closed.root % 2 ≡ 1
 IsDue opening closed acts (MissingStamp stamp) = IsMissing closed acts stamp
@@ -40,7 +40,7 @@ IsDue opening closed acts (Placed bucket key) =
     × IsFirstAway closed.config.initial (size_of closed.root) closed.lists bucket key
 IsDue opening closed acts Memory = Unit {0}
 
--- when the replaying of a history fails: at its first wrong reply, or for want of memory
+-- when the replaying of a history fails: at its first wrong reply, or out of memory
 abbrev pub IsReplayFault : Lists → List ActLine → SettleFault → Type 0
 IsReplayFault opening history (Reply stamp given due) = IsFirstWrong opening history stamp given due
 IsReplayFault opening history Memory = Unit {0}

@@ -28,7 +28,7 @@ pub record IsLoadOf (file : FileState) (old : HandState) (load : Load) (new : Ha
   pub inserted : old.view.inserted ≤ load.inserted
   pub deleted : old.view.deleted ≤ load.deleted
 
--- A hand that was to give so many calls to a new one
+-- A hand that was to give this many calls to a new one
 pub record IsDivided (calls : ℕ) (old : HandState) (result : Result HandState FileFault) (new : HandState) : Type 0 where
   -- On success the hand had them, the new hand has them, and they are all that the hand has lost.
   pub enough : OnOk result (calls ≤ old.view.left)

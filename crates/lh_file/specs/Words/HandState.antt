@@ -19,7 +19,7 @@ pub record HandState : Type 0 where
 abbrev pub seeing : HandState → View → HandState
 seeing hand view = record hand { view = view }
 
--- the same hand, which has seen so many buckets
+-- the same hand, which has seen this many buckets
 abbrev pub knowing : HandState → ℕ → HandState
 knowing hand buckets = seeing hand (rooted hand.view buckets hand.view.has_right)
 
@@ -35,7 +35,7 @@ pub record IsSame (old new : HandState) : Type 0 where
   pub entries : new.entries ≡ old.entries
   pub acts : new.acts ≡ old.acts
 
--- a hand that got so many calls of another: it knows the root that the other knows, has no right and no stamps, and has done nothing
+-- a hand that got this many calls of another: it knows the root that the other knows, has no right and no stamps, and has done nothing
 pub record IsBranch (calls : ℕ) (old new : HandState) : Type 0 where
   pub table : new.table ≡ old.table
   pub recording : new.recording ≡ old.recording

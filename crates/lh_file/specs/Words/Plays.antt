@@ -17,7 +17,7 @@ use Rattle.lh_file.specs.declared.words.view.View.{View}
 abbrev pub Seated : Type 0
 Seated = Me (Unit {0}) SeatView
 
--- the hand may move the next split of a file of so many buckets: it has the right, it knows that number, it has moved none, and no bucket and no slot lies with it
+-- the hand may move the next split of a file of this many buckets: it has the right, it knows that number, it has moved none, and no bucket and no slot lies with it
 pub record MayMove (buckets : ℕ) (me : Seated) : Type 0 where
   pub free : me.1 ≡ []
   pub bucketless : me.0.parts ≡ []
@@ -75,7 +75,7 @@ drawn call given bucket step before stamp after =
     × (before.0.view.inserted + before.0.view.deleted ≤ length before.0.view.stamps)
     × (after ≡ (acted false call given (bucket ∷ []) stamp before.0, before.1))
 
--- a load of the stamp word: the hand was told that there are so many acts, which are no fewer than it was told before; and in a traced file that was opened from this listing, there is a legal log of so many, in which the hand's acts stand
+-- a load of the stamp word: the hand was told that there are this many acts, which are no fewer than it was told before; and in a traced file that was opened from this listing, there is a legal log of this many, in which the hand's acts stand
 abbrev pub told : Bool → Lists → Telling
 told traced opening step before word after =
     (after ≡ (with_view before.0 (floored before.0.view word), before.1))

@@ -85,7 +85,7 @@ no_bucket = record { head = record { number = 0; initial = 1; capacity = 1; leve
 abbrev pub no_listing : Lists
 no_listing = record { config = record { initial = 1; capacity = 1; load = 10; max = 1 }; lists = [] }
 
--- the hand's seat after it gave so many calls away
+-- the hand's seat after it gave this many calls away
 abbrev pub lessened_seat : ℕ → SeatView → SeatView
 lessened_seat calls seat = with_view seat (lessened calls seat.view)
 

@@ -36,7 +36,7 @@ spent = record {
   max = 0;
 }
 
--- the hand knows of so many buckets, and has the right to split or not
+-- the hand knows of this many buckets, and has the right to split or not
 abbrev pub rooted : View → ℕ → Bool → View
 rooted view known has_right = record view { known = known; has_right = has_right }
 
@@ -44,11 +44,11 @@ rooted view known has_right = record view { known = known; has_right = has_right
 abbrev pub stamped_with : View → ℕ → View
 stamped_with view stamp = record view { stamps = view.stamps ++ stamp ∷ []; left = view.left - 1 }
 
--- the hand was told that there were so many acts
+-- the hand was told that there were this many acts
 abbrev pub floored : View → ℕ → View
 floored view floor = record view { floor = floor }
 
--- a hand that gave so many calls away
+-- a hand that gave this many calls away
 abbrev pub lessened : ℕ → View → View
 lessened calls view = record view { left = view.left - calls }
 

@@ -25,7 +25,7 @@ fn add_bucket(records: &mut PlainMap, listing: &Listing, bucket: u32) -> Result<
     Ok(())
 }
 
-/// The map that a listing stands for, with room for so many records.
+/// The map that a listing stands for, with room for this many records.
 fn map_in(alloc: Global, listing: &Listing, room: usize) -> Result<PlainMap, Memory>
     ensures { IfOk result (λ m. m ≡ map_in listing.now) }
 {
@@ -45,7 +45,7 @@ fn is_same(given: &Reply, due: &Reply) -> bool
 }
 
 /// What the calls of a history leave of a listing's map, or the first reply that is not the map's. There
-/// is room for so many records from the start.
+/// is room for this many records from the start.
 pub(crate) fn replay(
     alloc: Global,
     opening: &Listing,

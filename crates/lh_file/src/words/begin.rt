@@ -19,7 +19,7 @@ use lh_bucket::{Listing, Memory};
 use std::alloc::Global;
 
 impl<M: Mode> Words<M> {
-    /// The words of a file that is opened from a listing and has so many records, with the first seat, which has all
+    /// The words of a file that is opened from a listing and has this many records, with the first seat, which has all
     /// buckets where the file is traced.
     pub(crate) fn begun(
         alloc: Global,

@@ -36,7 +36,7 @@ fn moved(alloc: Global, lists: &[&[(u8, u8)]]) -> Result<Result<Listing, Listing
     Ok(closed(alloc, 6, 0, lists)?.into_listing(alloc))
 }
 
-/// Whether a listing is of such a file, and has so many buckets and records.
+/// Whether a listing is of such a file, and has this many buckets and records.
 fn has_size(listing: &Listing, buckets: u32, records: u64) -> Result<bool, Fail> {
     Ok(listing.config() == config()? && listing.buckets() == buckets && listing.len() == records)
 }

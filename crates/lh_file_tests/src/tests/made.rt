@@ -19,7 +19,7 @@ pub(crate) fn made<G: Gate + Drop>(
     HashFile::create(alloc, config, true, gate)
 }
 
-/// A second hand, which may make so many of the calls of the first.
+/// A second hand, which may make this many of the calls of the first.
 pub(crate) fn second_of<G: Gate>(file: &HashFile<G>, first: &mut Hand, calls: u64) -> Option<Hand>
     requires { IsOf file.now.state first.old }
     ensures first { IsOf file.now.state first.new }

@@ -75,7 +75,7 @@ fn an_opened_file_is_listed(rt: HostRuntime) -> Result<(), Fail> {
     Ok(())
 }
 
-/// So many records in the one bucket of a file, on pages of two.
+/// This many records in the one bucket of a file, on pages of two.
 fn long_chain(alloc: Global, count: u16) -> Result<Listing, Fail> {
     let mut pairs = Vec::new(alloc);
     let value = Value::new(b"1")?;

@@ -30,7 +30,7 @@ impl Progress {
         self.step.fetch_max(step, Ordering::SeqCst);
     }
 
-    /// Waits until the test has come to a step, or for so many turns that the test fails.
+    /// Waits until the test has come to a step, or for this many turns that the test fails.
     pub(crate) fn wait(&self, step: u64) {
         for _turn in 0..TURNS {
             if self.step() >= step {

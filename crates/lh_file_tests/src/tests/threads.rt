@@ -117,7 +117,7 @@ fn keep<'a>(
     workers.push(worker).is_ok()
 }
 
-/// A hand that may make so many of the calls of another.
+/// A hand that may make this many of the calls of another.
 fn part_of(file: &Words, hand: &mut Hand, calls: u64) -> Option<Hand>
     requires { IsOf file.now hand.old }
     ensures old { IsOf file.now hand.new }
@@ -155,7 +155,7 @@ fn join_all<R: Threads + Wait>(
     Some(all)
 }
 
-/// Room for so many workers, asked for once more where memory was refused.
+/// Room for this many workers, asked for once more where memory was refused.
 fn room_for<'a>(alloc: Global, threads: u32) -> Option<Vec<PromisedHandle<Hand, OfFile<'a>>>>
     ensures { IfSome result (λ workers. workers.items ≡ []) }
 {
@@ -165,7 +165,7 @@ fn room_for<'a>(alloc: Global, threads: u32) -> Option<Vec<PromisedHandle<Hand, 
     }
 }
 
-/// Works in so many threads while this one looks, and joins all hands into the first. A thread that is refused takes no
+/// Works in this many threads while this one looks, and joins all hands into the first. A thread that is refused takes no
 /// part.
 fn work_in_threads<R: Threads + Wait>(
     rt: &R,
@@ -220,7 +220,7 @@ fn has_each_stamp(alloc: Global, acts: &[ActLine], count: usize) -> Result<bool,
     Ok(there.iter().all(|&is| is))
 }
 
-/// So many hands in threads take turns in a file, of two calls each. The file, and the hand into which all were joined.
+/// This many hands in threads take turns in a file, of two calls each. The file, and the hand into which all were joined.
 pub(crate) fn worked_apart<R: Threads + Wait + Abort>(
     rt: &R,
     alloc: Global,

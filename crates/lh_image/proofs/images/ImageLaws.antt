@@ -23,7 +23,7 @@ use Rattle.lh_image.proofs.bytes.PageTests.{kind_rule, page_from_tests, tests_fr
 use Rattle.lh_image.proofs.images.Shown.{shows_from_clean, clean_from_shows, shown_range, records_fit}
 use Rattle.lh_image.proofs.faults.Sound.{IsSound, sound_law}
 
--- of so many bytes there are to be at least `least`, and exactly `all`
+-- of this many bytes there are to be at least `least`, and exactly `all`
 pub whole_rule : (n least all : ℕ) → least ≤ all → ((ltb n least || ltb n all ≡ false) × (ltb all n ≡ false)) ↔ (n ≡ all)
 whole_rule n least all low = (λ (e, f). grind (arith, nat_tests), λ e. (grind (arith, nat_tests), grind (arith, nat_tests)))
 

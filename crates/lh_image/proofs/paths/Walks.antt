@@ -103,7 +103,7 @@ path_only next (x ∷ xs) (y ∷ ys) p a b =
     let first : x ≡ y = a.0 ∙ sym b.0 in
     cc
 
--- a path that is no longer than so many pages is what they are
+-- a path that is no longer than this many pages is what they are
 pub path_is : (next : ℕ → ℕ) (xs : List ℕ) (p k : ℕ) → IsPath next p xs → length xs ≤ k → pages_from next k p ≡ xs
 unfolding pages_from
 path_is next [] p zero path le = refl

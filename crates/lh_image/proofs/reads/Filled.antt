@@ -56,7 +56,7 @@ pub cut_short : (old new : Option (List ℕ)) (n : ℕ) (buffer : List ℕ) → 
 cut_short None new n buffer filled less = tt
 cut_short (Some bytes) new n buffer filled less = omega (arith, filled.count)
 
--- ---- fewer bytes than so many
+-- ---- fewer bytes than this many
 
 -- too few bytes are fewer than more bytes, too
 pub cut_more : (bytes : List ℕ) (m n : ℕ) (f : ImageFault) → m ≤ n → IsCut bytes m f → IsCut bytes n f

@@ -35,7 +35,7 @@ use Rattle.lh_image.proofs.images.ImageLaws.{is_view, some_pages, whole_rule}
 bytes_same : (bytes : List ℕ) (header : Header) → header ≡ header_of bytes → page_bytes (version_of bytes) * header.pages ≡ image_bytes bytes
 bytes_same bytes header same = ap (λ (h : Header). page_bytes (version_of bytes) * h.pages) same
 
--- over plain numbers: of so many bytes there are to be at least `least`, and in all `all`
+-- over plain numbers: of this many bytes there are to be at least `least`, and in all `all`
 short_test : (n least all : ℕ) → n < all → (ltb n least || ltb n all) ≡ true
 short_test n least all less = grind (arith, nat_tests)
 

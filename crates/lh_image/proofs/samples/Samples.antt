@@ -14,7 +14,7 @@ abbrev pub slot_bytes : Version → ℕ → ℕ → List ℕ
 slot_bytes One key value = 1 ∷ 1 ∷ key ∷ replicate 29 0 ++ value ∷ replicate 39 0
 slot_bytes Two key value = 1 ∷ 1 ∷ key ∷ replicate 55 0 ++ value ∷ replicate 111 0
 
--- the slots of a page that has so many in use, and zeros in the others
+-- the slots of a page that has this many in use, and zeros in the others
 abbrev pub all_slots : Version → ℕ → List ℕ → List ℕ
 all_slots One used slots = slots ++ replicate (72 * (14 - used)) 0
 all_slots Two used slots = slots ++ replicate (170 * (24 - used)) 0

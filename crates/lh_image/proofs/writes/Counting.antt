@@ -29,7 +29,7 @@ overflow_within l i (suc n) low =
           omega (arith, more, ap (overflow_before l) same, ap (page_count_in l) same)
     ]
 
--- a bucket has so many pages
+-- a bucket has this many pages
 pub page_count_is : (l : Lists) (i : ℕ) → PiecesLaw → 1 ≤ l.config.capacity → page_count_in l i ≡ (length (list_at l.lists i) - 1) / l.config.capacity + 1
 unfolding page_count_in
 page_count_is l i pieces some = (pieces l.config.capacity (list_at l.lists i) some).0

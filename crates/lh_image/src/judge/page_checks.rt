@@ -56,7 +56,7 @@ fn has_bad_level(header: &Header, root: &Root, head: &PageHead) -> bool
     head.bucket < header.buckets && head.level != root.level_of(head.bucket)
 }
 
-/// Whether a page can't have so many records.
+/// Whether a page can't have this many records.
 #[tactic(auto, unfolding(crate::specs::Faults::bad_used))]
 fn has_bad_used(header: &Header, head: &PageHead) -> bool
     ensures { (page : ℕ) → result ≡ bad_used header.now page head.now }

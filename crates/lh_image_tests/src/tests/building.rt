@@ -26,7 +26,7 @@ fn letters(alloc: Global, records: &[u8]) -> Result<Vec<Pair>, Fail> {
     Ok(pairs)
 }
 
-/// So many records, with keys of four bytes and no values.
+/// This many records, with keys of four bytes and no values.
 pub(crate) fn numbered(alloc: Global, count: u32) -> Result<Vec<Pair>, Fail> {
     let mut pairs = Vec::new(alloc);
     for number in 0..count {
@@ -102,7 +102,7 @@ pub(crate) fn put_all(bytes: &mut [u8], parts: &[Part]) {
     }
 }
 
-/// So many bytes, zero but for these parts.
+/// This many bytes, zero but for these parts.
 pub(crate) fn image_of(alloc: Global, size: usize, parts: &[Part]) -> Result<Vec<u8>, Fail> {
     let mut bytes = Vec::new(alloc);
     bytes.resize(size, 0)?;

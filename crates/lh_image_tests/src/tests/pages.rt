@@ -37,7 +37,7 @@ fn put_number(bytes: &mut Vec<u8>, number: u32) -> Result<(), Fail> {
     Ok(())
 }
 
-/// A part, and zeros behind it: so many bytes in all.
+/// A part, and zeros behind it: this many bytes in all.
 fn put_padded(bytes: &mut Vec<u8>, part: &[u8], room: usize) -> Result<(), Fail> {
     let end = bytes.len().saturating_add(room);
     bytes.extend_from_slice(part)?;

@@ -39,7 +39,7 @@ impl<'a> Read for Slow<'a> {
     }
 }
 
-/// Takes so many bytes a write, and fails at a write or a flush, counted from 1. It notes the longest
+/// Takes this many bytes a write, and fails at a write or a flush, counted from 1. It notes the longest
 /// buffer that it was handed.
 #[derive(Drop)]
 pub(crate) struct Sink {

@@ -55,7 +55,7 @@ fn read_fails(
     Ok(())
 }
 
-/// A reader that gives so many bytes at a time is read whole, in so many reads.
+/// A reader that gives this many bytes at a time is read whole, in as many reads.
 fn reads_whole(
     rt: &(impl Abort + AllocGlobal + Threads + Wait + Sync),
     words: &[&str],
@@ -112,7 +112,7 @@ fn write_fails(
     Ok(())
 }
 
-/// A writer that takes so many bytes at a time gets the whole, in so many writes with the flush.
+/// A writer that takes this many bytes at a time gets the whole, in as many writes with the flush.
 fn takes_whole(
     rt: &(impl Abort + AllocGlobal + Threads + Wait + Sync),
     words: &[&str],
@@ -127,7 +127,7 @@ fn takes_whole(
     sink.writes
 }
 
-/// Each of so many writes with the flush ends the run where it fails.
+/// Each of this many writes with the flush ends the run where it fails.
 fn fails_at_each_write(
     rt: &(impl Abort + AllocGlobal + Threads + Wait + Sync),
     words: &[&str],

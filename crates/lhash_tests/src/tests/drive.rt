@@ -11,7 +11,7 @@ use std::sync::atomic::{AtomicU64, Ordering};
 use std::test::Fail;
 use std::thread;
 
-/// So many inserts of different keys, and then a search for each of them.
+/// This many inserts of different keys, and then a search for each of them.
 fn inserts_and_searches(alloc: Global, keys: u32) -> Result<String, AllocError> {
     let mut script = String::new(alloc);
     for number in 0..keys {
@@ -90,7 +90,7 @@ fn what_is_not_settled_has_a_text(rt: HostRuntime) -> Result<(), Fail> {
     Ok(())
 }
 
-/// Holds each call at the first bucket that it gets, until so many calls have got one.
+/// Holds each call at the first bucket that it gets, until this many calls have got one.
 #[derive(Drop)]
 struct MeetAll {
     wanted: u64,
@@ -183,7 +183,7 @@ impl Gate for OneTurn {
     }
 }
 
-/// So many inserts of different keys, and then a search for each of them.
+/// This many inserts of different keys, and then a search for each of them.
 fn calls_of(alloc: Global, keys: u16) -> Result<Vec<Call>, Fail> {
     let mut calls = Vec::new(alloc);
     let value = Value::new(b"1")?;

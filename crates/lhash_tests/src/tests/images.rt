@@ -120,7 +120,7 @@ pub fn put(bytes: &mut [u8], place: usize, part: &[u8]) {
     }
 }
 
-/// So many bytes, zeros but for these parts.
+/// This many bytes, zeros but for these parts.
 fn bytes_of(rt: &impl AllocGlobal, size: usize, parts: &[Part]) -> Result<Vec<u8>, Fail> {
     let mut bytes = Vec::new(rt.alloc());
     bytes.resize(size, 0)?;
@@ -181,7 +181,7 @@ fn long_keys_and_empty_values(rt: HostRuntime) -> Result<(), Fail> {
     told(&rt, &["lhash", "dump"], &image, records.as_bytes())
 }
 
-/// A script of so many inserts.
+/// A script of this many inserts.
 pub fn inserts(rt: &impl AllocGlobal, count: u32) -> Result<String, Fail> {
     let mut script = String::new(rt.alloc());
     for number in 0..count {
@@ -190,7 +190,7 @@ pub fn inserts(rt: &impl AllocGlobal, count: u32) -> Result<String, Fail> {
     Ok(script)
 }
 
-/// So many records, one to a page, leave no page for the header.
+/// This many records, one to a page, leave no page for the header.
 #[test]
 fn an_image_has_a_greatest_number_of_pages(rt: HostRuntime) -> Result<(), Fail> {
     let script = inserts(&rt, 1_048_576)?;

@@ -6,7 +6,7 @@ use std::sync::Wait;
 use std::test::Fail;
 use std::thread::Threads;
 
-/// Bytes that are read so many at a time, and a read that fails.
+/// Bytes that are read this many at a time, and a read that fails.
 #[derive(Drop)]
 pub struct Source<'a> {
     pub bytes: &'a [u8],
@@ -28,7 +28,7 @@ impl Read for Source<'_> {
     }
 }
 
-/// Takes so many bytes a write, and a write, or a flush, that fails.
+/// Takes this many bytes a write, and a write, or a flush, that fails.
 #[derive(Drop)]
 pub struct Sink {
     pub bytes: Vec<u8>,

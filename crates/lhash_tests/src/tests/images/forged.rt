@@ -57,7 +57,7 @@ pub fn rows(
     Ok(())
 }
 
-/// The first so many bytes of an image.
+/// The beginning of an image, of this many bytes.
 pub fn beginning(image: &[u8], count: usize) -> &[u8] {
     image.get(..count).unwrap_or(image)
 }
