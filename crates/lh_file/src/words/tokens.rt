@@ -105,6 +105,8 @@ impl<M: Mode> Words<M> {
 
     /// Notes an act that the file's bucket has just served, as [`record_act`](Self::record_act) does, and enters it in
     /// the history. The bucket's seat comes back.
+    // Inlined in a search and in each of the calls that write, which know their replies.
+    #[inline(always)]
     pub(crate) fn enter_act<R: Wait>(
         &self,
         rt: &R,
