@@ -60,11 +60,13 @@ impl Copies {
         requires at { seat.old.table_id ≡ words.now.table }
         requires room { M.traced ≡ true → words.now.table ≡ J.table }
         requires few { length self.old.lists.items < 2 ^ 32 - 1 }
-        requires before { AreGathered seat.old.me.0.parts (map (λ v. v.items) self.old.lists.items) self.old.whole self.old.clean }
+        requires before { AreGathered seat.old.me.0.parts
+            (map (λ v. v.items) self.old.lists.items) self.old.whole self.old.clean }
         ensures at { seat.new.table_id ≡ seat.old.table_id }
         ensures kept { seat.new.me ≡ (record (seat.old.me.0) { parts = seat.new.me.0.parts }, seat.old.me.1) }
         ensures more { OnOk result (length self.new.lists.items ≡ length self.old.lists.items + 1) }
-        ensures after { OnOk result (AreGathered seat.new.me.0.parts (map (λ v. v.items) self.new.lists.items) self.new.whole self.new.clean) }
+        ensures after { OnOk result (AreGathered seat.new.me.0.parts
+            (map (λ v. v.items) self.new.lists.items) self.new.whole self.new.clean) }
     {
         let pairs = pairs_of(alloc, slot.bucket())?;
         if self.whole as usize == self.lists.len() && words.gather(seat, slot, self.whole) {

@@ -126,7 +126,8 @@ impl<J: Room> Segment<J> {
         requires before { seat.old.me ≡ (undealt M.traced listing.now (first_of listing.now.config.initial j), []) }
         ensures at { seat.new.table_id ≡ seat.old.table_id }
         ensures made { IfOk result (λ made. made ≡ segment_at listing.now.config j) }
-        ensures after { OnOk result (seat.new.me ≡ (undealt M.traced listing.now (first_of listing.now.config.initial (j + 1)), [])) }
+        ensures after { OnOk result (seat.new.me
+            ≡ (undealt M.traced listing.now (first_of listing.now.config.initial (j + 1)), [])) }
     {
         let config = listing.config();
         let first = first_of(config.initial(), j);

@@ -82,7 +82,9 @@ impl<'a, G: Gate> Opening<'a, G> {
     where
         G: Drop,
         requires { IsRoomOf true J.named J.table self.table }
-        ensures opened { IfOk result (λ made. IsOpened self.entry.listing.config (size self.entry.listing) self.entry.recording self.entry.opening made.0.state made.1) }
+        ensures opened { IfOk result (λ made.
+            IsOpened self.entry.listing.config (size self.entry.listing) self.entry.recording self.entry.opening
+            made.0.state made.1) }
         ensures same { IfOk result (λ made. made.0.state ≡ self.entry) }
     {
         let Opening {

@@ -80,7 +80,7 @@ fn work<G: Gate, J: Room, R: Wait>(
 }
 
 /// How many calls of a script `work` makes.
-fn share_of(calls: &[Call], first: usize, threads: usize) -> usize
+fn calls_of_thread(calls: &[Call], first: usize, threads: usize) -> usize
     requires { 0 < threads }
 {
     calls.len().saturating_sub(first).div_ceil(threads)
@@ -96,7 +96,8 @@ fn keep<'a, G: Gate, J: Room>(
     requires new { worker.promise.file.now.state ≡ file.now.state }
     ensures all { All (λ worker. worker.promise.file.now.state ≡ file.now.state) workers.new.items }
     ensures shares { result ≡ true →
-        sum_by (λ worker. worker.promise.calls) workers.new.items ≡ sum_by (λ worker. worker.promise.calls) workers.old.items + worker.entry.promise.calls }
+        sum_by (λ worker. worker.promise.calls) workers.new.items
+        ≡ sum_by (λ worker. worker.promise.calls) workers.old.items + worker.entry.promise.calls }
 {
     workers.push(worker).is_ok()
 }
@@ -172,7 +173,8 @@ fn join_all<G: Gate, J: Room, R: Threads + Wait>(
     requires hand { IsOwn file.now.state hand }
     requires workers { All (λ worker. worker.promise.file.now.state ≡ file.now.state) workers.items }
     ensures own { IfOk result (IsOwn file.now.state) }
-    ensures share { IfOk result (λ all. share_of all ≡ share_of hand + sum_by (λ worker. worker.promise.calls) workers.entry.items) }
+    ensures share { IfOk result (λ all.
+        share_of all ≡ share_of hand + sum_by (λ worker. worker.promise.calls) workers.entry.items) }
     ensures err { IfErr result IsWorkersFault }
 {
     let mut did_nothing = true;
@@ -215,7 +217,7 @@ pub fn work_in_threads<G: Gate + Sync, J: Room + Send + Sync, R: Threads + Wait 
             let mut workers = Vec::new(alloc);
             let mut missing = None;
             for first in 0..threads {
-                let share = share_of(calls, first, threads) as u64;
+                let share = calls_of_thread(calls, first, threads) as u64;
                 let part = match divide(file, &mut all, share) {
                     Ok(part) => part,
                     Err(fault) => {

@@ -47,7 +47,8 @@ impl<M: Mode> Words<M> {
         ensures at { seat.new.table_id ≡ seat.old.table_id }
         ensures newest { All (λ x. x < result) seat.old.me.0.view.stamps }
         ensures few { seat.old.me.0.view.inserted + seat.old.me.0.view.deleted ≤ length seat.old.me.0.view.stamps }
-        ensures acted { seat.new.me ≡ (acted true D.call D.reply seat.old.me.0.parts result seat.old.me.0, seat.old.me.1) }
+        ensures acted { seat.new.me
+            ≡ (acted true D.call D.reply seat.old.me.0.parts result seat.old.me.0, seat.old.me.1) }
     {
         self.table.shared.fetch_add::<LendStamp<D>>(seat, STAMPS, 1)
     }

@@ -51,7 +51,8 @@ impl<M: Mode> Words<M> {
         requires room { M.traced ≡ true → self.now.table ≡ J.table }
         ensures at { seat.new.table_id ≡ seat.old.table_id }
         ensures number { result ≡ true → slot.now.head.number ≡ number }
-        ensures taken { result ≡ true → seat.new.me ≡ (with_token seat.old.me.0 (holder (slot.now ∷ [])), seat.old.me.1) }
+        ensures taken { result ≡ true → seat.new.me
+            ≡ (with_token seat.old.me.0 (holder (slot.now ∷ [])), seat.old.me.1) }
         ensures same { result ≡ false → seat.new.me ≡ seat.old.me }
     {
         if !M::keeps_history() {

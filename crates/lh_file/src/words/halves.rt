@@ -29,7 +29,8 @@ impl<M: Mode> Words<M> {
         requires at { seat.old.table_id ≡ self.now.table }
         requires right { seat.old.me.0.view.has_right ≡ true }
         requires unmoved { seat.old.me.0.moved ≡ false }
-        requires halves { (p : Seen) × (seat.old.me.0.parts ≡ p ∷ []) × IsNextSplit self.now.config.initial seat.old.me.0.view.known p × HasDivided p H.low H.high }
+        requires halves { (p : Seen) × (seat.old.me.0.parts ≡ p ∷ [])
+            × IsNextSplit self.now.config.initial seat.old.me.0.view.known p × HasDivided p H.low H.high }
         ensures at { seat.new.table_id ≡ seat.old.table_id }
         ensures low { seat.new.me ≡ (mover H.low seat.old.me.0, seat.old.me.1) }
         ensures table { result.table_id ≡ self.now.table }
@@ -54,7 +55,8 @@ impl<M: Mode> Words<M> {
         requires at { seat.old.table_id ≡ self.now.table }
         requires there { perch.now.table_id ≡ self.now.table }
         requires may { MayMove seat.old.me.0.view.known seat.old.me }
-        requires halves { (p : Seen) × (perch.now.view ≡ holder (p ∷ [])) × IsNextSplit self.now.config.initial seat.old.me.0.view.known p × HasDivided p low.now high.now }
+        requires halves { (p : Seen) × (perch.now.view ≡ holder (p ∷ []))
+            × IsNextSplit self.now.config.initial seat.old.me.0.view.known p × HasDivided p low.now high.now }
         ensures at { seat.new.table_id ≡ seat.old.table_id }
         ensures moved { seat.new.me ≡ (moved_by true seat.old.me.0, []) }
         ensures low_table { result.0.table_id ≡ self.now.table }

@@ -61,7 +61,8 @@ impl<M: Mode> Words<M> {
         requires at { seat.old.table_id ≡ self.now.table }
         requires live { 0 < seat.old.me.0.view.initial }
         requires left { 0 < seat.old.me.0.view.left }
-        requires serves { (p : Seen) × (seat.old.me.0.parts ≡ p ∷ []) × (owns (code_of (key_of D.call)) p ≡ true) × HasServedCall p D.call D.reply D.bucket }
+        requires serves { (p : Seen) × (seat.old.me.0.parts ≡ p ∷ [])
+            × (owns (code_of (key_of D.call)) p ≡ true) × HasServedCall p D.call D.reply D.bucket }
         ensures at { seat.new.table_id ≡ seat.old.table_id }
         ensures newest { All (λ x. x < result) seat.old.me.0.view.stamps }
         ensures above { seat.old.me.0.view.floor ≤ result }
@@ -88,7 +89,8 @@ impl<M: Mode> Words<M> {
         requires bucketless { seat.old.me.0.parts ≡ [] }
         requires live { 0 < seat.old.me.0.view.initial }
         requires left { 0 < seat.old.me.0.view.left }
-        requires serves { (p : Seen) × (perch.now.view ≡ holder (p ∷ [])) × (owns (code_of (key_of call.now)) p ≡ true) × HasServedCall p call.now reply.now bucket.now }
+        requires serves { (p : Seen) × (perch.now.view ≡ holder (p ∷ []))
+            × (owns (code_of (key_of call.now)) p ≡ true) × HasServedCall p call.now reply.now bucket.now }
         ensures at { seat.new.table_id ≡ seat.old.table_id }
         ensures newest { All (λ x. x < result.0) seat.old.me.0.view.stamps }
         ensures above { seat.old.me.0.view.floor ≤ result.0 }
@@ -120,7 +122,8 @@ impl<M: Mode> Words<M> {
         requires left { 1 ≤ hand.old.view.left }
         requires room { self.now.recording ≡ true → 1 ≤ hand.old.room }
         requires there { perch.now.table_id ≡ self.now.table }
-        requires serves { (p : Seen) × (perch.now.view ≡ holder (p ∷ [])) × (owns (code_of (key_of call.now)) p ≡ true) × HasServedCall p call.now reply bucket.now }
+        requires serves { (p : Seen) × (perch.now.view ≡ holder (p ∷ []))
+            × (owns (code_of (key_of call.now)) p ≡ true) × HasServedCall p call.now reply bucket.now }
         ensures acted { Acted hand.old call.now reply hand.new }
         ensures entered { HasEntered false hand.old call.now reply hand.new }
         ensures table { result.table_id ≡ self.now.table }
