@@ -1,18 +1,13 @@
 -- A call, a division and a joining keep a hand its file's own, and keep its share.
-use Rattle.std.proofs.Common.{◌≡◌, ℕ, ◌+◌, ◌-◌, ◌≤◌, Bool, true, false, Result, Ok, Err, IfOk, List, [], ◌∷◌, ◌++◌, length, refl, sym, ap, subst, ◌∙◌, arith}
+use Rattle.std.proofs.Common.{◌≡◌, ◌-◌, ◌≤◌, Bool, true, false, Ok, Err, [], ◌∷◌, ◌++◌, length, refl, sym, ap, subst, ◌∙◌, arith}
 use Rattle.std.proofs.lemmas.Bool.{false≢true}
 use Rattle.std.proofs.lemmas.List.{length-append}
-use Rattle.lh_bucket.specs.Answer.{Answered}
-use Rattle.lh_file.specs.Calls.Served.{Serves, HasServed, HasLooked}
 use Rattle.lh_file.specs.Closing.{NoneLent}
-use Rattle.lh_file.specs.FileState.{FileState}
 use Rattle.lh_file.specs.History.Log.{entry}
 use Rattle.lh_file.specs.History.Own.{IsOwn, share_of, ServedLaw, DividedLaw, JoinedLaw}
-use Rattle.lh_file.specs.History.Told.{HasEntered}
-use Rattle.lh_file.specs.Words.HandState.{HandState, IsBranch}
+use Rattle.lh_file.specs.Words.HandState.{HandState}
 use Rattle.lh_file.specs.Words.Recording.{kept_of}
 use Rattle.lh_file.specs.declared.act.ActLine.{ActLine}
-use Rattle.lh_file.specs.declared.fault.FileFault.{FileFault}
 use Rattle.lh_file.specs.declared.words.seat_view.Entry.{Entry}
 use Rattle.lh_file.proofs.OfHistory.Rows.{each_snoc, each_none, each_append}
 
