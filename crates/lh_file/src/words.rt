@@ -20,6 +20,7 @@ mod rule;
 pub(crate) mod seat_view;
 mod shares;
 pub(crate) mod tokens;
+mod traced_looks;
 pub(crate) mod view;
 
 use crate::act::ActLine;

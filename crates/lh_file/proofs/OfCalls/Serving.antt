@@ -1,11 +1,12 @@
 -- What the parts of a call do to its hand, one after another
-use Rattle.std.proofs.Common.{◌≡◌, ℕ, ◌+◌, ◌-◌, ◌<◌, ◌≤◌, Bool, true, false, [], ◌∷◌, ◌++◌, All, refl, sym, ap, ◌∙◌, subst, arith, eqb, eq-eqb}
+use Rattle.std.proofs.Common.{◌≡◌, ℕ, ◌+◌, ◌-◌, ◌<◌, ◌≤◌, Bool, true, false, Some, None, [], ◌∷◌, ◌++◌, All, refl, sym, ap, ◌∙◌, subst, arith, eqb, eq-eqb}
+use Rattle.std.specs.FinMap.{get}
 use Rattle.std.specs.Option.{unwrap_or}
 use Rattle.std.proofs.lemmas.Bool.{false≢true}
 use Rattle.lh_addr.specs.Growth.{hash_at}
 use Rattle.lh_bucket.specs.Bucket.{Seen, verdict}
 use Rattle.lh_bucket.specs.Laws.{HereLaw}
-use Rattle.lh_bucket.specs.PlainMap.{Records, after, IsSearch}
+use Rattle.lh_bucket.specs.PlainMap.{Records, found, reply, after, IsSearch}
 use Rattle.lh_bucket.specs.declared.call.Call.{Call}
 use Rattle.lh_bucket.specs.declared.call.Call.TheVariants.{Search, Insert, Delete, Replace}
 use Rattle.lh_bucket.specs.declared.verdict.Verdict.TheVariants.{Here}
@@ -17,7 +18,7 @@ use Rattle.lh_file.specs.History.Told.{HasEntered}
 use Rattle.lh_file.specs.Words.HandState.{HandState, IsSame, knowing, with_right}
 use Rattle.lh_file.specs.Words.Recording.{Acted, inserts_of, deletes_of, kept_of}
 use Rattle.lh_file.specs.Calls.Served.{HasLooked, HasServed}
-use Rattle.lh_file.specs.Words.Views.{rooted}
+use Rattle.lh_file.specs.Words.Views.{rooted, stamped_with}
 use Rattle.lh_file.specs.declared.words.view.View.{View}
 
 -- a hand that nothing happened to
@@ -129,3 +130,17 @@ searched m (Search key) is = refl
 searched m (Insert key value) is = absurd (false≢true is)
 searched m (Delete key) is = absurd (false≢true is)
 searched m (Replace key value) is = absurd (false≢true is)
+
+-- a search counts in neither count
+pub uncounted : (m : Records) (call : Call) → IsSearch call → (inserts_of (reply m call) ≡ 0) × (deletes_of (reply m call) ≡ 0)
+uncounted m (Search key) is = elim (get m key) as (λ o. (inserts_of (found o) ≡ 0) × (deletes_of (found o) ≡ 0)) [ Some value ↦ (refl, refl) | None ↦ (refl, refl) ]
+uncounted m (Insert key value) is = absurd (false≢true is)
+uncounted m (Delete key) is = absurd (false≢true is)
+uncounted m (Replace key value) is = absurd (false≢true is)
+
+-- the view of a hand that made an act which counts in neither
+pub stamped_same : (v : View) (stamp i d : ℕ) → i ≡ 0 → d ≡ 0 → stamped_with v stamp ≡ record v { stamps = v.stamps ++ stamp ∷ []; left = v.left - 1; inserted = v.inserted + i; deleted = v.deleted + d }
+stamped_same v stamp i d first second =
+    let p : v.inserted ≡ v.inserted + i = omega arith in let q : v.deleted ≡ v.deleted + d = omega arith in
+    ap (λ (x : ℕ). record v { stamps = v.stamps ++ stamp ∷ []; left = v.left - 1; inserted = x }) p
+    ∙ ap (λ (y : ℕ). record v { stamps = v.stamps ++ stamp ∷ []; left = v.left - 1; inserted = v.inserted + i; deleted = y }) q

@@ -1,0 +1,46 @@
+use Rattle.std.proofs.Common.{rules, ◌≡◌, ◌<◌, ◌+◌, ◌-◌, ◌++◌, [], ◌∷◌, All, sym, ap, ◌∙◌, subst, false}
+use Rattle.lh_bucket.specs.Answer.{Answered}
+use Rattle.lh_bucket.specs.Bucket.{content}
+use Rattle.lh_bucket.specs.declared.call.Reply.{Reply}
+use Rattle.lh_file.specs.Words.HandState.{HandState}
+use Rattle.lh_file.specs.Words.Plays.{Seated}
+use Rattle.lh_file.specs.Words.Recording.{inserts_of, deletes_of}
+use Rattle.lh_file.specs.declared.words.view.View.{View}
+use Rattle.lh_file.proofs.OfCalls.Serving.{uncounted, stamped_same}
+use Rattle.lh_file.proofs.words.Words.enter_look.Goals as goal
+
+pub returns-then-self-clause-acted : goal.returns-then-self-clause-acted
+returns-then-self-clause-acted g c =
+    let stamp = c.deal_look-stamp.result in let given = c.look-answer.result.reply in
+    let is = ap (λ (a : Answered). a.reply) c.look-answer.ensures in
+    let none = uncounted (content c.args.bucket.now) c.args.call.now c.requires.search in (
+      stamp,
+      record {
+        newest = subst (All (λ x. x < stamp)) (ap (λ (h : HandState). h.view.stamps) c.hand.view_is) c.deal_look-stamp.ensures.newest;
+        view = ap (λ (m : Seated). m.0.view) c.deal_look-stamp.ensures.acted
+            ∙ stamped_same c.hand.inside.seat.me.0.view stamp (inserts_of given) (deletes_of given) (ap inserts_of is ∙ none.0) (ap deletes_of is ∙ none.1)
+            ∙ ap (λ (h : HandState). record (h.view) { stamps = h.view.stamps ++ stamp ∷ []; left = h.view.left - 1; inserted = h.view.inserted + inserts_of given; deleted = h.view.deleted + deletes_of given }) c.hand.view_is;
+        acts = search rules;
+        room = search rules;
+        table = search rules;
+        recording = search rules;
+      },
+    )
+
+pub returns-else-self-clause-acted : goal.returns-else-self-clause-acted
+returns-else-self-clause-acted g c =
+    let stamp = c.deal_look-stamp.result in let given = c.look-answer.result.reply in
+    let is = ap (λ (a : Answered). a.reply) c.look-answer.ensures in
+    let none = uncounted (content c.args.bucket.now) c.args.call.now c.requires.search in (
+      stamp,
+      record {
+        newest = subst (All (λ x. x < stamp)) (ap (λ (h : HandState). h.view.stamps) c.hand.view_is) c.deal_look-stamp.ensures.newest;
+        view = ap (λ (m : Seated). m.0.view) c.deal_look-stamp.ensures.acted
+            ∙ stamped_same c.hand.inside.seat.me.0.view stamp (inserts_of given) (deletes_of given) (ap inserts_of is ∙ none.0) (ap deletes_of is ∙ none.1)
+            ∙ ap (λ (h : HandState). record (h.view) { stamps = h.view.stamps ++ stamp ∷ []; left = h.view.left - 1; inserted = h.view.inserted + inserts_of given; deleted = h.view.deleted + deletes_of given }) c.hand.view_is;
+        acts = search rules;
+        room = search rules;
+        table = search rules;
+        recording = search rules;
+      },
+    )
