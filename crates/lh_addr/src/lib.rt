@@ -22,6 +22,3 @@ pub use fnv::fnv1a;
 pub use hash::hash_at;
 pub use root::Root;
 pub use root_word::RootWord;
-
-#[cfg(test)]
-mod tests;

@@ -47,6 +47,3 @@ pub use pairs::Pairs;
 pub use reading::{page_from_bytes, page2_from_bytes, pairs_from_bytes};
 pub use value::{Value, ValueLength};
 pub use writing::{page_to_bytes, page2_to_bytes};
-
-#[cfg(test)]
-mod tests;

@@ -3,7 +3,7 @@ ghost use Rattle.std.specs.Prelude.{IfOk};
 ghost use Rattle.lh_page.specs.Format.{version_1, FitsFormat};
 
 use crate::tests::records::pair_of;
-use crate::{
+use lh_page::{
     Page, PageFault, PageHead, PageKind, Pairs, page_from_bytes, page_head, page_to_bytes,
     page2_from_bytes, page2_head, page2_to_bytes,
 };

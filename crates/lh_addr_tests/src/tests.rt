@@ -2,5 +2,6 @@
 
 mod codes;
 mod configurations;
+mod equality;
 mod root_words;
 mod roots;

@@ -1,7 +1,7 @@
 //! Records that the tests make.
 ghost use Rattle.std.specs.Prelude.{◌≡◌, IfOk};
 
-use crate::{Key, Pair, Value};
+use lh_page::{Key, Pair, Value};
 use std::test::Fail;
 
 /// The record with these bytes as its key and value.

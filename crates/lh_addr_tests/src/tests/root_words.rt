@@ -1,5 +1,5 @@
 //! The word of a running file.
-use crate::RootWord;
+use lh_addr::RootWord;
 
 #[test]
 fn root_word_codes_buckets_and_right(rt: HostRuntime) {

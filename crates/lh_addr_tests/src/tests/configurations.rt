@@ -1,5 +1,5 @@
 //! Configurations, and when a file is to grow.
-use crate::{Config, Range};
+use lh_addr::{Config, Range};
 use std::test::Fail;
 
 #[test]

@@ -1,5 +1,5 @@
 //! Roots, addresses and aims.
-use crate::{Aim, Config, Root, fnv1a, hash_at};
+use lh_addr::{Aim, Config, Root, fnv1a, hash_at};
 use std::test::Fail;
 
 #[test]
@@ -23,6 +23,7 @@ fn root_of_three_buckets(rt: HostRuntime) -> Result<(), Fail> {
     assert_eq!(rt; root.level_of(1), 1);
     assert_eq!(rt; root.level_of(2), 2);
     assert_eq!(rt; root.next_split(), (1, 3, 2));
+    assert_eq!(rt; Root::new(2, 2).ok_or("root")?.next_split(), (0, 2, 1));
     Ok(())
 }
 

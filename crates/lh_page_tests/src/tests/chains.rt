@@ -1,6 +1,6 @@
 //! Chains of records.
 use crate::tests::records::pair_of;
-use crate::{Chain, Key, KeyLength, KeySet, Memory, Pair, Value, ValueLength, pages_needed};
+use lh_page::{Chain, Key, KeyLength, KeySet, Memory, Pair, Value, ValueLength, pages_needed};
 use std::process::Abort;
 use std::test::Fail;
 
@@ -147,7 +147,7 @@ fn finds_replaces_and_divides(rt: HostRuntime) -> Result<(), Fail> {
 }
 
 #[test]
-#[tactic(auto, using(crate::proofs::Distinct::distinct_one))]
+#[tactic(auto, using(lh_page::proofs::Distinct::distinct_one))]
 fn a_chain_is_made_of_records(rt: HostRuntime) -> Result<(), Fail> {
     let pairs = [pair_of(b"a", b"1")?];
     let mut chain = match Chain::from_pairs(rt.alloc(), 1, &pairs) {
@@ -286,15 +286,25 @@ fn a_split_takes_long_values_along(rt: HostRuntime) -> Result<(), Fail> {
 #[test]
 fn a_chain_has_many_records(rt: HostRuntime) -> Result<(), Fail> {
     let mut chain = Chain::new(rt.alloc(), 24)?;
-    for number in 0..2000_u16 {
-        let pair = pair_of(&number.wrapping_mul(32).to_be_bytes(), b"1")?;
+    for number in 0..5000_u16 {
+        let pair = pair_of(&number.wrapping_mul(13).to_be_bytes(), b"1")?;
         assert_eq!(rt; chain.find(&pair.key), None);
         chain.push(pair)?;
     }
-    assert_eq!(rt; (chain.len(), chain.pages()), (2000, 84));
+    assert_eq!(rt; (chain.len(), chain.pages()), (5000, 209));
     let gone = chain.split_off(&Early)?;
-    // The first byte is below `g` for a number below 103 * 256 / 32.
-    assert_eq!(rt; (gone.len(), chain.len()), (824, 1176));
-    assert_eq!(rt; (gone.pages(), chain.pages()), (35, 49));
+    // The first byte is below `g` for a number below 103 * 256 / 13.
+    assert_eq!(rt; (gone.len(), chain.len()), (2029, 2971));
+    assert_eq!(rt; (gone.pages(), chain.pages()), (85, 124));
+    Ok(())
+}
+
+/// A chain of no records needs no memory, so that none can be refused.
+#[test]
+fn an_empty_chain_is_made_and_divided(rt: HostRuntime) -> Result<(), Fail> {
+    let mut chain = Chain::from_pairs(rt.alloc(), 2, &[])?;
+    let gone = chain.split_off(&Early)?;
+    assert_eq!(rt; (gone.len(), chain.len()), (0, 0));
+    assert_eq!(rt; (gone.pages(), chain.pages()), (1, 1));
     Ok(())
 }

@@ -1,5 +1,5 @@
 //! Codes of keys.
-use crate::fnv1a;
+use lh_addr::fnv1a;
 
 #[test]
 fn fnv1a_has_the_published_values(rt: HostRuntime) {

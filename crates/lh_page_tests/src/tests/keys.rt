@@ -1,6 +1,6 @@
 //! Keys and values.
 use crate::tests::records::pair_of;
-use crate::{Key, KeyLength, Value, ValueLength};
+use lh_page::{Key, KeyLength, Value, ValueLength};
 use std::test::Fail;
 
 #[test]
@@ -33,5 +33,6 @@ fn orders_by_bytes(rt: HostRuntime) -> Result<(), Fail> {
     }
     assert_eq!(rt; Key::new(&bytes)?, all);
     assert!(rt; pair_of(b"a", b"2")? > pair_of(b"a", b"1")?);
+    assert!(rt; pair_of(b"a", b"2")? < pair_of(b"b", b"1")?);
     Ok(())
 }

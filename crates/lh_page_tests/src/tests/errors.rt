@@ -1,5 +1,5 @@
 //! The texts of errors.
-use crate::{KeyLength, Memory, PageFault, ValueLength};
+use lh_page::{KeyLength, Memory, PageFault, ValueLength};
 use std::alloc::AllocError;
 use std::fmt::Display;
 use std::test::Fail;
@@ -19,6 +19,10 @@ fn prints_errors(rt: HostRuntime) -> Result<(), Fail> {
         "key length 57"
     );
     assert_eq!(rt;
+        printed(&rt, &KeyLength { length: 0 })?.as_str(),
+        "key length 0"
+    );
+    assert_eq!(rt;
         printed(&rt, &ValueLength { length: 113 })?.as_str(),
         "value length 113"
     );
@@ -29,5 +33,6 @@ fn prints_errors(rt: HostRuntime) -> Result<(), Fail> {
         printed(&rt, &PageFault::Slot(13))?.as_str(),
         "page slot 13"
     );
+    assert_eq!(rt; printed(&rt, &PageFault::Slot(3))?.as_str(), "page slot 3");
     Ok(())
 }

@@ -1,6 +1,6 @@
 //! Growth that is refused: run with each request for memory refused in turn, one in each run.
 use crate::tests::chains::{Early, expect_records, record_of};
-use crate::{Chain, Memory};
+use lh_page::{Chain, Memory};
 use std::test::Fail;
 
 /// A push that was refused, and a division, leave the chain as it was, and succeed when they are asked for again.
