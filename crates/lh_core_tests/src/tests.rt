@@ -1,6 +1,7 @@
 //! Lists of steps, calls one after another, and texts.
 
 mod calls;
+mod equality;
 mod memory;
 mod refusing;
 mod serial;

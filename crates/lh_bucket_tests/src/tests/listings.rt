@@ -31,7 +31,7 @@ fn fault_of(alloc: Global, buckets: u32, keys: &[&[u8]]) -> Result<Option<Listin
 
 #[test]
 fn each_fault_has_its_text(rt: HostRuntime) -> Result<(), Fail> {
-    let (bucket, place) = (3, 5);
+    let (bucket, place) = (1026, 31);
     let texts = [
         (
             ListingFault::Shape,
@@ -39,11 +39,11 @@ fn each_fault_has_its_text(rt: HostRuntime) -> Result<(), Fail> {
         ),
         (
             ListingFault::Misplaced { bucket, place },
-            "the record at place 5 of bucket 3 belongs to another bucket",
+            "the record at place 31 of bucket 1026 belongs to another bucket",
         ),
         (
             ListingFault::Twice { bucket, place },
-            "the key at place 5 of bucket 3 stands there twice",
+            "the key at place 31 of bucket 1026 stands there twice",
         ),
         (ListingFault::Memory, "no memory"),
     ];
@@ -83,6 +83,8 @@ fn listings_give_their_lists(rt: HostRuntime) -> Result<(), Fail> {
     let empty = Listing::empty(alloc, config)?;
     assert_eq!(rt; empty.buckets(), 2);
     assert_eq!(rt; empty.len(), 0);
+    let widest = Config::new(256, 14, 100, 256).ok().ok_or("config")?;
+    assert_eq!(rt; Listing::empty(alloc, widest)?.buckets(), 256);
     let listing = Listing::new(alloc, config, 2, lists_of(alloc, &[b"ca", b"b"])?)?;
     assert_eq!(rt; listing.config(), config);
     assert_eq!(rt; listing.buckets(), 2);
@@ -121,5 +123,37 @@ fn a_bucket_is_filled_with_a_list(rt: HostRuntime) -> Result<(), Fail> {
     let bucket = bucket_of(alloc, &listing, 0)?;
     assert_eq!(rt; keys_of(alloc, &bucket)?.as_slice(), b"ca".as_slice());
     assert_eq!(rt; (bucket.number(), bucket.level()), (0, Some(0)));
+    Ok(())
+}
+
+/// The one list of a file of one bucket, with a hundred records, of which the last has this number as its key.
+fn long_list(alloc: Global, last: u8) -> Result<Vec<Vec<Pair>>, Fail> {
+    let mut pairs = Vec::new(alloc);
+    for number in 0..99_u8 {
+        pairs.push(pair(&[number], b"1")?)?;
+    }
+    pairs.push(pair(&[last], b"1")?)?;
+    let mut lists = Vec::new(alloc);
+    lists.push(pairs)?;
+    Ok(lists)
+}
+
+/// Lists that are looked through by a set, and a bucket with more records than have marks, a page for each.
+#[test]
+fn long_lists_are_listings(rt: HostRuntime) -> Result<(), Fail> {
+    let alloc = rt.alloc();
+    let config = Config::new(1, 1, 100, 1).ok().ok_or("config")?;
+    let listing = Listing::new(alloc, config, 1, long_list(alloc, 99)?)?;
+    assert_eq!(rt; listing.len(), 100);
+    assert_eq!(rt; listing.buckets(), 1);
+    let bucket = bucket_of(alloc, &listing, 0)?;
+    assert_eq!(rt; bucket.len(), 100);
+    assert_eq!(rt;
+        Listing::new(alloc, config, 1, long_list(alloc, 0)?).err(),
+        Some(ListingFault::Twice {
+            bucket: 0,
+            place: 99,
+        })
+    );
     Ok(())
 }

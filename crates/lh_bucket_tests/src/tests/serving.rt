@@ -51,6 +51,12 @@ fn bucket_serves_calls<B: Bucket>(rt: &impl Abort, alloc: Global) -> Result<(), 
         Reply::Found(a.value)
     );
     assert_eq!(rt; bucket.len(), 1);
+    fill(&mut bucket, b"bcdefg", 0)?;
+    for key in b"abcdefg" {
+        let again = Call::Insert(Key::new(&[*key])?, other);
+        assert_eq!(rt; reply_of(&mut bucket, again)?, Reply::Exists);
+    }
+    assert_eq!(rt; bucket.len(), 7);
     assert_eq!(rt; reply_of(&mut bucket, Call::Delete(a.key))?, Reply::Deleted);
     assert_eq!(rt; reply_of(&mut bucket, Call::Search(a.key))?, Reply::Absent);
     assert_eq!(rt; bucket.number(), 0);

@@ -200,11 +200,9 @@ fn is_listed_whatever_a_worker_does<B: Bucket>(
     assert_eq!(rt; listed(world)?.len(), records);
     take_all(world, [Event::Lock(worker)].as_slice())?;
     assert_eq!(rt; listed(world)?.len(), records);
-    let events = [
-        Event::Act(worker),
-        Event::Release(worker),
-        Event::Call(worker, search(&key)?),
-    ];
+    take_all(world, [Event::Act(worker)].as_slice())?;
+    assert_eq!(rt; listed(world)?.len(), records.saturating_add(1));
+    let events = [Event::Release(worker), Event::Call(worker, search(&key)?)];
     take_all(world, events.as_slice())
 }
 

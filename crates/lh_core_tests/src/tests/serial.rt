@@ -104,3 +104,27 @@ fn buckets_hold_their_records_in_order(rt: HostRuntime) -> Result<(), Fail> {
     );
     Ok(())
 }
+
+/// How many buckets a file has after forty inserts with pages of one record, and how many records are listed.
+fn after_forty<B: Bucket>(alloc: Global, max: u32) -> Result<(usize, u32, u64), Fail> {
+    let mut calls = Vec::new(alloc);
+    for key in 0..40_u8 {
+        calls.push(insert(&[key], b"1")?)?;
+    }
+    let config = Config::new(1, 1, 100, max)?;
+    let SerialRan { replies, world } = serial::<B>(alloc, config, calls.as_slice())?;
+    let inserted = replies.iter().filter(|reply| **reply == Reply::Inserted);
+    let listing = world.listing()?;
+    Ok((inserted.count(), world.root().buckets(), listing.len()))
+}
+
+/// No number of calls is too many, nor of buckets, and a file that has as many as it may is filled further.
+#[test]
+fn many_calls_are_served(rt: HostRuntime) -> Result<(), Fail> {
+    let alloc = rt.alloc();
+    assert_eq!(rt; after_forty::<PlainBucket>(alloc, 65536)?, (40, 40, 40));
+    assert_eq!(rt; after_forty::<PagedBucket>(alloc, 65536)?, (40, 40, 40));
+    assert_eq!(rt; after_forty::<PlainBucket>(alloc, 2)?, (40, 2, 40));
+    assert_eq!(rt; after_forty::<PagedBucket>(alloc, 2)?, (40, 2, 40));
+    Ok(())
+}

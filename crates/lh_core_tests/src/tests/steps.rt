@@ -280,3 +280,41 @@ fn a_list_of_events_may_be_long(rt: HostRuntime) -> Result<(), Fail> {
     a_long_run::<PlainBucket>(&rt, rt.alloc())?;
     a_long_run::<PagedBucket>(&rt, rt.alloc())
 }
+
+/// A worker that holds a bucket, before its act and after it, is in the way of no act and no split at others.
+fn a_held_bucket_is_alone_held<B: Bucket>(rt: &impl Abort, alloc: Global) -> Result<(), Fail> {
+    let mut world = World::<B>::new(alloc, Config::new(2, 14, 100, 65536)?)?;
+    let answered = Effect::Answered(Reply::Inserted);
+    for event in [
+        Event::Call(0, insert(b"b", b"1")?),
+        Event::Read(0),
+        Event::Lock(0),
+        Event::SplitBegin,
+        Event::SplitLock,
+    ] {
+        world.step(event)?;
+    }
+    assert_eq!(rt;
+        world.step(Event::SplitMove),
+        Ok(Effect::Moved { old: 0, new: 2 })
+    );
+    world.step(Event::SplitRelease)?;
+    world.step(Event::SplitPoint)?;
+    assert_eq!(rt; world.step(Event::Act(0)), Ok(answered));
+    assert_eq!(rt; inserted(&mut world, 1, b'a')?, answered);
+    Ok(())
+}
+
+#[test]
+fn steps_go_on_beside_a_held_bucket(rt: HostRuntime) -> Result<(), Fail> {
+    a_held_bucket_is_alone_held::<PlainBucket>(&rt, rt.alloc())?;
+    a_held_bucket_is_alone_held::<PagedBucket>(&rt, rt.alloc())
+}
+
+#[test]
+fn a_file_may_begin_with_three_buckets(rt: HostRuntime) -> Result<(), Fail> {
+    let config = Config::new(3, 1, 100, 4)?;
+    assert_eq!(rt; World::<PlainBucket>::new(rt.alloc(), config)?.filled(), 3);
+    assert_eq!(rt; World::<PagedBucket>::new(rt.alloc(), config)?.filled(), 3);
+    Ok(())
+}

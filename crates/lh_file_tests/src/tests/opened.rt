@@ -4,6 +4,7 @@ use super::tasks::{Task, Told};
 use super::turns::{Ended, Turn, play_in_turn};
 use lh_addr::Config;
 use lh_bucket::Listing;
+use lh_file::Right;
 use lh_page::{Key, Pair, Value};
 use std::alloc::Global;
 use std::sync::Wait;
@@ -110,6 +111,36 @@ fn a_file_may_begin_with_256_buckets(rt: HostRuntime) -> Result<(), Fail> {
     assert_eq!(rt;
         (after.config(), after.buckets(), after.len()),
         (config, 256, 0)
+    );
+    Ok(())
+}
+
+/// A file of as many buckets as one may have, all of which are at level 16.
+fn greatest(alloc: Global) -> Result<Listing, Fail> {
+    let mut lists = Vec::with_capacity(alloc, 65_536)?;
+    for _ in 0..65_536 {
+        lists.push(Vec::new(alloc))?;
+    }
+    Ok(Listing::new(alloc, Config::new(1, 1, 100, 65_536)?, 65_536, lists)?)
+}
+
+const IN_THE_GREATEST: [Turn; 5] = [
+    (1, Task::Insert(b'a'), Told::Inserted),
+    (2, Task::Search(b'a'), Told::Found),
+    (1, Task::Replace(b'a'), Told::Replaced),
+    (2, Task::Delete(b'a'), Told::Deleted),
+    (1, Task::TryRight, Told::Right(Right::Full)),
+];
+
+#[test]
+fn a_file_of_the_greatest_size_is_served(rt: HostRuntime) -> Result<(), Fail> {
+    let listing = greatest(rt.alloc())?;
+    let ended = play_in_turn(&rt, rt.alloc(), &listing, &IN_THE_GREATEST).ok_or("no memory")?;
+    assert_eq!(rt; ended.wrong, None);
+    assert_eq!(rt; ended.settled, Ok(4));
+    assert_eq!(rt;
+        (ended.closed.buckets(), ended.closed.records()),
+        (65_536, 0)
     );
     Ok(())
 }

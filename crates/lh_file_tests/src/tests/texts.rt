@@ -34,6 +34,18 @@ fn prints_faults(rt: HostRuntime) -> Result<(), Fail> {
 }
 
 #[test]
+fn prints_a_hand(rt: HostRuntime) -> Result<(), Fail> {
+    let (file, mut first) = file_of(rt.alloc(), 8, true)?;
+    let second = file.split_hand(&mut first, 10)?;
+    let text = match format!(in rt.alloc(); "{second:?}") {
+        Ok(text) => text,
+        Err(AllocError) => format!(in rt.alloc(); "{second:?}")?,
+    };
+    assert_eq!(rt; text.as_str(), "Hand(10 left)");
+    Ok(())
+}
+
+#[test]
 fn prints_faults_of_joins(rt: HostRuntime) -> Result<(), Fail> {
     let (file, mut first) = file_of(rt.alloc(), 8, true)?;
     let second = file.split_hand(&mut first, 10)?;
