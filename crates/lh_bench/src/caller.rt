@@ -2,7 +2,8 @@
 ghost use Rattle.std.specs.Prelude.{◌≡◌};
 ghost use Rattle.lh_file.specs.FileState.{IsOf};
 
-use crate::streams::{Step, Stream, is_value_of, key_of, other_value_of, value_of};
+use crate::contents::Contents;
+use crate::streams::{Step, Stream};
 use crate::tally::Tally;
 use lh_bucket::Reply;
 use lh_file::{Hand, HashFile, Mode, NoGate, Room};
@@ -12,17 +13,17 @@ use std::sync::Wait;
 #[derive(Drop)]
 pub struct Caller {
     pub hand: Hand,
-    pub seed: u64,
+    pub contents: Contents,
     pub tally: Tally,
 }
 
 impl Caller {
-    pub fn new(hand: Hand, seed: u64) -> Caller
+    pub fn new(hand: Hand, contents: Contents) -> Caller
         ensures { result.hand ≡ hand }
     {
         Caller {
             hand,
-            seed,
+            contents,
             tally: Tally::new(),
         }
     }
@@ -37,14 +38,14 @@ impl Caller {
         requires { IsOf file.now.state self.old.hand }
         ensures { IsOf file.now.state self.new.hand }
     {
-        let Ok(answer) = file.search(rt, &mut self.hand, key_of(self.seed, record)) else {
+        let Ok(answer) = file.search(rt, &mut self.hand, self.contents.key(record)) else {
             self.tally.note_wrong();
             return;
         };
         let reply = answer.reply();
         self.tally.note(&reply);
         let is_due = match reply {
-            Reply::Found(value) => is_value_of(&value, self.seed, record),
+            Reply::Found(value) => self.contents.is_value(&value, record),
             _ => !is_there,
         };
         if !is_due {
@@ -62,8 +63,8 @@ impl Caller {
         requires { IsOf file.now.state self.old.hand }
         ensures { IsOf file.now.state self.new.hand }
     {
-        let key = key_of(self.seed, record);
-        let value = value_of(self.seed, record);
+        let key = self.contents.key(record);
+        let value = self.contents.value(record);
         let Ok(answer) = file.insert(rt, &mut self.hand, key, value) else {
             self.tally.note_wrong();
             return;
@@ -84,7 +85,7 @@ impl Caller {
         requires { IsOf file.now.state self.old.hand }
         ensures { IsOf file.now.state self.new.hand }
     {
-        match file.delete(rt, &mut self.hand, key_of(self.seed, record)) {
+        match file.delete(rt, &mut self.hand, self.contents.key(record)) {
             Ok(answer) => self.tally.note(&answer.reply()),
             Err(_) => self.tally.note_wrong(),
         }
@@ -100,8 +101,8 @@ impl Caller {
         requires { IsOf file.now.state self.old.hand }
         ensures { IsOf file.now.state self.new.hand }
     {
-        let key = key_of(self.seed, record);
-        let value = other_value_of(self.seed, record, length);
+        let key = self.contents.key(record);
+        let value = self.contents.other_value(record, length);
         match file.replace(rt, &mut self.hand, key, value) {
             Ok(answer) => self.tally.note(&answer.reply()),
             Err(_) => self.tally.note_wrong(),

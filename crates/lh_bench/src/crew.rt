@@ -6,7 +6,7 @@ use crate::caller::{Caller, play};
 use crate::meter::{Spent, Stopwatch};
 use crate::order::{Order, Workload};
 use crate::starter::Starter;
-use crate::streams::{Mixed, MostlySearches, OneKey, Part};
+use crate::streams::{Misses, Mixed, MostlySearches, OneKey, Part, Skewed};
 use crate::tally::Tally;
 use anyhow::{Result, bail};
 use lh_file::{Hand, HashFile, Mode, NoGate, Room};
@@ -39,7 +39,6 @@ pub struct Shift {
 fn calls_of(order: Order) -> u64 {
     match order.workload {
         Workload::MostlySearches => MostlySearches::calls(&order),
-        Workload::OneKey => OneKey::calls(&order),
         _ => Mixed::calls(&order),
     }
 }
@@ -56,12 +55,20 @@ fn work<M: Mode, J: Room, R: Wait>(
     requires { IsOf file.now.state hand }
     ensures { IsOf file.now.state result.hand }
 {
-    let caller = Caller::new(hand, order.seed);
+    let caller = Caller::new(hand, order.contents());
     let calls = calls_of(order);
     starter.stand_by(rt);
     match order.workload {
         Workload::MostlySearches => {
             let stream = MostlySearches::of_thread(&order, thread);
+            play(rt, file, caller, stream, calls)
+        }
+        Workload::Skewed => {
+            let stream = Skewed::of_thread(&order, thread);
+            play(rt, file, caller, stream, calls)
+        }
+        Workload::Misses => {
+            let stream = Misses::of_thread(&order, thread);
             play(rt, file, caller, stream, calls)
         }
         Workload::OneKey => {
@@ -124,7 +131,7 @@ fn join_two<M: Mode, J: Room>(
     match file.join_hands(all.hand, part.hand) {
         Ok(hand) => Ok(Caller {
             hand,
-            seed: all.seed,
+            contents: all.contents,
             tally,
         }),
         Err(_) => bail!("no memory"),
@@ -180,7 +187,7 @@ where
             }
             let watch = Stopwatch::start(rt);
             starter.start();
-            let all = join_all(rt, file, Caller::new(all, order.seed), workers)?;
+            let all = join_all(rt, file, Caller::new(all, order.contents()), workers)?;
             let spent = watch?.stop(rt)?;
             if started != order.threads {
                 bail!("no memory for {started} threads and one more");

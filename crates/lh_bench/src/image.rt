@@ -58,7 +58,7 @@ where
         record: 0,
         are_there: true,
     };
-    let caller = Caller::new(hand, order.seed);
+    let caller = Caller::new(hand, order.contents());
     let caller = play(rt, &file, caller, stream, order.records);
     let reading = watch.stop(rt)?;
     fs::remove_file(rt, PATH)?;

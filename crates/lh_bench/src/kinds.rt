@@ -36,7 +36,9 @@ where
         Workload::Searches => searches(rt, file, hand, order),
         Workload::Replaces => replaces(rt, file, hand, order),
         Workload::MostlySearches => shared(rt, file, hand, order, 0, 1),
-        Workload::OneKey => shared(rt, file, hand, order, order.records, 1),
+        Workload::OneKey | Workload::Skewed | Workload::Misses => {
+            shared(rt, file, hand, order, order.records, 1)
+        }
         _ => shared(rt, file, hand, order, order.records, 2),
     }
 }

@@ -9,10 +9,12 @@
 #![tactic(auto)]
 
 mod caller;
+mod contents;
 mod crew;
 mod image;
 mod kinds;
 mod meter;
+mod numbers;
 mod order;
 mod replacing;
 mod report;

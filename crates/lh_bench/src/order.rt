@@ -1,5 +1,6 @@
 //! The command line.
 
+use crate::contents::Contents;
 use crate::report::Form;
 use clap::builder::ValueParser;
 use clap::{Arg, ArgAction, ArgMatches, Command, Error};
@@ -20,24 +21,33 @@ pub enum Workload {
     Image,
     /// Replaces of records that are there, in no order, by values of other lengths.
     Replaces,
+    /// Searches for records that are there, a few of them mostly.
+    Skewed,
+    /// Searches for records that are not there.
+    Misses,
+    /// As mixed, with keys of 50 bytes and values of 100.
+    LongRecords,
     /// Searches for one record, by all threads.
     OneKey,
     /// The single atomic steps of a file's words.
     Steps,
     /// The settling of a file's acts.
     Settling,
-    /// The first six, one after another.
+    /// The first nine, one after another.
     All,
 }
 
 impl Workload {
-    pub const MEASURED: [Workload; 6] = [
+    pub const MEASURED: [Workload; 9] = [
         Workload::Inserts,
         Workload::Searches,
         Workload::MostlySearches,
         Workload::Mixed,
         Workload::Image,
         Workload::Replaces,
+        Workload::Skewed,
+        Workload::Misses,
+        Workload::LongRecords,
     ];
 
     /// The word that asks for it.
@@ -49,6 +59,9 @@ impl Workload {
             Workload::Mixed => "W4",
             Workload::Image => "W5",
             Workload::Replaces => "W6",
+            Workload::Skewed => "W7",
+            Workload::Misses => "W8",
+            Workload::LongRecords => "W9",
             Workload::OneKey => "hot",
             Workload::Steps => "steps",
             Workload::Settling => "settle",
@@ -64,10 +77,26 @@ impl Workload {
             "W4" => Workload::Mixed,
             "W5" => Workload::Image,
             "W6" => Workload::Replaces,
+            "W7" => Workload::Skewed,
+            "W8" => Workload::Misses,
+            "W9" => Workload::LongRecords,
             "hot" => Workload::OneKey,
             "steps" => Workload::Steps,
             "settle" => Workload::Settling,
             _ => Workload::All,
+        }
+    }
+
+    /// The number that its random numbers go by.
+    pub fn number(self) -> u64 {
+        match self {
+            Workload::Searches => 2,
+            Workload::MostlySearches => 3,
+            Workload::Replaces => 6,
+            Workload::Skewed => 7,
+            Workload::Misses => 8,
+            Workload::LongRecords => 9,
+            _ => 4,
         }
     }
 
@@ -77,6 +106,9 @@ impl Workload {
             self,
             Workload::MostlySearches
                 | Workload::Mixed
+                | Workload::Skewed
+                | Workload::Misses
+                | Workload::LongRecords
                 | Workload::OneKey
                 | Workload::Steps
                 | Workload::All
@@ -103,6 +135,16 @@ pub struct Order {
     pub traced: bool,
 }
 
+impl Order {
+    /// How its keys and values are made.
+    pub fn contents(&self) -> Contents {
+        Contents {
+            seed: self.seed,
+            are_long: self.workload == Workload::LongRecords,
+        }
+    }
+}
+
 /// What the words ask for.
 #[derive(Drop)]
 pub enum Asked {
@@ -111,8 +153,8 @@ pub enum Asked {
     Told(Error),
 }
 
-const WORDS: [&str; 10] = [
-    "W1", "W2", "W3", "W4", "W5", "W6", "hot", "steps", "settle", "all",
+const WORDS: [&str; 13] = [
+    "W1", "W2", "W3", "W4", "W5", "W6", "W7", "W8", "W9", "hot", "steps", "settle", "all",
 ];
 
 fn number<'a>(

@@ -2,10 +2,11 @@
 ghost use Rattle.lh_file.specs.FileState.{IsOf};
 
 use crate::caller::{Caller, play};
+use crate::contents::Contents;
 use crate::meter::Stopwatch;
 use crate::order::Order;
 use crate::report::Outcome;
-use crate::streams::{Replaces, is_value_of, key_of, other_value_of};
+use crate::streams::Replaces;
 use crate::workloads::load;
 use anyhow::Result;
 use lh_bucket::Reply;
@@ -33,10 +34,10 @@ fn last_lengths(alloc: Global, order: &Order) -> Result<Vec<u8>> {
 }
 
 /// Whether a search met the value that its record was last given.
-fn is_last_given(reply: &Reply, seed: u64, record: u64, length: u8) -> bool {
+fn is_last_given(reply: &Reply, contents: Contents, record: u64, length: u8) -> bool {
     match reply {
-        Reply::Found(value) if length == NEVER => is_value_of(value, seed, record),
-        Reply::Found(value) => value.bytes() == other_value_of(seed, record, length).bytes(),
+        Reply::Found(value) if length == NEVER => contents.is_value(value, record),
+        Reply::Found(value) => value.bytes() == contents.other_value(record, length).bytes(),
         _ => false,
     }
 }
@@ -46,15 +47,15 @@ fn are_last_given<M: Mode, J: Room, R: Wait>(
     rt: &R,
     file: &HashFile<NoGate, M, J>,
     mut hand: Hand,
-    seed: u64,
+    contents: Contents,
     lengths: &[u8],
 ) -> bool
     requires { IsOf file.now.state hand }
 {
     for (place, length) in lengths.iter().enumerate() {
         let record = place as u64;
-        let is_due = match file.search(rt, &mut hand, key_of(seed, record)) {
-            Ok(answer) => is_last_given(&answer.reply(), seed, record, *length),
+        let is_due = match file.search(rt, &mut hand, contents.key(record)) {
+            Ok(answer) => is_last_given(&answer.reply(), contents, record, *length),
             Err(_) => false,
         };
         if !is_due {
@@ -75,12 +76,12 @@ pub fn replaces<M: Mode, J: Room, R: Wait + Clock + CpuClock + AllocGlobal>(
 {
     let lengths = last_lengths(rt.alloc(), order)?;
     let loaded = load(rt, file, hand, order, 1);
-    let caller = Caller::new(loaded.hand, order.seed);
+    let caller = Caller::new(loaded.hand, order.contents());
     let watch = Stopwatch::start(rt)?;
     let caller = play(rt, file, caller, Replaces::new(order), order.records);
     let spent = watch.stop(rt)?;
     let tally = caller.tally;
     let is_due = tally.replaced == order.records
-        && are_last_given(rt, file, caller.hand, order.seed, lengths.as_slice());
+        && are_last_given(rt, file, caller.hand, order.contents(), lengths.as_slice());
     Ok(Outcome::new(order.records, spent, tally, is_due))
 }

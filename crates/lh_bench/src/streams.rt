@@ -1,91 +1,7 @@
-//! The streams of the benchmark: numbers, keys, values, and which calls are made of which.
+//! The streams of the benchmark: which calls are made, one after another.
 
+use crate::numbers::{Numbers, Skew};
 use crate::order::Order;
-use lh_page::{Key, Value};
-
-const GAMMA: u64 = 0x9e37_79b9_7f4a_7c15;
-
-fn mix(number: u64) -> u64 {
-    let mut x = number;
-    x ^= x >> 30;
-    x = x.wrapping_mul(0xbf58_476d_1ce4_e5b9);
-    x ^= x >> 27;
-    x = x.wrapping_mul(0x94d0_49bb_1331_11eb);
-    x ^ (x >> 31)
-}
-
-/// Random numbers: splitmix64.
-#[derive(Clone, Copy)]
-pub struct Numbers {
-    state: u64,
-}
-
-impl Numbers {
-    fn new(seed: u64, tag: u64) -> Numbers {
-        Numbers {
-            state: mix(seed ^ tag.wrapping_mul(0xd134_2543_de82_ef95)),
-        }
-    }
-
-    fn next(&mut self) -> u64 {
-        self.state = self.state.wrapping_add(GAMMA);
-        mix(self.state)
-    }
-
-    /// A number below `end`, or 0.
-    fn below(&mut self, end: u64) -> u64 {
-        ((self.next() as u128 * end as u128) >> 64) as u64
-    }
-}
-
-/// Sixteen bytes that go with a number.
-fn bytes_of(seed: u64, number: u64) -> [u8; 16] {
-    let first = number.wrapping_mul(2).wrapping_add(1).wrapping_mul(GAMMA);
-    let low = mix(seed.wrapping_add(first));
-    let high = mix(seed.wrapping_add(first).wrapping_add(GAMMA));
-    let [a, b, c, d, e, f, g, h] = low.to_le_bytes();
-    let [i, j, k, l, m, n, o, p] = high.to_le_bytes();
-    [a, b, c, d, e, f, g, h, i, j, k, l, m, n, o, p]
-}
-
-pub fn key_of(seed: u64, number: u64) -> Key {
-    match Key::new(&bytes_of(seed, number)) {
-        Ok(key) => key,
-        Err(_) => unreachable!(),
-    }
-}
-
-/// Whether a value is the one of a record.
-pub fn is_value_of(value: &Value, seed: u64, number: u64) -> bool {
-    match <[u8; 16]>::try_from(value.bytes()) {
-        Ok(bytes) => {
-            u128::from_le_bytes(bytes)
-                == u128::from_le_bytes(bytes_of(seed ^ 0xa5a5_a5a5_a5a5_a5a5, number))
-        }
-        Err(_) => false,
-    }
-}
-
-pub fn value_of(seed: u64, number: u64) -> Value {
-    match Value::new(&bytes_of(seed ^ 0xa5a5_a5a5_a5a5_a5a5, number)) {
-        Ok(value) => value,
-        Err(_) => unreachable!(),
-    }
-}
-
-/// The value that a record is given in place of its own: this many bytes of 40, which go with its number.
-pub fn other_value_of(seed: u64, number: u64, length: u8) -> Value {
-    let seed = seed ^ 0x5a5a_5a5a_5a5a_5a5a;
-    let mut bytes = [0; 48];
-    for (part, place) in bytes.chunks_exact_mut(16).enumerate() {
-        let own = number.wrapping_mul(3).wrapping_add(part as u64);
-        place.copy_from_slice(&bytes_of(seed, own));
-    }
-    match Value::new(&bytes[..(length as usize).min(40)]) {
-        Ok(value) => value,
-        Err(_) => unreachable!(),
-    }
-}
 
 /// A call to be made. Records go by their numbers.
 #[derive(Clone, Copy)]
@@ -150,7 +66,7 @@ pub struct Picks {
 impl Picks {
     pub fn new(order: &Order) -> Picks {
         Picks {
-            numbers: Numbers::new(order.seed, 2 << 32),
+            numbers: Numbers::of_thread(order, 0),
             records: order.records,
         }
     }
@@ -175,7 +91,7 @@ pub struct Replaces {
 impl Replaces {
     pub fn new(order: &Order) -> Replaces {
         Replaces {
-            numbers: Numbers::new(order.seed, 6 << 32),
+            numbers: Numbers::of_thread(order, 0),
             records: order.records,
         }
     }
@@ -241,7 +157,7 @@ impl Stream for MostlySearches {
 impl Part for MostlySearches {
     fn of_thread(order: &Order, thread: u64) -> MostlySearches {
         MostlySearches {
-            numbers: Numbers::new(order.seed, (3 << 32) | thread),
+            numbers: Numbers::of_thread(order, thread),
             thread,
             threads: order.threads,
             inserted: 0,
@@ -281,13 +197,72 @@ impl Stream for Mixed {
 impl Part for Mixed {
     fn of_thread(order: &Order, thread: u64) -> Mixed {
         Mixed {
-            numbers: Numbers::new(order.seed, (4 << 32) | thread),
+            numbers: Numbers::of_thread(order, thread),
             records: order.records.wrapping_mul(2),
         }
     }
 
     fn calls(order: &Order) -> u64 {
         order.records.wrapping_mul(4) / order.threads.max(1)
+    }
+}
+
+/// Searches for records that are there, a few of them mostly.
+#[derive(Drop)]
+pub struct Skewed {
+    numbers: Numbers,
+    skew: Skew,
+}
+
+impl Stream for Skewed {
+    fn next(&mut self) -> Step {
+        Step::Search {
+            record: self.skew.pick(&mut self.numbers),
+            is_there: true,
+        }
+    }
+}
+
+impl Part for Skewed {
+    fn of_thread(order: &Order, thread: u64) -> Skewed {
+        Skewed {
+            numbers: Numbers::of_thread(order, thread),
+            skew: Skew::new(order.records),
+        }
+    }
+
+    fn calls(order: &Order) -> u64 {
+        Mixed::calls(order)
+    }
+}
+
+/// Searches for records that were never there.
+#[derive(Drop)]
+pub struct Misses {
+    numbers: Numbers,
+    records: u64,
+}
+
+impl Stream for Misses {
+    fn next(&mut self) -> Step {
+        let past = self.numbers.below(self.records);
+        Step::Search {
+            record: self.records.wrapping_add(past),
+            is_there: false,
+        }
+    }
+}
+
+impl Part for Misses {
+    fn of_thread(order: &Order, thread: u64) -> Misses {
+        Misses {
+            numbers: Numbers::of_thread(order, thread),
+            records: order.records,
+        }
+    }
+
+    fn calls(order: &Order) -> u64 {
+        Mixed::calls(order)
     }
 }
 
@@ -310,6 +285,6 @@ impl Part for OneKey {
     }
 
     fn calls(order: &Order) -> u64 {
-        order.records.wrapping_mul(4) / order.threads.max(1)
+        Mixed::calls(order)
     }
 }

@@ -5,7 +5,7 @@ ghost use Rattle.lh_file.specs.FileState.{IsOf};
 use crate::caller::{Caller, play};
 use crate::crew::{Shift, play_in_threads};
 use crate::meter::{Stopwatch, resident_bytes};
-use crate::order::Order;
+use crate::order::{Order, Workload};
 use crate::report::Outcome;
 use crate::starter::Starter;
 use crate::streams::{Inserts, Picks, Searches};
@@ -46,7 +46,7 @@ pub fn load<M: Mode, J: Room, R: Wait>(
     ensures { IsOf file.now.state result.hand }
 {
     let stream = Inserts { record: 0, stride };
-    let caller = Caller::new(hand, order.seed);
+    let caller = Caller::new(hand, order.contents());
     play(rt, file, caller, stream, order.records)
 }
 
@@ -83,7 +83,7 @@ pub fn searches<M: Mode, J: Room, R: Wait + Clock + CpuClock>(
     requires { IsOf file.now.state hand }
 {
     let loaded = load(rt, file, hand, order, 1);
-    let caller = Caller::new(loaded.hand, order.seed);
+    let caller = Caller::new(loaded.hand, order.contents());
     let watch = Stopwatch::start(rt)?;
     let caller = play(rt, file, caller, Picks::new(order), order.records);
     let spent = watch.stop(rt)?;
@@ -104,8 +104,17 @@ fn records_there<M: Mode, J: Room, R: Wait>(
         record: 0,
         are_there: false,
     };
-    let caller = Caller::new(hand, order.seed);
+    let caller = Caller::new(hand, order.contents());
     play(rt, file, caller, stream, order.records.wrapping_mul(2)).tally
+}
+
+/// Whether as many searches met their record as are due, where that is known.
+fn are_met(workload: Workload, tally: &Tally, calls: u64) -> bool {
+    match workload {
+        Workload::Skewed | Workload::OneKey => tally.found == calls,
+        Workload::Misses => tally.absent == calls,
+        _ => true,
+    }
 }
 
 /// What came of threads that shared a file, which had this many records before.
@@ -123,7 +132,9 @@ fn outcome_of<M: Mode, J: Room, R: Wait>(
     let due = before
         .wrapping_add(tally.inserted)
         .wrapping_sub(tally.deleted);
-    let is_due = there.wrong == 0 && there.found == due;
+    let is_due = there.wrong == 0
+        && there.found == due
+        && are_met(order.workload, &tally, shift.calls);
     Outcome::new(shift.calls, shift.spent, tally, is_due)
 }
 
