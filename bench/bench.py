@@ -24,7 +24,10 @@ REFERENCE = "std_onelock"  # its digests at one thread are those due
 SHOWN = {"lh_bench": "this file", "twin_tags": "the same in C++", "dashmap": "DashMap", "tbb": "oneTBB", "libcuckoo": "libcuckoo",
          "std_onelock": "one lock", "kc_hash": "Kyoto Cabinet", "lmdb": "LMDB", "tdb": "TDB", "gdbm": "GDBM", "bdb_hash": "Berkeley DB"}
 TITLES = {"W1": "W1 inserts", "W2": "W2 searches", "W3": "W3, 1 insert to 19 searches", "W4": "W4, half are writes",
-          "W5": "W5, to a file and back", "W6": "W6 new values"}
+          "W5": "W5, to a file and back", "W6": "W6 new values", "W7": "W7, skewed searches", "W8": "W8, searches that miss",
+          "W9": "W9, as W4, long records"}
+# How many threads are tried, where --threads says nothing; the other workloads have one.
+THREADS = {"W3": "1,2,4", "W4": "1,2,4", "W7": "1,4", "W8": "1,4", "W9": "1,4"}
 
 
 def run(name, path, workload, threads, args):
@@ -52,7 +55,7 @@ def measure(args, contestants):
         paths = {p: f for p, f in paths.items() if p in args.peers.split(",")}
     paths.update(contestants)
     shapes = [(w, t) for w in args.workloads.split(",")
-              for t in ([int(x) for x in args.threads.split(",")] if w in ("W3", "W4") else [1])]
+              for t in ([int(x) for x in (args.threads or THREADS[w]).split(",")] if w in THREADS else [1])]
     rows, left_out, first = [], set(), 0
     if args.append and os.path.exists(args.out):
         first = 1 + max([json.loads(line)["round"] for line in open(args.out)], default=-1)
@@ -102,7 +105,7 @@ def fastest(good, to=None):
 
 
 def title_of(workload, threads):
-    return TITLES[workload] + (", %d thread%s" % (threads, "s" * (threads > 1)) if workload in ("W3", "W4") else "")
+    return TITLES[workload] + (", %d thread%s" % (threads, "s" * (threads > 1)) if workload in THREADS else "")
 
 
 def picture(rows, path):
@@ -149,7 +152,7 @@ def table(rows, to):
 
     def show(title, cell, tail):
         print("\n" + title)
-        heads = ["%s x%d" % s if s[0] in ("W3", "W4") else s[0] for s in shapes] + [t for t, _ in tail]
+        heads = ["%s x%d" % s if s[0] in THREADS else s[0] for s in shapes] + [t for t, _ in tail]
         print("%-15s" % "peer" + "".join("%9s" % h for h in heads))
         for name in names:
             cells = [cell(picked(name, s)) for s in shapes] + [f(name) for _, f in tail]
@@ -199,8 +202,8 @@ def main():
     a = argparse.ArgumentParser(description=__doc__, formatter_class=argparse.RawDescriptionHelpFormatter)
     a.add_argument("--contestant", action="append", default=[], metavar="NAME=PATH", help="one more program")
     a.add_argument("--peers", default="", help="only these, with commas between them")
-    a.add_argument("--workloads", default="W1,W2,W3,W4,W5")
-    a.add_argument("--threads", default="1,2,4", help="of W3 and W4")
+    a.add_argument("--workloads", default="W1,W2,W3,W4,W5,W7,W8,W9")
+    a.add_argument("--threads", help="of W3, W4, W7, W8 and W9; 1,2,4 or 1,4 if nothing is said")
     a.add_argument("--records", type=int, default=1000000)
     a.add_argument("--seed", type=int, default=1)
     a.add_argument("--rounds", type=int, default=3)

@@ -1,6 +1,6 @@
 // The twin: the design of the file before records grew, written straight in C++ with nothing proved.
 // Beside it one sees what the design costs, apart from what its proved form costs.
-// N = 1, b = 14, g = 100, max = 65,536; slots of 72 bytes; a reader-writer lock for each bucket, local levels,
+// N = 1, b = 14, g = 100, max = 65,536; slots of 72 bytes (W9: 152); a reader-writer lock for each bucket, local levels,
 // one root word, one stamp for each act, two counts; segments on demand; images of version 1.
 #pragma once
 #include "../common/workload.hpp"
@@ -8,13 +8,13 @@
 #include <shared_mutex>
 namespace bench {
 
-template <bool STAMPS, bool TAGS, class Name>
+template <bool STAMPS, bool TAGS, class Name, class K, class V>
 struct Twin {
   static constexpr const char* name = Name::text;
   static constexpr bool threads_ok = true, has_file = true;
   static constexpr uint32_t PAGE = 14, LOAD = 100, MAX = 65536;
   struct Slot {
-    uint8_t key_len, value_len, key[30], value[40];
+    uint8_t key_len, value_len, key[std::max<size_t>(30, sizeof(K))], value[std::max<size_t>(40, sizeof(V))];
   };
   struct Page {
     uint32_t used = 0;
@@ -25,10 +25,10 @@ struct Twin {
     std::shared_mutex lock;
     int level = -1;  // not filled yet
     std::vector<std::unique_ptr<Page>> pages;
-    Slot* find(const Bytes16& k, uint64_t c) {
+    Slot* find(const K& k, uint64_t c) {
       for (auto& p : pages)
         for (uint32_t i = 0; i < p->used; i++)
-          if ((!TAGS || p->tags[i] == c >> 56) && p->slots[i].key_len == 16 && memcmp(p->slots[i].key, &k, 16) == 0) return &p->slots[i];
+          if ((!TAGS || p->tags[i] == c >> 56) && p->slots[i].key_len == sizeof k && memcmp(p->slots[i].key, &k, sizeof k) == 0) return &p->slots[i];
       return nullptr;
     }
     void push(const Slot& s, uint64_t c) {
@@ -117,8 +117,8 @@ struct Twin {
       old.pages.clear();
       for (auto& p : pages)
         for (uint32_t i = 0; i < p->used; i++) {
-          Bytes16 k;
-          memcpy(&k, p->slots[i].key, 16);
+          K k;
+          memcpy(&k, p->slots[i].key, sizeof k);
           uint64_t c = fnv1a(k);
           (hash_at(level + 1, c) == n ? old : fresh).push(p->slots[i], c);
         }
@@ -129,16 +129,16 @@ struct Twin {
   struct Session {
     Twin& t;
     explicit Session(Twin& t) : t(t) {}
-    bool insert(const Bytes16& k, const Bytes16& v) {
+    bool insert(const K& k, const V& v) {
       {
         std::unique_lock<std::shared_mutex> held;
         uint64_t c = fnv1a(k);
         Bucket& b = t.reach(c, held);
         bool there = b.find(k, c);
         if (!there) {
-          Slot s{16, 16, {}, {}};
-          memcpy(s.key, &k, 16);
-          memcpy(s.value, &v, 16);
+          Slot s{sizeof k, sizeof v, {}, {}};
+          memcpy(s.key, &k, sizeof k);
+          memcpy(s.value, &v, sizeof v);
           b.push(s, c);
         }
         t.act();
@@ -148,15 +148,15 @@ struct Twin {
       t.split_if_wanted();
       return true;
     }
-    bool search(const Bytes16& k, Bytes16& v) {
+    bool search(const K& k, V& v) {
       std::shared_lock<std::shared_mutex> held;
       uint64_t c = fnv1a(k);
       Slot* s = t.reach(c, held).find(k, c);
-      if (s) memcpy(&v, s->value, 16);
+      if (s) memcpy(&v, s->value, sizeof v);
       t.act();
       return s;
     }
-    bool remove(const Bytes16& k) {
+    bool remove(const K& k) {
       std::unique_lock<std::shared_mutex> held;
       uint64_t c = fnv1a(k);
       Bucket& b = t.reach(c, held);
@@ -223,10 +223,10 @@ struct Twin {
       for (int k = 0; k < page[1]; k++) {
         Slot slot;
         memcpy(&slot, page + 16 + 72 * k, 72);
-        Bytes16 key;
-        memcpy(&key, slot.key, 16);
+        K key;
+        memcpy(&key, slot.key, sizeof key);
         uint64_t c = fnv1a(key);
-        if (slot.key_len != 16 || t->hash_at(b.level, c) != i) die(name, "misfit");
+        if (slot.key_len != sizeof key || t->hash_at(b.level, c) != i) die(name, "misfit");
         b.push(slot, c);
       }
     }
