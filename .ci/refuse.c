@@ -1,6 +1,6 @@
 // Preloaded into a program by .ci/hostile: refuses one of its requests, for memory, to read or to write, or all from
-// one on. REFUSE says which, as in "memory 5", "memory 5.." and "interrupt write 5", and REFUSE_COUNT names a file of eight bytes in which
-// the requests of that kind are counted.
+// one on; or each request for more than so many bytes of memory at once. REFUSE says which, as in "memory 5", "memory 5..",
+// "interrupt write 5" and "large 5", and REFUSE_COUNT names a file of eight bytes in which the requests of that kind are counted.
 #include <errno.h>
 #include <fcntl.h>
 #include <stddef.h>
@@ -40,16 +40,18 @@ static int refused(char asked) {
     return from ? number >= at : number == at;
 }
 
+static int no_room(size_t size) { return kind == 'l' ? size > (size_t)at : refused('m'); }
+
 static void *no_memory(void) {
     errno = ENOMEM;
     return NULL;
 }
 
-void *malloc(size_t size) { return refused('m') ? no_memory() : __libc_malloc(size); }
+void *malloc(size_t size) { return no_room(size) ? no_memory() : __libc_malloc(size); }
 
-void *calloc(size_t items, size_t size) { return refused('m') ? no_memory() : __libc_calloc(items, size); }
+void *calloc(size_t items, size_t size) { return no_room(items * size) ? no_memory() : __libc_calloc(items, size); }
 
-void *realloc(void *block, size_t size) { return refused('m') ? no_memory() : __libc_realloc(block, size); }
+void *realloc(void *block, size_t size) { return no_room(size) ? no_memory() : __libc_realloc(block, size); }
 
 ssize_t read(int fd, void *bytes, size_t most) {
     if (refused('r')) {

@@ -109,5 +109,19 @@ fn refusals_are_printed(rt: HostRuntime) -> Result<(), Fail> {
     };
     let record = format!(in rt.alloc(); "{fault}")?;
     assert_eq!(rt; record.as_str(), "image V2 at bucket 65535 place 12");
+    for (fault, text) in [
+        (WriteImageFault::WriteFault, "write failed"),
+        (WriteImageFault::Memory, "no memory"),
+    ] {
+        let told = format!(in rt.alloc(); "{fault}")?;
+        assert_eq!(rt; told.as_str(), text);
+    }
+    for (fault, text) in [
+        (ImageFault::ReadFault, "read failed"),
+        (ImageFault::Memory, "no memory"),
+    ] {
+        let told = format!(in rt.alloc(); "{fault}")?;
+        assert_eq!(rt; told.as_str(), text);
+    }
     Ok(())
 }

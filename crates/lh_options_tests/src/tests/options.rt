@@ -208,6 +208,25 @@ fn gives(
 }
 
 #[test]
+fn drive_takes_five_options(rt: HostRuntime) -> Result<(), AllocError> {
+    let words = [
+        "lhash",
+        "drive",
+        "--initial",
+        "3",
+        "--capacity",
+        "2",
+        "--load",
+        "80",
+        "--max",
+        "7",
+        "--threads",
+        "64",
+    ];
+    gives(&rt, words.as_slice(), "3 2 80 7, 64 threads")
+}
+
+#[test]
 fn an_image_is_of_version_1_or_2(rt: HostRuntime) -> Result<(), AllocError> {
     gives(
         &rt,
@@ -278,4 +297,35 @@ fn subcommands_and_help(rt: HostRuntime) -> Result<(), AllocError> {
         "refused: unrecognized subcommand 'bogus'"
     );
     Ok(())
+}
+
+/// The text of help, or of the version, that these words ask for.
+fn told(rt: &impl AllocGlobal, words: &[&str]) -> Result<String, AllocError> {
+    match request_of(rt.alloc(), words)? {
+        Request::Help(text) => Ok(text),
+        _ => String::from_str(rt.alloc(), "no help"),
+    }
+}
+
+#[test]
+fn the_version_has_two_words(rt: HostRuntime) -> Result<(), AllocError> {
+    for word in ["--version", "-V"] {
+        let text = told(&rt, ["lhash", word].as_slice())?;
+        assert_eq!(rt; text.as_str(), "lhash 0.1.0\n");
+    }
+    Ok(())
+}
+
+/// An unknown option of 200 letters, and a flag with a value.
+#[test]
+fn a_reason_is_told_whole(rt: HostRuntime) -> Result<(), AllocError> {
+    let part = "frobfrobfrobfrobfrobfrobfrobfrobfrobfrob";
+    let option = format!(in rt.alloc(); "--{part}{part}{part}{part}{part}")?;
+    let reason = format!(in rt.alloc(); "refused: unexpected argument '{option}' found")?;
+    expect(&rt, [option.as_str()].as_slice(), reason.as_str())?;
+    expect(
+        &rt,
+        ["--help=x"].as_slice(),
+        "refused: unexpected value 'x' for '--help' found; no more were expected",
+    )
 }

@@ -1,8 +1,8 @@
 //! Step scripts from end to end: events, and the texts of faults.
 use lh_bucket::Call;
-use lh_core::Event;
+use lh_core::{Effect, Event, Refusal};
 use lh_page::{Key, Value};
-use lh_script::{ParseError, parse};
+use lh_script::{EntryText, LineFault, ParseError, ScriptFault, parse};
 use std::alloc::{AllocError, Global};
 use std::process::Abort;
 use std::test::Fail;
@@ -84,4 +84,23 @@ fn faults_of_a_line_have_an_order(rt: HostRuntime) -> Result<(), Fail> {
     expect(&rt, "read 16 1", "line 1: wrong number of words")?;
     expect(&rt, "split-begin 1", "line 1: wrong number of words")?;
     expect(&rt, "split-begin\nsplit", "line 2: unknown word")
+}
+
+/// Numbers of as many digits as they may have, and the refusal that ends a run in place of being told.
+#[test]
+fn what_is_seldom_told_has_a_text(rt: HostRuntime) -> Result<(), Fail> {
+    let alloc = rt.alloc();
+    let aim = Effect::Aim {
+        level: 16,
+        bucket: 65_535,
+    };
+    let text = EntryText(&Ok(aim)).to_string(alloc)?;
+    assert_eq!(rt; text.as_str(), "aim 16 65535");
+    let text = EntryText(&Err(Refusal::Memory)).to_string(alloc)?;
+    assert_eq!(rt; text.as_str(), "refused C7");
+    let length = LineFault::ValueLength(8_388_608);
+    assert_eq!(rt; length.to_string(alloc)?.as_str(), "value length 8388608");
+    let text = ScriptFault::AtLine(16_777_216, length).to_string(alloc)?;
+    assert_eq!(rt; text.as_str(), "line 16777216: value length 8388608");
+    Ok(())
 }

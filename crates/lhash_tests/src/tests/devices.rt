@@ -10,8 +10,8 @@ use std::thread::Threads;
 /// The words of a run, its script, and what it writes.
 type Row = (&'static [&'static str], &'static str, &'static str);
 
-/// A run of each subcommand that reads a script and writes text.
-const ROWS: [Row; 3] = [
+/// A run of each subcommand that reads a script and writes text, and one that has nothing to write but still flushes.
+const ROWS: [Row; 4] = [
     (
         &["lhash", "commands"],
         "insert 61 31\nreplace 61 32\n",
@@ -22,6 +22,7 @@ const ROWS: [Row; 3] = [
         "call 0 search 61\nread 0\n",
         "called\naim 0 0\n",
     ),
+    (&["lhash", "steps"], "", ""),
     (
         &["lhash", "drive", "--threads", "2"],
         "insert 61 31\ninsert 62 32\nsearch 61\ndelete 62\n",

@@ -7,9 +7,11 @@ use lh_page::{Key, Value};
 use lhash::{Driven, Status, Unsettled, drive_with};
 use std::alloc::{AllocError, Global};
 use std::process::Abort;
+use std::sync::Wait;
 use std::sync::atomic::{AtomicU64, Ordering};
 use std::test::Fail;
 use std::thread;
+use std::thread::Threads;
 
 /// This many inserts of different keys, and then a search for each of them.
 fn inserts_and_searches(alloc: Global, keys: u32) -> Result<String, AllocError> {
@@ -128,28 +130,59 @@ fn inserts_of(alloc: Global, letters: &[u8]) -> Result<Vec<Call>, Fail> {
     Ok(calls)
 }
 
-#[test]
-fn nine_calls_hold_nine_buckets(rt: HostRuntime) -> Result<(), Fail> {
-    let calls = inserts_of(rt.alloc(), b"abcdefghi")?;
-    let gate = MeetAll {
-        wanted: 9,
-        met: AtomicU64::new(0),
-        late: AtomicU64::new(0),
-    };
-    let config = Config::new(16, 14, 100, 65536)?;
-    let driven = drive_with(&rt, rt.alloc(), config, calls.as_slice(), 9, &gate);
-    let totals = Driven {
-        calls: 9,
+/// The totals of this many inserts of different keys.
+fn all_inserted(count: u64) -> Driven {
+    Driven {
+        calls: count,
         found: 0,
         absent: 0,
-        inserted: 9,
+        inserted: count,
         exists: 0,
         deleted: 0,
         replaced: 0,
-        records: 9,
+        records: count,
+    }
+}
+
+/// An insert of each letter in a thread of its own: all of them hold a bucket of these at the same time.
+fn hold_at_once(
+    rt: &(impl Abort + AllocGlobal + Threads + Wait + Sync),
+    letters: &[u8],
+    threads: u32,
+    buckets: u32,
+) -> Result<(), Fail> {
+    assert!(rt; threads > 0);
+    let calls = inserts_of(rt.alloc(), letters)?;
+    let wanted = u64::from(threads);
+    let gate = MeetAll {
+        wanted,
+        met: AtomicU64::new(0),
+        late: AtomicU64::new(0),
     };
-    assert_eq!(rt; driven, Ok(totals));
+    let config = Config::new(buckets, 14, 100, 65536)?;
+    let driven = drive_with(rt, rt.alloc(), config, calls.as_slice(), threads, &gate);
+    assert_eq!(rt; driven, Ok(all_inserted(wanted)));
+    assert!(rt; gate.met.load(Ordering::SeqCst) >= wanted);
     assert_eq!(rt; gate.late.load(Ordering::SeqCst), 0);
+    Ok(())
+}
+
+#[test]
+fn calls_hold_as_many_buckets(rt: HostRuntime) -> Result<(), Fail> {
+    hold_at_once(&rt, b"abcdefghi", 9, 16)?;
+    hold_at_once(&rt, b"abcdefghijklmnopq", 17, 256)
+}
+
+/// The number of calls is a multiple of none of these numbers of threads.
+#[test]
+fn calls_that_fill_no_row_of_threads_are_made(rt: HostRuntime) -> Result<(), Fail> {
+    let calls = inserts_of(rt.alloc(), b"abcdefghijklmnopq")?;
+    let config = Config::new(1, 2, 100, 65536)?;
+    for threads in [2, 3, 5, 16, 18, 64] {
+        assert!(rt; threads > 0);
+        let driven = drive_with(&rt, rt.alloc(), config, calls.as_slice(), threads, NoGate);
+        assert_eq!(rt; driven, Ok(all_inserted(17)), "{threads} threads");
+    }
     Ok(())
 }
 
@@ -159,17 +192,7 @@ fn a_record_outlives_the_thread_that_wrote_it(rt: HostRuntime) -> Result<(), Fai
     let config = Config::new(1, 14, 100, 65536)?;
     let calls = inserts_of(rt.alloc(), b"a")?;
     let driven = drive_with(&rt, rt.alloc(), config, calls.as_slice(), 1, NoGate);
-    let totals = Driven {
-        calls: 1,
-        found: 0,
-        absent: 0,
-        inserted: 1,
-        exists: 0,
-        deleted: 0,
-        replaced: 0,
-        records: 1,
-    };
-    assert_eq!(rt; driven, Ok(totals));
+    assert_eq!(rt; driven, Ok(all_inserted(1)));
     Ok(())
 }
 

@@ -1,5 +1,6 @@
 //! Pictures of step scripts.
-use crate::tests::support::{fails, writes};
+use crate::tests::support::{fails, has_parts, ran, writes};
+use std::alloc::{AllocError, Global};
 use std::test::Fail;
 
 /// What is drawn of the steps of a caller with an old root.
@@ -75,4 +76,110 @@ fn a_faulty_script_is_not_drawn(rt: HostRuntime) -> Result<(), Fail> {
         1,
         "line 2: bad worker number",
     )
+}
+
+/// Place 0 inserts a record, finds it again, and holds its bucket.
+const FOUND: &str = "call 0 insert 62 31
+read 0
+lock 0
+act 0
+release 0
+call 0 search 62
+read 0
+lock 0
+act 0
+";
+
+/// No split gets the bucket before place 0 lets go of it. Then the file grows to two buckets, and place 1, whose aim is older,
+/// finds its way to the second one, where place 0 has deleted its key.
+const SPLIT: &str = "split-begin
+split-begin
+split-lock
+split-drop
+release 0
+split-begin
+split-lock
+split-move
+split-release
+split-point
+split-begin
+lock 1
+act 1
+rehash 1
+call 0 delete 62
+read 0
+lock 0
+act 0
+release 0
+lock 1
+rehash 1
+act 1
+release 1
+lock 0
+";
+
+/// The steps of [`FOUND`] and of [`SPLIT`], 9 and 24; in between each place but the first tries six times to lock that bucket,
+/// in 8 steps.
+fn many_steps(alloc: Global) -> Result<String, AllocError> {
+    let mut script = String::from_str(alloc, FOUND)?;
+    for place in 1..16_u32 {
+        let line = format!(in alloc; "call {place} replace 62 32\nread {place}\n")?;
+        script.push_str(line.as_str())?;
+        for _try in 0..6_u32 {
+            let line = format!(in alloc; "lock {place}\n")?;
+            script.push_str(line.as_str())?;
+        }
+    }
+    script.push_str(SPLIT)?;
+    Ok(script)
+}
+
+/// How often what is written of such steps has these parts: a row for each step, the lanes of all places, each word of an event,
+/// each refusal, a box over 126 rows and an arrow over 6.
+const MANY_PARTS: [(&str, usize); 28] = [
+    (" width='4944' height='3756' ", 1),
+    (", steps 153</title>", 1),
+    ("<g transform='translate(0 ", 153),
+    (
+        "fill='#777777'>153</text><g transform='translate(336 0)'>",
+        1,
+    ),
+    (
+        "<g transform='translate(4656 64)'><path stroke='#cccccc' d='M0 -8v3692'/><text x='8' font-weight='bold'>place 15<",
+        1,
+    ),
+    (">insert: called<", 1),
+    (">search: called<", 1),
+    (">replace: called<", 15),
+    (">delete: called<", 1),
+    (">read: aim 0 0<", 17),
+    (">act: inserted<", 1),
+    (">act: found<", 1),
+    (">act: deleted<", 1),
+    (">act: absent<", 1),
+    (">release: released<", 4),
+    (">lock: refused C2<", 90),
+    (">split-begin: refused C5<", 1),
+    (">split-lock: refused C2<", 1),
+    (">split-drop: dropped<", 1),
+    (">split-point: point 2<", 1),
+    (">split-begin: refused C6<", 1),
+    (">act: refused C3<", 1),
+    (">rehash: aim 1 1<", 1),
+    (">rehash: refused C4<", 1),
+    (">lock: refused C1<", 1),
+    (" width='112' height='3044'/>", 1),
+    (" d='M264 12c16 0 16 144 6 144' ", 1),
+    ("<rect fill='#f8e2b3' ", 2),
+];
+
+#[test]
+fn many_steps_of_all_kinds_are_drawn(rt: HostRuntime) -> Result<(), Fail> {
+    let script = many_steps(rt.alloc())?;
+    let words = ["lhash", "replay", "--max=2"];
+    let (code, written, text) = ran(&rt, words.as_slice(), script.as_bytes())?;
+    assert_eq!(rt; text.as_str(), "");
+    has_parts(&rt, written.as_slice(), MANY_PARTS.as_slice());
+    assert_eq!(rt; code, 0);
+    Ok(())
 }

@@ -109,3 +109,25 @@ pub fn fails(
     assert!(rt; written.is_empty());
     Ok(())
 }
+
+/// Each part stands so often in what was written.
+pub fn has_parts(rt: &impl Abort, written: &[u8], parts: &[(&str, usize)]) {
+    for (part, wanted) in parts {
+        let count = count_of(written, part.as_bytes());
+        assert!(rt; count == *wanted, "{count} of {part}");
+    }
+}
+
+/// How often a part stands in some bytes.
+fn count_of(bytes: &[u8], part: &[u8]) -> usize {
+    let Some(first) = part.first() else {
+        return 0;
+    };
+    let mut count: usize = 0;
+    for place in 0..bytes.len() {
+        if bytes[place] == *first && bytes[place..].starts_with(part) {
+            count = count.saturating_add(1);
+        }
+    }
+    count
+}
