@@ -7,8 +7,8 @@ use atomic_table::Seat;
 use std::fmt;
 use std::marker::Model;
 
-/// A caller's own token of a running file. Each thread works with a hand of its own: it may make so
-/// many calls, it may have the right to split, and where the file records it keeps its acts.
+/// A caller's own token of a running file. Each thread works with a hand of its own: it has some calls left,
+/// it may have the right to split, and where the file records it keeps its acts.
 ///
 /// A hand that is dropped takes with it what it has: its calls, its acts and the right to split. A right that is lost
 /// so stays taken: from then on every hand that asks finds it busy, no insert splits, and settling answers

@@ -1,11 +1,9 @@
-use Rattle.std.proofs.Common.{rules, ◌≡◌, ◌<◌, ◌+◌, ◌-◌, ◌++◌, [], ◌∷◌, All, sym, ap, ◌∙◌, subst, false}
+use Rattle.std.proofs.Common.{rules, ◌<◌, ◌+◌, ◌-◌, ◌++◌, [], ◌∷◌, All, ap, ◌∙◌, subst}
 use Rattle.lh_bucket.specs.Answer.{Answered}
 use Rattle.lh_bucket.specs.Bucket.{content}
-use Rattle.lh_bucket.specs.declared.call.Reply.{Reply}
 use Rattle.lh_file.specs.Words.HandState.{HandState}
 use Rattle.lh_file.specs.Words.Plays.{Seated}
 use Rattle.lh_file.specs.Words.Recording.{inserts_of, deletes_of}
-use Rattle.lh_file.specs.declared.words.view.View.{View}
 use Rattle.lh_file.proofs.OfCalls.Serving.{uncounted, stamped_same}
 use Rattle.lh_file.proofs.words.Words.enter_look.Goals as goal
 
