@@ -1,10 +1,14 @@
 -- From the calls of a script to the totals of a run in threads
-use Rattle.std.proofs.Common.{◌≡◌, ℕ, List, Option, None, Some, IfSome, refl, sym, subst}
+use Rattle.std.proofs.Common.{◌≡◌, ◌∙◌, ℕ, List, Option, None, Some, IfSome, length, refl, sym, subst}
 use Rattle.std.specs.Prelude.{Ok, Err}
 use Rattle.std.specs.Io.KnownBytes.{Appends}
 use Rattle.std.proofs.KnownBytes.{Keeps-refl}
+use Rattle.std.proofs.lemmas.List.{length-map}
+use Rattle.std.proofs.lemmas.List.Sorted.{length_permutation}
 use Rattle.lh_addr.specs.Settings.{Settings}
 use Rattle.lh_bucket.specs.declared.call.Call.{Call as CallOf}
+use Rattle.lh_file.specs.Acts.{calls_of, replies_of, IsInOrder}
+use Rattle.lh_file.specs.declared.act.ActLine.{ActLine}
 use Rattle.lh_file.specs.declared.settling.settle_fault.SettleFault.TheVariants as settle
 use Rattle.lh_script.specs.Commands.{command}
 use Rattle.lhash.specs.Devices.{TakesBeginning}
@@ -71,14 +75,19 @@ undriven_so settings calls fault status (Some input) a given h is =
 
 -- the totals were written
 pub totals_told : (settings : Settings) (calls : List CallOf) (d : Driven) (text : List ℕ) (left before now : Option (List ℕ)) → IsScriptOf left calls →
-    IsDriven settings d → text ≡ driven_text d → Appends before now text → IfSome left (λ input. EndsDriving settings input Done before now)
+    IsDriven settings calls d → text ≡ driven_text d → Appends before now text → IfSome left (λ input. EndsDriving settings input Done before now)
 unfolding EndsDriving
 totals_told settings calls d text None before now given driven is h = tt
 totals_told settings calls d text (Some input) before now given driven is h = (calls, text, given, (d, driven, is), h)
 
 -- a beginning of them was written
 pub totals_begun : (settings : Settings) (calls : List CallOf) (d : Driven) (text : List ℕ) (left before now : Option (List ℕ)) → IsScriptOf left calls →
-    IsDriven settings d → text ≡ driven_text d → TakesBeginning before now text → IfSome left (λ input. EndsDriving settings input (Device Write) before now)
+    IsDriven settings calls d → text ≡ driven_text d → TakesBeginning before now text → IfSome left (λ input. EndsDriving settings input (Device Write) before now)
 unfolding EndsDriving
 totals_begun settings calls d text None before now given driven is h = tt
 totals_begun settings calls d text (Some input) before now given driven is h = (calls, text, given, (d, driven, is), h)
+
+-- a history has a reply for each call of its acts
+pub replies_made : (acts history : List ActLine) → IsInOrder acts history → length (replies_of history) ≡ length (calls_of acts)
+replies_made acts history order =
+    length-map history (λ act. act.reply) ∙ length_permutation acts history order.same ∙ sym (length-map acts (λ act. act.call))

@@ -4,6 +4,7 @@ pub mod Devices
 pub mod Driving
 pub mod Ending
 pub mod Inspecting
+pub mod Places
 pub mod RecordLines
 pub mod ReplyLines
 pub mod Sending

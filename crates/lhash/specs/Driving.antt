@@ -1,16 +1,13 @@
 -- What a run of calls in threads may tell: the totals of a settled history, or why there are none
-use Rattle.std.specs.Prelude.{◌≡◌, ◌≢◌, ℕ, ◌-◌, ◌%◌, ◌^◌, true, false, min, List, [], Option, Ok, replicate}
+use Rattle.std.specs.Prelude.{◌≡◌, ◌≢◌, ℕ, ◌-◌, ◌%◌, ◌^◌, true, min, List, [], Option, Ok, length, replicate}
 use Rattle.std.specs.Io.KnownBytes.{Keeps}
 use Rattle.lh_addr.specs.Settings.{Settings}
 use Rattle.lh_bucket.specs.declared.call.Call.{Call as CallOf}
 use Rattle.lh_bucket.specs.Listing.{Lists, count_of}
 use Rattle.lh_file.specs.Acts.{replies_of}
-use Rattle.lh_file.specs.FileState.{FileState}
-use Rattle.lh_file.specs.History.Own.{IsOwn, share_of}
 use Rattle.lh_file.specs.Settling.ClosedFile.{ClosedFile}
 use Rattle.lh_file.specs.Settling.SettleFault.{IsDue}
 use Rattle.lh_file.specs.Settling.Settled.{IsSettled}
-use Rattle.lh_file.specs.Words.HandState.{HandState}
 use Rattle.lh_file.specs.declared.act.ActLine.{ActLine}
 use Rattle.lh_file.specs.declared.fault.FileFault.{FileFault}
 use Rattle.lh_file.specs.declared.fault.FileFault.TheVariants as file
@@ -32,26 +29,27 @@ use Rattle.lhash.specs.declared.unsettled.Unsettled.TheVariants as unsettled
 abbrev pub empty_file : Settings → Lists
 empty_file settings = record { config = settings; lists = replicate settings.initial [] }
 
--- The totals are those of a legal history: a closed file of the settings, and some acts, are settled with it, from an empty file on; the replies are counted, and the records of the closed file (from 2^64 on it would be 2^64 - 1).
-pub record IsDriven (settings : Settings) (d : Driven) : Type 0 where
+-- The totals are those of a legal history: a closed file of the settings, and some acts, are settled with it, from an empty file on; the replies are counted, one for each call of the script, and the records of the closed file (from 2^64 on it would be 2^64 - 1).
+pub record IsDriven (settings : Settings) (calls : List CallOf) (d : Driven) : Type 0 where
   pub closed : ClosedFile
   pub acts : List ActLine
   pub history : List ActLine
   pub config : closed.config ≡ settings
   pub settled : IsSettled (empty_file settings) closed acts history
   pub counts : Counts (replies_of history) d
+  pub made : d.calls ≡ length calls
   pub records : d.records ≡ min (count_of closed.lists) (2 ^ 64 - 1)
 
--- a thread's hand of these calls: it is its file's own, and hasn't the right to split
-pub record IsPartOf (file : FileState) (calls : ℕ) (hand : HandState) : Type 0 where
-  pub own : IsOwn file hand
-  pub right : hand.view.has_right ≡ false
-  pub share : share_of hand ≡ calls
+-- the bucket of a call isn't what it has to be
+abbrev pub IsDefect : FileFault → Type 0
+IsDefect (file.Spent left) = ⊥
+IsDefect file.Memory = ⊥
+IsDefect (file.Defect wanted_bucket wanted_level found_bucket found_level) = Unit {0}
 
--- the threads' work failed: a call was not answered, for another reason than out of memory; a thread could not be started; or memory ran out
+-- the threads' work failed: a call was not answered, since its bucket isn't what it has to be; a thread could not be started; or memory ran out
 abbrev pub IsWorkersFault : DriveFault → Type 0
 IsWorkersFault (Settle fault) = ⊥
-IsWorkersFault (Call fault) = fault ≢ file.Memory
+IsWorkersFault (Call fault) = IsDefect fault
 IsWorkersFault Thread = Unit {0}
 IsWorkersFault Memory = Unit {0}
 
@@ -88,9 +86,9 @@ ended_by (Call fault) = NotSettled unsettled.Call
 ended_by Thread = NoMemory
 ended_by Memory = NoMemory
 
--- what `drive` may write: the totals of a legal history
-abbrev pub IsTotals : Settings → List ℕ → Type 0
-IsTotals settings output = (d : Driven) × IsDriven settings d × (output ≡ driven_text d)
+-- what `drive` may write for the calls of a script: the totals of a legal history
+abbrev pub IsTotals : Settings → List CallOf → List ℕ → Type 0
+IsTotals settings calls output = (d : Driven) × IsDriven settings calls d × (output ≡ driven_text d)
 
 -- what threads did is not settled, for this reason
 abbrev pub IsUnsettled : Settings → Unsettled → Type 0
@@ -100,4 +98,4 @@ IsUnsettled settings reason = (fault : DriveFault) × IsDriveFault settings faul
 unfoldable pub EndsDriving : Settings → List ℕ → Status → Option (List ℕ) → Option (List ℕ) → Type 0
 EndsDriving settings input (NotSettled reason) before now =
     (calls : List CallOf) × (script command input ≡ Ok calls) × IsUnsettled settings reason × Keeps before now
-EndsDriving settings input status before now = EndsTelling (λ _ output. IsTotals settings output) status (script command input) before now
+EndsDriving settings input status before now = EndsTelling (IsTotals settings) status (script command input) before now

@@ -7,3 +7,4 @@ pub mod Run
 pub mod Serving
 pub mod Status
 pub mod Unsettled
+pub mod Workers

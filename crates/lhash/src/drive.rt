@@ -1,5 +1,6 @@
 //! The subcommand `drive`: a command script in threads, settled, from its bytes to its totals.
 ghost use Rattle.std.specs.Prelude.{◌≡◌, ◌%◌, ◌≤◌, true, IfOk, IfErr, IfSome};
+ghost use Rattle.lh_file.specs.Acts.{calls_of};
 ghost use Rattle.lh_file.specs.Buckets.Rooms.{IsRoomOf};
 ghost use Rattle.lh_file.specs.Settling.Settled.{Settled};
 ghost use Rattle.lhash.specs.Driving.{EndsDriving, IsDriven, IsDriveFault, empty_file, ended_by, unsettled_as};
@@ -78,7 +79,7 @@ fn settled(
 ) -> Result<Driven, DriveFault>
     requires empty { empty.now ≡ empty_file closed.now.config }
     requires known { closed.now.gathered ≡ true → closed.now.root % 2 ≡ 0 → Settled empty.now closed.now acts.now }
-    ensures ok { IfOk result (IsDriven closed.now.config) }
+    ensures ok { IfOk result (IsDriven closed.now.config (calls_of acts.now)) }
     ensures err { IfErr result (IsDriveFault closed.now.config) }
 {
     let history = settle(alloc, empty, closed, acts)?;
@@ -99,7 +100,7 @@ fn driven_in<G: Gate + Sync, J: Room + Send + Sync, R: Threads + Wait + Sync>(
     requires from { opening.listing ≡ empty.now }
     requires empty { empty.now ≡ empty_file empty.now.config }
     requires threads { 1 ≤ threads }
-    ensures ok { IfOk result (IsDriven empty.now.config) }
+    ensures ok { IfOk result (IsDriven empty.now.config calls.now) }
     ensures err { IfErr result (IsDriveFault empty.now.config) }
 {
     let (file, hand) = opening.file::<J>()?;
@@ -111,8 +112,8 @@ fn driven_in<G: Gate + Sync, J: Room + Send + Sync, R: Threads + Wait + Sync>(
 /// Runs calls in threads on an empty file of this configuration, and settles what they did. The call
 /// at place `j` is made by thread `j % threads`, and each thread makes its calls in their order.
 ///
-/// The totals are those of the history that is settled. Which one it is depends on how the threads'
-/// calls fall together; where all calls on each key go to one thread, the replies don't.
+/// The totals are those of the history that is settled, which has as many calls as the script. Which one it is depends
+/// on how the threads' calls fall together; where all calls on each key go to one thread, the replies don't.
 ///
 /// The file is a traced one, so closing it says that its history is settled; `settle` finds the same out again, by itself.
 /// It answers a fault only where a bucket of the file was not met when it was closed or a split was under way, or where
@@ -129,7 +130,7 @@ pub fn drive_with<G: Gate + Drop + Sync, R: Threads + Wait + Sync>(
     gate: G,
 ) -> Result<Driven, DriveFault>
     requires { 1 ≤ threads }
-    ensures ok { IfOk result (IsDriven config) }
+    ensures ok { IfOk result (IsDriven config calls.now) }
     ensures err { IfErr result (IsDriveFault config) }
 {
     let empty = Listing::empty(alloc, config)?;

@@ -1,7 +1,9 @@
 //! Threads that share a traced file, and do a script's calls between them.
-ghost use Rattle.std.specs.Prelude.{◌≡◌, ◌+◌, ◌<◌, true, false, All, IfOk, IfErr, OnOk, sum_by};
+ghost use Rattle.std.specs.Prelude.{◌≡◌, ◌+◌, ◌<◌, ◌≤◌, true, false, [], All, IfOk, IfErr, OnOk, OnErr, length, sum_by};
+ghost use Rattle.lh_file.specs.Calls.Served.{IsNotSpent};
 ghost use Rattle.lh_file.specs.History.Own.{IsOwn, share_of};
-ghost use Rattle.lhash.specs.Driving.{IsWorkersFault, IsPartOf};
+ghost use Rattle.lhash.specs.Driving.{IsWorkersFault};
+ghost use Rattle.lhash.specs.Workers.{IsPartOf, IsWorked, places_from};
 
 use crate::drive::DriveFault;
 use lh_bucket::{Answer, Call};
@@ -19,7 +21,8 @@ struct Worked {
     fault: Option<FileFault>,
 }
 
-/// The hand that comes back is one of this file, hasn't the right to split, and made its calls out of this number.
+/// The hand that comes back is one of this file, hasn't the right to split, and made its calls out of this number: all
+/// of them, unless there is a fault, which is none for want of calls.
 #[derive(Clone, Copy)]
 struct Part<'a, G: Gate, J: Room> {
     file: &'a HashFile<G, Traced, J>,
@@ -27,10 +30,10 @@ struct Part<'a, G: Gate, J: Room> {
 }
 
 impl<'a, G: Gate, J: Room> Promise<Worked> for Part<'a, G, J> {
-    ghost kept_by = { λ part worked. IsPartOf part.file.now.state part.calls worked.hand };
+    ghost kept_by = { λ part worked. IsWorked part.file.now.state part.calls worked };
 }
 
-/// Makes a call.
+/// Makes a call, which takes one of those that the hand may make.
 fn make<G: Gate, J: Room, R: Wait>(
     rt: &R,
     file: &HashFile<G, Traced, J>,
@@ -39,10 +42,13 @@ fn make<G: Gate, J: Room, R: Wait>(
 ) -> Result<Answer, FileFault>
     requires own { IsOwn file.now.state hand.old }
     requires records { file.now.state.recording ≡ true }
+    requires enough { 1 ≤ hand.old.view.left }
     ensures call { IfOk result (λ answer. answer.call ≡ call.now) }
     ensures own { IsOwn file.now.state hand.new }
     ensures share { share_of hand.new ≡ share_of hand.old }
+    ensures taken { OnOk result (hand.new.view.left + 1 ≡ hand.old.view.left) }
     ensures right { hand.new.view.has_right ≡ hand.old.view.has_right }
+    ensures err { IfErr result IsNotSpent }
 {
     hands_keep_their_shares();
     match *call {
@@ -54,7 +60,7 @@ fn make<G: Gate, J: Room, R: Wait>(
 }
 
 /// Makes every call of a script whose place is `first` plus a multiple of `threads`, in turn, up to
-/// the first that isn't answered.
+/// the first that isn't answered. The hand may make just as many.
 fn work<G: Gate, J: Room, R: Wait>(
     rt: &R,
     file: &HashFile<G, Traced, J>,
@@ -66,7 +72,8 @@ fn work<G: Gate, J: Room, R: Wait>(
     requires part { IsPartOf file.now.state (share_of hand) hand }
     requires records { file.now.state.recording ≡ true }
     requires threads { 0 < threads }
-    ensures { IsPartOf file.now.state (share_of hand) result.hand }
+    requires enough { hand.view.left ≡ places_from first threads (length calls.now) }
+    ensures { IsWorked file.now.state (share_of hand) result }
 {
     for place in (first..calls.len()).step_by(threads) {
         if let Err(fault) = make(rt, file, &mut hand, &calls[place]) {
@@ -82,6 +89,7 @@ fn work<G: Gate, J: Room, R: Wait>(
 /// How many calls of a script `work` makes.
 fn calls_of_thread(calls: &[Call], first: usize, threads: usize) -> usize
     requires { 0 < threads }
+    ensures { result ≡ places_from first threads (length calls.now) }
 {
     calls.len().saturating_sub(first).div_ceil(threads)
 }
@@ -110,8 +118,11 @@ fn divide<G: Gate, J: Room>(
 ) -> Result<Hand, FileFault>
     requires { IsOwn file.now.state hand.old }
     ensures own { IsOwn file.now.state hand.new }
+    ensures acts { hand.new.acts ≡ hand.old.acts }
     ensures part { IfOk result (IsPartOf file.now.state calls) }
+    ensures idle { IfOk result (λ part. part.acts ≡ []) }
     ensures share { OnOk result (share_of hand.new + calls ≡ share_of hand.old) }
+    ensures too_few { OnErr result (hand.old.view.left < calls) }
 {
     hands_keep_their_shares();
     file.split_hand(hand, calls)
@@ -128,6 +139,7 @@ fn unite<G: Gate, J: Room>(
     requires right { second.view.has_right ≡ false }
     ensures own { IfOk result (IsOwn file.now.state) }
     ensures share { IfOk result (λ all. share_of all ≡ share_of first + share_of second) }
+    ensures acts { IfOk result (λ all. length all.acts ≡ length first.acts + length second.acts) }
     ensures err { IfErr result IsWorkersFault }
 {
     hands_keep_their_shares();
@@ -150,6 +162,7 @@ fn join<G: Gate, J: Room, R: Threads + Wait>(
     requires worker { worker.promise.file.now.state ≡ file.now.state }
     ensures own { IfOk result (IsOwn file.now.state) }
     ensures share { IfOk result (λ all. share_of all ≡ share_of hand + worker.entry.promise.calls) }
+    ensures made { IfOk result (λ all. length all.acts ≡ length hand.acts + worker.entry.promise.calls) }
     ensures err { IfErr result IsWorkersFault }
 {
     let Worked { hand: part, fault } = worker.join(rt);
@@ -175,6 +188,8 @@ fn join_all<G: Gate, J: Room, R: Threads + Wait>(
     ensures own { IfOk result (IsOwn file.now.state) }
     ensures share { IfOk result (λ all.
         share_of all ≡ share_of hand + sum_by (λ worker. worker.promise.calls) workers.entry.items) }
+    ensures made { IfOk result (λ all.
+        length all.acts ≡ length hand.acts + sum_by (λ worker. worker.promise.calls) workers.entry.items) }
     ensures err { IfErr result IsWorkersFault }
 {
     let mut did_nothing = true;
@@ -198,8 +213,10 @@ pub fn work_in_threads<G: Gate + Sync, J: Room + Send + Sync, R: Threads + Wait 
     requires hand { IsOwn file.now.state hand }
     requires records { file.now.state.recording ≡ true }
     requires threads { 0 < threads }
+    requires enough { length calls.now ≤ hand.view.left }
     ensures own { IfOk result (IsOwn file.now.state) }
     ensures share { IfOk result (λ all. share_of all ≡ share_of hand) }
+    ensures made { IfOk result (λ all. length all.acts ≡ length hand.acts + length calls.now) }
     ensures err { IfErr result IsWorkersFault }
 {
     thread::scope(
@@ -209,8 +226,10 @@ pub fn work_in_threads<G: Gate + Sync, J: Room + Send + Sync, R: Threads + Wait 
             requires hand { IsOwn file.now.state hand }
             requires records { file.now.state.recording ≡ true }
             requires threads { 0 < threads }
+            requires enough { length calls.now ≤ hand.view.left }
             ensures own { IfOk result (IsOwn file.entry.now.state) }
             ensures share { IfOk result (λ all. share_of all ≡ share_of hand) }
+            ensures made { IfOk result (λ all. length all.acts ≡ length hand.acts + length calls.entry.now) }
             ensures err { IfErr result IsWorkersFault }
         {
             let mut all = hand;
@@ -231,7 +250,8 @@ pub fn work_in_threads<G: Gate + Sync, J: Room + Send + Sync, R: Threads + Wait 
                         requires part { IsPartOf file.now.state (share_of part) part }
                         requires records { file.now.state.recording ≡ true }
                         requires threads { 0 < threads }
-                        ensures { IsPartOf file.entry.now.state (share_of part) result.hand }
+                        requires enough { part.view.left ≡ places_from first threads (length calls.now) }
+                        ensures { IsWorked file.entry.now.state (share_of part) result }
                     { work(rt, file, part, calls, first, threads) },
                 ) else {
                     missing = Some(DriveFault::Thread);

@@ -1,4 +1,5 @@
-use Rattle.std.proofs.Common.{◌∙◌}
+use Rattle.std.proofs.Common.{◌∙◌, subst}
+use Rattle.lhash.specs.Driving.{IsDriven}
 use Rattle.lhash.proofs.Driving.{unrun, undriven_memory, undriven_so, totals_told, totals_begun}
 use Rattle.lhash.proofs.drive.answer_drive.Goals as goal
 
@@ -14,10 +15,12 @@ returns-in_default g c = undriven_memory c.args.config _ _
 
 pub returns-in-Ok-write_all : goal.returns-in-Ok-write_all
 returns-in-Ok-write_all g c =
-    totals_told c.args.config c.in-Ok.calls.items c.in-Ok-drive_with.driven _ _ _ _ c.in-Ok.ensures c.in-Ok-drive_with.ensures.ok
+    let driven = subst (λ calls. IsDriven c.args.config calls c.in-Ok-drive_with.driven) c.as_slice.ensures.value c.in-Ok-drive_with.ensures.ok in
+    totals_told c.args.config c.in-Ok.calls.items c.in-Ok-drive_with.driven _ _ _ _ c.in-Ok.ensures driven
     (c.as_bytes.ensures.value ∙ c.in-Ok-to_string.ensures.ok) c.in-Ok-write_all.ensures.ok
 
 pub returns : goal.returns
 returns g c =
-    totals_begun c.args.config c.in-Ok.calls.items c.in-Ok-drive_with.driven _ _ _ _ c.in-Ok.ensures c.in-Ok-drive_with.ensures.ok
+    let driven = subst (λ calls. IsDriven c.args.config calls c.in-Ok-drive_with.driven) c.as_slice.ensures.value c.in-Ok-drive_with.ensures.ok in
+    totals_begun c.args.config c.in-Ok.calls.items c.in-Ok-drive_with.driven _ _ _ _ c.in-Ok.ensures driven
     (c.as_bytes.ensures.value ∙ c.in-Ok-to_string.ensures.ok) c.in-Err-write_all.ensures.err

@@ -18,4 +18,5 @@ loop-worker-preserved g c =
       hand = search rules;
       each = All-tail met c.in-Some.worker (into_iter_items c.next.new.self) (subst (All met) e c.loop-worker.invariant.each);
       shares = omega (arith, ap (sum_by calls) e, cons, c.in_ok-hand.ensures.share, c.loop-worker.invariant.shares);
+      made = omega (arith, ap (sum_by calls) e, cons, c.in_ok-hand.ensures.made, c.loop-worker.invariant.made);
     }
