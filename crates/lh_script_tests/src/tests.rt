@@ -1,3 +1,4 @@
 //! Scripts from end to end.
 mod commands;
+mod memory;
 mod steps;

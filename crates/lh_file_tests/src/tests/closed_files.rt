@@ -68,14 +68,3 @@ fn a_closed_file_tells_the_fault_of_its_listing(rt: HostRuntime) -> Result<(), F
     assert_eq!(rt; place, Some(misplaced));
     Ok(())
 }
-
-#[test]
-fn refused_growth_of_a_listing_is_told(rt: HostRuntime) -> Result<(), Fail> {
-    let file = closed(rt.alloc(), 6, 5, &[AE, BD, C])?;
-    let listing = match file.listing(rt.alloc()) {
-        Err(ListingFault::Memory) => file.listing(rt.alloc()),
-        answer => answer,
-    };
-    assert_eq!(rt; listing?.len(), 5);
-    Ok(())
-}

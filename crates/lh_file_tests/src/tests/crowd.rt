@@ -70,22 +70,20 @@ fn call<R: Wait>(rt: &R, file: &HashFile<GiveWay>, hand: &mut Hand, number: u16,
     }
 }
 
-/// Inserts one of three letters in an even turn, and deletes it in the next one. Says whether it was told one of the two
-/// replies that there are.
+/// Inserts one of three letters in one turn, searches for it in the next one, and deletes it in the one after. Says whether
+/// it was told one of the two replies that there are.
 fn contend<R: Wait>(rt: &R, file: &HashFile<GiveWay>, hand: &mut Hand, turn: u16) -> bool
     requires { IsOf file.now.state hand.old }
     ensures { IsOf file.now.state hand.new }
 {
-    let letter = b"abc"[(turn / 2 % 3) as usize];
+    let letter = b"abc"[(turn / 3 % 3) as usize];
     let (Ok(key), Ok(value)) = (Key::new(&[letter]), Value::new(b"1")) else {
         return false;
     };
-    let (answer, replies) = if turn % 2 == 0 {
-        let answer = file.insert(rt, hand, key, value);
-        (answer, [Reply::Inserted, Reply::Exists])
-    } else {
-        let answer = file.delete(rt, hand, key);
-        (answer, [Reply::Deleted, Reply::Absent])
+    let (answer, replies) = match turn % 3 {
+        0 => (file.insert(rt, hand, key, value), [Reply::Inserted, Reply::Exists]),
+        1 => (file.search(rt, hand, key), [Reply::Found(value), Reply::Absent]),
+        _ => (file.delete(rt, hand, key), [Reply::Deleted, Reply::Absent]),
     };
     match answer {
         Ok(answer) => replies.contains(&answer.reply()),
@@ -94,7 +92,7 @@ fn contend<R: Wait>(rt: &R, file: &HashFile<GiveWay>, hand: &mut Hand, turn: u16
 }
 
 /// Inserts each eighth of a thousand numbers, then replaces their values and then searches for them, in
-/// the same order; or inserts and deletes three letters, as all others do.
+/// the same order; or inserts, finds and deletes three letters, as all others do.
 fn share<R: Wait>(
     rt: &R,
     file: &HashFile<GiveWay>,
@@ -212,9 +210,9 @@ fn eight_threads_insert_replace_and_find_a_thousand_records(rt: HostRuntime) -> 
     Ok(())
 }
 
-/// The acts of a bucket are settled in the order in which they changed it, however many there are at once.
+/// The acts of a bucket are settled in the order in which they changed and saw it, however many there are at once.
 #[test]
-fn eight_threads_insert_and_delete_three_records(rt: HostRuntime) -> Result<(), Fail> {
+fn eight_threads_insert_find_and_delete_three_records(rt: HostRuntime) -> Result<(), Fail> {
     let config = Config::new(1, 1, 100, 65536)?;
     let (records, settled) = crowded(&rt, rt.alloc(), config, Keys::Shared).ok_or(
         "a call went wrong",

@@ -328,3 +328,79 @@ fn a_bucket_that_is_released_is_free(rt: HostRuntime) -> Result<(), Fail> {
     };
     perform(&rt, rt.alloc(), scene)
 }
+
+/// The search has let its bucket go, and is held until the record that it found is deleted.
+const HELD_AFTER_A_SEARCH: [Hold; 1] = [Hold {
+    from: 1,
+    point: Point::Released { bucket: 0 },
+    to: 2,
+    until: 3,
+}];
+
+/// A search has its stamp before it lets its bucket go.
+#[test]
+fn a_search_comes_before_what_it_does_not_see(rt: HostRuntime) -> Result<(), Fail> {
+    let scene = Scene {
+        capacity: 14,
+        holds: &HELD_AFTER_A_SEARCH,
+        first: &[
+            (Task::Insert(b'a'), Told::Inserted),
+            (Task::Reach(1), Told::Done),
+            (Task::Wait(2), Told::Done),
+            (Task::Delete(b'a'), Told::Deleted),
+            (Task::Reach(3), Told::Done),
+        ],
+        second: &[
+            (Task::Wait(1), Told::Done),
+            (Task::Search(b'a'), Told::Found),
+        ],
+        buckets: 1,
+        acts: 3,
+        points: &[],
+    };
+    perform(&rt, rt.alloc(), scene)
+}
+
+/// The search has read the root, and is held until bucket 0 is split; then it goes on from there, and is held until an
+/// insert has bucket 0.
+const HELD_BEFORE_THE_NEXT_BUCKET: [Hold; 3] = [
+    Hold {
+        from: 0,
+        point: Point::Read,
+        to: 1,
+        until: 2,
+    },
+    Hold {
+        from: 2,
+        point: Point::Released { bucket: 0 },
+        to: 3,
+        until: 4,
+    },
+    Hold {
+        from: 3,
+        point: Point::Holding { bucket: 0 },
+        to: 4,
+        until: 4,
+    },
+];
+
+#[test]
+fn a_bucket_that_a_call_has_left_is_free(rt: HostRuntime) -> Result<(), Fail> {
+    let scene = Scene {
+        capacity: 14,
+        holds: &HELD_BEFORE_THE_NEXT_BUCKET,
+        first: &[
+            (Task::Wait(1), Told::Done),
+            (Task::TryRight, FIRST_RIGHT),
+            (Task::Split, Told::Done),
+            (Task::Reach(2), Told::Done),
+            (Task::Wait(3), Told::Done),
+            (Task::Insert(b'a'), Told::Inserted),
+        ],
+        second: &[(Task::Search(b'b'), Told::Absent)],
+        buckets: 2,
+        acts: 2,
+        points: &[],
+    };
+    perform(&rt, rt.alloc(), scene)
+}

@@ -89,6 +89,60 @@ fn insert_again<R: Wait>(
     told == Some(Told::Inserted) && found == Some(Told::Found) && hand.has_right() == right
 }
 
+/// Makes a change of a letter that is there, and says whether all went as it has to. After a refused one another hand
+/// finds the record as it was, and the change may be made then.
+fn change_again<R: Wait>(
+    rt: &R,
+    file: &HashFile<NoGate>,
+    answered: &Progress,
+    hand: &mut Hand,
+    other: &mut Hand,
+    change: Task,
+    due: Told,
+) -> bool
+    requires hand { IsOf file.now.state hand.old }
+    requires other { IsOf file.now.state other.old }
+    ensures hand { IsOf file.now.state hand.new }
+    ensures other { IsOf file.now.state other.new }
+{
+    let (Task::Replace(letter) | Task::Delete(letter)) = change else {
+        return false;
+    };
+    let told = asked(rt, file, answered, hand, change);
+    if told != Some(REFUSED) {
+        return told == Some(due);
+    }
+    let found = asked_again(rt, file, answered, other, Task::Search(letter));
+    let told = asked(rt, file, answered, hand, change);
+    found == Some(Told::Found) && told == Some(due)
+}
+
+/// The first hand replaces a value and the second deletes a record; then each sees what the other did. Says whether all
+/// went as it has to.
+fn replace_and_delete<R: Wait>(
+    rt: &R,
+    file: &HashFile<NoGate>,
+    answered: &Progress,
+    first: &mut Hand,
+    second: &mut Hand,
+) -> bool
+    requires first { IsOf file.now.state first.old }
+    requires second { IsOf file.now.state second.old }
+    ensures first { IsOf file.now.state first.new }
+    ensures second { IsOf file.now.state second.new }
+{
+    let (replace, replaced) = (Task::Replace(b'a'), Told::Replaced);
+    let (delete, deleted) = (Task::Delete(b'b'), Told::Deleted);
+    if !change_again(rt, file, answered, first, second, replace, replaced)
+        || !change_again(rt, file, answered, second, first, delete, deleted)
+    {
+        return false;
+    }
+    let new = asked_again(rt, file, answered, second, Task::Search(b'a'));
+    let gone = asked_again(rt, file, answered, first, Task::Search(b'b'));
+    new == Some(Told::FoundNew) && gone == Some(Told::Absent)
+}
+
 /// The number of buckets that a hand is told.
 fn size_of(file: &HashFile<NoGate>, hand: &mut Hand) -> u64
     requires { IsOf file.now.state hand.old }
@@ -168,8 +222,8 @@ fn join_again<R: Wait>(
         Err(fault) => fault,
     };
     let as_before = first.left() == left && second.left() == more;
-    let by_first = asked(rt, file, answered, &mut first, Task::Search(b'a'));
-    let by_second = asked(rt, file, answered, &mut second, Task::Search(b'a'));
+    let by_first = asked(rt, file, answered, &mut first, Task::Search(b'c'));
+    let by_second = asked(rt, file, answered, &mut second, Task::Search(b'c'));
     let found = Some(Told::Found);
     if !as_before || by_first != found || by_second != found || second.has_right() {
         return None;
@@ -177,8 +231,9 @@ fn join_again<R: Wait>(
     file.join_hands(first, second).ok()
 }
 
-/// Two hands insert and search eight letters, and are joined. From the fourth letter on each insert passes the load, and
-/// so asks for a split, of which one may be refused: the file then has its old size. None where a call went wrong.
+/// Two hands insert and search eight letters, change two of them, and are joined. From the fourth letter on each insert
+/// passes the load, and so asks for a split, of which one may be refused: the file then has its old size. None where a call
+/// went wrong.
 fn used<R: Wait>(
     rt: &R,
     file: &HashFile<NoGate>,
@@ -206,7 +261,7 @@ fn used<R: Wait>(
             return None;
         }
     }
-    if refused > 1 {
+    if refused > 1 || !replace_and_delete(rt, file, answered, &mut first, &mut second) {
         return None;
     }
     join_again(rt, file, answered, first, second)
@@ -269,6 +324,15 @@ fn settled(alloc: Global, config: Config, closed: &Closed, acts: &Acts) -> Optio
     Some(history.len())
 }
 
+/// How many records the listing of a closed file has.
+fn listed_records(alloc: Global, closed: &Closed) -> Option<u64> {
+    let listing = match closed.listing(alloc) {
+        Err(ListingFault::Memory) => closed.listing(alloc).ok()?,
+        listing => listing.ok()?,
+    };
+    Some(listing.len())
+}
+
 #[test]
 fn refused_growth_changes_nothing(rt: HostRuntime) -> Result<(), Fail> {
     let config = Config::new(1, 1, 100, 65536)?;
@@ -278,7 +342,8 @@ fn refused_growth_changes_nothing(rt: HostRuntime) -> Result<(), Fail> {
         Ok(used) => used,
         Err(Memory) => used_and_closed(&rt, rt.alloc(), config).ok_or("a call went wrong")??,
     };
-    assert_eq!(rt; closed.records(), 8);
+    assert_eq!(rt; closed.records(), 7);
+    assert_eq!(rt; listed_records(rt.alloc(), &closed), Some(7));
     assert!(rt; closed.buckets() == 7 || closed.buckets() == 6);
     assert_eq!(rt; acts.len() as u64, answered);
     assert_eq!(rt;
@@ -336,7 +401,7 @@ fn closed_at_once<R: Wait>(
     }
 }
 
-/// A refused call has left no act, and no record.
+/// A refused call has left no act, and no record. The closed file becomes its listing, unless that is refused.
 #[test]
 fn refused_growth_leaves_no_act(rt: HostRuntime) -> Result<(), Fail> {
     let config = Config::new(1, 1, 100, 65536)?;
@@ -352,6 +417,10 @@ fn refused_growth_leaves_no_act(rt: HostRuntime) -> Result<(), Fail> {
         settled(rt.alloc(), config, &closed, &acts),
         Some(acts.len())
     );
+    match closed.into_listing(rt.alloc()) {
+        Ok(listing) => assert_eq!(rt; listing.len(), inserted),
+        Err(fault) => assert_eq!(rt; fault, ListingFault::Memory),
+    }
     Ok(())
 }
 

@@ -254,17 +254,3 @@ fn records_are_compared_with_what_replaces_left(rt: HostRuntime) -> Result<(), F
     );
     Ok(())
 }
-
-/// With an allocation refused the answer is that fault, and the same call again settles the file.
-#[test]
-fn refused_growth_is_told(rt: HostRuntime) -> Result<(), Fail> {
-    let alloc = rt.alloc();
-    let file = closed(alloc, 6, 5, &[AE, BD, C])?;
-    let acts = inserts(alloc, &[3, 0, 4, 2, 1])?;
-    let settled = match settled(alloc, &file, &acts)? {
-        Err(SettleFault::Memory) => settled(alloc, &file, &acts)?,
-        answer => answer,
-    };
-    assert_eq!(rt; settled, Ok(5));
-    Ok(())
-}

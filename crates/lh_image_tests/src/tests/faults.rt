@@ -13,7 +13,7 @@ pub(crate) fn fault_of(alloc: Global, bytes: &[u8]) -> Option<ImageFault> {
 }
 
 /// The listing and the census of these bytes have this fault, however few of them a read gives.
-fn expect_fault(rt: &impl Abort, alloc: Global, bytes: &[u8], want: ImageFault) {
+pub(crate) fn expect_fault(rt: &impl Abort, alloc: Global, bytes: &[u8], want: ImageFault) {
     for most in [1, 7, 1024, 4095, usize::MAX] {
         let found = read_image(alloc, &mut reader_of(bytes, most)).err();
         assert_eq!(rt; found, Some(want), "{most}");
@@ -57,19 +57,17 @@ fn beginnings(rt: HostRuntime) -> Result<(), Fail> {
         };
         let found = fault_of(alloc, &bytes[..count.min(bytes.len())]);
         assert_eq!(rt; found, Some(want), "{count}");
-    }
-    bytes.push(0)?;
-    assert_eq!(rt; fault_of(alloc, &bytes), Some(ImageFault::Trailing));
-    bytes.push(0)?;
-    let mut reader = reader_of(&bytes, 4095);
-    match read_image(alloc, &mut reader) {
-        Ok(_listing) => assert!(rt; false),
-        Err(ImageFault::Memory) => {}
-        Err(fault) => {
-            assert_eq!(rt; fault, ImageFault::Trailing);
-            assert_eq!(rt; reader.bytes.len(), 1);
+        if [0, 3, 10, 1023, 1024, 4095].contains(&count) {
+            expect_fault(&rt, alloc, &bytes[..count.min(bytes.len())], want);
         }
     }
+    bytes.push(0)?;
+    expect_fault(&rt, alloc, &bytes, ImageFault::Trailing);
+    bytes.push(0)?;
+    let mut reader = reader_of(&bytes, 4095);
+    let fault = read_image(alloc, &mut reader).err();
+    assert_eq!(rt; fault, Some(ImageFault::Trailing));
+    assert_eq!(rt; reader.bytes.len(), 1);
     Ok(())
 }
 

@@ -1,5 +1,5 @@
 //! Forged images of version 2, each with the first of its faults.
-use crate::tests::faults::{expect_faults, fault_of};
+use crate::tests::faults::{expect_fault, expect_faults, fault_of};
 use crate::tests::pages::{VERSION_2, falling_chain, four_pages, set, two_buckets};
 use crate::tests::streams::reader_of;
 use crate::tests::version_2::{three_buckets_image_2, two_pages_image_2};
@@ -22,18 +22,15 @@ fn beginnings(rt: HostRuntime) -> Result<(), Fail> {
         (8192, ImageFault::Short),
         (16_383, ImageFault::Short),
     ] {
-        let found = fault_of(alloc, &bytes[..count.min(bytes.len())]);
-        assert_eq!(rt; found, Some(want), "{count}");
+        expect_fault(&rt, alloc, &bytes[..count.min(bytes.len())], want);
     }
     bytes.push(0)?;
-    assert_eq!(rt; fault_of(alloc, &bytes), Some(ImageFault::Trailing));
+    expect_fault(&rt, alloc, &bytes, ImageFault::Trailing);
     bytes.push(0)?;
     let mut reader = reader_of(&bytes, usize::MAX);
     let fault = read_image(alloc, &mut reader).err();
-    if fault != Some(ImageFault::Memory) {
-        assert_eq!(rt; fault, Some(ImageFault::Trailing));
-        assert_eq!(rt; reader.bytes.len(), 1);
-    }
+    assert_eq!(rt; fault, Some(ImageFault::Trailing));
+    assert_eq!(rt; reader.bytes.len(), 1);
     Ok(())
 }
 

@@ -16,13 +16,9 @@ use std::test::Fail;
 fn reads_as(rt: &impl Abort, alloc: Global, bytes: &[u8], wanted: &Listing) -> Result<(), Fail> {
     for most in [1, 7, 1024, 4095] {
         let mut reader = reader_of(bytes, most);
-        match read_image(alloc, &mut reader) {
-            Ok(listing) => {
-                expect_same(rt, &listing, wanted);
-                assert!(rt; reader.bytes.is_empty());
-            }
-            Err(fault) => assert_eq!(rt; fault, ImageFault::Memory),
-        }
+        let listing = read_image(alloc, &mut reader)?;
+        expect_same(rt, &listing, wanted);
+        assert!(rt; reader.bytes.is_empty());
         assert!(rt; reader.longest <= 1024);
     }
     Ok(())
@@ -61,21 +57,10 @@ fn a_failed_read_is_never_tried_again(rt: HostRuntime) -> Result<(), Fail> {
     for fails_at in 0..6 {
         let mut reader = reader_of(&bytes, 1024);
         reader.fails_at = fails_at;
-        let fault = match read_image(rt.alloc(), &mut reader) {
-            Ok(_listing) => None,
-            Err(fault) => Some(fault),
-        };
-        if fault != Some(ImageFault::Memory) {
-            assert_eq!(rt;
-                fault,
-                if fails_at < 5 {
-                    Some(ImageFault::ReadFault)
-                } else {
-                    None
-                }
-            );
-            assert_eq!(rt; reader.reads, 5.min(fails_at + 1));
-        }
+        let fault = read_image(rt.alloc(), &mut reader).err();
+        let due = (fails_at < 5).then_some(ImageFault::ReadFault);
+        assert_eq!(rt; fault, due);
+        assert_eq!(rt; reader.reads, 5.min(fails_at + 1));
     }
     Ok(())
 }

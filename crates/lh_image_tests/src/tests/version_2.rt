@@ -159,13 +159,9 @@ fn reads_through_any_reader(rt: HostRuntime) -> Result<(), Fail> {
     let bytes = three_buckets_image_2(alloc)?;
     for most in [1, 7, 1024, 4096] {
         let mut reader = reader_of(&bytes, most);
-        match read_image(alloc, &mut reader) {
-            Ok(listing) => {
-                expect_same(&rt, &listing, &three_buckets(alloc)?);
-                assert!(rt; reader.bytes.is_empty());
-            }
-            Err(fault) => assert_eq!(rt; fault, ImageFault::Memory),
-        }
+        let listing = read_image(alloc, &mut reader)?;
+        expect_same(&rt, &listing, &three_buckets(alloc)?);
+        assert!(rt; reader.bytes.is_empty());
         assert!(rt; reader.longest <= 4096);
     }
     Ok(())
@@ -189,40 +185,47 @@ fn reads_overflow_pages_in_any_order(rt: HostRuntime) -> Result<(), Fail> {
 /// The first page is read in two, of which the first part tells that there is a second one.
 #[test]
 fn a_failed_read_is_never_tried_again(rt: HostRuntime) -> Result<(), Fail> {
-    let mut bytes = three_buckets_image_2(rt.alloc())?;
+    let bytes = three_buckets_image_2(rt.alloc())?;
     for fails_at in 0..7 {
         let mut reader = reader_of(&bytes, 4096);
         reader.fails_at = fails_at;
         let fault = read_image(rt.alloc(), &mut reader).err();
-        if fault != Some(ImageFault::Memory) {
-            assert_eq!(rt;
-                fault,
-                if fails_at < 6 {
-                    Some(ImageFault::ReadFault)
-                } else {
-                    None
-                }
-            );
-            assert_eq!(rt; reader.reads, 6.min(fails_at + 1));
-        }
+        let due = (fails_at < 6).then_some(ImageFault::ReadFault);
+        assert_eq!(rt; fault, due);
+        assert_eq!(rt; reader.reads, 6.min(fails_at + 1));
     }
-    // the first page decides the faults of the header
-    set(&mut bytes, 16, 0);
-    for fails_at in 0..4 {
-        let mut reader = reader_of(&bytes, 4096);
-        reader.fails_at = fails_at;
-        let fault = read_image(rt.alloc(), &mut reader).err();
-        assert_eq!(rt;
-            fault,
-            Some(if fails_at < 2 {
+    Ok(())
+}
+
+/// The first page decides the faults of the header, whatever comes of the reads after it.
+#[test]
+fn faults_of_the_header_come_before_a_failed_read(rt: HostRuntime) -> Result<(), Fail> {
+    for (at, byte, want) in [
+        (16, 0, ImageFault::HeaderField(16)),
+        (24, 1, ImageFault::Counts),
+    ] {
+        let mut bytes = three_buckets_image_2(rt.alloc())?;
+        set(&mut bytes, at, byte);
+        for fails_at in 0..4 {
+            let mut reader = reader_of(&bytes, 4096);
+            reader.fails_at = fails_at;
+            let fault = read_image(rt.alloc(), &mut reader).err();
+            let due = if fails_at < 2 {
                 ImageFault::ReadFault
             } else {
-                ImageFault::HeaderField(16)
-            })
-        );
-        assert_eq!(rt; reader.reads, 2.min(fails_at + 1));
+                want
+            };
+            assert_eq!(rt; fault, Some(due));
+            assert_eq!(rt; reader.reads, 2.min(fails_at + 1));
+        }
     }
-    // what is no image is known by its first bytes
+    Ok(())
+}
+
+/// What is no image is known by its first bytes.
+#[test]
+fn no_image_is_read_further(rt: HostRuntime) -> Result<(), Fail> {
+    let mut bytes = three_buckets_image_2(rt.alloc())?;
     set(&mut bytes, 3, b'3');
     let mut reader = reader_of(&bytes, 4096);
     assert_eq!(rt;

@@ -250,15 +250,3 @@ fn scripts_have_16_777_216_bytes_at_most(rt: HostRuntime) -> Result<(), Fail> {
     assert_eq!(rt; outcome(alloc, &text.as_slice()[1..])?.as_str(), "0 calls");
     Ok(())
 }
-
-/// Memory is asked for more than once here: with any of these refused, that is what is answered.
-#[test]
-fn refused_memory_is_no_fault(rt: HostRuntime) -> Result<(), Fail> {
-    let text =
-        b"delete 61\ndelete 62\ndelete 63\ndelete 64\ndelete 65\ndelete 66\ndelete 67\ndelete 68\ndelete 69\n";
-    match parse::<Call>(rt.alloc(), text.as_slice()) {
-        Ok(calls) => assert_eq!(rt; calls.len(), 9),
-        Err(error) => assert_eq!(rt; error, ParseError::Memory),
-    }
-    Ok(())
-}

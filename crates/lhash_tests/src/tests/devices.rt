@@ -210,6 +210,31 @@ fn each_failed_turn_ends_what_reads_an_image(rt: HostRuntime) -> Result<(), Fail
     fails_at_each_turn(&rt, &draw, &image, &drawing)
 }
 
+#[test]
+fn each_failed_turn_ends_replay(rt: HostRuntime) -> Result<(), Fail> {
+    let replay = ["lhash", "replay"];
+    let steps = b"call 0 search 61\nread 0\n";
+    let (_, picture, _) = ran(&rt, &replay, steps)?;
+    assert!(rt; picture.len() > 500);
+    fails_at_each_read(&rt, &replay, steps, 1, &picture)?;
+    let writes = picture.len().saturating_add(1);
+    fails_at_each_write(&rt, &replay, steps, 1, writes, &picture)
+}
+
+/// An image of either version is turned into one of version 2 of four pages.
+#[test]
+fn each_failed_turn_ends_migrate(rt: HostRuntime) -> Result<(), Fail> {
+    let migrate = ["lhash", "migrate"];
+    let old = built(&rt, FIVE_WORDS, FIVE)?;
+    let (_, new, _) = ran(&rt, &migrate, &old)?;
+    assert_eq!(rt; new.len(), 16_384);
+    fails_at_each_read(&rt, &migrate, &old, 7, &new)?;
+    fails_at_each_read(&rt, &migrate, &old, 1_024, &new)?;
+    fails_at_each_read(&rt, &migrate, &new, 1_024, &new)?;
+    fails_at_each_write(&rt, &migrate, &old, 64, 257, &new)?;
+    fails_at_each_write(&rt, &migrate, &old, 4_096, 5, &new)
+}
+
 /// The first three faults of an image come before a read that fails.
 #[test]
 fn faults_of_the_first_page_come_before_a_failed_read(rt: HostRuntime) -> Result<(), Fail> {
