@@ -32,6 +32,7 @@ IsLate Magic = ⊥
 IsLate (HeaderField offset) = ⊥
 IsLate Counts = ⊥
 IsLate Trailing = ⊥
+IsLate ReadFault = ⊥
 IsLate f = Unit {0}
 
 -- out of memory, or the fault that is due

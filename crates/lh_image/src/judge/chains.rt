@@ -1,9 +1,10 @@
 //! The chains of all buckets.
-ghost use Rattle.std.specs.Prelude.{◌≡◌, ℕ, ◌+◌, ◌-◌, ◌<◌, ◌≤◌, ◌||◌, not, false, length, map, slice_index_or, IfOk, IfErr};
+ghost use Rattle.std.specs.Prelude.{◌≡◌, ℕ, ◌+◌, ◌-◌, ◌<◌, ◌≤◌, ◌||◌, not, false, length, map, slice_index_or, None, IfOk, IfErr};
 ghost use Rattle.std.specs.List.{find, list_any, range_with_len};
 ghost use Rattle.lh_addr.specs.Limits.{most_buckets};
 ghost use Rattle.lh_image.specs.Chains.{chain, pages_from, stands_in};
-ghost use Rattle.lh_image.specs.Table.{next_in};
+ghost use Rattle.lh_image.specs.Faults.{bad_next, least, named_twice};
+ghost use Rattle.lh_image.specs.Table.{links_in, next_in};
 ghost use Rattle.lh_image.specs.Layout.{most_pages};
 
 use crate::fault::ImageFault;
@@ -28,13 +29,15 @@ fn chain_from(alloc: Global, entries: &[Entry], first: u32) -> Result<Vec<u32>, 
     Ok(pages)
 }
 
-/// The chain of each bucket.
+/// The chain of each bucket. No page is on two of them, so they have no more pages than the file.
 pub(crate) fn all_chains(
     alloc: Global,
     entries: &[Entry],
     buckets: u32,
 ) -> Result<Vec<Vec<u32>>, ImageFault>
-    requires { buckets ≤ most_buckets }
+    requires few { buckets ≤ most_buckets }
+    requires plain { least (length entries.now) (bad_next (links_in entries.now buckets)) ≡ None }
+    requires apart { least (length entries.now) (named_twice (links_in entries.now buckets)) ≡ None }
     ensures ok { IfOk result (λ v. map (λ chain. chain.items) v.items
         ≡ map (chain (next_in entries.now) (length entries.now)) (range_with_len 0 buckets)) }
     ensures fault { IfErr result (λ f. f ≡ ImageFault.Memory) }

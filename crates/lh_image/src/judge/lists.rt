@@ -1,6 +1,7 @@
 //! The lists of records that faultless pages hold.
-ghost use Rattle.std.specs.Prelude.{◌≡◌, map, IfOk, IfErr};
+ghost use Rattle.std.specs.Prelude.{◌≡◌, length, map, IfOk, IfErr};
 ghost use Rattle.std.specs.List.{flat_map};
+ghost use Rattle.std.specs.Io.Iter.{u64_saturate};
 ghost use Rattle.lh_image.specs.Table.{AreWithin, records_in};
 
 use crate::fault::ImageFault;
@@ -11,6 +12,8 @@ use std::alloc::Global;
 /// How many records the pages of a chain have, where that is below 2^64.
 fn count_of(table: &Table, chain: &[u32]) -> usize
     requires { AreWithin table.now.entries.items table.now.pairs.items }
+    ensures { result ≡ u64_saturate
+        (length (flat_map (records_in table.now.entries.items table.now.pairs.items) chain.now)) }
 {
     let mut count = 0_usize;
     for page in chain {
