@@ -28,7 +28,7 @@ fn write<R: Wait + Files + AllocGlobal>(rt: &R, order: &Order) -> Result<bool> {
     let caller = load(rt, &file, hand, order, 1);
     let inserted = caller.tally.inserted;
     let (closed, _) = file.close(rt, caller.hand)?;
-    let listing = closed.into_listing(rt.alloc())?;
+    let listing = closed.into_listing()?;
     let mut writer = BufWriter::with_capacity(rt.alloc(), BUFFER, fs::create(rt, PATH)?)?;
     write_image(&listing, &mut writer)?;
     Ok(inserted == order.records)

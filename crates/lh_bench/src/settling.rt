@@ -23,7 +23,7 @@ pub fn measure<R: Wait + Clock + CpuClock + Print + AllocGlobal>(
     let stream = Mixed::of_thread(order, 0);
     let caller = play(rt, &file, caller, stream, order.records);
     let (closed, acts) = file.close(rt, caller.hand)?;
-    let empty = Listing::empty(rt.alloc(), closed.listing(rt.alloc())?.config())?;
+    let empty = Listing::empty(rt.alloc(), closed.listing()?.config())?;
     let watch = Stopwatch::start(rt)?;
     let history = settle(rt.alloc(), &empty, &closed, &acts)?;
     let spent = watch.stop(rt)?;

@@ -18,7 +18,7 @@ pub fn stamps_are_drawn_once()
 
 /// What a hand did before it was told how many acts there were comes, in the log of a traced file, before what any hand
 /// does after it was told of as many (see [`HashFile::told`](crate::HashFile::told)). So the log keeps the order of real
-/// time: an act that has returned before another begins comes first.
+/// time as far as hands can see it.
 pub fn acts_keep_real_time()
     ensures { RealTimeLaw }
 {}

@@ -31,7 +31,7 @@ fn main(rt: HostRuntime) -> anyhow::Result<()> {
     let (file, mut hand) = HashFile::create(alloc, config, false, NoGate)?;
     fill(&rt, &file, &mut hand)?;
     let (closed, _) = file.close(&rt, hand)?;
-    let listing = closed.into_listing(alloc)?;
+    let listing = closed.into_listing()?;
 
     // The image of that listing goes to any writer, here to memory.
     let mut bytes = Vec::new(alloc);

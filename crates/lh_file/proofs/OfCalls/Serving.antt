@@ -1,9 +1,11 @@
 -- What the parts of a call do to its hand, one after another
 use Rattle.std.proofs.Common.{◌≡◌, ℕ, ◌+◌, ◌-◌, ◌<◌, ◌≤◌, Bool, true, false, Some, None, [], ◌∷◌, ◌++◌, All, refl, sym, ap, ◌∙◌, subst, arith, eqb, eq-eqb}
 use Rattle.std.specs.FinMap.{get}
+use Rattle.std.specs.Prelude.{Result, Ok, Err, IfOk, IfErr, OnErr}
 use Rattle.std.specs.Option.{unwrap_or}
 use Rattle.std.proofs.lemmas.Bool.{false≢true}
 use Rattle.lh_addr.specs.Growth.{hash_at}
+use Rattle.lh_bucket.specs.Answer.{Answered}
 use Rattle.lh_bucket.specs.Bucket.{Seen, verdict}
 use Rattle.lh_bucket.specs.Laws.{HereLaw}
 use Rattle.lh_bucket.specs.PlainMap.{Records, found, reply, after, IsSearch}
@@ -17,8 +19,9 @@ use Rattle.lh_file.specs.History.Log.{entry}
 use Rattle.lh_file.specs.History.Told.{HasEntered}
 use Rattle.lh_file.specs.Words.HandState.{HandState, IsSame, knowing, with_right}
 use Rattle.lh_file.specs.Words.Recording.{Acted, inserts_of, deletes_of, kept_of}
-use Rattle.lh_file.specs.Calls.Served.{HasLooked, HasServed}
+use Rattle.lh_file.specs.Calls.Served.{HasLooked, HasServed, IsNotSpent, Serves}
 use Rattle.lh_file.specs.Words.Views.{rooted, stamped_with}
+use Rattle.lh_file.specs.declared.fault.FileFault.{FileFault}
 use Rattle.lh_file.specs.declared.words.view.View.{View}
 
 -- a hand that nothing happened to
@@ -112,12 +115,41 @@ looked_then_served a b c call reply looked served = record {
   recording = served.recording ∙ looked.recording;
 }
 
+-- a hand that may make a call after a look may have made it before
+may_call : (a b : HandState) → HasLooked a b → 1 ≤ b.view.left → 1 ≤ a.view.left
+may_call a b looked left = let l = ap (λ (v : View). v.left) looked.view in omega (arith, left, l)
+
+-- a look, and then an answer or a fault that left the hand as it was, are what a call promises
+pub looked_then_serves : (file : FileState) (a b c : HandState) (asked : Call) (r : Result Answered FileFault) → HasLooked a b → 1 ≤ b.view.left →
+    IfOk r (λ x. x.call ≡ asked) → IfOk r (λ x. HasServed b x.call x.reply c) → IsOf file c → OnErr r (c ≡ b) → IfErr r IsNotSpent → Serves file a asked r c
+looked_then_serves file a b c asked (Ok x) looked left call served of same fault = record {
+  call = call;
+  served = looked_then_served a b c x.call x.reply looked served;
+  spent = ((λ is. absurd (subst (λ (r : Result Answered FileFault). OnErr r ⊥) is tt)), (λ none. let may = may_call a b looked left in absurd (omega (arith, may, none))));
+  not_spent = λ may. tt;
+  err = tt;
+  of = of;
+}
+looked_then_serves file a b c asked (Err f) looked left call served of same fault = record {
+  call = tt;
+  served = tt;
+  spent = ((λ is. absurd (subst (λ (r : Result Answered FileFault). IfErr r IsNotSpent) is fault)), (λ none. let may = may_call a b looked left in absurd (omega (arith, may, none))));
+  not_spent = λ may. fault;
+  err = subst (HasLooked a) (sym same) looked;
+  of = of;
+}
+
 -- an act that was entered between two looks is entered
 pub looked_then_entered : (lent : Bool) (a b c : HandState) (call : Call) (reply : Reply) → HasLooked a b → HasEntered lent b call reply c → HasEntered lent a call reply c
-looked_then_entered lent a b c call reply looked (stamp, above, entered) = (stamp, (let f = ap (λ (v : View). v.floor) looked.view in omega arith), entered ∙ ap (λ es. es ++ entry lent stamp call reply ∷ []) looked.entries)
+looked_then_entered lent a b c call reply looked (stamp, above, entered, drawn) = (
+  stamp,
+  (let f = ap (λ (v : View). v.floor) looked.view in omega arith),
+  entered ∙ ap (λ es. es ++ entry lent stamp call reply ∷ []) looked.entries,
+  drawn ∙ ap (λ (v : View). v.stamps ++ stamp ∷ []) looked.view,
+)
 
 pub entered_then_looked : (lent : Bool) (a b c : HandState) (call : Call) (reply : Reply) → HasEntered lent a call reply b → HasLooked b c → HasEntered lent a call reply c
-entered_then_looked lent a b c call reply (stamp, above, entered) looked = (stamp, above, looked.entries ∙ entered)
+entered_then_looked lent a b c call reply (stamp, above, entered, drawn) looked = (stamp, above, looked.entries ∙ entered, ap (λ (v : View). v.stamps) looked.view ∙ drawn)
 
 -- a bucket at which a call is owns the call's key
 pub here_owns : HereLaw → (p : Seen) (c k : ℕ) → verdict p.head c k ≡ Here → owns c p ≡ true

@@ -14,6 +14,8 @@ abbrev pub IsTold : Lists → ℕ → List Entry → Type 0
 IsTold opening count entries =
     (log : List Entry) × (length log ≡ count) × IsLegalLog (map_in opening) log × Each entries (StandsIn log)
 
--- The hand entered one act in the log, lent or not, at some stamp that is no less than what it was told before.
+-- The hand entered one act in the log, lent or not, at the one stamp that it drew, which is no less than what it was told before.
 abbrev pub HasEntered : Bool → HandState → Call → Reply → HandState → Type 0
-HasEntered lent old call reply new = (stamp : ℕ) × (old.view.floor ≤ stamp) × (new.entries ≡ old.entries ++ entry lent stamp call reply ∷ [])
+HasEntered lent old call reply new =
+    (stamp : ℕ) × (old.view.floor ≤ stamp) × (new.entries ≡ old.entries ++ entry lent stamp call reply ∷ [])
+    × (new.view.stamps ≡ old.view.stamps ++ stamp ∷ [])

@@ -160,7 +160,7 @@ impl Closed {
     }
 
     /// The file as a listing of its buckets, or the first fault that its lists have as such.
-    pub fn listing(&self, alloc: Global) -> Result<Listing, ListingFault>
+    pub fn listing(&self) -> Result<Listing, ListingFault>
         ensures ok { IfOk result (λ listing. listing ≡ record {
           config = self.now.config;
           lists = take (size_of self.now.root) self.now.lists;
@@ -168,6 +168,7 @@ impl Closed {
         ensures err { IfErr result (IsFaultOf self.now.config (size_of self.now.root)
             (take (size_of self.now.root) self.now.lists)) }
     {
+        let alloc = *self.lists.allocator();
         let buckets = self.buckets();
         let end = self.lists.len().min(buckets as usize);
         match copied(alloc, &self.lists[..end]) {
@@ -178,13 +179,14 @@ impl Closed {
 
     /// The file as a listing of its buckets, or the first fault that its lists have as such, like `listing`.
     /// The records are moved, so that none is copied; with a fault they are gone.
-    pub fn into_listing(self, alloc: Global) -> Result<Listing, ListingFault>
+    pub fn into_listing(self) -> Result<Listing, ListingFault>
         ensures ok { IfOk result (λ listing. listing ≡ record {
           config = self.config;
           lists = take (size_of self.root) self.lists;
         }) }
         ensures err { IfErr result (IsFaultOf self.config (size_of self.root) (take (size_of self.root) self.lists)) }
     {
+        let alloc = *self.lists.allocator();
         let buckets = self.buckets();
         let Closed {
             config,

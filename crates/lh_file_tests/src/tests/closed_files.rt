@@ -28,12 +28,12 @@ fn a_closed_file_tells_what_it_has(rt: HostRuntime) -> Result<(), Fail> {
 
 /// The listing of a closed file of three buckets with these records.
 fn listed(alloc: Global, lists: &[&[(u8, u8)]]) -> Result<Result<Listing, ListingFault>, Fail> {
-    Ok(closed(alloc, 6, 0, lists)?.listing(alloc))
+    Ok(closed(alloc, 6, 0, lists)?.listing())
 }
 
 /// The listing that such a file becomes.
 fn moved(alloc: Global, lists: &[&[(u8, u8)]]) -> Result<Result<Listing, ListingFault>, Fail> {
-    Ok(closed(alloc, 6, 0, lists)?.into_listing(alloc))
+    Ok(closed(alloc, 6, 0, lists)?.into_listing())
 }
 
 /// Whether a listing is of such a file, and has this many buckets and records.

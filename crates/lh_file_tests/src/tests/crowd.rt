@@ -81,8 +81,14 @@ fn contend<R: Wait>(rt: &R, file: &HashFile<GiveWay>, hand: &mut Hand, turn: u16
         return false;
     };
     let (answer, replies) = match turn % 3 {
-        0 => (file.insert(rt, hand, key, value), [Reply::Inserted, Reply::Exists]),
-        1 => (file.search(rt, hand, key), [Reply::Found(value), Reply::Absent]),
+        0 => (
+            file.insert(rt, hand, key, value),
+            [Reply::Inserted, Reply::Exists],
+        ),
+        1 => (
+            file.search(rt, hand, key),
+            [Reply::Found(value), Reply::Absent],
+        ),
         _ => (file.delete(rt, hand, key), [Reply::Deleted, Reply::Absent]),
     };
     match answer {

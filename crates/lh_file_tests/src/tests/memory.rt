@@ -325,9 +325,9 @@ fn settled(alloc: Global, config: Config, closed: &Closed, acts: &Acts) -> Optio
 }
 
 /// How many records the listing of a closed file has.
-fn listed_records(alloc: Global, closed: &Closed) -> Option<u64> {
-    let listing = match closed.listing(alloc) {
-        Err(ListingFault::Memory) => closed.listing(alloc).ok()?,
+fn listed_records(closed: &Closed) -> Option<u64> {
+    let listing = match closed.listing() {
+        Err(ListingFault::Memory) => closed.listing().ok()?,
         listing => listing.ok()?,
     };
     Some(listing.len())
@@ -343,7 +343,7 @@ fn refused_growth_changes_nothing(rt: HostRuntime) -> Result<(), Fail> {
         Err(Memory) => used_and_closed(&rt, rt.alloc(), config).ok_or("a call went wrong")??,
     };
     assert_eq!(rt; closed.records(), 7);
-    assert_eq!(rt; listed_records(rt.alloc(), &closed), Some(7));
+    assert_eq!(rt; listed_records(&closed), Some(7));
     assert!(rt; closed.buckets() == 7 || closed.buckets() == 6);
     assert_eq!(rt; acts.len() as u64, answered);
     assert_eq!(rt;
@@ -417,7 +417,7 @@ fn refused_growth_leaves_no_act(rt: HostRuntime) -> Result<(), Fail> {
         settled(rt.alloc(), config, &closed, &acts),
         Some(acts.len())
     );
-    match closed.into_listing(rt.alloc()) {
+    match closed.into_listing() {
         Ok(listing) => assert_eq!(rt; listing.len(), inserted),
         Err(fault) => assert_eq!(rt; fault, ListingFault::Memory),
     }

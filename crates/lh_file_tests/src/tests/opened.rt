@@ -69,7 +69,7 @@ fn two_hands_use_an_opened_file(rt: HostRuntime) -> Result<(), Fail> {
 
 #[test]
 fn an_opened_file_is_listed(rt: HostRuntime) -> Result<(), Fail> {
-    let after = used(&rt, rt.alloc())?.closed.listing(rt.alloc())?;
+    let after = used(&rt, rt.alloc())?.closed.listing()?;
     assert_eq!(rt; after.buckets(), 4);
     assert!(rt; has_letters(&after, 0, b"ae") && has_letters(&after, 1, b"bf"));
     assert!(rt; has_letters(&after, 2, b"cg") && has_letters(&after, 3, b"d"));
@@ -92,7 +92,7 @@ fn long_chain(alloc: Global, count: u16) -> Result<Listing, Fail> {
 /// The listing of a file that is opened from one and closed at once.
 fn reopened<R: Wait>(rt: &R, alloc: Global, listing: &Listing) -> Result<Listing, Fail> {
     let ended = play_in_turn(rt, alloc, listing, &[]).ok_or("no memory")?;
-    Ok(ended.closed.into_listing(alloc)?)
+    Ok(ended.closed.into_listing()?)
 }
 
 #[test]

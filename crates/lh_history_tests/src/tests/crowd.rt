@@ -7,7 +7,7 @@ ghost use Rattle.lh_history_tests.specs.Crowds.{IsFree};
 use super::ended::{Ended, File, close};
 use lh_addr::Config;
 use lh_bucket::{Call, Listing};
-use lh_file::{Gate, Hand, Opening, Point, Room};
+use lh_file::{Gate, Hand, Opening, Point, Right, Room};
 use lh_page::{Key, Value};
 use std::alloc::Global;
 use std::marker::Brand;
@@ -79,7 +79,19 @@ fn take_turn<J: Room, R: Wait>(
     answer.is_ok() && told < file.told(hand)
 }
 
-/// Makes two thousand calls.
+/// Splits a bucket, where the right to do so is there to be got.
+fn grow<J: Room, R: Wait>(rt: &R, file: &File<GiveWay, J>, hand: &mut Hand)
+    requires { IsFree file.now.state hand.old }
+    ensures { IsFree file.now.state hand.new }
+{
+    if let Right::Got { .. } = file.try_split_right(hand) {
+        match file.split(rt, hand) {
+            Ok(()) | Err(_) => {}
+        }
+    }
+}
+
+/// Makes two thousand calls, and asks for a split after each sixteenth.
 fn share<J: Room, R: Wait>(rt: &R, file: &File<GiveWay, J>, mut hand: Hand, first: u32) -> Finished
     requires { IsFree file.now.state hand }
     ensures { IsFree file.now.state result.hand }
@@ -87,6 +99,9 @@ fn share<J: Room, R: Wait>(rt: &R, file: &File<GiveWay, J>, mut hand: Hand, firs
     let mut is_well = true;
     for turn in 0..2000_u32 {
         is_well = take_turn(rt, file, &mut hand, first, turn) && is_well;
+        if turn % 16 == 0 {
+            grow(rt, file, &mut hand);
+        }
     }
     Finished { hand, is_well }
 }

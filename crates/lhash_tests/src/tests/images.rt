@@ -163,12 +163,15 @@ fn a_chain_of_two_pages(rt: HostRuntime) -> Result<(), Fail> {
     accepted(&rt, &image, census, "0 61 31\n0 63 32\n0 65 33\n0 67 34\n")
 }
 
+/// A script whose last record goes into the hole that a delete leaves, and the records that stand then.
+const HOLE: &str = "insert 61 31\ninsert 63 32\ninsert 65 33\ninsert 67 34\ndelete 61\n";
+
+const HOLE_RECORDS: &[u8] = b"0 67 34\n0 63 32\n0 65 33\n";
+
 #[test]
 fn a_record_goes_into_the_hole(rt: HostRuntime) -> Result<(), Fail> {
-    let script = "insert 61 31\ninsert 63 32\ninsert 65 33\ninsert 67 34\ndelete 61\n";
-    let image = built(&rt, CHAIN_WORDS, script)?;
-    let records = b"0 67 34\n0 63 32\n0 65 33\n";
-    told(&rt, &["lhash", "dump"], &image, records)
+    let image = built(&rt, CHAIN_WORDS, HOLE)?;
+    told(&rt, &["lhash", "dump"], &image, HOLE_RECORDS)
 }
 
 #[test]

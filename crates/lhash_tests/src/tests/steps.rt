@@ -208,7 +208,11 @@ fn workers_have_numbers_up_to_15(rt: HostRuntime) -> Result<(), Fail> {
     tells(
         &rt,
         [].as_slice(),
-        [("call 15 search 61", "called")].as_slice(),
+        [
+            ("call 15 search 61", "called"),
+            ("call 00 search 61", "called"),
+        ]
+        .as_slice(),
     )?;
     let steps = ["lhash", "steps"];
     let steps = steps.as_slice();

@@ -43,7 +43,7 @@ fn used<R: Wait>(
     let hand = file.join_hands(first, second)?;
     let (closed, acts) = file.close(rt, hand)?;
     settle(alloc, listing, &closed, &acts)?;
-    Ok(closed.listing(alloc)?)
+    Ok(closed.listing()?)
 }
 
 /// The fourth bucket comes with the seventh record.

@@ -1,8 +1,8 @@
 //! Images of version 2, and what becomes of those of version 1.
 use super::forged::{Row, beginning, beginnings, edited, refused, rows};
 use super::{
-    CHAIN, CHAIN_WORDS, FIVE, FIVE_CENSUS, FIVE_RECORDS, FIVE_WORDS, Part, accepted, builds, built,
-    told,
+    CHAIN, CHAIN_WORDS, FIVE, FIVE_CENSUS, FIVE_RECORDS, FIVE_WORDS, HOLE, HOLE_RECORDS, Part,
+    accepted, builds, built, told,
 };
 use crate::tests::support::fails;
 use std::test::Fail;
@@ -45,6 +45,12 @@ fn five_records_in_pages_of_4_096_bytes(rt: HostRuntime) -> Result<(), Fail> {
     told(&rt, words.as_slice(), FIVE.as_bytes(), &image)?;
     builds(&rt, SECOND_FIVE_WORDS, "", 8_192, SECOND_EMPTY_PARTS)?;
     Ok(())
+}
+
+#[test]
+fn a_record_goes_into_the_hole(rt: HostRuntime) -> Result<(), Fail> {
+    let image = built(&rt, SECOND_CHAIN_WORDS, HOLE)?;
+    told(&rt, &["lhash", "dump"], &image, HOLE_RECORDS)
 }
 
 #[test]

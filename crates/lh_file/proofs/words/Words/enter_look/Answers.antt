@@ -42,3 +42,19 @@ returns-else-self-clause-acted g c =
         recording = search rules;
       },
     )
+
+pub returns-then-self-clause-entered : goal.returns-then-self-clause-entered
+returns-then-self-clause-entered g c = (
+  c.deal_look-stamp.result,
+  search rules,
+  search rules,
+  ap (λ (m : Seated). m.0.view.stamps) c.deal_look-stamp.ensures.acted ∙ ap (λ (h : HandState). h.view.stamps ++ c.deal_look-stamp.result ∷ []) c.hand.view_is,
+)
+
+pub returns-else-self-clause-entered : goal.returns-else-self-clause-entered
+returns-else-self-clause-entered g c = (
+  c.deal_look-stamp.result,
+  search rules,
+  search rules,
+  ap (λ (m : Seated). m.0.view.stamps) c.deal_look-stamp.ensures.acted ∙ ap (λ (h : HandState). h.view.stamps ++ c.deal_look-stamp.result ∷ []) c.hand.view_is,
+)
