@@ -1,6 +1,7 @@
 -- What follows of a run for the words of each kind
 use Rattle.std.proofs.Common.{◌≡◌, ◌∙◌, ℕ, ◌<◌, ◌≤◌, List, Option, None, Some, IfSome, inl, inr, refl, sym, ap, subst, codes}
 use Rattle.std.specs.Prelude.{option_and_then, option_map}
+use Rattle.std.specs.String.{string_bytes}
 use Rattle.std.specs.Io.KnownBytes.{Keeps}
 use Rattle.lh_addr.specs.Settings.{Settings}
 use Rattle.lh_options.specs.Options.{Asks, AsksForHelp, IsTurned, Text, asked_by, asked_for, number_given, settings_given, subcommand_named, version_of}
@@ -150,18 +151,18 @@ refuses_below words status left rest before now settings accepts given below (in
 refuses_below words status left rest before now settings accepts given below (inr run) =
     (subst (IsWordsOf below_initial) (sym run.0) tt, run.1, run.2)
 
-helped : (words : List Text) (status : Status) (before now : Option (List ℕ)) → AsksForHelp words → IsHelped status → IsTurnedAway words status before now
-helped words Done before now asks h = asks
-helped words (Input fault) before now asks h = absurd h
-helped words (Words text) before now asks h = absurd h
-helped words (Device Read) before now asks h = absurd h
-helped words (Device Write) before now asks h = asks
-helped words Memory before now asks h = absurd h
-helped words (NotSettled fault) before now asks h = absurd h
+helped : (words : List Text) (text : List ℕ) (status : Status) (before now : Option (List ℕ)) → AsksForHelp words → IsHelped text status before now → IsTurnedAway words status before now
+helped words text Done before now asks h = asks
+helped words text (Input fault) before now asks h = absurd h
+helped words text (Words reason) before now asks h = absurd h
+helped words text (Device Read) before now asks h = absurd h
+helped words text (Device Write) before now asks h = asks
+helped words text Memory before now asks h = absurd h
+helped words text (NotSettled fault) before now asks h = absurd h
 
 turned : (words : List Text) (r : Request) (status : Status) (left rest before now : Option (List ℕ)) →
     IsTurned words r → Serves r status left rest before now → IsTurnedAway words status before now × Keeps left rest
-turned words (request.Help text) status left rest before now is serves = (helped words status before now is serves.0, serves.1)
+turned words (request.Help text) status left rest before now is serves = (helped words (string_bytes text) status before now is serves.0, serves.1)
 turned words (request.Refused text) status left rest before now is serves =
     (subst (λ (s : Status). IsTurnedAway words s before now) (sym serves.0) (is, serves.2), serves.1)
 turned words (request.Commands config) status left rest before now is serves = absurd is

@@ -1,7 +1,8 @@
 -- How a run answers its words
 use Rattle.std.specs.Prelude.{◌≡◌, ◌⊎◌, ℕ, ◌<◌, ◌≤◌, List, Option, Some, IfSome, Result, codes}
 use Rattle.std.specs.String.{string_bytes}
-use Rattle.std.specs.Io.KnownBytes.{Keeps}
+use Rattle.std.specs.Io.KnownBytes.{Appends, Keeps}
+use Rattle.lhash.specs.Devices.{TakesBeginning}
 use Rattle.lhash.specs.Driving.{EndsDriving}
 use Rattle.lhash.specs.Images.{EndsBuilding, check_due, draw_due, dump_due, migrate_due, version_asked}
 use Rattle.lh_addr.specs.Settings.{Settings}
@@ -20,11 +21,11 @@ IsWordsOf reason (Words text) = string_bytes text ≡ reason
 IsWordsOf reason Memory = Unit {0}
 IsWordsOf reason _ = ⊥
 
--- help was written, unless the writer failed
-abbrev pub IsHelped : Status → Type 0
-IsHelped Done = Unit {0}
-IsHelped (Device Write) = Unit {0}
-IsHelped _ = ⊥
+-- help was written, or a beginning of it where the writer failed
+abbrev pub IsHelped : List ℕ → Status → Option (List ℕ) → Option (List ℕ) → Type 0
+IsHelped text Done before now = Appends before now text
+IsHelped text (Device Write) before now = TakesBeginning before now text
+IsHelped text _ before now = ⊥
 
 -- `--max` is below `--initial`
 abbrev pub below_initial : List ℕ
@@ -41,7 +42,7 @@ Serves Dump status left rest before now = IfSome left (λ input. Ends status (du
 Serves Draw status left rest before now = IfSome left (λ input. Ends status (draw_due input) before now)
 Serves Migrate status left rest before now = IfSome left (λ input. Ends status (migrate_due input) before now)
 Serves (Drive config threads) status left rest before now = IfSome left (λ input. EndsDriving config input status before now)
-Serves (Help text) status left rest before now = IsHelped status × Keeps left rest
+Serves (Help text) status left rest before now = IsHelped (string_bytes text) status before now × Keeps left rest
 Serves (Refused text) status left rest before now = (status ≡ Words text) × Keeps left rest × Keeps before now
 Serves MaxBelowInitial status left rest before now = IsWordsOf below_initial status × Keeps left rest × Keeps before now
 

@@ -61,7 +61,10 @@ fn read_more<R: Read>(
 #[tactic(auto, using(crate::proofs::Devices::reads_none, crate::proofs::Devices::reads_more, crate::proofs::Devices::read_whole, crate::proofs::Devices::read_part))]
 pub fn read_up_to<R: Read>(alloc: Global, reader: &mut R, most: usize) -> Result<Vec<u8>, ReadError>
     requires { most ≤ 1073741824 }
-    ensures { IfOk result (λ bytes. IfSome (R.remaining reader.old) (λ input. IsReadOf most input bytes.items)) }
+    ensures read { IfOk result (λ bytes. IfSome (R.remaining reader.old) (λ input. IsReadOf most input bytes.items)) }
+    ensures few { IfOk result (λ bytes. length bytes.items ≤ most + 1) }
+    ensures taken { IfOk result (λ bytes.
+        Consumes (R.remaining reader.old) (R.remaining reader.new) bytes.items) }
 {
     let Ok(mut chunk) = chunk_of_zeros(alloc) else {
         return Err(ReadError::Memory);

@@ -1,5 +1,5 @@
 //! Lines on their way to a writer: they wait until there are enough of them for one write.
-ghost use Rattle.std.specs.Prelude.{◌≡◌, ◌<◌, ◌≤◌, ◌+◌, ◌++◌, ℕ, List, Option, OnOk, OnErr, IfOk, IfSome, flat_map, Some, []};
+ghost use Rattle.std.specs.Prelude.{◌≡◌, ◌<◌, ◌≤◌, ◌+◌, ◌++◌, ℕ, List, Option, OnOk, OnErr, IfOk, IfSome, flat_map, length, Some, []};
 ghost use Rattle.std.specs.String.{string_bytes, string_capacity};
 ghost use Rattle.std.specs.Io.KnownBytes.{Appends};
 ghost use Rattle.lh_bucket.specs.Listing.{list_at, size};
@@ -22,7 +22,8 @@ use std::io::Write;
 const CHUNK: usize = 65_536;
 
 /// No line is longer: key and value take two digits a byte, and all else takes less than 256 bytes; a step of a picture
-/// has none of them, and takes less than 550.
+/// has none of them, and takes less than 550. What stands above a picture's steps is longer, and comes first, when nothing
+/// waits.
 const LONGEST_LINE: usize = 256 + 2 * (LONGEST_KEY + LONGEST_VALUE);
 
 /// Room for the lines that wait, so that none of them needs memory later.
@@ -42,6 +43,7 @@ fn send_enough<W: Write>(writer: &mut W, waiting: &mut String) -> Result<(), Wri
     ensures err { (before : Option (List ℕ)) (text : List ℕ) →
         Sends before (W.contents writer.old) (string_bytes waiting.old) text →
         OnErr result (TakesBeginning before (W.contents writer.new) text) }
+    ensures few { OnOk result (length (string_bytes waiting.new) < CHUNK) }
 {
     if waiting.len() >= CHUNK {
         write_all(writer, waiting.as_bytes())?;
@@ -65,6 +67,7 @@ fn put_line<W: Write, D: Display + Drop>(
         Sends before (W.contents writer.old) (string_bytes waiting.old) sent →
         OnErr result (IfSome (D.output text) (λ bytes.
         TakesBeginning before (W.contents writer.new) (sent ++ line bytes))) }
+    ensures few { OnOk result (length (string_bytes waiting.new) < CHUNK) }
 {
     if waiting.writeln(text).is_err() {
         return Err(WriteFailed);
@@ -87,6 +90,7 @@ pub fn put<W: Write, D: Display + Drop>(
         Sends before (W.contents writer.old) (string_bytes waiting.old) sent →
         OnErr result (IfSome (D.output text) (λ bytes.
         TakesBeginning before (W.contents writer.new) (sent ++ bytes))) }
+    ensures few { OnOk result (length (string_bytes waiting.new) < CHUNK) }
 {
     if waiting.write(text).is_err() {
         return Err(WriteFailed);

@@ -18,7 +18,7 @@ use std::thread::Threads;
 
 /// Writes the help that was asked for.
 fn write_help<W: Write>(writer: &mut W, text: &str) -> Status
-    ensures { IsHelped result }
+    ensures { IsHelped text.now result (W.contents writer.old) (W.contents writer.new) }
 {
     match write_all(writer, text.as_bytes()) {
         Ok(()) => Status::Done,

@@ -1,5 +1,6 @@
-use Rattle.std.proofs.Common.{refl}
+use Rattle.std.proofs.Common.{refl, subst}
 use Rattle.std.proofs.KnownBytes.{Keeps-refl}
+use Rattle.lhash.specs.Serving.{IsHelped}
 use Rattle.lhash.proofs.Serving.{served_as}
 use Rattle.lhash.proofs.program.serve.Goals as goal
 
@@ -22,7 +23,10 @@ pub returns-in-Refused : goal.returns-in-Refused
 returns-in-Refused g c = served_as c.in-Refused.is _ _ _ _ _ (refl, Keeps-refl _, Keeps-refl _)
 
 pub returns-in-Help : goal.returns-in-Help
-returns-in-Help g c = served_as c.in-Help.is _ _ _ _ _ (search Keeps-refl)
+returns-in-Help g c = served_as c.in-Help.is _ _ _ _ _ (
+  subst (λ text. IsHelped text c.write_help.result (g.W.Write.contents c.args.writer.now) (g.W.Write.contents c.write_help.new.writer)) c.as_str.ensures.value c.write_help.ensures,
+  Keeps-refl _,
+)
 
 pub returns-in-Dump : goal.returns-in-Dump
 returns-in-Dump g c = served_as c.in-Dump.is _ _ _ _ _ search
