@@ -81,6 +81,7 @@ fn header_faults(rt: HostRuntime) -> Result<(), Fail> {
         &[
             (&[(3, b'3')], ImageFault::Magic),
             (&[(4, 0)], ImageFault::HeaderField(4)),
+            (&[(5, 1)], ImageFault::HeaderField(4)),
             (&[(4, 254)], ImageFault::HeaderField(16)),
             (&[(8, 0)], ImageFault::HeaderField(8)),
             (&[(8, 15)], ImageFault::HeaderField(8)),
@@ -134,6 +135,7 @@ fn page_faults(rt: HostRuntime) -> Result<(), Fail> {
             (&[(1040, 0)], ImageFault::Slot(1)),
             (&[(1040, 31)], ImageFault::Slot(1)),
             (&[(1041, 41)], ImageFault::Slot(1)),
+            (&[(1073, 1)], ImageFault::Slot(1)),
             (&[(3072 + 16 + 72, 1)], ImageFault::Slot(3)),
             (&[(4095, 1), (1043, 1)], ImageFault::Slot(1)),
             (&[(1042, b'b')], ImageFault::Misfit(1)),

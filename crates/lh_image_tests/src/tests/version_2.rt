@@ -77,7 +77,7 @@ fn is_written_as(
     listing: &Listing,
     image: &[u8],
 ) -> Result<(), Fail> {
-    for at_once in [usize::MAX, 7, 4096] {
+    for at_once in [usize::MAX, 1, 7, 4096] {
         let mut sink = Sink::new(rt.alloc(), at_once, 0);
         assert_eq!(rt; write_image(listing, &mut sink), Ok(()));
         assert_eq!(rt; sink.bytes.as_slice(), image);
@@ -157,7 +157,7 @@ fn a_write_or_flush_that_fails_is_told(rt: HostRuntime) -> Result<(), Fail> {
 fn reads_through_any_reader(rt: HostRuntime) -> Result<(), Fail> {
     let alloc = rt.alloc();
     let bytes = three_buckets_image_2(alloc)?;
-    for most in [1, 7, 1024, 4096] {
+    for most in [1, 7, 1024, 4095, 4096] {
         let mut reader = reader_of(&bytes, most);
         let listing = read_image(alloc, &mut reader)?;
         expect_same(&rt, &listing, &three_buckets(alloc)?);
