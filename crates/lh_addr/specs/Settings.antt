@@ -2,7 +2,8 @@
 use Rattle.std.specs.Prelude.{ℕ, ◌*◌, Bool, ◌&&◌, nat_lt}
 use Rattle.lh_addr.specs.Limits.{IsInitial, IsCapacity, IsLoad, IsSize}
 
--- the initial number of buckets, the records that a page holds, the load threshold in percent, and the greatest number of buckets
+-- the initial number of buckets, the records that a page holds, the load threshold in percent, and the greatest number
+-- of buckets
 pub record Settings : Type 0 where
   pub initial : ℕ
   pub capacity : ℕ
@@ -16,7 +17,8 @@ pub record IsInRange (s : Settings) : Type 0 where
   pub load : IsLoad s.load
   pub max : IsSize s.initial s.max
 
--- the split policy: 100 records in percent of the slots of all primary pages are more than the threshold, and the file may have one bucket more
+-- the split policy: 100 records in percent of the slots of all primary pages are more than the threshold, and the file
+-- may have one bucket more
 abbrev pub wants_split : Settings → ℕ → ℕ → Bool
 wants_split s records buckets =
     nat_lt (s.load * s.capacity * buckets) (100 * records) && nat_lt buckets s.max
