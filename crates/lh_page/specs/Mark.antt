@@ -15,8 +15,8 @@ same_words a b =
     && word_at a 48 == word_at b 48
 
 -- the high byte of a sum of odd multiples of those words of a key's row
-unfoldable pub mixed : List ℕ → ℕ
-mixed bytes =
+unfoldable pub mixed_words : List ℕ → ℕ
+mixed_words bytes =
     (word_at bytes 0 * 11400714819323198485 + word_at bytes 8 * 14029467366897019727
     + word_at bytes 16 * 1609587929392839161 + word_at bytes 24 * 9650029242287828579
     + word_at bytes 32 * 2870177450012600261 + word_at bytes 40 * 15485907386658061715
@@ -24,4 +24,4 @@ mixed bytes =
 
 -- the mark of a key
 abbrev pub mark_of : List ℕ → ℕ
-mark_of key = mixed (padded key_room key)
+mark_of key = mixed_words (padded key_room key)

@@ -6,7 +6,7 @@ ghost use Rattle.std.specs.Str.{bytes_eq};
 ghost use Rattle.std.specs.Cmp.{partial_equiv_from_equiv};
 ghost use Rattle.std.specs.Cmp.Lexicographic.{pointwise, slice_cmp, nat_list_eq_equiv, nat_list_cmp_total, texts_po, texts_ties};
 ghost use Rattle.lh_page.specs.Limits.{IsKey};
-ghost use Rattle.lh_page.specs.Mark.{mark_of, mixed, same_words, word_at};
+ghost use Rattle.lh_page.specs.Mark.{mark_of, mixed_words, same_words, word_at};
 
 use crate::comparing::{STRIDE, common_front};
 use crate::limits::LONGEST_KEY;
@@ -41,7 +41,8 @@ impl Model for Key {
     ghost inverse = { λ b. record { bytes = padded key_room b; len = length b } };
 
     ghost inverse_ok = { λ k h i. record {
-      bytes = (ap (λ n. take k.len k.bytes ++ zeros (key_room - n)) (length-take-le k.len k.bytes (omega (arith, h.1, h.2.0)))
+      bytes = (ap (λ n. take k.len k.bytes ++ zeros (key_room - n))
+          (length-take-le k.len k.bytes (omega (arith, h.1, h.2.0)))
           ∙ (ap (λ r. take k.len k.bytes ++ r) (sym h.2.1) ∙ take-append-drop k.len k.bytes)) i;
       len = length-take-le k.len k.bytes (omega (arith, h.1, h.2.0)) i;
     } };
@@ -149,7 +150,7 @@ fn starts_alike(a: &[u8; KEY_ROOM], b: &[u8; LINE_ROOM], len: usize) -> bool
 /// The high byte of a sum of odd multiples of the seven words.
 #[inline]
 fn mix(bytes: &[u8; KEY_ROOM]) -> u8
-    ensures { result ≡ mixed bytes.now }
+    ensures { result ≡ mixed_words bytes.now }
 {
     let first = word(bytes, 0).wrapping_mul(0x9e37_79b9_7f4a_7c15);
     let second = word(bytes, 8).wrapping_mul(0xc2b2_ae3d_27d4_eb4f);

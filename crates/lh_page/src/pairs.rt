@@ -29,7 +29,8 @@ impl Model for Pairs {
 
     ghost view = { λ p. take p.len p.places };
 
-    ghost invariant = { λ p. (length p.places ≡ largest_page) × FitsPage (take p.len p.places) × (p.len ≤ largest_page) };
+    ghost invariant = { λ p. (length p.places ≡ largest_page) × FitsPage (take p.len p.places)
+        × (p.len ≤ largest_page) };
 }
 
 impl Pairs {

@@ -34,7 +34,8 @@ impl Model for Value {
     ghost inverse = { λ b. record { bytes = padded value_room b; len = length b } };
 
     ghost inverse_ok = { λ v h i. record {
-      bytes = (ap (λ n. take v.len v.bytes ++ zeros (value_room - n)) (length-take-le v.len v.bytes (omega (arith, h.0, h.1.0)))
+      bytes = (ap (λ n. take v.len v.bytes ++ zeros (value_room - n))
+          (length-take-le v.len v.bytes (omega (arith, h.0, h.1.0)))
           ∙ (ap (λ r. take v.len v.bytes ++ r) (sym h.1.1) ∙ take-append-drop v.len v.bytes)) i;
       len = length-take-le v.len v.bytes (omega (arith, h.0, h.1.0)) i;
     } };

@@ -1,6 +1,6 @@
 use Rattle.std.proofs.Common.{◌≡◌, ℕ, ◌+◌, ◌*◌, ◌/◌, ◌%◌, ap, sym, ◌∙◌}
 use Rattle.std.proofs.Math.Nat.{add-mod}
-use Rattle.lh_page.specs.Mark.{mixed}
+use Rattle.lh_page.specs.Mark.{mixed_words}
 use Rattle.lh_page.proofs.key.mix.Goals as goal
 
 -- a sum of seven numbers may be cut to a width after each step
@@ -22,7 +22,7 @@ mix-words q r s t u v w a b c d e f g h i j k l n o m p e1 e2 e3 e4 e5 e6 e7 =
     rw (e1, e2, e3, e4, e5, e6, e7) (ap (λ x. x / p) (sum-mod (a * h) (b * i) (c * j) (d * k) (e * l) (f * n) (g * o) m))
 
 pub returns : goal.returns
-unfolding mixed
+unfolding mixed_words
 returns c =
     mix-words _ _ _ _ _ _ _ _ _ _ _ _ _ _ _ _ _ _ _ _ _ _ _
     c.word-first.ensures c.word-second.ensures c.word-third.ensures c.word-fourth.ensures c.word-fifth.ensures c.word-sixth.ensures c.word-last.ensures
