@@ -2,7 +2,7 @@
 ghost use Rattle.std.specs.Prelude.{◌≡◌, ◌≤◌, length};
 ghost use Rattle.lh_page.specs.PageFields.{kind_of, used_of, level_of, bucket_of, next_of, is_clear, all_zero, head_of};
 
-use crate::format::HEAD;
+use crate::format::{HEAD, PAGE_1, PAGE_2};
 use byteorder::{ByteOrder, LittleEndian};
 
 /// The fields before a page's slots, as they stand there.
@@ -23,7 +23,7 @@ pub struct PageHead {
 }
 
 /// The head of a page of version 1, whatever its bytes are.
-pub fn page_head(bytes: &[u8; 1024]) -> PageHead
+pub fn page_head(bytes: &[u8; PAGE_1]) -> PageHead
     ensures kind { result.kind ≡ kind_of bytes.now }
     ensures used { result.used ≡ used_of bytes.now }
     ensures level { result.level ≡ level_of bytes.now }
@@ -35,7 +35,7 @@ pub fn page_head(bytes: &[u8; 1024]) -> PageHead
 }
 
 /// The head of a page of version 2, whatever its bytes are.
-pub fn page2_head(bytes: &[u8; 4096]) -> PageHead
+pub fn page2_head(bytes: &[u8; PAGE_2]) -> PageHead
     ensures { result ≡ head_of bytes.now }
 {
     head_in(bytes)
@@ -58,7 +58,7 @@ pub(crate) fn head_in(bytes: &[u8]) -> PageHead
 }
 
 /// Whether every byte is zero. No byte ends the loop, so many are compared at once.
-pub(crate) fn is_zero(bytes: &[u8]) -> bool
+pub fn is_zero(bytes: &[u8]) -> bool
     ensures { result ≡ all_zero bytes.now }
 {
     let mut zero = true;

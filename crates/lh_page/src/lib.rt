@@ -36,7 +36,7 @@ mod writing;
 
 pub use chain::Chain;
 pub use fault::PageFault;
-pub use head::{PageHead, page_head, page2_head};
+pub use head::{PageHead, is_zero, page_head, page2_head};
 pub use key::{Key, KeyLength};
 pub use key_set::KeySet;
 pub use memory::Memory;
@@ -44,6 +44,6 @@ pub use packing::pages_needed;
 pub use page::{Page, PageKind};
 pub use pair::Pair;
 pub use pairs::Pairs;
-pub use reading::{page_from_bytes, page2_from_bytes, pairs_from_bytes};
+pub use reading::{page_from_bytes, page2_from_bytes, pairs_behind_head, pairs_from_bytes};
 pub use value::{Value, ValueLength};
 pub use writing::{page_to_bytes, page2_to_bytes};

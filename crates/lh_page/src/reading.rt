@@ -3,12 +3,12 @@ ghost use Rattle.std.specs.Prelude.{◌≡◌, ◌<◌, ◌≤◌, [], IfOk, OnO
 ghost use Rattle.std.specs.Result.{result_err};
 ghost use Rattle.lh_page.specs.Format.{version_1, version_2, slot_size, page_size, IsWithinLimits};
 ghost use Rattle.lh_page.specs.Limits.{IsCapacity};
-ghost use Rattle.lh_page.specs.PageFields.{page_of, pairs_of, used_of, bad_slot, fault_of, FirstFilled, UnusedAreZero};
+ghost use Rattle.lh_page.specs.PageFields.{head_of, page_of, pairs_of, used_of, bad_slot, fault_of, FirstFilled, UnusedAreZero};
 ghost use Rattle.lh_page.specs.PageTable.{slot};
 
 use crate::fault::PageFault;
-use crate::format::{Format, VERSION_1, VERSION_2};
-use crate::head::{head_in, is_zero};
+use crate::format::{Format, PAGE_1, PAGE_2, VERSION_1, VERSION_2};
+use crate::head::{PageHead, head_in, is_zero};
 use crate::page::{Page, PageKind};
 use crate::pairs::Pairs;
 use crate::slot::read_slot;
@@ -17,7 +17,7 @@ use crate::slot::read_slot;
 /// fault of the bytes.
 ///
 /// All 14 slots are looked at, whatever the capacity is.
-pub fn page_from_bytes(bytes: &[u8; 1024], capacity: u32) -> Result<Page, PageFault>
+pub fn page_from_bytes(bytes: &[u8; PAGE_1], capacity: u32) -> Result<Page, PageFault>
     requires { (1 ≤ capacity) × (capacity ≤ version_1.slots) }
     ensures page { IfOk result (λ page. page ≡ page_of version_1 bytes.now) }
     ensures fault { result_err result ≡ fault_of version_1 bytes.now capacity }
@@ -29,7 +29,7 @@ pub fn page_from_bytes(bytes: &[u8; 1024], capacity: u32) -> Result<Page, PageFa
 /// fault of the bytes.
 ///
 /// All 24 slots are looked at, whatever the capacity is.
-pub fn page2_from_bytes(bytes: &[u8; 4096], capacity: u32) -> Result<Page, PageFault>
+pub fn page2_from_bytes(bytes: &[u8; PAGE_2], capacity: u32) -> Result<Page, PageFault>
     requires { IsCapacity capacity }
     ensures page { IfOk result (λ page. page ≡ page_of version_2 bytes.now) }
     ensures fault { result_err result ≡ fault_of version_2 bytes.now capacity }
@@ -57,13 +57,12 @@ fn read_page(bytes: &[u8], format: Format, capacity: u32) -> Result<Page, PageFa
         next: head.next,
         pairs: Pairs::new(),
     };
-    pairs_from_bytes(bytes, format, capacity, &mut page.pairs)?;
+    pairs_behind_head(&head, bytes, format, capacity, &mut page.pairs)?;
     Ok(page)
 }
 
 /// Puts the records of a page in place of others, or tells the page's first fault. A page is long to make and to
 /// move: a reader of many makes room for their records once.
-#[tactic(auto, unfolding(crate::specs::PageFields::fault_of, crate::specs::PageFields::has_bad_kind))]
 pub fn pairs_from_bytes(
     bytes: &[u8],
     format: Format,
@@ -76,7 +75,25 @@ pub fn pairs_from_bytes(
     ensures pairs { OnOk result (pairs.new ≡ pairs_of format bytes.now) }
     ensures fault { result_err result ≡ fault_of format bytes.now capacity }
 {
-    let head = head_in(bytes);
+    pairs_behind_head(&head_in(bytes), bytes, format, capacity, pairs)
+}
+
+/// The same as [`pairs_from_bytes`], where the page's head has been read already.
+#[tactic(auto, unfolding(crate::specs::PageFields::fault_of, crate::specs::PageFields::has_bad_kind))]
+pub fn pairs_behind_head(
+    head: &PageHead,
+    bytes: &[u8],
+    format: Format,
+    capacity: u32,
+    pairs: &mut Pairs,
+) -> Result<(), PageFault>
+    requires head { head.now ≡ head_of bytes.now }
+    requires size { length bytes.now ≡ page_size format }
+    requires limits { IsWithinLimits format }
+    requires capacity { capacity ≤ format.slots }
+    ensures pairs { OnOk result (pairs.new ≡ pairs_of format bytes.now) }
+    ensures fault { result_err result ≡ fault_of format bytes.now capacity }
+{
     if head.kind != 1 && head.kind != 2 || !head.clear {
         return Err(PageFault::Kind);
     }

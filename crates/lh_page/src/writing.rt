@@ -14,7 +14,7 @@ use byteorder::{ByteOrder, LittleEndian};
 /// The 1,024 bytes of a page in an image of version 1: 16 bytes of fields, then 14 slots of 72 bytes. Numbers are
 /// little-endian. What isn't used is zero. The page has at most 14 records, each with a key of at most 30 bytes
 /// and a value of at most 40.
-pub fn page_to_bytes(page: &Page) -> [u8; 1024]
+pub fn page_to_bytes(page: &Page) -> [u8; PAGE_1]
     requires { FitsFormat version_1 page.now.pairs }
     ensures { IsPage version_1 result page.now }
 {
@@ -26,7 +26,7 @@ pub fn page_to_bytes(page: &Page) -> [u8; 1024]
 
 /// The 4,096 bytes of a page in an image of version 2: 16 bytes of fields, then 24 slots of 170 bytes. Numbers
 /// are little-endian. What isn't used is zero.
-pub fn page2_to_bytes(page: &Page) -> [u8; 4096]
+pub fn page2_to_bytes(page: &Page) -> [u8; PAGE_2]
     ensures { IsPage version_2 result page.now }
 {
     let mut bytes = [0; PAGE_2];
