@@ -1,6 +1,7 @@
 -- Full units one after another: the place of a row, a write of a row, a unit more.
-use Rattle.std.proofs.Common.{◌≡◌, ℕ, zero, suc, ◌+◌, ◌-◌, ◌*◌, ◌/◌, ◌%◌, ◌<◌, ◌≤◌, List, [], ◌∷◌, ◌++◌, length, take, get_or, set, refl, sym, ap, ◌∙◌, arith, length-append, length-take-le}
+use Rattle.std.proofs.Common.{◌≡◌, ℕ, zero, suc, ◌+◌, ◌-◌, ◌*◌, ◌/◌, ◌%◌, ◌<◌, ◌≤◌, List, [], ◌∷◌, ◌++◌, length, take, get_or, set, refl, sym, ap, ◌∙◌, arith, Result, Ok, Err, length-append, length-take-le}
 use Rattle.std.specs.List.{swap_remove}
+use Rattle.std.specs.Result.{OnErr}
 use Rattle.std.proofs.lemmas.List.{get_or_append_left, get_or-append_right, set-append_left, set-append_right, take-append-le, get_or-take, take-take, take_more_set}
 use Rattle.std.proofs.Math.Seq.{take-set-lt}
 use Rattle.std.proofs.lemmas.List.Concat.{flat_map-append}
@@ -81,6 +82,11 @@ pub push-first : (n : ℕ) (units : List (List Pair)) (was unit : List Pair) (p 
     take (n + 1) (joined (set units (n / 4) unit)) ≡ take n (joined units) ++ p ∷ []
 push-first n units was unit p h within at is =
     ap (take (n + 1)) (set-place units n was unit p h within at is) ∙ take_more_set (joined units) n p (omega (arith, length-joined units h))
+
+-- a unit more is refused only where the records fill whole units
+pub full-first : {X E : Type 0} (r : Result X E) (n : ℕ) (units : List (List Pair)) (whole : List Pair) → AreUnits units → n ≡ 4 * length units → take n (joined units) ≡ whole → OnErr r (length whole % 4 ≡ 0)
+full-first (Ok x) n units whole h full is = tt
+full-first (Err x) n units whole h full is = omega (arith, length-first n units h (omega (arith, full)), ap length is)
 
 -- one unit more
 pub more-first : (n : ℕ) (units : List (List Pair)) (unit : List Pair) → AreUnits units → n ≤ 4 * length units → take n (joined (units ++ unit ∷ [])) ≡ take n (joined units)

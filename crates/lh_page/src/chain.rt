@@ -1,8 +1,9 @@
 //! Packed chains of records.
-ghost use Rattle.std.specs.Prelude.{not, ◌≡◌, ◌+◌, ◌<◌, [], ◌∷◌, ◌++◌, length, slice_get, Some, None, IsOk, IfOk, IfSome, IfNone, OnOk, OnErr};
+ghost use Rattle.std.specs.Prelude.{not, ◌≡◌, ◌+◌, ◌%◌, ◌<◌, [], ◌∷◌, ◌++◌, length, slice_get, Some, None, IsOk, IfOk, IfSome, IfNone, OnOk, OnErr};
 ghost use Rattle.std.specs.List.{IsDistinct, filter, swap_remove};
 ghost use Rattle.std.specs.Str.{bytes_eq};
 ghost use Rattle.lh_page.specs.Limits.{IsCapacity};
+ghost use Rattle.lh_page.specs.Lines.{unit_size};
 ghost use Rattle.lh_page.specs.PackedList.{IsPackedList, pages_of};
 ghost use Rattle.lh_page.specs.Records.{keys_of, place_of, value_at, with_value, AbsentBelow, StandsFirst};
 
@@ -60,7 +61,8 @@ impl Chain {
     pub fn from_pairs(alloc: Global, capacity: u32, pairs: &[Pair]) -> Result<Self, Memory>
         requires capacity { IsCapacity capacity }
         requires distinct { IsDistinct bytes_eq (keys_of pairs.now) }
-        ensures { IfOk result (λ chain. chain ≡ record { capacity = capacity; pairs = pairs.now }) }
+        ensures chain { IfOk result (λ chain. chain ≡ record { capacity = capacity; pairs = pairs.now }) }
+        ensures none { length pairs.now ≡ 0 → IsOk result }
     {
         let mut chain = Chain::new(alloc, capacity)?;
         chain.pairs = copied(alloc, pairs)?;
@@ -110,11 +112,20 @@ impl Chain {
         self.pairs.pair_at(place)
     }
 
+    /// The value of the record at a place. Its key isn't read.
+    pub fn value_at(&self, place: usize) -> Value
+        requires { place < length self.now.pairs }
+        ensures { result ≡ value_at self.now.pairs place }
+    {
+        self.pairs.value_at(place)
+    }
+
     /// Appends a record whose key is not there yet. After an error the chain is as it was.
     pub fn push(&mut self, pair: Pair) -> Result<(), Memory>
         requires { place_of self.old.pairs pair.key ≡ None }
         ensures ok { OnOk result (self.new ≡ record self.old { pairs = self.old.pairs ++ pair ∷ [] }) }
         ensures err { OnErr result (self.new ≡ self.old) }
+        ensures full { OnErr result (length self.old.pairs % unit_size ≡ 0) }
     {
         let place = self.pairs.len();
         self.pairs.push(&pair)?;
@@ -142,6 +153,7 @@ impl Chain {
         ensures kept { OnOk result
             (self.new ≡ record self.old { pairs = filter (λ p. not (S.member keys.now p.key)) self.old.pairs }) }
         ensures err { OnErr result (self.new ≡ self.old) }
+        ensures none { length self.old.pairs ≡ 0 → IsOk result }
     {
         let Division { gone, kept } = divided(self.pairs.allocator(), &self.pairs, keys)?;
         let Part { pairs, marks } = kept;

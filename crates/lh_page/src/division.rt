@@ -1,5 +1,5 @@
 //! Dividing a list of records in two, each part in the order of the whole.
-ghost use Rattle.std.specs.Prelude.{not, ◌≡◌, ◌<◌, [], ◌∷◌, ◌++◌, length, slice_index_or, IfOk, OnOk};
+ghost use Rattle.std.specs.Prelude.{not, ◌≡◌, ◌<◌, [], ◌∷◌, ◌++◌, length, slice_index_or, IsOk, IfOk, OnOk};
 ghost use Rattle.std.specs.List.{filter};
 ghost use Rattle.lh_page.specs.Records.{key_at, no_pair};
 
@@ -41,7 +41,8 @@ impl Model for Part {
 impl Part {
     /// No records, with memory for as many as are to come.
     fn with_room(alloc: Global, records: usize) -> Result<Self, Memory>
-        ensures { IfOk result (λ part. part ≡ []) }
+        ensures empty { IfOk result (λ part. part ≡ []) }
+        ensures none { records ≡ 0 → IsOk result }
     {
         Ok(Part {
             pairs: RecordList::with_room(alloc, records)?,
@@ -65,7 +66,8 @@ impl Part {
 
 /// A copy of records, in the memory of as many units as they fill.
 pub fn copied(alloc: Global, pairs: &[Pair]) -> Result<RecordList, Memory>
-    ensures { IfOk result (λ copy. copy ≡ pairs.now) }
+    ensures copy { IfOk result (λ copy. copy ≡ pairs.now) }
+    ensures none { length pairs.now ≡ 0 → IsOk result }
 {
     let mut copy = RecordList::with_room(alloc, pairs.len())?;
     for pair in pairs {
@@ -80,6 +82,7 @@ pub fn copied(alloc: Global, pairs: &[Pair]) -> Result<RecordList, Memory>
 pub fn divided<S: KeySet>(alloc: Global, pairs: &RecordList, keys: &S) -> Result<Division, Memory>
     ensures gone { IfOk result (λ parts. parts.gone ≡ filter (λ p. S.member keys.now p.key) pairs.now) }
     ensures kept { IfOk result (λ parts. parts.kept ≡ filter (λ p. not (S.member keys.now p.key)) pairs.now) }
+    ensures none { length pairs.now ≡ 0 → IsOk result }
 {
     let room = pairs.len().div_ceil(2);
     let mut gone = Part::with_room(alloc, room)?;

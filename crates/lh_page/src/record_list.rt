@@ -1,5 +1,5 @@
 //! Lists of records, kept in units of four.
-ghost use Rattle.std.specs.Prelude.{◌≡◌, ◌*◌, ◌<◌, ◌≤◌, [], ◌∷◌, ◌++◌, length, take, slice_get, slice_index_or, Some, IfOk, OnOk, OnErr};
+ghost use Rattle.std.specs.Prelude.{◌≡◌, ◌*◌, ◌%◌, ◌<◌, ◌≤◌, [], ◌∷◌, ◌++◌, length, take, slice_get, slice_index_or, Some, IsOk, IfOk, OnOk, OnErr};
 ghost use Rattle.std.specs.List.{swap_remove};
 ghost use Rattle.std.specs.Str.{bytes_eq};
 ghost use Rattle.lh_page.specs.Lines.{AreUnits};
@@ -48,7 +48,8 @@ impl RecordList {
 
     /// No records, with memory for as many as are to come.
     pub fn with_room(alloc: Global, records: usize) -> Result<Self, Memory>
-        ensures { IfOk result (λ list. list ≡ []) }
+        ensures empty { IfOk result (λ list. list ≡ []) }
+        ensures none { records ≡ 0 → IsOk result }
     {
         let units = Vec::with_capacity(alloc, records.div_ceil(UNIT))?;
         Ok(RecordList { units, len: 0 })
@@ -87,6 +88,16 @@ impl RecordList {
         unit.key_at(place % UNIT)
     }
 
+    /// The value of the record at a place.
+    #[inline]
+    pub fn value_at(&self, place: usize) -> Value
+        requires { place < length self.now }
+        ensures { result ≡ value_at self.now place }
+    {
+        let unit = &self.units[place / UNIT];
+        unit.value_at(place % UNIT)
+    }
+
     /// Whether the record at a place has a key.
     #[inline]
     pub fn has_key(&self, place: usize, key: &Key) -> bool
@@ -102,6 +113,7 @@ impl RecordList {
     pub fn push(&mut self, pair: &Pair) -> Result<(), Memory>
         ensures ok { OnOk result (self.new ≡ self.old ++ pair.now ∷ []) }
         ensures err { OnErr result (self.new ≡ self.old) }
+        ensures full { OnErr result (length self.old % UNIT ≡ 0) }
     {
         make_room(&mut self.units, self.len)?;
         let unit = &mut self.units[self.len / UNIT];
@@ -116,6 +128,7 @@ impl RecordList {
         requires { place < length other.now }
         ensures ok { OnOk result (self.new ≡ self.old ++ slice_index_or other.now place no_pair ∷ []) }
         ensures err { OnErr result (self.new ≡ self.old) }
+        ensures full { OnErr result (length self.old % UNIT ≡ 0) }
     {
         make_room(&mut self.units, self.len)?;
         let from = &other.units[place / UNIT];
@@ -160,6 +173,7 @@ fn make_room(units: &mut Vec<Unit>, len: usize) -> Result<(), Memory>
     ensures room { OnOk result (len < UNIT * length units.new.items) }
     ensures same { take len (joined units.new.items) ≡ take len (joined units.old.items) }
     ensures err { OnErr result (units.new.items ≡ units.old.items) }
+    ensures full { OnErr result (len ≡ UNIT * length units.old.items) }
 {
     if len / UNIT == units.len() {
         units.reserve_exact(1)?;

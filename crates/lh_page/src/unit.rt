@@ -66,6 +66,15 @@ impl Unit {
         self.hot[row].key()
     }
 
+    /// The value of the record in a row.
+    #[inline]
+    pub fn value_at(&self, row: usize) -> Value
+        requires { row < UNIT }
+        ensures { result ≡ value_at self.now row }
+    {
+        self.hot[row].value(&self.cold[row])
+    }
+
     /// Whether the record in a row has a key.
     #[inline]
     pub fn has_key(&self, row: usize, key: &Key) -> bool

@@ -67,6 +67,7 @@ pub fn expect_records(rt: &impl Abort, chain: &Chain, letters: &[u8]) -> Result<
         let pair = record_of(*letter)?;
         assert!(rt; place < chain.len());
         assert_eq!(rt; chain.pair_at(place), pair);
+        assert_eq!(rt; chain.value_at(place), pair.value);
         assert_eq!(rt; chain.find(&pair.key), Some(place));
     }
     Ok(())

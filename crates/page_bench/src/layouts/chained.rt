@@ -82,7 +82,7 @@ impl Store for Chained {
     fn value(&self, key: &Option<lh_page::Key>) -> Option<Value> {
         let key = key.as_ref()?;
         let place = self.chain.find(key)?;
-        Some(self.chain.pair_at(place).value)
+        Some(self.chain.value_at(place))
     }
 
     fn split(&mut self) -> Result<Self, AllocError> {

@@ -1,5 +1,5 @@
 use Rattle.std.proofs.Common.{◌++◌, ◌∷◌, [], ap, ◌∙◌}
-use Rattle.lh_page.proofs.Units.{push-first}
+use Rattle.lh_page.proofs.Units.{push-first, full-first}
 use Rattle.lh_page.proofs.record_list.RecordList.push.Goals as goal
 
 pub returns-clause-ok : goal.returns-clause-ok
@@ -7,3 +7,8 @@ returns-clause-ok c =
     let room = c.in_ok-make_room.ensures in
     push-first c.self.inside.len c.make_room.new.units.items c.index_mut-unit.result.now _ c.args.pair.now room.units room.room c.index_mut-unit.ensures.value c.put.ensures
     ∙ ap (λ list. list ++ c.args.pair.now ∷ []) (room.same ∙ c.self.view_is)
+
+pub returns-in_err-make_room-clause-full : goal.returns-in_err-make_room-clause-full
+returns-in_err-make_room-clause-full c =
+    let r = c.self.inside in
+    full-first _ r.len r.units.items c.args.self.now c.self.invariant.0 c.in_err-make_room.ensures.full c.self.view_is

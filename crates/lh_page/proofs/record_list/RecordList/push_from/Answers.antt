@@ -1,6 +1,6 @@
 use Rattle.std.proofs.Common.{◌%◌, ◌++◌, ◌∷◌, [], get_or, set, ap, ◌∙◌}
 use Rattle.lh_page.specs.Records.{no_pair}
-use Rattle.lh_page.proofs.Units.{within-first, get_or-first, push-first}
+use Rattle.lh_page.proofs.Units.{within-first, get_or-first, push-first, full-first}
 use Rattle.lh_page.proofs.record_list.RecordList.push_from.Goals as goal
 
 pub returns-clause-ok : goal.returns-clause-ok
@@ -15,3 +15,8 @@ returns-clause-ok c =
     let same = get_or-first o.len o.units.items c.args.place c.index-from.result.now no_pair h.0 h.1 below c.index-from.ensures in
     push-first n c.make_room.new.units.items was _ p room.units room.room c.index_mut-unit.ensures.value (c.copy_row.ensures ∙ ap (set was (n % 4)) (rw c.other.view_is at same))
     ∙ ap (λ list. list ++ p ∷ []) (room.same ∙ c.self.view_is)
+
+pub returns-in_err-make_room-clause-full : goal.returns-in_err-make_room-clause-full
+returns-in_err-make_room-clause-full c =
+    let r = c.self.inside in
+    full-first _ r.len r.units.items c.args.self.now c.self.invariant.0 c.in_err-make_room.ensures.full c.self.view_is
