@@ -4,10 +4,11 @@ ghost use Rattle.std.specs.Option.{ForSome};
 ghost use Rattle.std.specs.FinMap.{retain_keys};
 ghost use Rattle.lh_addr.specs.Fnv.{code_of};
 ghost use Rattle.lh_addr.specs.Limits.{IsInitial, IsCapacity};
+ghost use Rattle.lh_bucket.specs.declared.call.Reply.TheVariants.{Inserted};
 ghost use Rattle.lh_bucket.specs.declared.verdict.Verdict.TheVariants.{Here};
 ghost use Rattle.lh_bucket.specs.Bucket.{Seen, IsKept, CanSplit, content, verdict, answer, raised, stays};
 ghost use Rattle.lh_bucket.specs.Call.{key_of, IsInsert, IsSearch};
-ghost use Rattle.lh_bucket.specs.PlainMap.{after};
+ghost use Rattle.lh_bucket.specs.PlainMap.{reply, after};
 
 use crate::answer::Answer;
 use crate::call::Call;
@@ -89,8 +90,9 @@ pub trait Bucket: Drop {
         ensures head { (seen self.new).head ≡ (seen self.old).head }
         ensures content { OnOk result (content (seen self.new) ≡ after (content (seen self.old)) call.now) }
 
-        // Only an insert takes memory, and without memory nothing changes.
+        // Only an insert of a new key takes memory, and without memory nothing changes.
         ensures no_memory { ¬ (IsInsert call.now) → IsOk result }
+        ensures new_key { OnErr result (reply (content (seen self.old)) call.now ≡ Inserted) }
         ensures err { OnErr result (seen self.new ≡ seen self.old) };
 
     /// Splits this bucket, which is filled at a level `l` below 16, into itself and `new`, a bucket

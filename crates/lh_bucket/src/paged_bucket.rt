@@ -106,6 +106,7 @@ fn insert_into(chain: &mut Chain, key: &Key, value: &Value) -> Result<bool, Memo
         ≡ reply (map_of chain.old.pairs) (Insert key.now value.now)) }
     ensures list { OnOk result (
         chain.new ≡ record chain.old { pairs = served chain.old.pairs (Insert key.now value.now) }) }
+    ensures new_key { OnErr result (reply (map_of chain.old.pairs) (Insert key.now value.now) ≡ Inserted) }
     ensures err { OnErr result (chain.new ≡ chain.old) }
 {
     match chain.find(key) {
@@ -156,6 +157,7 @@ fn serve_at(chain: &mut Chain, call: &Call) -> Result<Reply, Memory>
     ensures reply { IfOk result (λ r. r ≡ reply (map_of chain.old.pairs) call.now) }
     ensures list { OnOk result (chain.new ≡ record chain.old { pairs = served chain.old.pairs call.now }) }
     ensures no_memory { ¬ (IsInsert call.now) → IsOk result }
+    ensures new_key { OnErr result (reply (map_of chain.old.pairs) call.now ≡ Inserted) }
     ensures err { OnErr result (chain.new ≡ chain.old) }
 {
     match call {
@@ -251,6 +253,7 @@ impl Bucket for PagedBucket {
         ensures content { OnOk result (content self.new ≡ after (content self.old) call.now) }
         ensures order { OnOk result (self.new.pairs ≡ served self.old.pairs call.now) }
         ensures no_memory { ¬ (IsInsert call.now) → IsOk result }
+        ensures new_key { OnErr result (reply (content self.old) call.now ≡ Inserted) }
         ensures err { OnErr result (self.new ≡ self.old) }
     {
         let reply = serve_at(&mut self.chain, call)?;

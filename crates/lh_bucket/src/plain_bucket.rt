@@ -4,6 +4,7 @@ ghost use Rattle.std.specs.Ordering.{nat_cmp};
 ghost use Rattle.std.specs.Cmp.Lexicographic.{slice_cmp};
 ghost use Rattle.std.specs.BTreeMap.{IsOrdered};
 ghost use Rattle.std.specs.FinMap.{get, insert, remove, retain_keys, contains_key};
+ghost use Rattle.lh_bucket.specs.declared.call.Reply.TheVariants.{Inserted};
 ghost use Rattle.lh_bucket.specs.Leaving.{leads_to};
 ghost use Rattle.lh_bucket.specs.Call.{IsInsert};
 ghost use Rattle.lh_bucket.specs.PlainMap.{reply, after};
@@ -104,6 +105,7 @@ fn serve_at(records: &mut BTreeMap<Key, Value>, call: &Call) -> Result<Reply, Me
         ≡ after (map_of (pairs_of records.old.entries)) call.now) }
     ensures ordered { IsOrdered (slice_cmp nat_cmp) records.new }
     ensures no_memory { ¬ (IsInsert call.now) → IsOk result }
+    ensures new_key { OnErr result (reply (map_of (pairs_of records.old.entries)) call.now ≡ Inserted) }
     ensures err { OnErr result (records.new.entries ≡ records.old.entries) }
 {
     match call {

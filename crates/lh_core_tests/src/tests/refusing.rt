@@ -7,7 +7,7 @@ use std::alloc::Global;
 use std::process::Abort;
 use std::test::Fail;
 
-/// A bucket of pages for which there is no memory at its first insert, nor at its first split.
+/// A bucket of pages for which there is no memory at its first insert of a new key, nor at its first split.
 #[derive(Drop)]
 struct Refusing {
     bucket: PagedBucket,
@@ -65,9 +65,14 @@ impl Bucket for Refusing {
     }
 
     fn serve(&mut self, call: &Call, k: u8) -> Result<Answer, Memory> {
-        if call.is_insert() && !self.refused_insert {
-            self.refused_insert = true;
-            return Err(Memory);
+        if let Call::Insert(key, _) = call
+            && !self.refused_insert
+        {
+            // An insert of a key that is there may not be refused.
+            if let Reply::Absent = self.bucket.look(&Call::Search(*key), k).reply() {
+                self.refused_insert = true;
+                return Err(Memory);
+            }
         }
         self.bucket.serve(call, k)
     }

@@ -1,4 +1,9 @@
-use Rattle.std.proofs.Common.{refl}
+use Rattle.std.proofs.Common.{◌≡◌, refl}
+use Rattle.std.specs.Prelude.{Result, Ok, Err, OnErr}
+use Rattle.lh_bucket.specs.declared.call.Call.TheVariants.{Insert}
+use Rattle.lh_bucket.specs.declared.call.Reply.TheVariants.{Inserted}
+use Rattle.lh_bucket.specs.PlainMap.{reply}
+use Rattle.lh_bucket.specs.Records.{map_of}
 use Rattle.lh_bucket.proofs.Chained.{stands_there, stands_nowhere}
 use Rattle.lh_bucket.proofs.paged_bucket.insert_into.Goals as goal
 
@@ -7,3 +12,12 @@ returns-in-Some-clause-reply c = rw (stands_there c.args.chain.now.pairs c.args.
 
 pub returns-in_ok-push-in-None-clause-reply : goal.returns-in_ok-push-in-None-clause-reply
 returns-in_ok-push-in-None-clause-reply c = rw (stands_nowhere c.args.chain.now.pairs c.args.key.now c.in-None.ensures.place) refl
+
+on_err : {X E P : Type 0} (r : Result X E) → P → OnErr r P
+on_err (Ok x) p = tt
+on_err (Err e) p = p
+
+pub returns-in_err-push-in-None-clause-new_key : goal.returns-in_err-push-in-None-clause-new_key
+returns-in_err-push-in-None-clause-new_key c =
+    let new : reply (map_of c.args.chain.now.pairs) (Insert c.args.key.now c.args.value.now) ≡ Inserted = rw (stands_nowhere c.args.chain.now.pairs c.args.key.now c.in-None.ensures.place) refl in
+    on_err c.from_residual.result new
