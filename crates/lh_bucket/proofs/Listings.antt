@@ -17,7 +17,7 @@ use Rattle.lh_page.specs.Records.{keys_of, key_at, no_pair, IsRecord}
 use Rattle.std.specs.Option.{IfNone, IfSome}
 use Rattle.lh_bucket.specs.declared.listing.ListingFault.{ListingFault}
 use Rattle.lh_bucket.specs.declared.listing.ListingFault.TheVariants.{Shape, Misplaced, Twice, Memory}
-use Rattle.lh_bucket.specs.ListingFault.{IsFaultAmong, IsFaultOf, IsTwiceAmong, IsTwiceIn}
+use Rattle.lh_bucket.specs.ListingFault.{few, IsFaultAmong, IsFaultOf, IsTwiceAmong, IsTwiceIn}
 use Rattle.lh_bucket.specs.Listing.{PlaceFact, IsNew, IsAgain, IsHome, IsShape, IsListing, EachPlace, list_at}
 use Rattle.lh_bucket.proofs.MapOf.{equals}
 
@@ -166,7 +166,7 @@ first_there lists n ps at before (Twice bucket place) (own, within, again, new) 
       here = subst (λ (qs : List Pair). (p : ℕ) → p < place → IsNew bucket qs p) (sym here) new;
       before = subst (λ m. EachBefore IsNew lists m) (sym own) before;
     }
-first_there lists n ps at before Memory twice = tt
+first_there lists n ps at before Memory long = (n, subst (λ (qs : List Pair). few < length qs) (sym at) long)
 
 -- a key that stands twice is kept in mind, or is the first
 pub first_twice : (lists : List (List Pair)) (n : ℕ) (ps : List Pair) (found result : Option ListingFault) → list_at lists n ≡ ps → IfSome result (λ fault. (found ≡ Some fault) ⊎ ((found ≡ None) × IsTwiceIn n ps fault)) → IfNone found (EachBefore IsNew lists n) → IfSome found (IsTwiceAmong lists) → IfSome result (IsTwiceAmong lists)
@@ -182,11 +182,11 @@ fault_of_twice initial buckets lists None home twice = tt
 fault_of_twice initial buckets lists (Some Shape) home twice = twice
 fault_of_twice initial buckets lists (Some (Misplaced bucket place)) home twice = absurd twice
 fault_of_twice initial buckets lists (Some (Twice bucket place)) home twice = (home, twice)
-fault_of_twice initial buckets lists (Some Memory) home twice = tt
+fault_of_twice initial buckets lists (Some Memory) home long = (home, long)
 
 -- the first fault of lists of which there are as many as buckets is their first fault
 pub fault_is_first : (config : Settings) (buckets : ℕ) (lists : List (List Pair)) → IsShape config buckets lists → (fault : ListingFault) → IsFaultAmong config.initial buckets lists fault → IsFaultOf config buckets lists fault
 fault_is_first config buckets lists shape Shape fault = absurd fault
 fault_is_first config buckets lists shape (Misplaced bucket place) fault = (shape, fault)
 fault_is_first config buckets lists shape (Twice bucket place) fault = (shape, fault.0, fault.1)
-fault_is_first config buckets lists shape Memory fault = tt
+fault_is_first config buckets lists shape Memory fault = (shape, fault.0, fault.1)

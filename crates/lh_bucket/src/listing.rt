@@ -22,7 +22,8 @@ pub enum ListingFault {
     /// A record before it in its list has the same key.
     #[error("the key at place {place} of bucket {bucket} stands there twice")]
     Twice { bucket: u32, place: usize },
-    /// There was no memory to look for keys that stand twice.
+    /// There was no memory to look for keys that stand twice. Only lists of more than 32 records
+    /// take it.
     #[error("no memory")]
     Memory,
 }

@@ -1,12 +1,12 @@
 //! The faults that lists of records have as a listing.
-ghost use Rattle.std.specs.Prelude.{◌≡◌, ℕ, ◌<◌, ◌≤◌, ◌⊎◌, length, map, None, Some, IfOk, IfSome, IfNone};
+ghost use Rattle.std.specs.Prelude.{◌≡◌, ℕ, ◌<◌, ◌≤◌, ◌⊎◌, length, map, None, Some, IfOk, OnErr, IfSome, IfNone};
 ghost use Rattle.std.specs.Bool.{OnTrue, OnFalse};
 ghost use Rattle.std.specs.List.{All};
 ghost use Rattle.lh_addr.specs.Fnv.{code_of};
 ghost use Rattle.lh_addr.specs.Limits.{most_buckets};
 ghost use Rattle.lh_page.specs.Records.{key_at, IsRecord};
 ghost use Rattle.lh_bucket.specs.Listing.{IsHome, IsAway, IsNew, IsAgain, EachPlace, AreTopsOf, list_at, top_of};
-ghost use Rattle.lh_bucket.specs.ListingFault.{IsFaultAmong, IsTwiceIn};
+ghost use Rattle.lh_bucket.specs.ListingFault.{few, IsFaultAmong, IsTwiceIn};
 
 use crate::listing::ListingFault;
 use lh_addr::{Root, fnv1a};
@@ -111,12 +111,13 @@ fn again_among(pairs: &[Pair]) -> Option<usize>
     None
 }
 
-/// The place of the first record whose key stands before it too.
+/// The place of the first record whose key stands before it too. Only a long list takes memory.
 fn again_in(alloc: Global, pairs: &[Pair]) -> Result<Option<usize>, Memory>
     ensures none { IfOk result (λ r. IfNone r ((p : ℕ) → p < length pairs.now → IsNew 0 pairs.now p)) }
     ensures within { IfOk result (λ r. IfSome r (λ place. place < length pairs.now)) }
     ensures again { IfOk result (λ r. IfSome r (λ place. IsAgain 0 pairs.now place)) }
     ensures before { IfOk result (λ r. IfSome r (λ place. (p : ℕ) → p < place → IsNew 0 pairs.now p)) }
+    ensures long { OnErr result (few < length pairs.now) }
 {
     if pairs.len() <= FEW {
         return Ok(again_among(pairs));
