@@ -277,6 +277,7 @@ impl Bucket for PagedBucket {
         ensures old_unchanged { OnErr result (self.new ≡ self.old) }
         ensures new_unchanged { OnErr result (new.new ≡ new.old) }
     {
+        // What leaves has the new bucket's number: one level up a hash is as before or `initial * 2^l` more.
         hashes_are_nested();
         let level = self.level.unwrap_or(0) + 1;
         let leaving = Leaving {

@@ -211,6 +211,7 @@ impl Bucket for PlainBucket {
     }
 
     fn split_into(&mut self, new: &mut Self) -> Result<(), Memory> {
+        // What leaves has the new bucket's number: one level up a hash is as before or `initial * 2^l` more.
         hashes_are_nested();
         let level = self.level.unwrap_or(0) + 1;
         let leaving = Leaving {
