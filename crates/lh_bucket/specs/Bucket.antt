@@ -18,7 +18,8 @@ use Rattle.lh_bucket.specs.PlainMap.{Records, reply}
 use Rattle.lh_bucket.specs.Records.{map_of}
 use Rattle.lh_bucket.specs.Verdict.{verdict_of}
 
--- a bucket but for its records: its number, how many buckets its file began with, how many records a page holds, and its level, or none where it isn't filled yet
+-- a bucket but for its records: its number, how many buckets its file began with, how many records a page holds, and
+-- its level, or none where it isn't filled yet
 pub record Head : Type 0 where
   pub number : ℕ
   pub initial : ℕ
@@ -38,9 +39,12 @@ content bucket = map_of bucket.pairs
 abbrev pub HasOwnKeys : Head → List Pair → Option ℕ → Type 0
 HasOwnKeys head pairs None = pairs ≡ []
 HasOwnKeys head pairs (Some level) =
-    (level ≤ 16) × ((key : List ℕ) → IsTrue (contains_key (map_of pairs) key) → hash_at head.initial level (code_of key) ≡ head.number)
+    (level ≤ 16)
+    × ((key : List ℕ) → IsTrue (contains_key (map_of pairs) key) →
+    hash_at head.initial level (code_of key) ≡ head.number)
 
--- what holds of every bucket: its file's numbers are within their limits, no key stands twice, and each stands where it belongs
+-- what holds of every bucket: its file's numbers are within their limits, no key stands twice, and each stands where it
+-- belongs
 pub record IsKept (bucket : Seen) : Type 0 where
   pub initial : IsInitial bucket.head.initial
   pub capacity : IsCapacity bucket.head.capacity
@@ -73,7 +77,8 @@ raised old bucket = record bucket { level = Some (raised_level old) }
 unfoldable pub stays : Head → List ℕ → Bool
 stays old key = leads_to old.initial (raised_level old) old.number key
 
--- one bucket may be split into another: it is filled, at a level below 16, and the other is the empty bucket that its records can go to
+-- one bucket may be split into another: it is filled, at a level below 16, and the other is the empty bucket that its
+-- records can go to
 pub record CanSplit (old new : Head) : Type 0 where
   pub level : ℕ
   pub filled : old.level ≡ Some level

@@ -13,7 +13,8 @@ use Rattle.lh_bucket.specs.Records.{map_of}
 use Rattle.lh_bucket.specs.Bucket.{Head, verdict, stays}
 use Rattle.lh_bucket.specs.Listing.{Lists, IsListing, all_of, list_at, size}
 
--- A call is at its bucket exactly where the code's hash at the level that it looks for is the bucket's number, and that level is the bucket's.
+-- A call is at its bucket exactly where the code's hash at the level that it looks for is the bucket's number, and that
+-- level is the bucket's.
 abbrev pub HereLaw : Type 0
 HereLaw =
     (head : Head) (c k : ℕ) →
@@ -31,7 +32,9 @@ EmptyLaw = map_of [] ≡ empty
 
 -- The map of some records has the key of each,
 abbrev pub KeyLaw : Type 0
-KeyLaw = (pairs : List Pair) (place : ℕ) → place < length pairs → IsTrue (contains_key (map_of pairs) (key_at pairs place))
+KeyLaw =
+    (pairs : List Pair) (place : ℕ) → place < length pairs →
+    IsTrue (contains_key (map_of pairs) (key_at pairs place))
 
 -- where no key stands twice it has just the records,
 abbrev pub LookupLaw : Type 0
@@ -48,4 +51,5 @@ abbrev pub PlacedLaw : Type 0
 PlacedLaw =
     (listing : Lists) (bucket : ℕ) → IsListing listing → bucket < size listing →
     map_of (list_at listing.lists bucket)
-    ≡ retain_keys (map_of (all_of listing.lists)) (λ key. address listing.config.initial (size listing) (code_of key) == bucket)
+    ≡ retain_keys (map_of (all_of listing.lists))
+    (λ key. address listing.config.initial (size listing) (code_of key) == bucket)

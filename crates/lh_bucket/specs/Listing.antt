@@ -66,7 +66,8 @@ AreTopsOf tops pairs n = (p : ℕ) → p < n → slice_index_or tops (top_of (co
 
 -- a fact holds at each place of each list
 abbrev pub EachPlace : PlaceFact → List (List Pair) → Type 0
-EachPlace Good lists = (bucket place : ℕ) → place < length (list_at lists bucket) → Good bucket (list_at lists bucket) place
+EachPlace Good lists =
+    (bucket place : ℕ) → place < length (list_at lists bucket) → Good bucket (list_at lists bucket) place
 
 -- the first place, by the bucket and then by the place, at which one fact fails and the other holds
 pub record IsFirst (Good Bad : PlaceFact) (lists : List (List Pair)) (bucket place : ℕ) : Type 0 where
@@ -75,7 +76,8 @@ pub record IsFirst (Good Bad : PlaceFact) (lists : List (List Pair)) (bucket pla
   pub here : (p : ℕ) → p < place → Good bucket (list_at lists bucket) p
   pub before : (b p : ℕ) → b < bucket → p < length (list_at lists b) → Good b (list_at lists b) p
 
--- what holds of every listing: keys and values have the lengths that they may have, each record stands in the list of its bucket, and no key twice
+-- what holds of every listing: keys and values have the lengths that they may have, each record stands in the list of
+-- its bucket, and no key stands twice
 pub record IsListing (listing : Lists) : Type 0 where
   pub config : IsInRange listing.config
   pub shape : IsShape listing.config (size listing) listing.lists

@@ -20,6 +20,7 @@ replaced_at pairs None value = pairs
 -- replace leaves each record in its place
 abbrev pub served : List Pair → Call → List Pair
 served pairs (Search key) = pairs
-served pairs (Insert key value) = if is_some (place_of pairs key) then pairs else pairs ++ record { key = key; value = value } ∷ []
+served pairs (Insert key value) =
+    if is_some (place_of pairs key) then pairs else pairs ++ record { key = key; value = value } ∷ []
 served pairs (Delete key) = removed_at pairs (place_of pairs key)
 served pairs (Replace key value) = replaced_at pairs (place_of pairs key) value
