@@ -19,46 +19,46 @@ use Rattle.lh_addr.specs.Limits.{IsInitial, IsCapacity}
 use Rattle.lh_page.specs.Records.{keys_of}
 use Rattle.lh_bucket.specs.Records.{entry_of, map_of}
 use Rattle.lh_bucket.specs.Bucket.{Head, HasOwnKeys}
-use Rattle.lh_bucket.specs.PlainBucket.{pairs_of, IsInKeyOrder, IsPlain}
+use Rattle.lh_bucket.specs.PlainBucket.{pairs_of_entries, IsInKeyOrder, IsPlain}
 use Rattle.lh_bucket.proofs.MapOf.{equals, same_records, get-map_of, get-retained, map_of-filter}
 
 abbrev Entries : Type 0
 Entries = List (List ℕ × List ℕ)
 
-pub keys_of-pairs_of : (es : Entries) → keys_of (pairs_of es) ≡ entry_keys es
-keys_of-pairs_of [] = refl
-keys_of-pairs_of (e ∷ es) = ap (λ ks. e.0 ∷ ks) (keys_of-pairs_of es)
+pub keys_of-pairs_of_entries : (es : Entries) → keys_of (pairs_of_entries es) ≡ entry_keys es
+keys_of-pairs_of_entries [] = refl
+keys_of-pairs_of_entries (e ∷ es) = ap (λ ks. e.0 ∷ ks) (keys_of-pairs_of_entries es)
 
-lookup-pairs_of : (es : Entries) (q : List ℕ) → lookup (bytes_eq q) (map entry_of (pairs_of es)) ≡ lookup (is_at (slice_cmp nat_cmp q)) es
-lookup-pairs_of [] q = refl
-lookup-pairs_of (e ∷ es) q =
-    ap (λ b. cond b (Some e.1) (lookup (bytes_eq q) (map entry_of (pairs_of es)))) (texts_ties q e.0)
-    ∙ ap (cond (is_at (slice_cmp nat_cmp q) e.0) (Some e.1)) (lookup-pairs_of es q)
+lookup-pairs_of_entries : (es : Entries) (q : List ℕ) → lookup (bytes_eq q) (map entry_of (pairs_of_entries es)) ≡ lookup (is_at (slice_cmp nat_cmp q)) es
+lookup-pairs_of_entries [] q = refl
+lookup-pairs_of_entries (e ∷ es) q =
+    ap (λ b. cond b (Some e.1) (lookup (bytes_eq q) (map entry_of (pairs_of_entries es)))) (texts_ties q e.0)
+    ∙ ap (cond (is_at (slice_cmp nat_cmp q) e.0) (Some e.1)) (lookup-pairs_of_entries es q)
 
 -- what an ordered map has at a key
-pub get-pairs_of : (es : Entries) (q : List ℕ) → get (map_of (pairs_of es)) q ≡ lookup (is_at (slice_cmp nat_cmp q)) es
-get-pairs_of es q = get-map_of (pairs_of es) q ∙ lookup-pairs_of es q
+pub get-pairs_of_entries : (es : Entries) (q : List ℕ) → get (map_of (pairs_of_entries es)) q ≡ lookup (is_at (slice_cmp nat_cmp q)) es
+get-pairs_of_entries es q = get-map_of (pairs_of_entries es) q ∙ lookup-pairs_of_entries es q
 
 flipped : (q k : List ℕ) → is_at (slice_cmp nat_cmp k) q ≡ eq_by_cmp (slice_cmp nat_cmp) q k
 flipped q k = (eq_by_cmp_equiv nat_list_cmp_total).symm k q
 
 -- one entry more, or another value under its key
-pub inserted : (es fs : Entries) (k v : List ℕ) → ((q : List ℕ) → lookup (is_at (slice_cmp nat_cmp q)) fs ≡ cond (is_at (slice_cmp nat_cmp k) q) (Some v) (lookup (is_at (slice_cmp nat_cmp q)) es)) → map_of (pairs_of fs) ≡ insert (map_of (pairs_of es)) k v
+pub inserted : (es fs : Entries) (k v : List ℕ) → ((q : List ℕ) → lookup (is_at (slice_cmp nat_cmp q)) fs ≡ cond (is_at (slice_cmp nat_cmp k) q) (Some v) (lookup (is_at (slice_cmp nat_cmp q)) es)) → map_of (pairs_of_entries fs) ≡ insert (map_of (pairs_of_entries es)) k v
 inserted es fs k v h = same_records _ _ (λ q.
-    get-pairs_of fs q ∙ h q
+    get-pairs_of_entries fs q ∙ h q
     ∙ ap (λ b. cond b (Some v) (lookup (is_at (slice_cmp nat_cmp q)) es)) (flipped q k)
-    ∙ sym (get-insert nat_list_cmp_total (map_of (pairs_of es)) k v q ∙ ap (cond (eq_by_cmp (slice_cmp nat_cmp) q k) (Some v)) (get-pairs_of es q)))
+    ∙ sym (get-insert nat_list_cmp_total (map_of (pairs_of_entries es)) k v q ∙ ap (cond (eq_by_cmp (slice_cmp nat_cmp) q k) (Some v)) (get-pairs_of_entries es q)))
 
 -- an entry less
-pub removed : (es fs : Entries) (k : List ℕ) → ((q : List ℕ) → lookup (is_at (slice_cmp nat_cmp q)) fs ≡ cond (is_at (slice_cmp nat_cmp k) q) None (lookup (is_at (slice_cmp nat_cmp q)) es)) → map_of (pairs_of fs) ≡ remove (map_of (pairs_of es)) k
+pub removed : (es fs : Entries) (k : List ℕ) → ((q : List ℕ) → lookup (is_at (slice_cmp nat_cmp q)) fs ≡ cond (is_at (slice_cmp nat_cmp k) q) None (lookup (is_at (slice_cmp nat_cmp q)) es)) → map_of (pairs_of_entries fs) ≡ remove (map_of (pairs_of_entries es)) k
 removed es fs k h = same_records _ _ (λ q.
-    get-pairs_of fs q ∙ h q
+    get-pairs_of_entries fs q ∙ h q
     ∙ ap (λ b. cond b None (lookup (is_at (slice_cmp nat_cmp q)) es)) (flipped q k)
-    ∙ sym (get-remove nat_list_cmp_total (map_of (pairs_of es)) k q ∙ ap (cond (eq_by_cmp (slice_cmp nat_cmp) q k) None) (get-pairs_of es q)))
+    ∙ sym (get-remove nat_list_cmp_total (map_of (pairs_of_entries es)) k q ∙ ap (cond (eq_by_cmp (slice_cmp nat_cmp) q k) None) (get-pairs_of_entries es q)))
 
-pub taken : (es fs : Entries) (k : List ℕ) (o : Option (List ℕ)) → ((q : List ℕ) → lookup (is_at (slice_cmp nat_cmp q)) fs ≡ cond (is_at (slice_cmp nat_cmp k) q) None (lookup (is_at (slice_cmp nat_cmp q)) es)) → IfNone o (fs ≡ es) → map_of (pairs_of fs) ≡ cond (is_some o) (remove (map_of (pairs_of es)) k) (map_of (pairs_of es))
+pub taken : (es fs : Entries) (k : List ℕ) (o : Option (List ℕ)) → ((q : List ℕ) → lookup (is_at (slice_cmp nat_cmp q)) fs ≡ cond (is_at (slice_cmp nat_cmp k) q) None (lookup (is_at (slice_cmp nat_cmp q)) es)) → IfNone o (fs ≡ es) → map_of (pairs_of_entries fs) ≡ cond (is_some o) (remove (map_of (pairs_of_entries es)) k) (map_of (pairs_of_entries es))
 taken es fs k (Some v) h same = removed es fs k h
-taken es fs k None h same = ap (λ es. map_of (pairs_of es)) same
+taken es fs k None h same = ap (λ es. map_of (pairs_of_entries es)) same
 
 -- keys in order are distinct
 distinct_sorted : (ks : List (List ℕ)) → IsStrictlySortedBy (slice_cmp nat_cmp) ks → IsDistinct bytes_eq ks
@@ -67,28 +67,28 @@ distinct_sorted ks h =
     subst (λ (e : List ℕ → List ℕ → Bool). IsDistinct e ks) (sym same) (IsDistinct-from_sorted (slice_cmp nat_cmp) ks h)
 
 -- a bucket of an ordered map's entries
-pub plain_made : (head : Head) (es : Entries) → IsInitial head.initial → IsCapacity head.capacity → IsStrictlySortedBy (slice_cmp nat_cmp) (entry_keys es) → HasOwnKeys head (pairs_of es) head.level → IsPlain (record { head = head; pairs = pairs_of es })
+pub plain_made : (head : Head) (es : Entries) → IsInitial head.initial → IsCapacity head.capacity → IsStrictlySortedBy (slice_cmp nat_cmp) (entry_keys es) → HasOwnKeys head (pairs_of_entries es) head.level → IsPlain (record { head = head; pairs = pairs_of_entries es })
 plain_made head es initial capacity ordered home =
-    let sorted : IsInKeyOrder (pairs_of es) = subst (IsStrictlySortedBy (slice_cmp nat_cmp)) (sym (keys_of-pairs_of es)) ordered in
+    let sorted : IsInKeyOrder (pairs_of_entries es) = subst (IsStrictlySortedBy (slice_cmp nat_cmp)) (sym (keys_of-pairs_of_entries es)) ordered in
     record {
-      kept = record { initial = initial; capacity = capacity; distinct = distinct_sorted (keys_of (pairs_of es)) sorted; home = home };
+      kept = record { initial = initial; capacity = capacity; distinct = distinct_sorted (keys_of (pairs_of_entries es)) sorted; home = home };
       sorted = sorted;
     }
 
-pub ordered_entries : (es : Entries) → IsInKeyOrder (pairs_of es) → IsStrictlySortedBy (slice_cmp nat_cmp) (entry_keys es)
-ordered_entries es h = subst (IsStrictlySortedBy (slice_cmp nat_cmp)) (keys_of-pairs_of es) h
+pub ordered_entries : (es : Entries) → IsInKeyOrder (pairs_of_entries es) → IsStrictlySortedBy (slice_cmp nat_cmp) (entry_keys es)
+ordered_entries es h = subst (IsStrictlySortedBy (slice_cmp nat_cmp)) (keys_of-pairs_of_entries es) h
 
-filter-pairs_of : (f : List ℕ → Bool) (es : Entries) → pairs_of (filter (λ e. f e.0) es) ≡ filter (λ p. f p.key) (pairs_of es)
-filter-pairs_of f [] = refl
-filter-pairs_of f (e ∷ es) =
-    elim (f e.0) as (λ b. pairs_of (cond b (e ∷ filter (λ e. f e.0) es) (filter (λ e. f e.0) es)) ≡ cond b (record { key = e.0; value = e.1 } ∷ filter (λ p. f p.key) (pairs_of es)) (filter (λ p. f p.key) (pairs_of es))) [
-      | true ↦ ap (λ ps. record { key = e.0; value = e.1 } ∷ ps) (filter-pairs_of f es)
-      | false ↦ filter-pairs_of f es
+filter-pairs_of_entries : (f : List ℕ → Bool) (es : Entries) → pairs_of_entries (filter (λ e. f e.0) es) ≡ filter (λ p. f p.key) (pairs_of_entries es)
+filter-pairs_of_entries f [] = refl
+filter-pairs_of_entries f (e ∷ es) =
+    elim (f e.0) as (λ b. pairs_of_entries (cond b (e ∷ filter (λ e. f e.0) es) (filter (λ e. f e.0) es)) ≡ cond b (record { key = e.0; value = e.1 } ∷ filter (λ p. f p.key) (pairs_of_entries es)) (filter (λ p. f p.key) (pairs_of_entries es))) [
+      | true ↦ ap (λ ps. record { key = e.0; value = e.1 } ∷ ps) (filter-pairs_of_entries f es)
+      | false ↦ filter-pairs_of_entries f es
     ]
 
 -- the entries whose keys pass a test
-pub map_of-kept : (f : List ℕ → Bool) (es fs : Entries) → fs ≡ filter (λ e. f e.0) es → map_of (pairs_of fs) ≡ retain_keys (map_of (pairs_of es)) f
-map_of-kept f es fs is = ap (λ es. map_of (pairs_of es)) is ∙ ap map_of (filter-pairs_of f es) ∙ map_of-filter f (pairs_of es)
+pub map_of-kept : (f : List ℕ → Bool) (es fs : Entries) → fs ≡ filter (λ e. f e.0) es → map_of (pairs_of_entries fs) ≡ retain_keys (map_of (pairs_of_entries es)) f
+map_of-kept f es fs is = ap (λ es. map_of (pairs_of_entries es)) is ∙ ap map_of (filter-pairs_of_entries f es) ∙ map_of-filter f (pairs_of_entries es)
 
 -- a map that has, of the keys looked at so far, those that pass a test
 abbrev pub HasOf : (List ℕ → Bool) → Entries → List (List ℕ) → Entries → Type 0
@@ -141,12 +141,12 @@ at_end true (Some v) = refl
 at_end false o = refl
 
 -- all keys were looked at
-pub has_all : (f : List ℕ → Bool) (es fs : Entries) (ks : List (List ℕ)) → ks ≡ entry_keys es → HasOf f es ks fs → map_of (pairs_of fs) ≡ retain_keys (map_of (pairs_of es)) f
+pub has_all : (f : List ℕ → Bool) (es fs : Entries) (ks : List (List ℕ)) → ks ≡ entry_keys es → HasOf f es ks fs → map_of (pairs_of_entries fs) ≡ retain_keys (map_of (pairs_of_entries es)) f
 has_all f es fs ks all has = same_records _ _ (λ q.
-    get-pairs_of fs q ∙ has q
+    get-pairs_of_entries fs q ∙ has q
     ∙ ap (λ b. cond (f q && b) (lookup (is_at (slice_cmp nat_cmp q)) es) None) (ap (list_any (is_at (slice_cmp nat_cmp q))) all ∙ sym (is_some-lookup (is_at (slice_cmp nat_cmp q)) es))
     ∙ at_end (f q) (lookup (is_at (slice_cmp nat_cmp q)) es)
-    ∙ sym (get-retained (map_of (pairs_of es)) f q ∙ ap (λ o. cond (f q) o None) (get-pairs_of es q)))
+    ∙ sym (get-retained (map_of (pairs_of_entries es)) f q ∙ ap (λ o. cond (f q) o None) (get-pairs_of_entries es q)))
 
 -- the keys that a loop over a map has seen
 pub keys_shown : (xs : List (Bor (List ℕ) × Bor (List ℕ))) → map (λ e. e.0.now) xs ≡ entry_keys (map deref_pair xs)

@@ -8,8 +8,8 @@ use Rattle.lh_page.specs.Records.{keys_of}
 use Rattle.lh_bucket.specs.Bucket.{Seen, IsKept}
 
 -- the entries of a map as records
-abbrev pub pairs_of : List (List ℕ × List ℕ) → List Pair
-pairs_of entries = map (λ e. record { key = e.0; value = e.1 }) entries
+abbrev pub pairs_of_entries : List (List ℕ × List ℕ) → List Pair
+pairs_of_entries entries = map (λ e. record { key = e.0; value = e.1 }) entries
 
 -- records in the order of their keys, which rise strictly
 abbrev pub IsInKeyOrder : List Pair → Type 0

@@ -9,7 +9,7 @@ ghost use Rattle.lh_bucket.specs.Leaving.{leads_to};
 ghost use Rattle.lh_bucket.specs.Call.{IsInsert};
 ghost use Rattle.lh_bucket.specs.PlainMap.{reply, after};
 ghost use Rattle.lh_bucket.specs.Records.{map_of};
-ghost use Rattle.lh_bucket.specs.PlainBucket.{pairs_of};
+ghost use Rattle.lh_bucket.specs.PlainBucket.{pairs_of_entries};
 
 use crate::answer::Answer;
 use crate::bucket::Bucket;
@@ -36,32 +36,32 @@ pub struct PlainBucket {
 
 impl Model for PlainBucket {
     ghost use Rattle.lh_bucket.specs.Bucket.{Head, Seen};
-    ghost use Rattle.lh_bucket.specs.PlainBucket.{IsPlain, pairs_of};
+    ghost use Rattle.lh_bucket.specs.PlainBucket.{IsPlain, pairs_of_entries};
 
     ghost Value = { Seen };
 
     ghost view = { λ b. record {
       head = record { number = b.number; initial = b.initial; capacity = b.capacity; level = b.level };
-      pairs = pairs_of b.records.entries;
+      pairs = pairs_of_entries b.records.entries;
     } };
 
     ghost invariant = { λ b. IsPlain (record {
       head = record { number = b.number; initial = b.initial; capacity = b.capacity; level = b.level };
-      pairs = pairs_of b.records.entries;
+      pairs = pairs_of_entries b.records.entries;
     }) };
 }
 
 /// The value that a map has at a key.
 fn value_at(records: &BTreeMap<Key, Value>, key: &Key) -> Option<Value>
-    ensures { result ≡ get (map_of (pairs_of records.now.entries)) key.now }
+    ensures { result ≡ get (map_of (pairs_of_entries records.now.entries)) key.now }
 {
     records.get(key).copied()
 }
 
 /// Adds a record whose key is not there yet.
 fn add(records: &mut BTreeMap<Key, Value>, key: Key, value: Value) -> Result<(), Memory>
-    ensures ok { OnOk result (map_of (pairs_of records.new.entries)
-        ≡ insert (map_of (pairs_of records.old.entries)) key value) }
+    ensures ok { OnOk result (map_of (pairs_of_entries records.new.entries)
+        ≡ insert (map_of (pairs_of_entries records.old.entries)) key value) }
     ensures err { OnErr result (records.new.entries ≡ records.old.entries) }
     ensures ordered { IsOrdered (slice_cmp nat_cmp) records.new }
 {
@@ -71,10 +71,10 @@ fn add(records: &mut BTreeMap<Key, Value>, key: Key, value: Value) -> Result<(),
 
 /// Takes a key out, and says whether it was there.
 fn take(records: &mut BTreeMap<Key, Value>, key: &Key) -> bool
-    ensures found { result ≡ contains_key (map_of (pairs_of records.old.entries)) key.now }
-    ensures left { map_of (pairs_of records.new.entries)
-        ≡ (if result then remove (map_of (pairs_of records.old.entries)) key.now
-        else map_of (pairs_of records.old.entries)) }
+    ensures found { result ≡ contains_key (map_of (pairs_of_entries records.old.entries)) key.now }
+    ensures left { map_of (pairs_of_entries records.new.entries)
+        ≡ (if result then remove (map_of (pairs_of_entries records.old.entries)) key.now
+        else map_of (pairs_of_entries records.old.entries)) }
     ensures ordered { IsOrdered (slice_cmp nat_cmp) records.new }
 {
     records.remove(key).is_some()
@@ -82,10 +82,10 @@ fn take(records: &mut BTreeMap<Key, Value>, key: &Key) -> bool
 
 /// Gives a key another value, and says whether it was there.
 fn change(records: &mut BTreeMap<Key, Value>, key: &Key, value: Value) -> bool
-    ensures found { result ≡ contains_key (map_of (pairs_of records.old.entries)) key.now }
-    ensures changed { map_of (pairs_of records.new.entries)
-        ≡ (if result then insert (map_of (pairs_of records.old.entries)) key.now value
-        else map_of (pairs_of records.old.entries)) }
+    ensures found { result ≡ contains_key (map_of (pairs_of_entries records.old.entries)) key.now }
+    ensures changed { map_of (pairs_of_entries records.new.entries)
+        ≡ (if result then insert (map_of (pairs_of_entries records.old.entries)) key.now value
+        else map_of (pairs_of_entries records.old.entries)) }
     ensures ordered { IsOrdered (slice_cmp nat_cmp) records.new }
 {
     match records.get_mut(key) {
@@ -100,12 +100,12 @@ fn change(records: &mut BTreeMap<Key, Value>, key: &Key, value: Value) -> bool
 /// Serves a call at a map.
 fn serve_at(records: &mut BTreeMap<Key, Value>, call: &Call) -> Result<Reply, Memory>
     requires { IsOrdered (slice_cmp nat_cmp) records.old }
-    ensures reply { IfOk result (λ r. r ≡ reply (map_of (pairs_of records.old.entries)) call.now) }
-    ensures after { OnOk result (map_of (pairs_of records.new.entries)
-        ≡ after (map_of (pairs_of records.old.entries)) call.now) }
+    ensures reply { IfOk result (λ r. r ≡ reply (map_of (pairs_of_entries records.old.entries)) call.now) }
+    ensures after { OnOk result (map_of (pairs_of_entries records.new.entries)
+        ≡ after (map_of (pairs_of_entries records.old.entries)) call.now) }
     ensures ordered { IsOrdered (slice_cmp nat_cmp) records.new }
     ensures no_memory { ¬ (IsInsert call.now) → IsOk result }
-    ensures new_key { OnErr result (reply (map_of (pairs_of records.old.entries)) call.now ≡ Inserted) }
+    ensures new_key { OnErr result (reply (map_of (pairs_of_entries records.old.entries)) call.now ≡ Inserted) }
     ensures err { OnErr result (records.new.entries ≡ records.old.entries) }
 {
     match call {
@@ -234,8 +234,8 @@ fn select(
     records: &BTreeMap<Key, Value>,
     leaving: &Leaving,
 ) -> Result<BTreeMap<Key, Value>, Memory>
-    ensures map { IfOk result (λ m. map_of (pairs_of m.entries)
-        ≡ retain_keys (map_of (pairs_of records.now.entries))
+    ensures map { IfOk result (λ m. map_of (pairs_of_entries m.entries)
+        ≡ retain_keys (map_of (pairs_of_entries records.now.entries))
         (λ key. not (leads_to leaving.now.initial leaving.now.level leaving.now.number key))) }
     ensures ordered { IfOk result (λ m. IsOrdered (slice_cmp nat_cmp) m) }
 {
@@ -250,8 +250,8 @@ fn select(
 
 /// Takes the records that leave a map out of it.
 fn keep_others(records: &mut BTreeMap<Key, Value>, leaving: &Leaving)
-    ensures map { map_of (pairs_of records.new.entries)
-        ≡ retain_keys (map_of (pairs_of records.old.entries))
+    ensures map { map_of (pairs_of_entries records.new.entries)
+        ≡ retain_keys (map_of (pairs_of_entries records.old.entries))
         (leads_to leaving.now.initial leaving.now.level leaving.now.number) }
     ensures ordered { IsOrdered (slice_cmp nat_cmp) records.new }
 {
