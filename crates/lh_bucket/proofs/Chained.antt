@@ -1,8 +1,6 @@
 -- A call at a list of records in the order of a chain.
 use Rattle.std.proofs.Common.{◌≡◌, ℕ, ◌<◌, cond, List, [], ◌∷◌, ◌++◌, length, get_or, Option, Some, None, is_some, refl, sym, ap, subst, ◌∙◌}
-use Rattle.std.specs.List.{slice_get}
 use Rattle.std.specs.FinMap.{get, insert, remove}
-use Rattle.std.proofs.lemmas.Option.{get_or_from_slice_get}
 use Rattle.lh_page.specs.declared.pair.Pair.{Pair}
 use Rattle.lh_page.specs.Records.{place_of, no_pair}
 use Rattle.lh_bucket.specs.declared.call.Call.{Call}
@@ -42,7 +40,3 @@ map_of-served ps (Search key) d = refl
 map_of-served ps (Insert key value) d = pushed ps key value (place_of ps key) (stands ps key)
 map_of-served ps (Delete key) d = cut ps key (place_of ps key) d (stands ps key)
 map_of-served ps (Replace key value) d = changed ps key value (place_of ps key) refl (stands ps key)
-
--- the value under a key that has a place
-pub found_there : (ps : List Pair) (key : List ℕ) (place : ℕ) (p : Pair) → Some place ≡ place_of ps key → slice_get ps place ≡ Some p → get (map_of ps) key ≡ Some p.value
-found_there ps key place p is at = (stands_there ps key place is).2 ∙ ap (λ (q : Pair). Some q.value) (get_or_from_slice_get ps place p no_pair at)

@@ -95,7 +95,7 @@ fn search_in(chain: &Chain, key: &Key) -> Reply
     ensures { result ≡ found (get (map_of chain.now.pairs) key.now) }
 {
     match chain.find(key) {
-        Some(place) => Reply::Found(chain.pair_at(place).value),
+        Some(place) => Reply::Found(chain.value_at(place)),
         None => Reply::Absent,
     }
 }
