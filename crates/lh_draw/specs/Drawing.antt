@@ -1,4 +1,5 @@
--- What is drawn of a file: a column for each bucket, or for each group of buckets where there are many; Meaning.antt says what that means
+-- What is drawn of a file: a column for each bucket, or for each group of buckets where there are many.
+-- Meaning.antt says what that means.
 use Rattle.std.specs.Prelude.{ℕ, zero, suc, ◌+◌, ◌-◌, ◌*◌, ◌/◌, min, max, if◌then◌else◌, List, [], ◌++◌, length, Option, None, Some}
 use Rattle.lh_addr.specs.Growth.{level, level_of, pointer}
 use Rattle.lh_bucket.specs.Listing.{Lists, size, list_at}
@@ -77,18 +78,20 @@ more_of l bucket = record {
 
 -- the buckets of a column, counted
 abbrev pub group_tally : Lists → ℕ → Tally
-group_tally l column = tally_of l.config.capacity (lists_between l (first_bucket (size l) column) (end_bucket (size l) column))
+group_tally l column =
+    tally_of l.config.capacity (lists_between l (first_bucket (size l) column) (end_bucket (size l) column))
 
 -- a column of a group: as high as its longest chain, and used as high as a bucket is on average
 unfoldable pub group_bar : Lists → ℕ → Bar
 group_bar l column =
+    let slots : ℕ = l.config.capacity * (end_bucket (size l) column - first_bucket (size l) column) in
     let height : ℕ = 40 * min (group_tally l column).longest 24 - 4 in
     record {
       left = left (size l) column;
       foot = 0;
       width = bar_width (size l);
       height = height;
-      used = load_of (group_tally l column).records (l.config.capacity * (end_bucket (size l) column - first_bucket (size l) column)) height;
+      used = load_of (group_tally l column).records slots height;
       is_next = is_next_level l (first_bucket (size l) column);
     }
 
@@ -143,7 +146,10 @@ head_text l =
 
 -- what stands behind them: the cuts, the numbers of buckets, and the split pointer
 unfoldable pub foot_text : Lists → List ℕ
-foot_text l = cuts_text (cuts_of l) ++ in_turn (λ place. label_text (label_of l place)) (label_count l) ++ mark_text (mark_of l)
+foot_text l =
+    cuts_text (cuts_of l)
+    ++ in_turn (λ place. label_text (label_of l place)) (label_count l)
+    ++ mark_text (mark_of l)
 
 -- what `draw` writes
 unfoldable pub drawing_of : Lists → List ℕ

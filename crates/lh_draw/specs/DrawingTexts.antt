@@ -31,7 +31,8 @@ numbers_text t =
 unfoldable pub title_text : Title → List ℕ
 title_text t =
     codes "<title id='title'>Linear hash file: " ++ (numbers_text t ++ (
-    codes "</title>\n<rect width='100%' height='100%' fill='#ffffff'/>\n<text x='24' y='24'>" ++ (numbers_text t ++ codes "</text>\n")))
+    codes "</title>\n<rect width='100%' height='100%' fill='#ffffff'/>\n<text x='24' y='24'>" ++ (
+    numbers_text t ++ codes "</text>\n")))
 
 -- a square in the colour of each level that buckets have, and the number of buckets in a column
 abbrev pub legend_of_levels : ℕ → Option ℕ → ℕ → List ℕ
@@ -72,18 +73,28 @@ part_text p =
     decimal p.foot ++ (codes "v-" ++ (decimal p.height ++ (codes "h" ++ (decimal p.width ++ (codes "v" ++ (
     decimal p.height ++ codes "z'/>")))))))))))
 
+-- a bar's rectangle of a height, for slots in use or free ones
+abbrev pub bar_part : Bar → ℕ → Bool → Part
+bar_part b height is_used = record {
+  left = b.left;
+  foot = b.foot;
+  width = b.width;
+  height = height;
+  is_next = b.is_next;
+  is_used = is_used;
+}
+
 -- a bar: a pale rectangle, and one as high as it is used
 unfoldable pub bar_text : Bar → List ℕ
 bar_text b =
-    part_text (record { left = b.left; foot = b.foot; width = b.width; height = b.height; is_next = b.is_next; is_used = false })
-    ++ (part_text (record { left = b.left; foot = b.foot; width = b.width; height = b.used; is_next = b.is_next; is_used = true })
-    ++ codes "\n")
+    part_text (bar_part b b.height false) ++ (part_text (bar_part b b.used true) ++ codes "\n")
 
 -- the pages beyond 24, if there are more: a number that stands upright above the chain
 unfoldable pub more_text : More → List ℕ
 more_text m =
     if nat_le m.pages 24 then []
-    else (codes "<text transform='translate(" ++ (decimal m.centre ++ (codes " -964)rotate(-90)' dy='3' font-size='8'>+" ++ (
+    else (codes "<text transform='translate(" ++ (
+    decimal m.centre ++ (codes " -964)rotate(-90)' dy='3' font-size='8'>+" ++ (
     decimal (m.pages - 24) ++ codes "</text>\n"))))
 
 -- white lines across all columns, 40 apart: a broad dashed line from the top to the floor

@@ -32,8 +32,10 @@ used_on l bucket page = length (slice_index_or (pages_of l.config.capacity (list
 
 -- a box is coloured by its bucket's level, for such a part of its height as its page is used
 pub record IsColoured (l : Lists) (bucket page : ℕ) : Type 0 where
-  pub used : (page_bar l bucket page).used ≡ part_of (page_bar l bucket page).height (used_on l bucket page) l.config.capacity
-  pub colour : (page_bar l bucket page).is_next ≡ nat_lt (level l.config.initial (size l)) (level_of l.config.initial (size l) bucket)
+  pub used : (page_bar l bucket page).used
+      ≡ part_of (page_bar l bucket page).height (used_on l bucket page) l.config.capacity
+  pub colour : (page_bar l bucket page).is_next
+      ≡ nat_lt (level l.config.initial (size l)) (level_of l.config.initial (size l) bucket)
 
 -- Each box is coloured as far as its page is used.
 abbrev pub ColourLaw : Type 0
@@ -46,8 +48,10 @@ AreApart one other = (one.foot + one.height < other.foot) ⊎ (one.left + one.wi
 
 -- Two boxes of a bucket, and boxes of two buckets, don't overlap.
 pub record ApartLaw : Type 0 where
-  pub pages : (l : Lists) (bucket page later : ℕ) → page < later → AreApart (page_bar l bucket page) (page_bar l bucket later)
-  pub buckets : (l : Lists) (bucket later page other : ℕ) → bucket < later → AreApart (page_bar l bucket page) (page_bar l later other)
+  pub pages : (l : Lists) (bucket page later : ℕ) → page < later →
+      AreApart (page_bar l bucket page) (page_bar l bucket later)
+  pub buckets : (l : Lists) (bucket later page other : ℕ) → bucket < later →
+      AreApart (page_bar l bucket page) (page_bar l later other)
 
 -- a column shows a bucket
 pub record IsColumnOf (buckets bucket column : ℕ) : Type 0 where
@@ -57,7 +61,8 @@ pub record IsColumnOf (buckets bucket column : ℕ) : Type 0 where
 
 -- Each bucket is shown by one column.
 abbrev pub ColumnLaw : Type 0
-ColumnLaw = (buckets bucket column : ℕ) → bucket < buckets → IsColumnOf buckets bucket column ↔ (column ≡ bucket / group_size buckets)
+ColumnLaw = (buckets bucket column : ℕ) → bucket < buckets →
+    IsColumnOf buckets bucket column ↔ (column ≡ bucket / group_size buckets)
 
 -- The legend names the level of each bucket.
 abbrev pub LegendLaw : Type 0

@@ -4,7 +4,8 @@ ghost use Rattle.lh_draw.specs.Meaning.{ApartLaw, BoxLaw, ColourLaw, ColumnLaw, 
 
 use lh_page::laws::pages_are_pieces;
 
-/// Of a file of up to 128 buckets, with no chain of more than 24 pages, a drawing has as many boxes as the file has pages.
+/// Of a file of up to 128 buckets, with no chain of more than 24 pages,
+/// a drawing has as many boxes as the file has pages.
 pub fn pages_are_boxes()
     ensures { BoxLaw }
 {}
