@@ -32,7 +32,8 @@ event_at events row = slice_index_or events row event.SplitDrop
 abbrev pub entry_at : List Entry → ℕ → Entry
 entry_at entries row = slice_index_or entries row (Ok effect.Dropped)
 
--- what is drawn of a step: a box for what is locked, down to the row where it is let go; an arrow for a rehash, down to the row of the next lock; a mark for the move of a split, and for its pointer
+-- what is drawn of a step: a box for what is locked, down to the row where it is let go; an arrow for a rehash, down to
+-- the row of the next lock; a mark for the move of a split, and for its pointer
 abbrev pub shape_of : Event → Entry → ℕ → ℕ → Shape
 shape_of event (Ok (effect.Locked bucket level)) held way = shape.Held bucket (20 + 24 * held)
 shape_of event (Ok (effect.Both old new)) held way = shape.BothHeld old new (20 + 24 * held)
@@ -65,4 +66,5 @@ top_text events =
 
 -- what `replay` writes
 unfoldable pub picture_of : List Event → List Entry → List ℕ
-picture_of events entries = top_text events ++ in_turn (λ row. step_text (step_of events entries row)) (length events) ++ end_text
+picture_of events entries =
+    top_text events ++ in_turn (λ row. step_text (step_of events entries row)) (length events) ++ end_text

@@ -21,12 +21,15 @@ use Rattle.lh_replay.specs.declared.words.Words.{Words}
 -- the picture's beginning
 unfoldable pub canvas_text : Canvas → List ℕ
 canvas_text c =
-    codes "<svg xmlns='http://www.w3.org/2000/svg' width='" ++ (decimal c.width ++ (codes "' height='" ++ (decimal c.height ++ (codes "' viewBox='0 0 " ++ (decimal c.width ++ (codes " " ++ (decimal c.height ++ codes "' role='img' aria-labelledby='title desc' font-family='sans-serif' font-size='12' fill='#333333'>\n")))))))
+    codes "<svg xmlns='http://www.w3.org/2000/svg' width='" ++ (decimal c.width ++ (codes "' height='" ++ (
+    decimal c.height ++ (codes "' viewBox='0 0 " ++ (decimal c.width ++ (codes " " ++ (decimal c.height ++
+    codes "' role='img' aria-labelledby='title desc' font-family='sans-serif' font-size='12' fill='#333333'>\n")))))))
 
 -- its title and its description, and what its marks are
 unfoldable pub caption_text : Caption → List ℕ
 caption_text c =
-    codes "<title id='title'>Schedule of a linear hash file, steps " ++ (decimal c.steps ++ codes "</title>\n<desc id='desc'>A lane for the splitter and one for each place, and downwards a row for each step. A box is a bucket that is held, from its lock to its release; an arrow leads from a rehash to the lock after it; an arrow between two boxes marks the move of a split, and a triangle the step of its pointer.</desc>\n<rect width='100%' height='100%' fill='#ffffff'/>\n<text x='16' y='20'>a box is a bucket that is held, and a curved arrow a rehash</text>\n<text x='16' y='38'>a straight arrow is the move of a split, and a triangle the step of its pointer</text>\n")
+    codes "<title id='title'>Schedule of a linear hash file, steps " ++ (decimal c.steps ++
+    codes "</title>\n<desc id='desc'>A lane for the splitter and one for each place, and downwards a row for each step. A box is a bucket that is held, from its lock to its release; an arrow leads from a rehash to the lock after it; an arrow between two boxes marks the move of a split, and a triangle the step of its pointer.</desc>\n<rect width='100%' height='100%' fill='#ffffff'/>\n<text x='16' y='20'>a box is a bucket that is held, and a curved arrow a rehash</text>\n<text x='16' y='38'>a straight arrow is the move of a split, and a triangle the step of its pointer</text>\n")
 
 -- the name of a lane
 abbrev pub lane_name : ℕ → List ℕ
@@ -35,7 +38,8 @@ lane_name lane = if lane == 0 then codes "splitter" else (codes "place " ++ deci
 -- a lane's name, and the line on its left
 unfoldable pub heading_text : Heading → List ℕ
 heading_text h =
-    codes "<g transform='translate(" ++ (decimal h.left ++ (codes " 64)'><path stroke='#cccccc' d='M0 -8v" ++ (decimal h.height ++ (codes "'/><text x='8' font-weight='bold'>" ++ (lane_name h.lane ++ codes "</text></g>\n")))))
+    codes "<g transform='translate(" ++ (decimal h.left ++ (codes " 64)'><path stroke='#cccccc' d='M0 -8v" ++ (
+    decimal h.height ++ (codes "'/><text x='8' font-weight='bold'>" ++ (lane_name h.lane ++ codes "</text></g>\n")))))
 
 -- an event in one word: a call by its verb
 abbrev pub event_word : Event → List ℕ
@@ -75,15 +79,15 @@ held_colour false = codes "#b3d5e8"
 -- a rectangle from the step's row down
 unfoldable pub rectangle_text : Rectangle → List ℕ
 rectangle_text r =
-    codes "<rect fill='" ++ (held_colour r.is_split ++ (codes "' x='" ++ (decimal r.left ++ (codes "' y='2' width='" ++ (
-    decimal r.width ++ (codes "' height='" ++ (decimal r.height ++ codes "'/>")))))))
+    codes "<rect fill='" ++ (held_colour r.is_split ++ (codes "' x='" ++ (decimal r.left ++ (
+    codes "' y='2' width='" ++ (decimal r.width ++ (codes "' height='" ++ (decimal r.height ++ codes "'/>")))))))
 
 -- a box with a bucket's number
 unfoldable pub held_text : HeldBox → List ℕ
 held_text h =
     rectangle_text (record { left = h.left; width = h.width; height = h.height; is_split = h.is_split }) ++ (
-    codes "<text transform='translate(" ++ (decimal h.left ++ (codes " 16)' x='6' font-weight='bold'>" ++ (decimal h.bucket ++
-    codes "</text>"))))
+    codes "<text transform='translate(" ++ (decimal h.left ++ (codes " 16)' x='6' font-weight='bold'>" ++ (
+    decimal h.bucket ++ codes "</text>"))))
 
 -- the boxes of what is held, the arrow of a rehash, and the marks of a split
 abbrev pub shape_text : Shape → List ℕ
@@ -94,14 +98,19 @@ shape_text (shape.BothHeld old new height) =
     held_text (record { left = 148; width = 54; bucket = old; height = height; is_split = true })
     ++ held_text (record { left = 206; width = 54; bucket = new; height = height; is_split = true })
 shape_text (shape.Way down) =
-    codes "<path d='M264 12c16 0 16 " ++ (decimal down ++ (codes " 6 " ++ (decimal down ++ (codes "' fill='none' stroke='#d55e00' stroke-width='2'/><path transform='translate(262 " ++ (decimal down ++ codes ")' d='M0 12l8 -4v8z' fill='#d55e00'/>")))))
+    codes "<path d='M264 12c16 0 16 " ++ (decimal down ++ (codes " 6 " ++ (decimal down ++ (
+    codes "' fill='none' stroke='#d55e00' stroke-width='2'/><path transform='translate(262 " ++ (
+    decimal down ++ codes ")' d='M0 12l8 -4v8z' fill='#d55e00'/>")))))
 shape_text shape.Moved = codes "<path d='M188 12h32m-6 -5l6 5l-6 5' fill='none' stroke='#333333' stroke-width='2'/>"
 shape_text shape.Pointed = codes "<path d='M204 4l8 14h-16z'/>"
 
 -- a step: its number at the left of its row, and in its lane its words on what is drawn of it
 unfoldable pub step_text : Step → List ℕ
 step_text s =
-    codes "<g transform='translate(0 " ++ (decimal s.top ++ (codes ")'><text x='36' y='16' text-anchor='end' fill='#777777'>" ++ (decimal s.number ++ (codes "</text><g transform='translate(" ++ (decimal s.left ++ (codes " 0)'>" ++ (shape_text s.shape ++ (words_text s.words ++ codes "</g></g>\n"))))))))
+    codes "<g transform='translate(0 " ++ (decimal s.top ++ (
+    codes ")'><text x='36' y='16' text-anchor='end' fill='#777777'>" ++ (decimal s.number ++ (
+    codes "</text><g transform='translate(" ++ (decimal s.left ++ (codes " 0)'>" ++ (
+    shape_text s.shape ++ (words_text s.words ++ codes "</g></g>\n"))))))))
 
 -- the picture's end
 abbrev pub end_text : List ℕ

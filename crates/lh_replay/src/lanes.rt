@@ -76,8 +76,8 @@ fn ends_at(is_lock: bool, lane: u32, event: &Event, entry: &Result<Effect, Refus
     }
 }
 
-/// How many rows there are from one on to the next accepted step of a lane that locks a bucket, or lets one go: with the
-/// row of that step, or all where there is none.
+/// How many rows there are from one on to the next accepted step of a lane that locks a bucket, or lets one go: with
+/// the row of that step, or all where there is none.
 pub fn rows_until(
     is_lock: bool,
     lane: u32,

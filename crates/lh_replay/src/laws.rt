@@ -2,7 +2,8 @@
 //! nothing.
 ghost use Rattle.lh_replay.specs.Meaning.{BothHeldLaw, HeldLaw, LaneLaw, ReachLaw};
 
-/// A box reaches down to the first accepted step that lets its lane's bucket go, and an arrow to the first that locks one.
+/// A box reaches down to the first accepted step that lets its lane's bucket go,
+/// and an arrow to the first that locks one.
 pub fn boxes_end_where_buckets_are_let_go()
     ensures { ReachLaw }
 {}
