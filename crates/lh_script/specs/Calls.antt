@@ -30,7 +30,8 @@ abbrev pub of_key : {A : Type 0} → (List ℕ → Call) → Result A LineFault 
 of_key call before rest = with_key before rest >>= λ o. Ok (o.0, call o.1)
 
 -- the call of a key and a value
-abbrev pub of_pair : {A : Type 0} → (List ℕ → List ℕ → Call) → Result A LineFault → List (List ℕ) → Result (A × Call) LineFault
+abbrev pub of_pair : {A : Type 0} → (List ℕ → List ℕ → Call) → Result A LineFault → List (List ℕ) →
+    Result (A × Call) LineFault
 of_pair call before rest = with_pair before rest >>= λ o. Ok (o.0, call o.1 o.2)
 
 -- what stands before a verb, and the call of the verb and the words behind it

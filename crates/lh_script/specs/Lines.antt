@@ -16,7 +16,8 @@ abbrev pub onto : ℕ → List (List ℕ) → List (List ℕ)
 onto c [] = (c ∷ []) ∷ []
 onto c (l ∷ ls) = (c ∷ l) ∷ ls
 
--- the lines of a text: one CR, 13, before an LF is dropped, a last line without LF counts, and an empty rest after the last LF doesn't
+-- the lines of a text: one CR, 13, before an LF is dropped, a last line without LF counts,
+-- and an empty rest after the last LF doesn't
 unfoldable pub lines : List ℕ → List (List ℕ)
 lines [] = []
 lines (c ∷ cs) =

@@ -12,7 +12,8 @@ use Rattle.lh_script.specs.declared.fault.ScriptFault.TheVariants.{TooLong, AtLi
 abbrev pub Reading : Type 0 → Type 0
 Reading A = List (List ℕ) → Result (Option A) LineFault
 
--- a line without words, and one that is a comment, is skipped; any other is read by its first word and the words behind it
+-- a line without words, and one that is a comment, is skipped;
+-- any other is read by its first word and the words behind it
 abbrev pub unless_skipped : {A : Type 0} → (List ℕ → List (List ℕ) → Result A LineFault) → Reading A
 unless_skipped read [] = Ok None
 unless_skipped read (word ∷ rest) = if is_comment word then Ok None else (read word rest >>= λ s. Ok (Some s))
@@ -28,7 +29,8 @@ verdict (Ok statement) = Ok tt
 verdict (Err fault) = Err fault
 
 -- what line n says, and then what the lines behind it say, unless line n is at fault
-abbrev pub and_then : {A : Type 0} → ℕ → Result (Option A) LineFault → Result (List A) ScriptFault → Result (List A) ScriptFault
+abbrev pub and_then : {A : Type 0} → ℕ → Result (Option A) LineFault → Result (List A) ScriptFault →
+    Result (List A) ScriptFault
 and_then n (Err fault) behind = Err (AtLine n fault)
 and_then n (Ok statement) (Err fault) = Err fault
 and_then n (Ok statement) (Ok statements) = Ok (option_to_list statement ++ statements)

@@ -4,8 +4,8 @@ use lh_bucket::Call;
 use lh_script::{ParseError, parse};
 use std::test::Fail;
 
-/// Room for calls is asked for more than once here. Where it is refused that is what is answered, and the same call again
-/// reads the script.
+/// Room for calls is asked for more than once here. Where it is refused that is what is answered, and the same call
+/// again reads the script.
 #[test]
 fn a_refused_script_is_read_again(rt: HostRuntime) -> Result<(), Fail> {
     let text = b"delete 61\ndelete 62\ndelete 63\ndelete 64\ndelete 65\n\
