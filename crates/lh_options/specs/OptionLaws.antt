@@ -97,7 +97,9 @@ GivesBuild words s version =
 
 -- the words are accepted, name `drive`, and give these settings and this number of threads
 abbrev pub GivesDrive : List Text → Settings → ℕ → Type 0
-GivesDrive words s threads = Asks words (codes "drive") × (settings_given words ≡ Some s) × (number_given words (codes "threads") ≡ Some threads)
+GivesDrive words s threads =
+    Asks words (codes "drive") × (settings_given words ≡ Some s)
+    × (number_given words (codes "threads") ≡ Some threads)
 
 -- the words are not accepted
 abbrev pub Refuses : List Text → Type 0

@@ -49,7 +49,9 @@ settings_in rows = settings_from
 
 -- the name of a subcommand with the options of a file's settings
 abbrev pub IsFileCommand : Text → Type 0
-IsFileCommand name = (name ≡ codes "commands") ⊎ ((name ≡ codes "steps") ⊎ ((name ≡ codes "build") ⊎ ((name ≡ codes "drive") ⊎ (name ≡ codes "replay"))))
+IsFileCommand name =
+    (name ≡ codes "commands") ⊎ ((name ≡ codes "steps") ⊎ ((name ≡ codes "build") ⊎ (
+    (name ≡ codes "drive") ⊎ (name ≡ codes "replay"))))
 
 -- the name of a subcommand that reads an image, without options
 abbrev pub IsImageCommand : Text → Type 0
@@ -58,7 +60,8 @@ IsImageCommand name =
 
 -- what a subcommand asks for by its rows
 abbrev pub asked_in : Text → List Row → Option Request
-asked_in name rows = asked_by name (settings_in rows) (number_in rows (codes "threads")) (number_in rows (codes "image"))
+asked_in name rows =
+    asked_by name (settings_in rows) (number_in rows (codes "threads")) (number_in rows (codes "image"))
 
 -- what a request says of the kind of clap's error
 abbrev pub IsRefusal : ErrorKind → Request → Type 0

@@ -1,4 +1,5 @@
--- The command line: the program's command, the numbers that the words give its options, and what a request says of the words
+-- The command line: the program's command, the numbers that the words give its options,
+-- and what a request says of the words
 use Rattle.std.specs.Prelude.{◌≡◌, ◌⊎◌, ◌<◌, ◌≤◌, ℕ, List, [], ◌∷◌, Option, Some, None, codes, pos, true, nat_lt, ◌==◌, option_map, option_and_then, if◌then◌else◌}
 use Rattle.std.specs.Str.{bytes_eq}
 use Rattle.std.specs.Str.Parse.{digits_value, without_leading_plus}
@@ -173,7 +174,8 @@ asked_by name settings threads image =
     if bytes_eq name (codes "commands") then in_order settings (λ s. Some (request.Commands s))
     else if bytes_eq name (codes "steps") then in_order settings (λ s. Some (request.Steps s))
     else if bytes_eq name (codes "replay") then in_order settings (λ s. Some (request.Replay s))
-    else if bytes_eq name (codes "build") then in_order settings (λ s. option_map (λ n. request.Build s (version_of n)) image)
+    else if bytes_eq name (codes "build")
+    then in_order settings (λ s. option_map (λ n. request.Build s (version_of n)) image)
     else if bytes_eq name (codes "drive") then in_order settings (λ s. option_map (λ n. request.Drive s n) threads)
     else if bytes_eq name (codes "check") then alone settings request.Check
     else if bytes_eq name (codes "dump") then alone settings request.Dump
@@ -185,7 +187,8 @@ asked_by name settings threads image =
 abbrev pub asked_for : List Text → Option Request
 asked_for words =
     option_and_then
-    (λ name. asked_by name (settings_given words) (number_given words (codes "threads")) (number_given words (codes "image")))
+    (λ name.
+    asked_by name (settings_given words) (number_given words (codes "threads")) (number_given words (codes "image")))
     (subcommand_named words)
 
 -- why words that are not accepted are turned away: they ask for a text that is shown, or are refused

@@ -45,7 +45,8 @@ pub fn words_give_options()
     ensures steps { GivesSteps steps_given (record { initial = 1; capacity = 2; load = 200; max = 65536 }) }
     ensures replay { GivesReplay replay_given (record { initial = 9; capacity = 14; load = 100; max = 9 }) }
     ensures build { GivesBuild build_given (record { initial = 1; capacity = 14; load = 100; max = 1 }) Second }
-    ensures first { GivesBuild first_image_given (record { initial = 1; capacity = 14; load = 100; max = 65536 }) First }
+    ensures first { GivesBuild first_image_given
+        (record { initial = 1; capacity = 14; load = 100; max = 65536 }) First }
     ensures migrate { Asks migrate_alone (codes "migrate") }
     ensures drive { GivesDrive drive_given (record { initial = 3; capacity = 14; load = 100; max = 65536 }) 64 }
     ensures drive_left_out { GivesDrive drive_alone (record { initial = 1; capacity = 14; load = 100; max = 65536 }) 4 }
