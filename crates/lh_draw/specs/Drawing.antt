@@ -22,8 +22,8 @@ abbrev pub part_of : ℕ → ℕ → ℕ → ℕ
 part_of height used slots = height * used / slots
 
 -- how high the records of some slots stand, of which a page's are 40 high, up to a limit
-abbrev pub load_of : ℕ → ℕ → ℕ → ℕ
-load_of records slots most = min (40 * records / slots) most
+abbrev pub filling_of : ℕ → ℕ → ℕ → ℕ
+filling_of records slots most = min (40 * records / slots) most
 
 -- the floor is below the title and the longest chain, of which 24 pages are drawn and a number stands for the others
 abbrev pub floor_of : ℕ → ℕ
@@ -91,7 +91,7 @@ group_bar l column =
       foot = 0;
       width = bar_width (size l);
       height = height;
-      used = load_of (group_tally l column).records slots height;
+      used = filling_of (group_tally l column).records slots height;
       is_next = is_next_level l (first_bucket (size l) column);
     }
 
@@ -111,8 +111,9 @@ label_of l place = record {
   bucket = first_bucket (size l) (place * label_step (size l));
 }
 
-unfoldable pub mark_of : Lists → Mark
-mark_of l =
+-- the split pointer below the column of the bucket that splits next
+unfoldable pub pointer_mark_of : Lists → Mark
+pointer_mark_of l =
     let n : ℕ = pointer l.config.initial (size l) in
     record { centre = centre (size l) (n / group_size (size l)); pointer = n }
 
@@ -136,8 +137,8 @@ columns_text l =
     else in_turn (λ column. bar_text (group_bar l column)) (column_count (size l))
 
 -- what stands before the columns
-unfoldable pub head_text : Lists → List ℕ
-head_text l =
+unfoldable pub drawing_head_text : Lists → List ℕ
+drawing_head_text l =
     canvas_text (canvas_of l)
     ++ title_text (title_of l)
     ++ legend_text (legend_of l)
@@ -145,12 +146,12 @@ head_text l =
     ++ plot_text (record { floor = floor_of (whole_tally l).longest })
 
 -- what stands behind them: the cuts, the numbers of buckets, and the split pointer
-unfoldable pub foot_text : Lists → List ℕ
-foot_text l =
+unfoldable pub drawing_foot_text : Lists → List ℕ
+drawing_foot_text l =
     cuts_text (cuts_of l)
     ++ in_turn (λ place. label_text (label_of l place)) (label_count l)
-    ++ mark_text (mark_of l)
+    ++ mark_text (pointer_mark_of l)
 
 -- what `draw` writes
 unfoldable pub drawing_of : Lists → List ℕ
-drawing_of l = head_text l ++ columns_text l ++ foot_text l
+drawing_of l = drawing_head_text l ++ columns_text l ++ drawing_foot_text l

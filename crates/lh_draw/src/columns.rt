@@ -2,7 +2,7 @@
 ghost use Rattle.std.specs.Prelude.{◌≡◌, ◌+◌, ◌*◌, ◌/◌, ◌^◌, ◌<◌, ◌≤◌, IfSome, min};
 ghost use Rattle.lh_bucket.specs.Listing.{IsListing, list_at, size};
 ghost use Rattle.lh_draw.specs.Columns.{chain_length, column_count, is_next_level, whole_tally};
-ghost use Rattle.lh_draw.specs.Drawing.{canvas_of, cuts_of, floor_of, group_bar, label_count, label_of, legend_of, level_above, load_of, mark_of, more_of, page_bar, part_of, title_of};
+ghost use Rattle.lh_draw.specs.Drawing.{canvas_of, cuts_of, filling_of, floor_of, group_bar, label_count, label_of, legend_of, level_above, more_of, page_bar, part_of, pointer_mark_of, title_of};
 
 use crate::bars::{Bar, Cuts, More};
 use crate::elements::{Canvas, Label, Legend, Mark, Title};
@@ -33,10 +33,10 @@ fn part_of(height: u32, used: u128, slots: u128) -> u32
 }
 
 /// How high the records of some slots stand, of which a page's are 40 high: to a given height at most.
-fn load_of(records: u128, slots: u128, most: u32) -> u32
+fn filling_of(records: u128, slots: u128, most: u32) -> u32
     requires some { 1 ≤ slots }
     requires records { records < 2 ^ 101 }
-    ensures { result ≡ load_of records slots most }
+    ensures { result ≡ filling_of records slots most }
 {
     (40 * records / slots).min(u128::from(most)) as u32
 }
@@ -163,7 +163,7 @@ pub fn group_bar(listing: &Listing, column: u32) -> Bar
         foot: 0,
         width: bar_width(buckets),
         height,
-        used: load_of(tally.records, slots, height),
+        used: filling_of(tally.records, slots, height),
         is_next: is_next_level(listing, first),
     }
 }
@@ -205,7 +205,7 @@ pub fn label_of(listing: &Listing, place: u32) -> Label
 
 /// The split pointer's mark.
 pub fn mark_of(listing: &Listing) -> Mark
-    ensures { result ≡ mark_of listing.now }
+    ensures { result ≡ pointer_mark_of listing.now }
 {
     let pointer = listing.root().pointer();
     let buckets = listing.buckets();

@@ -5,7 +5,7 @@ ghost use Rattle.std.specs.Io.KnownBytes.{Appends};
 ghost use Rattle.lh_bucket.specs.Listing.{size};
 ghost use Rattle.lh_draw.specs.Columns.{column_count, whole_tally};
 ghost use Rattle.lhash.specs.Devices.{Adds, Breaks, TakesBeginning};
-ghost use Rattle.lh_draw.specs.Drawing.{chain_text, columns_text, drawing_of, foot_text, group_bar, head_text, in_turn};
+ghost use Rattle.lh_draw.specs.Drawing.{chain_text, columns_text, drawing_foot_text, drawing_head_text, drawing_of, group_bar, in_turn};
 ghost use Rattle.lh_draw.specs.DrawingTexts.{bar_text};
 ghost use Rattle.lhash.specs.Images.{draw_due};
 ghost use Rattle.lhash.specs.Run.{Ends};
@@ -33,9 +33,9 @@ fn write_head<W: Write>(
 ) -> Result<(), WriteFailed>
     requires { longest ≡ (whole_tally listing.now).longest }
     ensures ok { Adds result (W.contents writer.old) (W.contents writer.new)
-        (string_bytes waiting.old) (string_bytes waiting.new) (head_text listing.now) }
+        (string_bytes waiting.old) (string_bytes waiting.new) (drawing_head_text listing.now) }
     ensures err { Breaks result (W.contents writer.old) (W.contents writer.new)
-        (string_bytes waiting.old) (head_text listing.now) }
+        (string_bytes waiting.old) (drawing_head_text listing.now) }
 {
     put(writer, waiting, canvas_of(listing, longest))?;
     put(writer, waiting, title_of(listing, &whole_tally(listing)))?;
@@ -129,9 +129,9 @@ fn write_foot<W: Write>(
 ) -> Result<(), WriteFailed>
     requires { longest ≡ (whole_tally listing.now).longest }
     ensures ok { Adds result (W.contents writer.old) (W.contents writer.new)
-        (string_bytes waiting.old) (string_bytes waiting.new) (foot_text listing.now) }
+        (string_bytes waiting.old) (string_bytes waiting.new) (drawing_foot_text listing.now) }
     ensures err { Breaks result (W.contents writer.old) (W.contents writer.new)
-        (string_bytes waiting.old) (foot_text listing.now) }
+        (string_bytes waiting.old) (drawing_foot_text listing.now) }
 {
     put(writer, waiting, cuts_of(listing, longest))?;
     for place in 0..label_count(listing) {

@@ -2,7 +2,7 @@ use Rattle.std.proofs.Common.{◌≡◌, ◌∙◌, ℕ, ◌-◌, ◌*◌, ap}
 use Rattle.std.specs.Prelude.{min}
 use Rattle.lh_bucket.specs.Listing.{size}
 use Rattle.lh_draw.specs.Columns.{bar_width, end_bucket, first_bucket, is_next_level, left, lists_between, tally_of}
-use Rattle.lh_draw.specs.Drawing.{group_bar, group_tally, load_of}
+use Rattle.lh_draw.specs.Drawing.{filling_of, group_bar, group_tally}
 use Rattle.lh_draw.proofs.columns.group_bar.Goals as goal
 
 pub returns : goal.returns
@@ -20,9 +20,9 @@ returns c =
     let shown : c.min.result ≡ min (group_tally l column).longest 24 = c.min.ensures ∙ (λ i. min (tally_is i).longest 24) in
     let capacity_is : c.from.result ≡ l.config.capacity = c.from.ensures ∙ (c.capacity.ensures.value ∙ ap (λ s. s.capacity) c.config.ensures.value) in
     let count_is : c.from-2.result ≡ end_bucket (size l) column - first_bucket (size l) column = c.from-2.ensures ∙ (λ i. end_is i - first_is i) in
-    let load_is : c.load_of.result
-    ≡ load_of (group_tally l column).records (l.config.capacity * (end_bucket (size l) column - first_bucket (size l) column))
+    let filling_is : c.filling_of.result
+    ≡ filling_of (group_tally l column).records (l.config.capacity * (end_bucket (size l) column - first_bucket (size l) column))
     (40 * min (group_tally l column).longest 24 - 4) =
-    c.load_of.ensures ∙ (λ i. load_of (tally_is i).records (capacity_is i * count_is i) (40 * shown i - 4)) in
+    c.filling_of.ensures ∙ (λ i. filling_of (tally_is i).records (capacity_is i * count_is i) (40 * shown i - 4)) in
     let next_is = c.is_next_level.ensures ∙ ap (is_next_level l) first_is in
-    λ i. record { left = left_is i; foot = 0; width = width_is i; height = 40 * shown i - 4; used = load_is i; is_next = next_is i }
+    λ i. record { left = left_is i; foot = 0; width = width_is i; height = 40 * shown i - 4; used = filling_is i; is_next = next_is i }

@@ -2,7 +2,7 @@ use Rattle.std.proofs.Common.{◌≡◌, ◌∙◌, ℕ, ◌/◌, ◌≤◌, ap,
 use Rattle.lh_addr.specs.Growth.{pointer}
 use Rattle.lh_bucket.specs.Listing.{size}
 use Rattle.lh_draw.specs.Columns.{centre, column_count, group_size}
-use Rattle.lh_draw.specs.Drawing.{mark_of}
+use Rattle.lh_draw.specs.Drawing.{pointer_mark_of}
 use Rattle.lh_draw.proofs.ColumnPlaces.{column_of, has_some, pointer_within}
 use Rattle.lh_draw.proofs.columns.mark_of.Goals as goal
 
@@ -16,7 +16,7 @@ centre-requires-clause-column c =
     subst (λ (g : ℕ). n / g ≤ column_count c.buckets-buckets.result) (sym c.group_size.ensures.value) (column_of c.buckets-buckets.result n some within)
 
 pub returns : goal.returns
-unfolding mark_of
+unfolding pointer_mark_of
 returns c =
     let l = c.args.listing.now in
     let pointer_is : c.pointer-pointer.result ≡ pointer l.config.initial (size l) =
