@@ -19,9 +19,9 @@ unfoldable pub lane_count : List Event → ℕ
 lane_count events = fold (λ lanes event. max lanes (lane_of event + 1)) 1 events
 
 -- whether a worker goes on to another bucket by an event
-abbrev pub is_rehash : Event → Bool
-is_rehash (event.Rehash worker) = true
-is_rehash _ = false
+abbrev pub rehashes : Event → Bool
+rehashes (event.Rehash worker) = true
+rehashes _ = false
 
 -- whether what is held is let go by an event
 abbrev pub lets_go : Event → Bool

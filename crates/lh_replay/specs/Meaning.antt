@@ -12,11 +12,11 @@ use Rattle.lh_core.specs.Holds.{holds, split_holds}
 use Rattle.lh_core.specs.Log.{Entry, Log}
 use Rattle.lh_core.specs.State.{State}
 use Rattle.lh_replay.specs.Lanes.{ends_at, lane_count, lane_of, rows_until}
-use Rattle.lh_replay.specs.Picture.{entry_at, event_at}
+use Rattle.lh_replay.specs.Picture.{event_at, told_at}
 
 -- whether the step of a row ends a box of a lane, or an arrow
 abbrev pub ends_row : Bool → ℕ → List Event → List Entry → ℕ → Bool
-ends_row is_lock lane events entries row = ends_at is_lock lane (event_at events row) (entry_at entries row)
+ends_row is_lock lane events entries row = ends_at is_lock lane (event_at events row) (told_at entries row)
 
 -- what is drawn in a lane reaches over this many of these steps:
 -- the last of them ends it and none before, or none ends it and there are no more

@@ -5,8 +5,8 @@ use Rattle.lh_core.specs.declared.event.Event.{Event}
 use Rattle.lh_core.specs.declared.event.Event.TheVariants as event
 use Rattle.lh_core.specs.Log.{Entry}
 use Rattle.lh_draw.specs.Drawing.{in_turn}
-use Rattle.lh_replay.specs.Lanes.{is_rehash, lane_count, lane_of, rows_until}
-use Rattle.lh_replay.specs.PictureTexts.{canvas_text, caption_text, end_text, heading_text, step_text}
+use Rattle.lh_replay.specs.Lanes.{lane_count, lane_of, rehashes, rows_until}
+use Rattle.lh_replay.specs.PictureTexts.{end_text, heading_text, picture_canvas_text, picture_caption_text, step_text}
 use Rattle.lh_replay.specs.declared.elements.Canvas.{Canvas}
 use Rattle.lh_replay.specs.declared.elements.Caption.{Caption}
 use Rattle.lh_replay.specs.declared.elements.Heading.{Heading}
@@ -16,8 +16,8 @@ use Rattle.lh_replay.specs.declared.shapes.Shape.TheVariants as shape
 
 -- ---- the parts of a picture; lengths are in pixels, a lane is 288 wide and a row 24 high
 
-unfoldable pub canvas_of : List Event → Canvas
-canvas_of events = record { width = 48 + 288 * max (lane_count events) 2; height = 84 + 24 * length events }
+unfoldable pub picture_canvas_of : List Event → Canvas
+picture_canvas_of events = record { width = 48 + 288 * max (lane_count events) 2; height = 84 + 24 * length events }
 
 unfoldable pub caption_of : List Event → Caption
 caption_of events = record { steps = length events }
@@ -29,15 +29,15 @@ heading_of events lane = record { lane = lane; left = 48 + 288 * lane; height = 
 abbrev pub event_at : List Event → ℕ → Event
 event_at events row = slice_index_or events row event.SplitDrop
 
-abbrev pub entry_at : List Entry → ℕ → Entry
-entry_at entries row = slice_index_or entries row (Ok effect.Dropped)
+abbrev pub told_at : List Entry → ℕ → Entry
+told_at entries row = slice_index_or entries row (Ok effect.Dropped)
 
 -- what is drawn of a step: a box for what is locked, down to the row where it is let go; an arrow for a rehash, down to
 -- the row of the next lock; a mark for the move of a split, and for its pointer
 abbrev pub shape_of : Event → Entry → ℕ → ℕ → Shape
 shape_of event (Ok (effect.Locked bucket level)) held way = shape.Held bucket (20 + 24 * held)
 shape_of event (Ok (effect.Both old new)) held way = shape.BothHeld old new (20 + 24 * held)
-shape_of event (Ok (effect.Aim level bucket)) held way = if is_rehash event then shape.Way (24 * way) else shape.Plain
+shape_of event (Ok (effect.Aim level bucket)) held way = if rehashes event then shape.Way (24 * way) else shape.Plain
 shape_of event (Ok (effect.Moved old new)) held way = shape.Moved
 shape_of event (Ok (effect.Point buckets)) held way = shape.Pointed
 shape_of event _ held way = shape.Plain
@@ -49,8 +49,8 @@ step_of events entries row =
       number = row + 1;
       top = 72 + 24 * row;
       left = 48 + 288 * lane;
-      words = record { event = event_at events row; entry = entry_at entries row };
-      shape = shape_of (event_at events row) (entry_at entries row)
+      words = record { event = event_at events row; entry = told_at entries row };
+      shape = shape_of (event_at events row) (told_at entries row)
           (rows_until false lane (drop (row + 1) events) (drop (row + 1) entries))
           (rows_until true lane (drop (row + 1) events) (drop (row + 1) entries));
     }
@@ -60,8 +60,8 @@ step_of events entries row =
 -- what stands above the steps
 unfoldable pub top_text : List Event → List ℕ
 top_text events =
-    canvas_text (canvas_of events)
-    ++ caption_text (caption_of events)
+    picture_canvas_text (picture_canvas_of events)
+    ++ picture_caption_text (caption_of events)
     ++ in_turn (λ lane. heading_text (heading_of events lane)) (lane_count events)
 
 -- what `replay` writes

@@ -19,15 +19,15 @@ use Rattle.lh_replay.specs.declared.shapes.Shape.TheVariants as shape
 use Rattle.lh_replay.specs.declared.words.Words.{Words}
 
 -- the picture's beginning
-unfoldable pub canvas_text : Canvas → List ℕ
-canvas_text c =
+unfoldable pub picture_canvas_text : Canvas → List ℕ
+picture_canvas_text c =
     codes "<svg xmlns='http://www.w3.org/2000/svg' width='" ++ (decimal c.width ++ (codes "' height='" ++ (
     decimal c.height ++ (codes "' viewBox='0 0 " ++ (decimal c.width ++ (codes " " ++ (decimal c.height ++
     codes "' role='img' aria-labelledby='title desc' font-family='sans-serif' font-size='12' fill='#333333'>\n")))))))
 
 -- its title and its description, and what its marks are
-unfoldable pub caption_text : Caption → List ℕ
-caption_text c =
+unfoldable pub picture_caption_text : Caption → List ℕ
+picture_caption_text c =
     codes "<title id='title'>Schedule of a linear hash file, steps " ++ (decimal c.steps ++
     codes "</title>\n<desc id='desc'>A lane for the splitter and one for each place, and downwards a row for each step. A box is a bucket that is held, from its lock to its release; an arrow leads from a rehash to the lock after it; an arrow between two boxes marks the move of a split, and a triangle the step of its pointer.</desc>\n<rect width='100%' height='100%' fill='#ffffff'/>\n<text x='16' y='20'>a box is a bucket that is held, and a curved arrow a rehash</text>\n<text x='16' y='38'>a straight arrow is the move of a split, and a triangle the step of its pointer</text>\n")
 

@@ -1,6 +1,6 @@
 //! The elements of a picture, each as the SVG text that a type displays.
 ghost use Rattle.std.specs.Prelude.{Some};
-ghost use Rattle.lh_replay.specs.PictureTexts.{canvas_text, caption_text, end_text, heading_text, lane_name, step_text};
+ghost use Rattle.lh_replay.specs.PictureTexts.{end_text, heading_text, lane_name, picture_canvas_text, picture_caption_text, step_text};
 
 use crate::shapes::Shape;
 use crate::words::Words;
@@ -14,9 +14,9 @@ pub struct Canvas {
 }
 
 impl fmt::Display for Canvas {
-    ghost output = { λ canvas. Some (canvas_text canvas) };
+    ghost output = { λ canvas. Some (picture_canvas_text canvas) };
 
-    #[tactic(auto, unfolding(crate::specs::PictureTexts::canvas_text))]
+    #[tactic(auto, unfolding(crate::specs::PictureTexts::picture_canvas_text))]
     fn fmt<W: fmt::Write>(&self, f: &mut fmt::Formatter<W>) -> fmt::Result {
         let Canvas { width, height } = *self;
         write!(
@@ -33,9 +33,9 @@ pub struct Caption {
 }
 
 impl fmt::Display for Caption {
-    ghost output = { λ caption. Some (caption_text caption) };
+    ghost output = { λ caption. Some (picture_caption_text caption) };
 
-    #[tactic(auto, unfolding(crate::specs::PictureTexts::caption_text))]
+    #[tactic(auto, unfolding(crate::specs::PictureTexts::picture_caption_text))]
     fn fmt<W: fmt::Write>(&self, f: &mut fmt::Formatter<W>) -> fmt::Result {
         let steps = self.steps;
         write!(

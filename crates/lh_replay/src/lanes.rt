@@ -1,6 +1,6 @@
 //! The lanes of a picture, and how long a bucket is held in one.
 ghost use Rattle.std.specs.Prelude.{◌≡◌, ◌≤◌, drop, length};
-ghost use Rattle.lh_replay.specs.Lanes.{ends_at, is_rehash, lane_count, lane_of, lets_go, rows_until, takes};
+ghost use Rattle.lh_replay.specs.Lanes.{ends_at, lane_count, lane_of, lets_go, rehashes, rows_until, takes};
 
 use lh_core::{Effect, Event, Refusal};
 
@@ -33,8 +33,8 @@ pub fn lane_count(events: &[Event]) -> u32
 }
 
 /// Whether a worker goes on to another bucket by it.
-pub fn is_rehash(event: &Event) -> bool
-    ensures { result ≡ is_rehash event.now }
+pub fn rehashes(event: &Event) -> bool
+    ensures { result ≡ rehashes event.now }
 {
     matches!(event, Event::Rehash(_))
 }

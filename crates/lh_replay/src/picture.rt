@@ -1,18 +1,18 @@
 //! The parts of a picture, made of events and what was told of them.
 ghost use Rattle.std.specs.Prelude.{◌≡◌, ◌+◌, ◌<◌, ◌≤◌, drop, false, length, true};
 ghost use Rattle.lh_replay.specs.Lanes.{lane_of, rows_until};
-ghost use Rattle.lh_replay.specs.Picture.{canvas_of, caption_of, entry_at, event_at, heading_of, shape_of, step_of};
+ghost use Rattle.lh_replay.specs.Picture.{caption_of, event_at, heading_of, picture_canvas_of, shape_of, step_of, told_at};
 
 use crate::elements::{Canvas, Caption, Heading, Step};
-use crate::lanes::{is_rehash, lane_count, lane_of, rows_until};
+use crate::lanes::{lane_count, lane_of, rehashes, rows_until};
 use crate::shapes::Shape;
 use crate::words::Words;
 use lh_core::{Effect, Event, Refusal};
 
 /// What is drawn on.
-#[tactic(auto, unfolding(crate::specs::Picture::canvas_of))]
+#[tactic(auto, unfolding(crate::specs::Picture::picture_canvas_of))]
 pub fn canvas_of(events: &[Event]) -> Canvas
-    ensures { result ≡ canvas_of events.now }
+    ensures { result ≡ picture_canvas_of events.now }
 {
     Canvas {
         width: 48 + 288 * lane_count(events).max(2),
@@ -47,7 +47,7 @@ pub fn heading_of(events: &[Event], lane: u32) -> Heading
 fn shape_at(events: &[Event], entries: &[Result<Effect, Refusal>], row: usize) -> Shape
     requires same { length entries.now ≡ length events.now }
     requires row { row < length events.now }
-    ensures { result ≡ shape_of (event_at events.now row) (entry_at entries.now row)
+    ensures { result ≡ shape_of (event_at events.now row) (told_at entries.now row)
         (rows_until false (lane_of (event_at events.now row)) (drop (row + 1) events.now) (drop (row + 1) entries.now))
         (rows_until true (lane_of (event_at events.now row)) (drop (row + 1) events.now) (drop (row + 1) entries.now)) }
 {
@@ -64,7 +64,7 @@ fn shape_at(events: &[Event], entries: &[Result<Effect, Refusal>], row: usize) -
             new,
             height: 20 + 24 * held,
         },
-        Ok(Effect::Aim { .. }) if is_rehash(&event) => Shape::Way {
+        Ok(Effect::Aim { .. }) if rehashes(&event) => Shape::Way {
             down: 24 * rows_until(true, lane, events, entries, row + 1) as u128,
         },
         Ok(Effect::Moved { .. }) => Shape::Moved,
