@@ -24,9 +24,9 @@ added (Ok statement) = option_to_list statement
 added (Err fault) = []
 
 -- whether a line is at fault, and how
-abbrev pub verdict : {A : Type 0} → Result (Option A) LineFault → Result (Unit {0}) LineFault
-verdict (Ok statement) = Ok tt
-verdict (Err fault) = Err fault
+abbrev pub fault_in : {A : Type 0} → Result (Option A) LineFault → Result (Unit {0}) LineFault
+fault_in (Ok statement) = Ok tt
+fault_in (Err fault) = Err fault
 
 -- what line n says, and then what the lines behind it say, unless line n is at fault
 abbrev pub and_then : {A : Type 0} → ℕ → Result (Option A) LineFault → Result (List A) ScriptFault →

@@ -25,10 +25,10 @@ worker (c ∷ d ∷ []) = if is_decimal c && is_decimal d then up_to_15 (10 * (c
 worker (c ∷ d ∷ e ∷ cs) = Err WorkerNumber
 
 -- the words behind `call`, the number of a worker and a call: fewer than two are too few before the verb is looked at
-abbrev pub called : List (List ℕ) → Result Event LineFault
-called [] = Err WordCount
-called (w ∷ []) = Err WordCount
-called (w ∷ verb ∷ rest) = call (worker w) verb rest >>= λ p. Ok (event.Call p.0 p.1)
+abbrev pub of_call : List (List ℕ) → Result Event LineFault
+of_call [] = Err WordCount
+of_call (w ∷ []) = Err WordCount
+of_call (w ∷ verb ∷ rest) = call (worker w) verb rest >>= λ p. Ok (event.Call p.0 p.1)
 
 -- words that are to be one, the number of a worker
 unfoldable pub worker_alone : List (List ℕ) → Result ℕ LineFault
@@ -40,25 +40,25 @@ abbrev pub of_worker : (ℕ → Event) → List (List ℕ) → Result Event Line
 of_worker event rest = worker_alone rest >>= λ n. Ok (event n)
 
 -- an event of the splitter, behind which no word stands
-unfoldable pub alone : Event → List (List ℕ) → Result Event LineFault
-alone split [] = Ok split
-alone split (word ∷ rest) = Err WordCount
+unfoldable pub of_splitter : Event → List (List ℕ) → Result Event LineFault
+of_splitter split [] = Ok split
+of_splitter split (word ∷ rest) = Err WordCount
 
 -- an event by the first word of its line and the words behind it
 unfoldable pub event_of : List ℕ → List (List ℕ) → Result Event LineFault
 event_of word rest =
-    if is_word word (codes "call") then called rest
+    if is_word word (codes "call") then of_call rest
     else (if is_word word (codes "read") then of_worker (λ n. event.Read n) rest
     else (if is_word word (codes "lock") then of_worker (λ n. event.Lock n) rest
     else (if is_word word (codes "rehash") then of_worker (λ n. event.Rehash n) rest
     else (if is_word word (codes "act") then of_worker (λ n. event.Act n) rest
     else (if is_word word (codes "release") then of_worker (λ n. event.Release n) rest
-    else (if is_word word (codes "split-begin") then alone event.SplitBegin rest
-    else (if is_word word (codes "split-lock") then alone event.SplitLock rest
-    else (if is_word word (codes "split-move") then alone event.SplitMove rest
-    else (if is_word word (codes "split-release") then alone event.SplitRelease rest
-    else (if is_word word (codes "split-point") then alone event.SplitPoint rest
-    else (if is_word word (codes "split-drop") then alone event.SplitDrop rest
+    else (if is_word word (codes "split-begin") then of_splitter event.SplitBegin rest
+    else (if is_word word (codes "split-lock") then of_splitter event.SplitLock rest
+    else (if is_word word (codes "split-move") then of_splitter event.SplitMove rest
+    else (if is_word word (codes "split-release") then of_splitter event.SplitRelease rest
+    else (if is_word word (codes "split-point") then of_splitter event.SplitPoint rest
+    else (if is_word word (codes "split-drop") then of_splitter event.SplitDrop rest
     else Err UnknownWord)))))))))))
 
 -- a line that isn't skipped is an event

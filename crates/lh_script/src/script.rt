@@ -1,7 +1,7 @@
 //! Whole scripts.
 ghost use Rattle.std.specs.Prelude.{◌≡◌, ◌<◌, ◌++◌, List, ℕ, Option, Result, vec_len, vec_capacity};
 ghost use Rattle.lh_script.specs.Lines.{words};
-ghost use Rattle.lh_script.specs.Scripts.{Gives, added, script, verdict};
+ghost use Rattle.lh_script.specs.Scripts.{Gives, added, fault_in, script};
 ghost use Rattle.lh_script.specs.declared.fault.LineFault.{LineFault};
 
 use crate::fault::{LineFault, ParseError, ScriptFault};
@@ -16,7 +16,7 @@ pub trait Statement: Copy {
     /// Adds the statement of a line, if it has one, to the statements before it, which have room for one more.
     fn read(line: &[u8], statements: &mut Vec<Self>) -> Result<(), LineFault>
         requires { vec_len statements.old < vec_capacity statements.old }
-        ensures fault { result ≡ verdict (reads (words line.now)) }
+        ensures fault { result ≡ fault_in (reads (words line.now)) }
         ensures added { statements.new.items ≡ statements.old.items ++ added (reads (words line.now)) };
 }
 
@@ -26,7 +26,7 @@ pub fn keep<S: Copy>(
     statements: &mut Vec<S>,
 ) -> Result<(), LineFault>
     requires { vec_len statements.old < vec_capacity statements.old }
-    ensures fault { result ≡ verdict said }
+    ensures fault { result ≡ fault_in said }
     ensures added { statements.new.items ≡ statements.old.items ++ added said }
 {
     match said {

@@ -1,7 +1,7 @@
 //! The lines of a step script.
 ghost use Rattle.std.specs.Prelude.{◌≡◌, ◌<◌, ◌++◌, codes, vec_len, vec_capacity};
 ghost use Rattle.lh_script.specs.Lines.{words};
-ghost use Rattle.lh_script.specs.Steps.{alone, called, event_of, is_decimal, step, worker, worker_alone};
+ghost use Rattle.lh_script.specs.Steps.{event_of, is_decimal, of_call, of_splitter, step, worker, worker_alone};
 
 use crate::calls::read_call;
 use crate::fault::LineFault;
@@ -36,7 +36,7 @@ fn worker_number(word: &[u8]) -> Result<u8, LineFault>
 
 /// The call that comes in, by what stands behind `call`.
 fn call_behind(text: &[u8]) -> Result<Event, LineFault>
-    ensures { result ≡ called (words text.now) }
+    ensures { result ≡ of_call (words text.now) }
 {
     let Some((place, behind)) = first_word(text) else {
         return Err(LineFault::WordCount);
@@ -60,9 +60,9 @@ fn worker_behind(text: &[u8]) -> Result<u8, LineFault>
 }
 
 /// An event of the splitter, where a text has no word.
-#[tactic(auto, unfolding(crate::specs::Steps::alone))]
+#[tactic(auto, unfolding(crate::specs::Steps::of_splitter))]
 fn if_alone(event: Event, text: &[u8]) -> Result<Event, LineFault>
-    ensures { result ≡ alone event (words text.now) }
+    ensures { result ≡ of_splitter event (words text.now) }
 {
     if first_word(text).is_some() {
         return Err(LineFault::WordCount);
