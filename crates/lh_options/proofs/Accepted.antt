@@ -8,7 +8,7 @@ use Rattle.clap.specs.Walk.{Row, Text, nothing_held, rows_after}
 use Rattle.clap.specs.Simple.{Shape, argument_words, built, subcommand_of}
 use Rattle.clap.specs.Faults.{level_fault}
 use Rattle.lh_addr.specs.Limits.{most_initial, most_capacity, least_load, most_load, most_buckets}
-use Rattle.lh_options.specs.Options.{Accepts, commands_app, number_in, number_of, program_app, settings_from}
+use Rattle.lh_options.specs.Options.{Accepts, commands_app, number_in, numeral_value, program_app, settings_from}
 use Rattle.lh_options.specs.OptionSteps.{HasImage, HasSettings, HasThreads, IsFileCommand, IsImageCommand, settings_in}
 use Rattle.lh_options.proofs.Levels.{entered-some, find-passes}
 use Rattle.lh_options.proofs.RowLemmas.{Every, FitsHere, HasTarget, IsTarget, find-every, level-every, level-row}
@@ -41,7 +41,7 @@ no-number : (name : Text) (s : Shape) → Every (IsTarget name (codes "1") 1 0) 
 no-number name s none words e = go (find (λ r. bytes_eq r.id name) (rows_after s.rules [] words)) refl
   where
     go : (o : Option Row) → find (λ r. bytes_eq r.id name) (rows_after s.rules [] words) ≡ o → number_in (rows_after s.rules [] words) name ≡ None
-    go None is = ap (λ (found : Option Row). option_and_then number_of (option_and_then (λ (x : Row). slice_get x.values 0) found)) is
+    go None is = ap (λ (found : Option Row). option_and_then numeral_value (option_and_then (λ (x : Row). slice_get x.values 0) found)) is
     go (Some r) is =
         let every = level-every name (codes "1") 1 0 s none [] words false [] e in
         let fits = find-every (FitsHere name (codes "1") 1 0) (λ r. bytes_eq r.id name) _ r every is (find-passes (λ r. bytes_eq r.id name) (rows_after s.rules [] words) r is) in

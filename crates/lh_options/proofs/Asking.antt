@@ -5,7 +5,7 @@ use Rattle.std.specs.Str.{bytes_eq}
 use Rattle.std.proofs.lemmas.Bool.{le-ltb, lt-ltb}
 use Rattle.clap.specs.Walk.{Text}
 use Rattle.lh_addr.specs.Settings.{Settings}
-use Rattle.lh_options.specs.Options.{Answers, Asks, IsMaxBelowInitial, asked_by, in_order, number_given, settings_given, version_of}
+use Rattle.lh_options.specs.Options.{Answers, Asks, IsMaxBelowInitial, asked_by, in_order, number_given, settings_given, version_numbered}
 use Rattle.lh_options.specs.declared.options.ImageVersion.{ImageVersion}
 use Rattle.lh_options.specs.OptionSteps.{IsFileCommand}
 use Rattle.lh_options.specs.declared.options.Request.{Request}
@@ -31,12 +31,12 @@ unfolding asked_by
 replay name settings threads image s n e within = (λ i. asked_by (n i) (e i) threads image) ∙ passed_on s (λ x. Some (request.Replay x)) within
 
 pub build : (name : Text) (settings : Option Settings) (threads image : Option ℕ) (s : Settings) (version : ImageVersion) →
-    name ≡ codes "build" → settings ≡ Some s → option_map version_of image ≡ Some version → s.initial ≤ s.max →
+    name ≡ codes "build" → settings ≡ Some s → option_map version_numbered image ≡ Some version → s.initial ≤ s.max →
     asked_by name settings threads image ≡ Some (request.Build s version)
 unfolding asked_by
 build name settings threads None s version named e f within = absurd cc
 build name settings threads (Some n) s version named e f within =
-    (λ i. asked_by (named i) (e i) threads (Some n)) ∙ passed_on s (λ x. Some (request.Build x (version_of n))) within
+    (λ i. asked_by (named i) (e i) threads (Some n)) ∙ passed_on s (λ x. Some (request.Build x (version_numbered n))) within
     ∙ ap (option_map (λ v. request.Build s v)) f
 
 pub drive : (name : Text) (settings : Option Settings) (threads image : Option ℕ) (s : Settings) (n : ℕ) →
@@ -83,7 +83,7 @@ unfolding asked_by
 out_of_order name None threads image is below = absurd below
 out_of_order name (Some s) threads image (inl n) below = (λ i. asked_by (n i) (Some s) threads image) ∙ refused s (λ x. Some (request.Commands x)) below
 out_of_order name (Some s) threads image (inr (inl n)) below = (λ i. asked_by (n i) (Some s) threads image) ∙ refused s (λ x. Some (request.Steps x)) below
-out_of_order name (Some s) threads image (inr (inr (inl n))) below = (λ i. asked_by (n i) (Some s) threads image) ∙ refused s (λ x. option_map (λ n. request.Build x (version_of n)) image) below
+out_of_order name (Some s) threads image (inr (inr (inl n))) below = (λ i. asked_by (n i) (Some s) threads image) ∙ refused s (λ x. option_map (λ n. request.Build x (version_numbered n)) image) below
 out_of_order name (Some s) threads image (inr (inr (inr (inl n)))) below =
     (λ i. asked_by (n i) (Some s) threads image) ∙ refused s (λ x. option_map (λ m. request.Drive x m) threads) below
 out_of_order name (Some s) threads image (inr (inr (inr (inr n)))) below = (λ i. asked_by (n i) (Some s) threads image) ∙ refused s (λ x. Some (request.Replay x)) below
@@ -109,7 +109,7 @@ pub refused_alone : (name : Text) (threads image : Option ℕ) (s : Settings) (r
     s.max < s.initial → asked_by name (Some s) threads image ≡ Some r → r ≡ request.MaxBelowInitial
 unfolding asked_by
 refused_alone name threads image s r below is =
-    let build : Settings → Option Request = λ x. option_map (λ n. request.Build x (version_of n)) image in
+    let build : Settings → Option Request = λ x. option_map (λ n. request.Build x (version_numbered n)) image in
     let drive : Settings → Option Request = λ x. option_map (λ n. request.Drive x n) threads in
     one_of _ _ _ _ _ (bytes_eq name (codes "check")) (bytes_eq name (codes "dump")) (bytes_eq name (codes "draw")) (bytes_eq name (codes "migrate"))
     (in_order (Some s) (λ x. Some (request.Commands x))) (in_order (Some s) (λ x. Some (request.Steps x)))

@@ -22,7 +22,7 @@ use Rattle.lh_addr.specs.Settings.{Settings}
 use Rattle.lh_addr.specs.Config.{IsFirstOutOfRange}
 use Rattle.lh_addr.specs.declared.config.Range.{Range}
 use Rattle.lh_addr.specs.declared.config.Range.TheVariants.{Max}
-use Rattle.lh_options.specs.Options.{Accepts, Answers, AsksForHelp, IsRefused, IsServable, asked_by, asked_for, number_given, number_in, number_of, program_app, settings_from, settings_given, subcommand_named}
+use Rattle.lh_options.specs.Options.{Accepts, Answers, AsksForHelp, IsRefused, IsServable, asked_by, asked_for, number_given, number_in, numeral_value, program_app, settings_from, settings_given, subcommand_named}
 use Rattle.lh_options.specs.OptionSteps.{HasNumber, IsRefusal, asked_in, settings_in}
 use Rattle.lh_options.specs.declared.options.Request.{Request}
 use Rattle.lh_options.specs.declared.options.Request.TheVariants as request
@@ -48,12 +48,12 @@ digits-all ds e =
         (ltb-true (digit_value x) 10 parts.0, each xs parts.1)
 
 -- a text of digits writes the number of its digits
-number_of-numeral : (text : Text) → is_numeral (without_leading_plus text) ≡ true → number_of text ≡ Some (digits_value 10 (without_leading_plus text))
-number_of-numeral text e = ap (λ b. if b then Some (digits_value 10 (without_leading_plus text)) else None) e
+numeral_value-numeral : (text : Text) → is_numeral (without_leading_plus text) ≡ true → numeral_value text ≡ Some (digits_value 10 (without_leading_plus text))
+numeral_value-numeral text e = ap (λ b. if b then Some (digits_value 10 (without_leading_plus text)) else None) e
 
 pub number-is : (rows : List Row) (name : Text) (least most : ℕ) (given : HasNumber rows name least most)
     → number_in rows name ≡ Some (digits_value 10 (without_leading_plus given.text))
-number-is rows name least most given = ap (option_and_then number_of) given.first ∙ number_of-numeral given.text given.numeral
+number-is rows name least most given = ap (option_and_then numeral_value) given.first ∙ numeral_value-numeral given.text given.numeral
 
 pub number-at-most : (rows : List Row) (name : Text) (least most n : ℕ) → HasNumber rows name least most → number_in rows name ≡ Some n → n ≤ most
 number-at-most rows name least most n given is =

@@ -3,7 +3,7 @@ use Rattle.std.specs.Prelude.{◌≡◌, ℕ, List, [], ◌∷◌, Some, codes, 
 use Rattle.clap.specs.Walk.{Text}
 use Rattle.lh_addr.specs.Settings.{Settings}
 use Rattle.lh_options.specs.declared.options.ImageVersion.{ImageVersion}
-use Rattle.lh_options.specs.Options.{Accepts, Asks, number_given, settings_given, version_of}
+use Rattle.lh_options.specs.Options.{Accepts, Asks, number_given, settings_given, version_numbered}
 
 abbrev pub no_options : List Text
 no_options = codes "lhash" ∷ codes "commands" ∷ []
@@ -38,8 +38,8 @@ unknown_option = codes "lhash" ∷ codes "commands" ∷ codes "--threads" ∷ co
 abbrev pub help_asked : List Text
 help_asked = codes "lhash" ∷ codes "commands" ∷ codes "--help" ∷ []
 
-abbrev pub version_asked : List Text
-version_asked = codes "lhash" ∷ codes "--version" ∷ []
+abbrev pub program_version_asked : List Text
+program_version_asked = codes "lhash" ∷ codes "--version" ∷ []
 
 abbrev pub build_given : List Text
 build_given = codes "lhash" ∷ codes "build" ∷ codes "--max" ∷ codes "1" ∷ []
@@ -78,8 +78,8 @@ abbrev pub threads_over_limit : List Text
 threads_over_limit = codes "lhash" ∷ codes "drive" ∷ codes "--threads" ∷ codes "65" ∷ []
 
 -- the words are accepted, name `commands`, and give these settings
-abbrev pub Gives : List Text → Settings → Type 0
-Gives words s = Asks words (codes "commands") × (settings_given words ≡ Some s)
+abbrev pub GivesCommands : List Text → Settings → Type 0
+GivesCommands words s = Asks words (codes "commands") × (settings_given words ≡ Some s)
 
 -- the words are accepted, name `steps`, and give these settings
 abbrev pub GivesSteps : List Text → Settings → Type 0
@@ -93,7 +93,7 @@ GivesReplay words s = Asks words (codes "replay") × (settings_given words ≡ S
 abbrev pub GivesBuild : List Text → Settings → ImageVersion → Type 0
 GivesBuild words s version =
     Asks words (codes "build") × (settings_given words ≡ Some s)
-    × (option_map version_of (number_given words (codes "image")) ≡ Some version)
+    × (option_map version_numbered (number_given words (codes "image")) ≡ Some version)
 
 -- the words are accepted, name `drive`, and give these settings and this number of threads
 abbrev pub GivesDrive : List Text → Settings → ℕ → Type 0

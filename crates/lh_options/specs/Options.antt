@@ -99,14 +99,14 @@ program_app =
     check_app.top) dump_app.top) drive_app.top) draw_app.top) migrate_app.top
 
 -- the whole number that a text writes in decimal digits, where it is such a text; a plus may stand first
-abbrev pub number_of : Text → Option ℕ
-number_of text =
+abbrev pub numeral_value : Text → Option ℕ
+numeral_value text =
     let digits = without_leading_plus text in
     if is_numeral digits then Some (digits_value 10 digits) else None
 
 -- the number of an option: that of the first value in its row
 abbrev pub number_in : List Row → Text → Option ℕ
-number_in rows name = option_and_then number_of (first_of name rows)
+number_in rows name = option_and_then numeral_value (first_of name rows)
 
 -- the four settings, where each is there
 abbrev pub settings_from : Option ℕ → Option ℕ → Option ℕ → Option ℕ → Option Settings
@@ -160,13 +160,13 @@ in_order None ask = None
 in_order (Some s) ask = if nat_lt s.max s.initial then Some request.MaxBelowInitial else ask s
 
 -- what is asked for without settings
-abbrev pub alone : Option Settings → Request → Option Request
-alone None r = Some r
-alone (Some s) r = None
+abbrev pub asked_without_settings : Option Settings → Request → Option Request
+asked_without_settings None r = Some r
+asked_without_settings (Some s) r = None
 
 -- the version of an image that a number says
-abbrev pub version_of : ℕ → ImageVersion
-version_of n = if n == 1 then First else Second
+abbrev pub version_numbered : ℕ → ImageVersion
+version_numbered n = if n == 1 then First else Second
 
 -- what a subcommand asks for, with the settings, the number of threads and the version of an image that the words give
 unfoldable pub asked_by : Text → Option Settings → Option ℕ → Option ℕ → Option Request
@@ -175,12 +175,12 @@ asked_by name settings threads image =
     else if bytes_eq name (codes "steps") then in_order settings (λ s. Some (request.Steps s))
     else if bytes_eq name (codes "replay") then in_order settings (λ s. Some (request.Replay s))
     else if bytes_eq name (codes "build")
-    then in_order settings (λ s. option_map (λ n. request.Build s (version_of n)) image)
+    then in_order settings (λ s. option_map (λ n. request.Build s (version_numbered n)) image)
     else if bytes_eq name (codes "drive") then in_order settings (λ s. option_map (λ n. request.Drive s n) threads)
-    else if bytes_eq name (codes "check") then alone settings request.Check
-    else if bytes_eq name (codes "dump") then alone settings request.Dump
-    else if bytes_eq name (codes "draw") then alone settings request.Draw
-    else if bytes_eq name (codes "migrate") then alone settings request.Migrate
+    else if bytes_eq name (codes "check") then asked_without_settings settings request.Check
+    else if bytes_eq name (codes "dump") then asked_without_settings settings request.Dump
+    else if bytes_eq name (codes "draw") then asked_without_settings settings request.Draw
+    else if bytes_eq name (codes "migrate") then asked_without_settings settings request.Migrate
     else None
 
 -- what words ask for that are accepted

@@ -1,8 +1,8 @@
 //! What the options give, at words that are written out.
 ghost use Rattle.std.specs.Prelude.{codes};
 ghost use Rattle.lh_options.specs.OptionLaws.{
-  Gives,
   GivesBuild,
+  GivesCommands,
   GivesDrive,
   GivesReplay,
   GivesSteps,
@@ -23,6 +23,7 @@ ghost use Rattle.lh_options.specs.OptionLaws.{
   migrate_alone,
   no_options,
   no_subcommand,
+  program_version_asked,
   replay_given,
   Refuses,
   steps_given,
@@ -30,7 +31,6 @@ ghost use Rattle.lh_options.specs.OptionLaws.{
   threads_over_limit,
   threads_zero,
   unknown_option,
-  version_asked,
 };
 ghost use Rattle.lh_options.specs.Options.{Asks, AsksForHelp};
 ghost use Rattle.lh_options.specs.declared.options.ImageVersion.TheVariants.{First, Second};
@@ -39,9 +39,9 @@ ghost use Rattle.lh_options.specs.declared.options.ImageVersion.TheVariants.{Fir
 /// default. A number out of its range, an option given twice and an unknown one are refused, and so is
 /// each option of a subcommand that reads an image.
 pub fn words_give_options()
-    ensures left_out { Gives no_options (record { initial = 1; capacity = 14; load = 100; max = 65536 }) }
-    ensures given { Gives max_given (record { initial = 3; capacity = 14; load = 100; max = 7 }) }
-    ensures below { Gives max_below_initial (record { initial = 8; capacity = 14; load = 100; max = 7 }) }
+    ensures left_out { GivesCommands no_options (record { initial = 1; capacity = 14; load = 100; max = 65536 }) }
+    ensures given { GivesCommands max_given (record { initial = 3; capacity = 14; load = 100; max = 7 }) }
+    ensures below { GivesCommands max_below_initial (record { initial = 8; capacity = 14; load = 100; max = 7 }) }
     ensures steps { GivesSteps steps_given (record { initial = 1; capacity = 2; load = 200; max = 65536 }) }
     ensures replay { GivesReplay replay_given (record { initial = 9; capacity = 14; load = 100; max = 9 }) }
     ensures build { GivesBuild build_given (record { initial = 1; capacity = 14; load = 100; max = 1 }) Second }
@@ -63,5 +63,5 @@ pub fn words_give_options()
     ensures twice { Refuses initial_twice }
     ensures unknown { Refuses unknown_option }
     ensures help { AsksForHelp help_asked }
-    ensures version { AsksForHelp version_asked }
+    ensures version { AsksForHelp program_version_asked }
 {}

@@ -2,7 +2,7 @@
 ghost use Rattle.std.specs.Prelude.{◌≡◌, ◌⊎◌, IfOk, IfSome, IfNone, None, Some, codes, false, map, option_map};
 ghost use Rattle.lh_addr.specs.Settings.{IsInRange};
 ghost use Rattle.clap.specs.Words.{found_of, kind_of, new_app, rows_of, rule_of};
-ghost use Rattle.lh_options.specs.Options.{Answers, IsMaxBelowInitial, IsServable, number_in, build_app, drive_app, option_rule, version_of, root_app, scripts_app, program_app, with_settings};
+ghost use Rattle.lh_options.specs.Options.{Answers, IsMaxBelowInitial, IsServable, number_in, build_app, drive_app, option_rule, version_numbered, root_app, scripts_app, program_app, with_settings};
 ghost use Rattle.lh_options.specs.OptionSteps.{HasNumber, HasSettings, HasImage, HasThreads, IsFileCommand, IsImageCommand, IsRefusal, Reads, asked_in, settings_in};
 
 use crate::help::{BUILD, CHECK, COMMANDS, DRAW, DRIVE, DUMP, Help, MIGRATE, REPLAY, STEPS};
@@ -229,7 +229,7 @@ fn config_of(matches: &ArgMatches<'_>) -> Option<Config>
 /// The version of the image that the option gives.
 fn version_in(matches: &ArgMatches<'_>) -> ImageVersion
     requires { HasImage (rows_of (found_of matches.now)) }
-    ensures { option_map version_of (number_in (rows_of (found_of matches.now)) (codes "image")) ≡ Some result }
+    ensures { option_map version_numbered (number_in (rows_of (found_of matches.now)) (codes "image")) ≡ Some result }
 {
     match number(matches, "image") {
         FIRST_IMAGE => ImageVersion::First,

@@ -4,7 +4,7 @@ use Rattle.std.specs.Prelude.{option_and_then, option_map}
 use Rattle.std.specs.String.{string_bytes}
 use Rattle.std.specs.Io.KnownBytes.{Keeps}
 use Rattle.lh_addr.specs.Settings.{Settings}
-use Rattle.lh_options.specs.Options.{Asks, AsksForHelp, IsTurned, Text, asked_by, asked_for, number_given, settings_given, subcommand_named, version_of}
+use Rattle.lh_options.specs.Options.{Asks, AsksForHelp, IsTurned, Text, asked_by, asked_for, number_given, settings_given, subcommand_named, version_numbered}
 use Rattle.lh_options.proofs.Asking.{asked_named, build, commands, drive, refused_alone, replay, steps, undriven}
 use Rattle.lh_options.specs.declared.options.Request.{Request}
 use Rattle.lh_options.specs.declared.options.Request.TheVariants as request
@@ -74,9 +74,9 @@ serves_replay words status left rest before now settings asks given within run =
 pub serves_build : ServesBuild
 unfolding EndsBuilding
 serves_build words status left rest before now settings n asks given image within run =
-    served words status left rest before now (codes "build") (request.Build settings (version_of n)) (EndsBuilding (version_asked (version_of n)) settings)
+    served words status left rest before now (codes "build") (request.Build settings (version_numbered n)) (EndsBuilding (version_asked (version_numbered n)) settings)
     (λ h. h) (λ input keeps. keeps) asks
-    (build (codes "build") _ _ _ settings (version_of n) refl given (ap (option_map version_of) image) within) run
+    (build (codes "build") _ _ _ settings (version_numbered n) refl given (ap (option_map version_numbered) image) within) run
 
 -- words that ask for a run in threads give their number, or ask for nothing
 driven : (words : List Text) (status : Status) (left rest before now : Option (List ℕ)) (settings : Settings) (threads : Option ℕ) →

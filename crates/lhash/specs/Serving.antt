@@ -6,7 +6,7 @@ use Rattle.lhash.specs.Devices.{TakesBeginning}
 use Rattle.lhash.specs.Driving.{EndsDriving}
 use Rattle.lhash.specs.Images.{EndsBuilding, check_due, draw_due, dump_due, migrate_due, version_asked}
 use Rattle.lh_addr.specs.Settings.{Settings}
-use Rattle.lh_options.specs.Options.{Accepts, Answers, Asks, AsksForHelp, IsRefused, Text, number_given, settings_given, version_of}
+use Rattle.lh_options.specs.Options.{Accepts, Answers, Asks, AsksForHelp, IsRefused, Text, number_given, settings_given, version_numbered}
 use Rattle.lhash.specs.Run.{Ends, EndsReplay, EndsSteps, commands_due}
 use Rattle.lh_options.specs.declared.options.Request.{Request}
 use Rattle.lh_options.specs.declared.options.Request.TheVariants.{Commands, Steps, Replay, Build, Check, Draw, Dump, Drive, Migrate, Help, Refused, MaxBelowInitial}
@@ -87,7 +87,7 @@ ServesBuild =
     (words : List Text) (status : Status) (left rest before now : Option (List ℕ)) (settings : Settings) (n : ℕ) →
     Asks words (codes "build") → settings_given words ≡ Some settings → number_given words (codes "image") ≡ Some n →
     settings.initial ≤ settings.max → IsRun words status left rest before now →
-    IfSome left (λ input. EndsBuilding (version_asked (version_of n)) settings input status before now)
+    IfSome left (λ input. EndsBuilding (version_asked (version_numbered n)) settings input status before now)
 
 -- a run for words that ask for this subcommand, which reads an image, ends so
 abbrev pub ServesImage : Text → Ending → Type 0

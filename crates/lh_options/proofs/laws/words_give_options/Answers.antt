@@ -2,20 +2,20 @@
 use Rattle.std.proofs.Common.{refl, inl, inr, codes}
 use Rattle.clap.proofs.OnLiterals.{clap_on_literals}
 use Rattle.clap.specs.declared.error.kind.ErrorKind.TheVariants as kind
-use Rattle.lh_options.specs.OptionLaws.{Gives, GivesBuild, GivesDrive, GivesReplay, GivesSteps, Refuses, build_given, check_alone, check_with_option, draw_alone, drive_alone, drive_given, dump_alone, first_image_given, help_asked, initial_twice, initial_zero, max_below_initial, max_given, max_over_limit, migrate_alone, no_options, no_subcommand, replay_given, steps_given, third_image, threads_over_limit, threads_zero, unknown_option, version_asked}
+use Rattle.lh_options.specs.OptionLaws.{GivesBuild, GivesCommands, GivesDrive, GivesReplay, GivesSteps, Refuses, build_given, check_alone, check_with_option, draw_alone, drive_alone, drive_given, dump_alone, first_image_given, help_asked, initial_twice, initial_zero, max_below_initial, max_given, max_over_limit, migrate_alone, no_options, no_subcommand, program_version_asked, replay_given, steps_given, third_image, threads_over_limit, threads_zero, unknown_option}
 use Rattle.lh_options.specs.declared.options.ImageVersion.TheVariants.{First, Second}
 use Rattle.lh_options.specs.Options.{Accepts, Asks, AsksForHelp, settings_given, subcommand_named}
 use Rattle.lh_options.proofs.laws.words_give_options.Goals as goal
 
-left_out : Gives no_options (record { initial = 1; capacity = 14; load = 100; max = 65536 })
+left_out : GivesCommands no_options (record { initial = 1; capacity = 14; load = 100; max = 65536 })
 unfolding clap_on_literals Accepts settings_given subcommand_named
 left_out = ((refl, refl), refl)
 
-given : Gives max_given (record { initial = 3; capacity = 14; load = 100; max = 7 })
+given : GivesCommands max_given (record { initial = 3; capacity = 14; load = 100; max = 7 })
 unfolding clap_on_literals Accepts settings_given subcommand_named
 given = ((refl, refl), refl)
 
-below : Gives max_below_initial (record { initial = 8; capacity = 14; load = 100; max = 7 })
+below : GivesCommands max_below_initial (record { initial = 8; capacity = 14; load = 100; max = 7 })
 unfolding clap_on_literals Accepts settings_given subcommand_named
 below = ((refl, refl), refl)
 
@@ -99,7 +99,7 @@ help : AsksForHelp help_asked
 unfolding clap_on_literals AsksForHelp
 help = (kind.DisplayHelp, inl refl, inl refl)
 
-version : AsksForHelp version_asked
+version : AsksForHelp program_version_asked
 unfolding clap_on_literals AsksForHelp
 version = (kind.DisplayVersion, inl refl, inr refl)
 
