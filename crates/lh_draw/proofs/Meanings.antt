@@ -1,4 +1,4 @@
--- What a drawing means.
+-- What a drawing means: the laws of its boxes, colours, columns and legend.
 use Rattle.std.proofs.Common.{◌≡◌, ◌∙◌, ◌⊎◌, inl, inr, ℕ, zero, suc, ◌+◌, ◌-◌, ◌*◌, ◌/◌, ◌<◌, ◌≤◌, ◌^◌, Bool, true, false, ◌||◌, if◌then◌else◌, cond, ltb, leb, List, [], ◌∷◌, ◌++◌, None, Some, length, codes, decimal, drop, ap, sym, refl, subst, arith, append-nil, length-append, length-take, length-drop}
 use Rattle.std.specs.Prelude.{min, sum_by, flat_map}
 use Rattle.std.proofs.lemmas.Grind.{flat_map-append}

@@ -1,4 +1,4 @@
--- What is counted of one bucket more.
+-- What is counted of no buckets and of one bucket more, and that the pages of a chain have slots enough.
 use Rattle.std.proofs.Common.{◌≡◌, ◌∙◌, ℕ, ◌+◌, ◌-◌, ◌*◌, ◌/◌, ◌<◌, ◌≤◌, List, [], ◌∷◌, ◌++◌, length, take, drop, get_or, ap, arith, length-drop}
 use Rattle.std.specs.Prelude.{max, sum_by}
 use Rattle.std.proofs.Math.Nat.{lt-mul-div-succ}

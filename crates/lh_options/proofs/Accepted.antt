@@ -1,4 +1,4 @@
--- Words in which clap finds no fault name the subcommand, whose rows have the four settings
+-- Words in which clap finds no fault name a subcommand, whose rows have the numbers of all its options
 use Rattle.std.proofs.Common.{◌≡◌, ◌∙◌, ◌⊎◌, ◌||◌, ℕ, zero, suc, inl, inr, Bool, true, false, refl, sym, ap, List, [], ◌∷◌, Option, Some, None, codes, arith}
 use Rattle.std.specs.Prelude.{find, option_and_then, slice_get}
 use Rattle.std.specs.Str.{bytes_eq}

@@ -1,3 +1,4 @@
+-- Lemmas by subject; beside them the proofs of each function, by its module
 pub mod Accepted
 pub mod Asking
 pub mod CommandShapes

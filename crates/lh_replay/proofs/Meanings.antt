@@ -1,4 +1,4 @@
--- What a picture means.
+-- What a picture means: the laws of where boxes and arrows end, and of the lanes.
 use Rattle.std.proofs.Common.{◌≡◌, ℕ, zero, suc, ◌+◌, ◌<◌, ◌≤◌, Bool, true, false, if◌then◌else◌, List, [], ◌∷◌, length, inl, inr, refl, arith}
 use Rattle.std.specs.Prelude.{fold, max}
 use Rattle.lh_core.specs.declared.event.Event.{Event}

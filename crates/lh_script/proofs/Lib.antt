@@ -1,3 +1,4 @@
+-- Lemmas by subject; beside them the proofs of each function, by its module
 pub mod Digits
 pub mod Pairs
 pub mod Scripts

@@ -1,4 +1,4 @@
--- Pairs of hexadecimal digits.
+-- Pairs of hexadecimal digits: the table of the digits' values, and the bytes that are read one after another.
 use Rattle.std.proofs.Common.{◌≡◌, ◌==◌, ◌&&◌, ℕ, ◌+◌, ◌-◌, ◌*◌, ◌/◌, ◌%◌, ◌<◌, ◌≤◌, suc, Bool, true, false, cond, List, [], ◌∷◌, ◌++◌, Option, None, Some, IfSome, length, take, drop, map, refl, ap, sym, ◌∙◌, arith, get_or, MatchBool, append_assoc, append-nil, set}
 use Rattle.std.specs.Prelude.{is_some, nat_lt, nat_le, unwrap_or}
 use Rattle.std.specs.Int.Bits.{bit_or}
