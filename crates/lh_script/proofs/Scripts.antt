@@ -44,3 +44,6 @@ joined (Err fault) n front r e = absurd (let bad : Ok tt ≡ Err fault = e in cc
 pub line_read : {A : Type 0} (read : Reading A) (n : ℕ) (all : Result (List A) ScriptFault) (front grown : List A) (rest line behind : List ℕ) → all ≡ after front (from_line read n (lines rest)) → lines rest ≡ line ∷ lines behind → Ok tt ≡ fault_in (read (words line)) → grown ≡ front ++ added (read (words line)) → all ≡ after grown (from_line read (n + 1) (lines behind))
 unfolding from_line
 line_read read n all front grown rest line behind h e k g = h ∙ rw (e, g) (joined (read (words line)) n front (from_line read (n + 1) (lines behind)) k)
+
+-- reading line by line: no statements at first, then those of each line, up to the first fault
+pub ruleset line_by_line = (script_starts, script_ends, line_faulty, line_read)

@@ -49,7 +49,7 @@ pub const MOST_BYTES: usize = 16_777_216;
 /// and `frob` a command script is at fault by the third: `line 3: unknown word`.
 ///
 /// Besides the text it takes memory for the statements alone.
-#[tactic(auto, using(crate::proofs::Scripts::script_starts, crate::proofs::Scripts::script_ends, crate::proofs::Scripts::line_faulty, crate::proofs::Scripts::line_read))]
+#[tactic(auto, using(crate::proofs::Scripts::line_by_line))]
 pub fn parse<S: Statement>(alloc: Global, text: &[u8]) -> Result<Vec<S>, ParseError>
     ensures { Gives (λ v. v.items) result (script S.reads text.now) }
 {
