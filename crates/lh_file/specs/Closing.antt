@@ -26,7 +26,8 @@ abbrev pub RuleHolds : Settings → FileWords → View → Type 0
 RuleHolds config words view =
     (views : List View) × (id : ℕ) × IsRule config.initial config.max words views × (get_elem? views id ≡ some view)
 
--- where the file records, and no call is left with another hand, each stamp below the stamp word is among the hand's acts, once, and no other is
+-- where the file records, and no call is left with another hand, each stamp below the stamp word
+-- is among the hand's acts, once, and no other is
 abbrev pub NoneIsLost : HandState → ℕ → Type 0
 NoneIsLost hand drawn =
     hand.recording ≡ true → hand.view.left + length hand.acts ≡ 2 ^ 63 →
@@ -41,11 +42,13 @@ pub record IsEnd (traced : Bool) (file : FileState) (words : FileWords) (seat : 
   pub rule : IsRule file.config.initial file.config.max words (map shown seats)
   pub history : traced ≡ true → History file.listing words seats
 
--- the first of these lists are the records of some buckets, each in the place of its number; no list has a key twice; and where they are clean the lists past those have no record
+-- the first of these lists are the records of some buckets, each in the place of its number; no list has a key twice;
+-- and where they are clean the lists past those have no record
 pub record AreGathered (buckets : List Seen) (lists : List (List Pair)) (whole : ℕ) (clean : Bool) : Type 0 where
   pub within : whole ≤ length lists
   pub count : length buckets ≡ whole
-  pub each : (place : ℕ) (bucket : Seen) → get_elem? buckets place ≡ some bucket → (bucket.head.number ≡ place) × (list_at lists place ≡ bucket.pairs)
+  pub each : (place : ℕ) (bucket : Seen) → get_elem? buckets place ≡ some bucket →
+      (bucket.head.number ≡ place) × (list_at lists place ≡ bucket.pairs)
   pub distinct : (place : ℕ) → IsDistinct bytes_eq (keys_of (list_at lists place))
   pub beyond : clean ≡ true → (place : ℕ) → whole ≤ place → list_at lists place ≡ []
 

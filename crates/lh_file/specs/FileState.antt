@@ -7,7 +7,8 @@ use Rattle.lh_bucket.specs.Listing.{Lists}
 use Rattle.lh_file.specs.Words.HandState.{HandState}
 use Rattle.lh_file.specs.Words.Views.{first_view}
 
--- the table of its words, its configuration, whether acts are recorded, how many records it was opened with, and the listing that it was opened from
+-- the table of its words, its configuration, whether acts are recorded, how many records it was opened
+-- with, and the listing that it was opened from
 pub record FileState : Type 0 where
   pub table : TableId
   pub config : Settings
@@ -23,15 +24,18 @@ pub record IsOf (file : FileState) (hand : HandState) : Type 0 where
   pub recording : hand.recording ≡ file.recording
 
 -- the file may have this many buckets
-abbrev pub IsSize : FileState → ℕ → Type 0
-IsSize file buckets = (file.config.initial ≤ buckets) × (buckets ≤ file.config.max)
+abbrev pub MayHave : FileState → ℕ → Type 0
+MayHave file buckets = (file.config.initial ≤ buckets) × (buckets ≤ file.config.max)
 
--- the file's root word may be this: the file is within its limits, and below the greater one where a hand has the right to split
+-- the file's root word may be this: the file is within its limits, and below the
+-- greater one where a hand has the right to split
 abbrev pub IsRootWord : FileState → ℕ → Type 0
 IsRootWord file word = (file.config.initial ≤ buckets_of word) × (buckets_of word + word % 2 ≤ file.config.max)
 
--- a file that was just opened with this many buckets and records, and its first hand, which knows that number of buckets, may make 2^63 calls, and has neither the right to split nor acts
-pub record IsOpened (config : Settings) (buckets : ℕ) (recording : Bool) (records : ℕ) (file : FileState) (hand : HandState) : Type 0 where
+-- a file that was just opened with this many buckets and records, and its first hand, which knows that number of
+-- buckets, may make 2^63 calls, and has neither the right to split nor acts
+pub record IsOpened (config : Settings) (buckets : ℕ) (recording : Bool) (records : ℕ)
+    (file : FileState) (hand : HandState) : Type 0 where
   pub config_is : file.config ≡ config
   pub recording_is : file.recording ≡ recording
   pub opening_is : file.opening ≡ records

@@ -118,9 +118,9 @@ impl<G: Gate, M: Mode, J: Room> HashFile<G, M, J> {
     /// that closes it. A hand that was not joined into this one is lost with its acts. Without memory
     /// for the records, the file and the hand are gone.
     ///
-    /// What was done with a traced file is one legal history, and the closed file holds just what that leaves: where all
-    /// buckets were met with their seats ([`Closed::gathered`]), no split was under way, no call was left with a hand
-    /// that wasn't joined, and no act was made on a bucket of the caller's own.
+    /// What was done with a traced file is one legal history, and the closed file holds just what that leaves: where
+    /// all buckets were met with their seats ([`Closed::gathered`]), no split was under way, no call was left with a
+    /// hand that wasn't joined, and no act was made on a bucket of the caller's own.
     ///
     /// No call can be under way, since the file is owned; the locks are taken nevertheless.
     pub fn close<R: Wait>(self, rt: &R, hand: Hand) -> Result<(Closed, Acts), Memory>

@@ -12,7 +12,7 @@ pub(crate) mod load;
 mod looks;
 pub(crate) mod mode;
 pub(crate) mod numbers;
-mod places;
+mod offsets;
 mod plays;
 pub(crate) mod right;
 mod root;
@@ -51,9 +51,9 @@ impl<M: Mode> Model for Words<M> {
 
     ghost Value = { FileState };
 
-    ghost use Rattle.lh_file.specs.Words.Fields.{state_of, IsFile};
+    ghost use Rattle.lh_file.specs.Words.Fields.{file_state_of, IsFile};
 
-    ghost view = { state_of };
+    ghost view = { file_state_of };
 
     ghost invariant = { IsFile };
 }

@@ -18,7 +18,7 @@ use Rattle.lh_file.specs.History.History.{owners, moves_in, History}
 use Rattle.lh_file.specs.History.Log.{entry, left_after, stamps_in, StandsIn}
 use Rattle.lh_file.specs.Settling.Settled.{map_in}
 use Rattle.lh_file.specs.Words.Rule.{Each, rights_of}
-use Rattle.lh_file.specs.Words.Seats.{acted}
+use Rattle.lh_file.specs.Words.Seats.{with_act}
 use Rattle.lh_file.specs.Words.Sums.{total}
 use Rattle.lh_file.specs.declared.words.numbers.FileWords.{FileWords}
 use Rattle.lh_file.specs.declared.words.seat_view.Entry.{Entry}
@@ -43,11 +43,11 @@ module _ (k : Lists) (old new : FileWords) (seats : List SeatView) (id : ℕ) (d
       → ((j : ℕ) (u : SeatView) → j ≢ id → get_elem? seats j ≡ some u → Each u.parts (Mirrors (left_after (map_in k) (o.log ++ entry lent old.stamps call given ∷ []))))
       → ((c : ℕ) → owners_in c parts ≡ owners c d)
       → ((n : ℕ) → Each d.parts (IsPlacedIn k.config.initial n) → Each parts (IsPlacedIn k.config.initial n))
-      → History k new (set seats id (acted lent call given parts old.stamps d))
+      → History k new (set seats id (with_act lent call given parts old.stamps d))
   enters lent call given parts o legal mine others counts places =
       let e : Entry = entry lent old.stamps call given in
       let log : List Entry = o.log ++ e ∷ [] in
-      let w : SeatView = acted lent call given parts old.stamps d in
+      let w : SeatView = with_act lent call given parts old.stamps d in
       let size : buckets_of new.root ≡ buckets_of old.root = ap buckets_of root in
       let sum : buckets_of old.root + total moves_in seats ≡ buckets_of new.root + total moves_in (set seats id w) = (let a = total-set moves_in seats id d w me in omega arith) in record {
         log = log;
@@ -65,7 +65,7 @@ module _ (k : Lists) (old new : FileWords) (seats : List SeatView) (id : ℕ) (d
       }
 
   -- an act on a bucket that isn't the file's changes nothing
-  pub lends : (call : Call) (given : Reply) → History k old seats → History k new (set seats id (acted true call given d.parts old.stamps d))
+  pub lends : (call : Call) (given : Reply) → History k old seats → History k new (set seats id (with_act true call given d.parts old.stamps d))
   lends call given o =
       let same : left_after (map_in k) (o.log ++ entry true old.stamps call given ∷ []) ≡ left_after (map_in k) o.log = left_after-snoc (map_in k) o.log (entry true old.stamps call given) in
       let still = λ (ps : List Seen) (all : Each ps (Mirrors (left_after (map_in k) o.log))) (i : ℕ) (x : Seen) (here : get_elem? ps i ≡ some x). all i x here ∙ ap (λ m. retain_keys m (belongs x)) (sym same) in
@@ -78,7 +78,7 @@ module _ (k : Lists) (old new : FileWords) (seats : List SeatView) (id : ℕ) (d
 
   -- an act on the file's bucket that lies with the hand: it is legal, since the bucket holds what the log leaves of its keys, and no other bucket has the key
   pub acts : (p r : Seen) (call : Call) (given : Reply) → d.parts ≡ p ∷ [] → owns (code_of (key_of call)) p ≡ true → HasServedCall p call given r
-      → History k old seats → History k new (set seats id (acted false call given (r ∷ []) old.stamps d))
+      → History k old seats → History k new (set seats id (with_act false call given (r ∷ []) old.stamps d))
   acts p r call given has own served o =
       let m : Records = left_after (map_in k) o.log in
       let n : Records = left_after (map_in k) (o.log ++ entry false old.stamps call given ∷ []) in

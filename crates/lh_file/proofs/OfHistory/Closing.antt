@@ -31,7 +31,7 @@ use Rattle.lh_file.specs.History.Buckets.{belongs, Mirrors, IsPlacedIn}
 use Rattle.lh_file.specs.History.History.{moves_in}
 use Rattle.lh_file.specs.History.Log.{passed, left_after, IsLegalLog, lines_of, stamps_in, StandsIn}
 use Rattle.lh_file.specs.Settling.Settled.{map_in, Settled}
-use Rattle.lh_file.specs.Words.Hand.{state_of as hand_state, IsHand}
+use Rattle.lh_file.specs.Words.Hand.{hand_state_of, IsHand}
 use Rattle.lh_file.specs.Words.HandState.{HandState}
 use Rattle.lh_file.specs.Words.Rule.{Each, rights_of}
 use Rattle.lh_file.specs.Words.Sums.{total, times, once_below}
@@ -259,7 +259,7 @@ none_gathered = record {
 }
 
 -- what was done with a traced file is settled, by the fields of the hand that closes it
-pub closes : AddressLaw → (traced : Bool) (file : FileState) (last : FileWords) (h : hand.Inside) (H : HandState) (d : SeatView) (lists : List (List Pair)) (whole : ℕ) (clean gathered : Bool) → hand_state h ≡ H → IsHand h → d ≡ record (h.seat.me.0) { parts = d.parts }
+pub closes : AddressLaw → (traced : Bool) (file : FileState) (last : FileWords) (h : hand.Inside) (H : HandState) (d : SeatView) (lists : List (List Pair)) (whole : ℕ) (clean gathered : Bool) → hand_state_of h ≡ H → IsHand h → d ≡ record (h.seat.me.0) { parts = d.parts }
     → 1 ≤ file.config.initial → IsEnd traced file last d → AreGathered d.parts lists whole clean → clean ≡ true → whole ≡ buckets_of last.root
     → traced ≡ true → last.root % 2 ≡ 0 → H.view.left + length H.acts ≡ 2 ^ 63 → NoneLent H.entries
     → Settled file.listing (record { config = file.config; root = last.root; stamps = last.stamps; lists = lists; gathered = gathered }) h.acts.items

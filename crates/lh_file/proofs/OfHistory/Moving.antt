@@ -18,7 +18,7 @@ use Rattle.lh_file.specs.Settling.Settled.{map_in}
 use Rattle.lh_file.specs.Words.Rule.{Each, rights_of, words_of}
 use Rattle.lh_file.specs.Words.Seats.{mover, upper_half}
 use Rattle.lh_file.specs.Words.Sums.{total}
-use Rattle.lh_file.specs.Words.Table.{shown, Holds}
+use Rattle.lh_file.specs.Words.Table.{shown, IsFileTable}
 use Rattle.lh_file.specs.declared.words.numbers.FileWords.{FileWords}
 use Rattle.lh_file.specs.declared.words.seat_view.SeatView.{SeatView}
 use Rattle.lh_file.proofs.OfBuckets.Levels.{root_of}
@@ -110,7 +110,7 @@ module _ (k : Lists) (words : FileWords) (seats : List SeatView) (id : ℕ) (d :
 module _ (traced : Bool) (k : Lists) where
   -- a split's move
   pub moves : RootLaw → SplitLevels → HashRises → 1 ≤ k.config.initial → (id : ℕ) (d : SeatView) (p low high : Seen) → d.parts ≡ p ∷ [] → d.view.has_right ≡ true → d.moved ≡ false
-      → IsNextSplit k.config.initial d.view.known p → HasDivided p low high → Splits (Holds traced k) id d (mover low d) (upper_half high)
+      → IsNextSplit k.config.initial d.view.known p → HasDivided p low high → Splits (IsFileTable traced k) id d (mover low d) (upper_half high)
   moves roots levels rises pos id d p low high has right unmoved next divided s o me =
       let known : d.view.known ≡ buckets_of (words_of s.words).root = o.rule.exact id d.view (at_map shown s.views id d me) right in record {
         wide = o.wide;
@@ -118,7 +118,7 @@ module _ (traced : Bool) (k : Lists) where
         history = λ on. moves_on k (words_of s.words) s.views id d me roots levels rises (o.history on) pos o.rule.least known (rights-one d.view right) (nobody s o me on right unmoved) unmoved p low high has next divided;
       }
     where
-      nobody : (s : Words) (o : Holds traced k s) → get_elem? s.views id ≡ some d → traced ≡ true → d.view.has_right ≡ true → d.moved ≡ false → total moves_in s.views ≡ 0
+      nobody : (s : Words) (o : IsFileTable traced k s) → get_elem? s.views id ≡ some d → traced ≡ true → d.view.has_right ≡ true → d.moved ≡ false → total moves_in s.views ≡ 0
       nobody s o me on right unmoved =
           let g = gap moves_in (λ (u : SeatView). rights_of u.view) s.views id d me (o.history on).movers in
           let r = o.rule.right in let t = total-map rights_of shown s.views in let m = ap bit unmoved in let one = rights-one d.view right in

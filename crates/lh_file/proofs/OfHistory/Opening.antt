@@ -14,18 +14,18 @@ use Rattle.lh_bucket.specs.Bucket.{Seen}
 use Rattle.lh_bucket.specs.Laws.{PlacedLaw}
 use Rattle.lh_bucket.specs.Listing.{Lists, IsListing, size}
 use Rattle.lh_bucket.proofs.PlainMaps.{kept_alike}
-use Rattle.lh_file.specs.Buckets.Segments.{first_of as segment_from, end_of}
+use Rattle.lh_file.specs.Buckets.Segments.{start_of, end_of}
 use Rattle.lh_file.specs.History.Buckets.{bit, owns, belongs, owners_in, Mirrors, IsPlacedIn}
 use Rattle.lh_file.specs.History.History.{owners, moves_in, History}
 use Rattle.lh_file.specs.History.Log.{stamps_in, StandsIn}
 use Rattle.lh_file.specs.Settling.Settled.{map_in}
-use Rattle.lh_file.specs.Words.Dealing.{first_of, others_of, dealt_seat, dealt_token, buckets_from, undealt}
+use Rattle.lh_file.specs.Words.Dealing.{first_bucket_of, other_buckets_of, dealt_seat, dealt_token, buckets_from, undealt}
 use Rattle.lh_file.specs.Words.Plays.{Seated}
 use Rattle.lh_file.specs.Words.Rule.{Each, rights_of, words_of}
 use Rattle.lh_file.specs.Words.Seats.{opened_at, buckets_in, first_seat}
 use Rattle.lh_file.specs.Words.Sums.{total, times, once_below}
-use Rattle.lh_file.specs.Words.Table.{Holds}
-use Rattle.lh_file.specs.declared.words.places.TheConstants.{ROOT, WIDTH}
+use Rattle.lh_file.specs.Words.Table.{IsFileTable}
+use Rattle.lh_file.specs.declared.words.offsets.TheConstants.{ROOT, WIDTH}
 use Rattle.lh_file.specs.declared.words.seat_view.SeatView.{SeatView}
 use Rattle.lh_file.proofs.OfBuckets.Levels.{size_doubles}
 use Rattle.lh_file.proofs.OfHistory.Rows.{each_none, each_one}
@@ -98,7 +98,7 @@ module _ (law : AddressLaw) (placed : PlacedLaw) (k : Lists) (kept : IsListing k
       }
 
   -- the rule of a file that was just opened from a listing
-  pub opens : (traced : Bool) (word : ℕ) → word ≡ 2 * size k → Holds traced k (opening (set (replicate WIDTH 0) ROOT word) [] (first_seat traced k))
+  pub opens : (traced : Bool) (word : ℕ) → word ≡ 2 * size k → IsFileTable traced k (opening (set (replicate WIDTH 0) ROOT word) [] (first_seat traced k))
   opens traced word is = let held = words.opens k word is kept.shape.from_initial kept.shape.to_max in record {
     wide = held.wide;
     rule = held.rule;
@@ -106,19 +106,19 @@ module _ (law : AddressLaw) (placed : PlacedLaw) (k : Lists) (kept : IsListing k
   }
 
 -- the first bucket goes to a seat of its own
-each_cut : (l : List Seen) (P : Seen → Type 0) → Each l P → Each (others_of l) P × Each (first_of l) P
+each_cut : (l : List Seen) (P : Seen → Type 0) → Each l P → Each (other_buckets_of l) P × Each (first_bucket_of l) P
 each_cut [] P all = (each_none P, each_none P)
 each_cut (p ∷ ps) P all = ((λ j u at. all (suc j) u at), each_one P p (all 0 p refl))
 
-counts_cut : (c : ℕ) (l : List Seen) → owners_in c (others_of l) + owners_in c (first_of l) ≡ owners_in c l
+counts_cut : (c : ℕ) (l : List Seen) → owners_in c (other_buckets_of l) + owners_in c (first_bucket_of l) ≡ owners_in c l
 counts_cut c [] = refl
 counts_cut c (p ∷ ps) = omega (arith, total-cons (λ (b : Seen). bit (owns c b)) p ps, total-cons (λ (b : Seen). bit (owns c b)) p [])
 
-pub deals : (traced : Bool) (k : Lists) (id : ℕ) (d : SeatView) → Splits (Holds traced k) id d (dealt_seat d) (dealt_token d)
+pub deals : (traced : Bool) (k : Lists) (id : ℕ) (d : SeatView) → Splits (IsFileTable traced k) id d (dealt_seat d) (dealt_token d)
 deals traced k id d s o me = record {
   wide = o.wide;
-  rule = with_spent k.config.initial k.config.max (words_of s.words) s.views id d (dealt_seat d) (first_of d.parts) me refl o.rule;
-  history = λ on. cut_off k (words_of s.words) s.views id d me (o.history on) (others_of d.parts) (first_of d.parts) (λ P all. each_cut d.parts P all) (λ c. counts_cut c d.parts);
+  rule = with_spent k.config.initial k.config.max (words_of s.words) s.views id d (dealt_seat d) (first_bucket_of d.parts) me refl o.rule;
+  history = λ on. cut_off k (words_of s.words) s.views id d me (o.history on) (other_buckets_of d.parts) (first_bucket_of d.parts) (λ P all. each_cut d.parts P all) (λ c. counts_cut c d.parts);
 }
 
 -- one bucket after another
@@ -130,11 +130,11 @@ none_from k n past = let e : size k - n ≡ 0 = omega arith in ap (λ m. map (op
 
 module _ (k : Lists) where
   pub next_dealt : (n : ℕ) → n < size k → (traced : Bool) → traced ≡ true → (dealt_token (undealt traced k n)).parts ≡ opened_at k n ∷ []
-  next_dealt n below true on = ap first_of (next_of k n below)
+  next_dealt n below true on = ap first_bucket_of (next_of k n below)
   next_dealt n below false on = absurd (false≢true on)
 
   pub dealt_one : (n : ℕ) → n < size k → (traced : Bool) → traced ≡ true → dealt_seat (undealt traced k n) ≡ undealt traced k (n + 1)
-  dealt_one n below true on = ap (λ ps. record (first_seat true k) { parts = ps }) (ap others_of (next_of k n below))
+  dealt_one n below true on = ap (λ ps. record (first_seat true k) { parts = ps }) (ap other_buckets_of (next_of k n below))
   dealt_one n below false on = absurd (false≢true on)
 
   -- nothing is dealt out of an untraced file, nor past the last bucket
@@ -160,21 +160,21 @@ dealt_next k true n old new below is on off = on refl ∙ ap (λ (m : Seated). (
 dealt_next k false n old new below is on off = off refl ∙ is
 
 -- a segment ends where the next one begins
-next_begins : (initial j : ℕ) → segment_from initial (j + 1) ≡ initial * 2 ^ j
-next_begins initial j = ap (segment_from initial) (add-one j)
+next_begins : (initial j : ℕ) → start_of initial (j + 1) ≡ initial * 2 ^ j
+next_begins initial j = ap (start_of initial) (add-one j)
 
-begins_low : (initial j : ℕ) → segment_from initial j ≤ initial * 2 ^ j
+begins_low : (initial j : ℕ) → start_of initial j ≤ initial * 2 ^ j
 begins_low initial zero = omega arith
 begins_low initial (suc j) = let d = size_doubles initial j in let e : 2 ^ (j + 1) ≡ 2 ^ suc j = ap (λ n. 2 ^ n) (add-one j) in let f : initial * 2 ^ (j + 1) ≡ initial * 2 ^ suc j = ap (λ n. initial * n) e in omega arith
 
-pub segment_dealt : (k : Lists) (traced : Bool) (j first end n : ℕ) → size k ≤ k.config.max → first ≡ segment_from k.config.initial j → end ≡ end_of k.config.initial k.config.max j → end ≤ n → (n ≤ end) ⊎ (n ≡ first)
-    → undealt traced k n ≡ undealt traced k (segment_from k.config.initial (j + 1))
+pub segment_dealt : (k : Lists) (traced : Bool) (j first end n : ℕ) → size k ≤ k.config.max → first ≡ start_of k.config.initial j → end ≡ end_of k.config.initial k.config.max j → end ≤ n → (n ≤ end) ⊎ (n ≡ first)
+    → undealt traced k n ≡ undealt traced k (start_of k.config.initial (j + 1))
 segment_dealt k traced j first end n fits begin last past until =
-    let next : segment_from k.config.initial (j + 1) ≡ k.config.initial * 2 ^ j = next_begins k.config.initial j in let low : segment_from k.config.initial j ≤ k.config.initial * 2 ^ j = begins_low k.config.initial j in
+    let next : start_of k.config.initial (j + 1) ≡ k.config.initial * 2 ^ j = next_begins k.config.initial j in let low : start_of k.config.initial j ≤ k.config.initial * 2 ^ j = begins_low k.config.initial j in
     dite (dec_le (k.config.initial * 2 ^ j) k.config.max)
-    (λ inside. let is : n ≡ segment_from k.config.initial (j + 1) = ⊎_elim (λ h. let e : n ≡ segment_from k.config.initial (j + 1) = omega arith in e) (λ h. let e : n ≡ segment_from k.config.initial (j + 1) = omega arith in e) until in ap (undealt traced k) is)
-    (λ outside. undealt-past k n (segment_from k.config.initial (j + 1)) traced (omega arith) (omega arith))
+    (λ inside. let is : n ≡ start_of k.config.initial (j + 1) = ⊎_elim (λ h. let e : n ≡ start_of k.config.initial (j + 1) = omega arith in e) (λ h. let e : n ≡ start_of k.config.initial (j + 1) = omega arith in e) until in ap (undealt traced k) is)
+    (λ outside. undealt-past k n (start_of k.config.initial (j + 1)) traced (omega arith) (omega arith))
 
 -- all segments up to that of the last bucket have all buckets
-pub all_dealt : (k : Lists) (traced : Bool) (last : ℕ) → size k - 1 < k.config.initial * 2 ^ last → undealt traced k (segment_from k.config.initial (last + 1)) ≡ first_seat false k
-all_dealt k traced last above = let next : segment_from k.config.initial (last + 1) ≡ k.config.initial * 2 ^ last = next_begins k.config.initial last in undealt-all k (segment_from k.config.initial (last + 1)) traced (omega arith)
+pub all_dealt : (k : Lists) (traced : Bool) (last : ℕ) → size k - 1 < k.config.initial * 2 ^ last → undealt traced k (start_of k.config.initial (last + 1)) ≡ first_seat false k
+all_dealt k traced last above = let next : start_of k.config.initial (last + 1) ≡ k.config.initial * 2 ^ last = next_begins k.config.initial last in undealt-all k (start_of k.config.initial (last + 1)) traced (omega arith)

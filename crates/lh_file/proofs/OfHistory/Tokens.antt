@@ -16,7 +16,7 @@ use Rattle.lh_file.specs.Settling.Settled.{map_in}
 use Rattle.lh_file.specs.Words.Rule.{Each, rights_of, HasLimits, IsRule, words_of}
 use Rattle.lh_file.specs.Words.Seats.{holder, with_token, partless, token_of}
 use Rattle.lh_file.specs.Words.Sums.{total, times}
-use Rattle.lh_file.specs.Words.Table.{shown, Holds}
+use Rattle.lh_file.specs.Words.Table.{shown, IsFileTable}
 use Rattle.lh_file.specs.Words.Views.{spent}
 use Rattle.lh_file.specs.declared.words.numbers.FileWords.{FileWords}
 use Rattle.lh_file.specs.declared.words.seat_view.SeatView.{SeatView}
@@ -93,7 +93,7 @@ module _ (k : Lists) (words : FileWords) (seats : List SeatView) (id : ℕ) (d :
 
 module _ (traced : Bool) (k : Lists) where
   -- the buckets go to a seat of their own
-  pub backs : (id : ℕ) (d : SeatView) → Splits (Holds traced k) id d (partless d) (token_of d)
+  pub backs : (id : ℕ) (d : SeatView) → Splits (IsFileTable traced k) id d (partless d) (token_of d)
   backs id d s o me = record {
     wide = o.wide;
     rule = with_spent k.config.initial k.config.max (words_of s.words) s.views id d (partless d) d.parts me refl o.rule;
@@ -101,7 +101,7 @@ module _ (traced : Bool) (k : Lists) where
   }
 
   -- a hand takes a bucket's seat in
-  pub takes : (id other : ℕ) (d : SeatView) (ps : List Seen) → Joins (Holds traced k) id d other (holder ps) (with_token d (holder ps)) (holder [])
+  pub takes : (id other : ℕ) (d : SeatView) (ps : List Seen) → Joins (IsFileTable traced k) id d other (holder ps) (with_token d (holder ps)) (holder [])
   takes id other d ps s o me apart it = let a : SeatView = with_token d (holder ps) in
       let itself : get_elem? s.views other ≡ some (holder ps) = was_there s.views id other a (holder ps) apart it in
       let same : map shown (set (set s.views id a) other (holder [])) ≡ map shown s.views =

@@ -1,4 +1,4 @@
--- Records that are those of a map, each in the bucket of its address.
+-- Records that are those of a map, each in the bucket of its address
 use Rattle.std.proofs.Common.{◌≡◌, ◌≢◌, ℕ, zero, suc, ◌+◌, ◌<◌, ◌≤◌, Bool, true, false, cond, ◌||◌, nat_eq, ⊎_elim, List, [], ◌∷◌, ◌++◌, map, length, Option, Some, None, is_some, refl, sym, ap, subst, ◌∙◌, arith, append-nil}
 use Rattle.std.specs.Option.{option_to_list, IsSome}
 use Rattle.std.specs.Str.{bytes_eq}

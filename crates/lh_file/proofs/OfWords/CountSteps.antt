@@ -16,12 +16,12 @@ use Rattle.lh_file.specs.History.Buckets.{owns, HasServedCall}
 use Rattle.lh_file.specs.History.History.{History}
 use Rattle.lh_file.specs.Words.Sums.{times, once_below}
 use Rattle.lh_file.specs.Words.Rule.{rights_of, IsRule, words_of}
-use Rattle.lh_file.specs.Words.Seats.{with_view, acted}
-use Rattle.lh_file.specs.Words.Table.{shown, Holds}
+use Rattle.lh_file.specs.Words.Seats.{with_view, with_act}
+use Rattle.lh_file.specs.Words.Table.{shown, IsFileTable}
 use Rattle.lh_file.specs.Words.Plays.{Seated, loaded_inserts, loaded_deletes, lent_out, drawn, told, counted_insert, counted_delete}
 use Rattle.lh_file.specs.Words.Views.{stamped_with, floored}
 use Rattle.lh_file.specs.declared.words.numbers.FileWords.{FileWords}
-use Rattle.lh_file.specs.declared.words.places.TheConstants.{STAMPS, INSERTS, DELETES}
+use Rattle.lh_file.specs.declared.words.offsets.TheConstants.{STAMPS, INSERTS, DELETES}
 use Rattle.lh_file.specs.declared.words.view.View.{View}
 use Rattle.lh_file.proofs.OfHistory.Acting.{lends, acts}
 use Rattle.lh_file.proofs.OfHistory.Quiet.{quiet}
@@ -96,7 +96,7 @@ module _ (initial max : ℕ) where
   }
 
 module _ (traced : Bool) (k : Lists) where
-  pub loads_inserts : (slots id : ℕ) (m : Seated) → 0 < m.0.view.initial → Allows (Holds traced k) slots id m INSERTS (λ n. n) (loaded_inserts (step slots INSERTS 0 0 none) m)
+  pub loads_inserts : (slots id : ℕ) (m : Seated) → 0 < m.0.view.initial → Allows (IsFileTable traced k) slots id m INSERTS (λ n. n) (loaded_inserts (step slots INSERTS 0 0 none) m)
   loads_inserts slots id m live s o _ me _ = let rule = o.rule in let v : View = m.0.view in let vs : List View = map shown s.views in let there = at_map shown s.views id m.0 me in (
     m.0,
     keeps,
@@ -112,7 +112,7 @@ module _ (traced : Bool) (k : Lists) where
     ),
   )
 
-  pub loads_deletes : (slots id : ℕ) (m : Seated) → 0 < m.0.view.initial → Allows (Holds traced k) slots id m DELETES (λ n. n) (loaded_deletes (step slots DELETES 0 0 none) m)
+  pub loads_deletes : (slots id : ℕ) (m : Seated) → 0 < m.0.view.initial → Allows (IsFileTable traced k) slots id m DELETES (λ n. n) (loaded_deletes (step slots DELETES 0 0 none) m)
   loads_deletes slots id m live s o _ me _ = let rule = o.rule in let v : View = m.0.view in let vs : List View = map shown s.views in let there = at_map shown s.views id m.0 me in (
     m.0,
     keeps,
@@ -125,16 +125,16 @@ module _ (traced : Bool) (k : Lists) where
 
   -- a stamp is drawn, by a seat that enters an act with it
   draws : (slots id : ℕ) (m : Seated) (lent : Bool) (call : Call) (given : Reply) (parts : List Seen) → 0 < m.0.view.initial → 0 < m.0.view.left
-      → (s : Words) → Holds traced k s → get_elem? s.views id ≡ some m.0
-      → (let q : ℕ = get_or s.words STAMPS 0 in traced ≡ true → History k (words_of s.words) s.views → History k (record (words_of s.words) { stamps = q + 1 }) (set s.views id (acted lent call given parts q m.0)))
-      → (let q : ℕ = get_or s.words STAMPS 0 in Holds traced k (stepped s STAMPS ((q + 1) % 2 ^ 64) id m.1 (acted lent call given parts q m.0) keeps)
+      → (s : Words) → IsFileTable traced k s → get_elem? s.views id ≡ some m.0
+      → (let q : ℕ = get_or s.words STAMPS 0 in traced ≡ true → History k (words_of s.words) s.views → History k (record (words_of s.words) { stamps = q + 1 }) (set s.views id (with_act lent call given parts q m.0)))
+      → (let q : ℕ = get_or s.words STAMPS 0 in IsFileTable traced k (stepped s STAMPS ((q + 1) % 2 ^ 64) id m.1 (with_act lent call given parts q m.0) keeps)
       × All (λ x. x < q) m.0.view.stamps × (m.0.view.floor ≤ q) × (m.0.view.inserted + m.0.view.deleted ≤ length m.0.view.stamps))
   draws slots id m lent call given parts live some_left s o me past = let q : ℕ = get_or s.words STAMPS 0 in let rule = o.rule in let v : View = m.0.view in
       let vs : List View = map shown s.views in let there = at_map shown s.views id m.0 me in
       let b = rule.budget in let t = term_le (λ (u : View). u.left) vs id v there in let f = rule.few id v there in
       let w : View = stamped_with v q in let n : ℕ = (q + 1) % 2 ^ 64 in let new : FileWords = record (words_of s.words) { stamps = q + 1 } in
       let len = length-append v.stamps (q ∷ []) in (
-        after_step traced k s o STAMPS id n m (acted lent call given parts q m.0) new me (stamps_stored s.words n (q + 1) o.wide (omega arith))
+        after_step traced k s o STAMPS id n m (with_act lent call given parts q m.0) new me (stamps_stored s.words n (q + 1) o.wide (omega arith))
             (recounted k.config.initial k.config.max (words_of s.words) new vs rule id v w there live refl (refl, refl, refl, refl) (omega arith) (let fl = rule.floors id v there in omega arith)
             (λ x. omega (arith, times-append x v.stamps (q ∷ []), once-more x q))
             (omega arith) (omega arith) (omega arith) (omega arith) (omega arith))
@@ -145,11 +145,11 @@ module _ (traced : Bool) (k : Lists) where
       )
 
   pub lends_stamp : (slots id : ℕ) (m : Seated) (call : Call) (given : Reply) → 0 < m.0.view.initial → 0 < m.0.view.left
-      → Allows (Holds traced k) slots id m STAMPS (λ n. (n + 1) % 2 ^ 64) (lent_out call given (step slots STAMPS 1 0 none) m)
+      → Allows (IsFileTable traced k) slots id m STAMPS (λ n. (n + 1) % 2 ^ 64) (lent_out call given (step slots STAMPS 1 0 none) m)
   lends_stamp slots id m call given live some_left s o _ me _ = let q : ℕ = get_or s.words STAMPS 0 in
       let drawn = draws slots id m true call given m.0.parts live some_left s o me
       (λ _. lends k (words_of s.words) (record (words_of s.words) { stamps = q + 1 }) s.views id m.0 me refl refl call given) in (
-        acted true call given m.0.parts q m.0,
+        with_act true call given m.0.parts q m.0,
         keeps,
         tt,
         drawn.0,
@@ -157,11 +157,11 @@ module _ (traced : Bool) (k : Lists) where
       )
 
   pub draws_stamp : (slots id : ℕ) (m : Seated) (p r : Seen) (call : Call) (given : Reply) → m.0.parts ≡ p ∷ [] → owns (code_of (key_of call)) p ≡ true → HasServedCall p call given r → 0 < m.0.view.initial → 0 < m.0.view.left
-      → Allows (Holds traced k) slots id m STAMPS (λ n. (n + 1) % 2 ^ 64) (drawn call given r (step slots STAMPS 1 0 none) m)
+      → Allows (IsFileTable traced k) slots id m STAMPS (λ n. (n + 1) % 2 ^ 64) (drawn call given r (step slots STAMPS 1 0 none) m)
   draws_stamp slots id m p r call given has own served live some_left s o _ me _ = let q : ℕ = get_or s.words STAMPS 0 in
       let did = draws slots id m false call given (r ∷ []) live some_left s o me
       (λ _. acts k (words_of s.words) (record (words_of s.words) { stamps = q + 1 }) s.views id m.0 me refl refl p r call given has own served) in (
-        acted false call given (r ∷ []) q m.0,
+        with_act false call given (r ∷ []) q m.0,
         keeps,
         tt,
         did.0,
@@ -169,7 +169,7 @@ module _ (traced : Bool) (k : Lists) where
       )
 
   -- a load of the stamp word tells of the history
-  pub tells : (slots id : ℕ) (m : Seated) → 0 < m.0.view.initial → Allows (Holds traced k) slots id m STAMPS (λ n. n) (told traced k (step slots STAMPS 0 0 none) m)
+  pub tells : (slots id : ℕ) (m : Seated) → 0 < m.0.view.initial → Allows (IsFileTable traced k) slots id m STAMPS (λ n. n) (told traced k (step slots STAMPS 0 0 none) m)
   tells slots id m live s o _ me _ = let q : ℕ = get_or s.words STAMPS 0 in let rule = o.rule in let v : View = m.0.view in let w : View = floored v q in
       let vs : List View = map shown s.views in let there = at_map shown s.views id m.0 me in (
         with_view m.0 w,
@@ -182,7 +182,7 @@ module _ (traced : Bool) (k : Lists) where
       )
 
   pub counts_insert : (slots id : ℕ) (m : Seated) → 0 < m.0.view.initial → m.0.view.inserted + m.0.view.deleted < length m.0.view.stamps
-      → Allows (Holds traced k) slots id m INSERTS (λ n. (n + 1) % 2 ^ 64) (counted_insert (step slots INSERTS 1 0 none) m)
+      → Allows (IsFileTable traced k) slots id m INSERTS (λ n. (n + 1) % 2 ^ 64) (counted_insert (step slots INSERTS 1 0 none) m)
   counts_insert slots id m live room s o _ me _ = let c : ℕ = get_or s.words INSERTS 0 in let rule = o.rule in let v : View = m.0.view in
       let vs : List View = map shown s.views in let there = at_map shown s.views id m.0 me in
       let b = rule.budget in let f = few_enough k.config.initial k.config.max (words_of s.words) vs rule in
@@ -198,7 +198,7 @@ module _ (traced : Bool) (k : Lists) where
       )
 
   pub counts_delete : (slots id : ℕ) (m : Seated) → 0 < m.0.view.initial → m.0.view.inserted + m.0.view.deleted < length m.0.view.stamps
-      → Allows (Holds traced k) slots id m DELETES (λ n. (n + 1) % 2 ^ 64) (counted_delete (step slots DELETES 1 0 none) m)
+      → Allows (IsFileTable traced k) slots id m DELETES (λ n. (n + 1) % 2 ^ 64) (counted_delete (step slots DELETES 1 0 none) m)
   counts_delete slots id m live room s o _ me _ = let c : ℕ = get_or s.words DELETES 0 in let rule = o.rule in let v : View = m.0.view in
       let vs : List View = map shown s.views in let there = at_map shown s.views id m.0 me in
       let b = rule.budget in let f = few_enough k.config.initial k.config.max (words_of s.words) vs rule in

@@ -10,7 +10,8 @@ use Rattle.lh_file.specs.Words.Views.{rooted}
 use Rattle.lh_file.specs.declared.fault.FileFault.{FileFault}
 use Rattle.lh_file.specs.declared.fault.FileFault.TheVariants.{Spent, Memory, Defect}
 
--- The hand is as it was, but that it may have seen more buckets since: its right to split, its stamps, its counts, its acts and what it may still draw are as before.
+-- The hand is as it was, but that it may have seen more buckets since: its right to split, its stamps, its counts, its
+-- acts and what it may still draw are as before.
 pub record HasLooked (old new : HandState) : Type 0 where
   pub known : ℕ
   pub rises : old.view.known ≤ known
@@ -20,7 +21,9 @@ pub record HasLooked (old new : HandState) : Type 0 where
   pub table : new.table ≡ old.table
   pub recording : new.recording ≡ old.recording
 
--- The hand made one call, which was answered so: it drew exactly one stamp, greater than all that it had, and may draw one less; its counts rose by the reply; and where the file records, it keeps the act. It may have seen more buckets, and its right to split is as before.
+-- The hand made one call, which was answered so: it drew exactly one stamp, greater than all that it had, and may
+-- draw one less; its counts rose by the reply; and where the file records, it keeps the act. It may have seen more
+-- buckets, and its right to split is as before.
 pub record HasServed (old : HandState) (call : Call) (reply : Reply) (new : HandState) : Type 0 where
   pub stamp : ℕ
   pub known : ℕ
@@ -44,8 +47,10 @@ IsNotSpent (Spent left) = ⊥
 IsNotSpent Memory = Unit {0}
 IsNotSpent (Defect wanted_bucket wanted_level found_bucket found_level) = Unit {0}
 
--- What every call promises: of the file, of its hand before, of the call that was asked for, of its result, and of its hand after
-pub record Serves (file : FileState) (old : HandState) (asked : Call) (result : Result Answered FileFault) (new : HandState) : Type 0 where
+-- What every call promises: of the file, of its hand before, of the call that was
+-- asked for, of its result, and of its hand after
+pub record Serves (file : FileState) (old : HandState) (asked : Call)
+    (result : Result Answered FileFault) (new : HandState) : Type 0 where
   -- The answer is to this very call,
   pub call : IfOk result (λ a. a.call ≡ asked)
   -- which the hand has made, with the reply of the answer.

@@ -35,7 +35,9 @@ pub record History (opening : Lists) (words : FileWords) (seats : List SeatView)
   pub mirror : Each seats (λ seat. Each seat.parts (Mirrors (left_after (map_in opening) log)))
   -- Each code belongs to exactly one bucket of all
   pub one : (code : ℕ) → total (owners code) seats ≡ 1
-  -- Each bucket has its number and level in a file of the root's size, or of one bucket more between a split's move and its pointer
-  pub placed : Each seats (λ seat. Each seat.parts (IsPlacedIn opening.config.initial (buckets_of words.root + total moves_in seats)))
+  -- Each bucket has its number and level in a file of the root's size, or of one
+  -- bucket more between a split's move and its pointer
+  pub placed : Each seats (λ seat. Each seat.parts
+      (IsPlacedIn opening.config.initial (buckets_of words.root + total moves_in seats)))
   -- Who has moved a split has the right to split
   pub movers : Each seats (λ seat. moves_in seat ≤ rights_of seat.view)

@@ -6,8 +6,8 @@ use Rattle.lh_file.specs.Words.Rule.{rights_of}
 use Rattle.lh_file.specs.declared.words.hand.Hand.TheInside.{Inside}
 
 -- what contracts see of the fields
-abbrev pub state_of : Inside → HandState
-state_of hand = record {
+abbrev pub hand_state_of : Inside → HandState
+hand_state_of hand = record {
   table = hand.seat.table_id;
   view = hand.seat.me.0.view;
   recording = hand.recording;
@@ -16,7 +16,8 @@ state_of hand = record {
   room = vec_capacity hand.acts - vec_len hand.acts;
 }
 
--- the fields say what the hand's view says, no bucket lies with the hand, it has moved no split, its stamps are those of its acts, and it keeps their lines where the file records
+-- the fields say what the hand's view says, no bucket lies with the hand, it has moved no split, its stamps are those
+-- of its acts, and it keeps their lines where the file records
 pub record IsHand (hand : Inside) : Type 0 where
   pub known : hand.known ≡ hand.seat.me.0.view.known
   pub right : hand.has_right ≡ hand.seat.me.0.view.has_right

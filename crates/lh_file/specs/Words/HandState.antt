@@ -1,12 +1,13 @@
 -- What contracts see of a hand
 use Rattle.std.specs.Prelude.{◌≡◌, ℕ, Bool, List, [], ◌++◌}
 use Rattle.atomic_table.specs.Seated.{TableId}
-use Rattle.lh_file.specs.Words.Views.{rooted, branch, joined}
+use Rattle.lh_file.specs.Words.Views.{rooted, branch, joined_views}
 use Rattle.lh_file.specs.declared.act.ActLine.{ActLine}
 use Rattle.lh_file.specs.declared.words.seat_view.Entry.{Entry}
 use Rattle.lh_file.specs.declared.words.view.View.{View}
 
--- the table that a hand belongs to, what the rule knows of it, whether its file records, what the rule knows of its acts, those that it keeps, and for how many more it has room
+-- the table that a hand belongs to, what the rule knows of it, whether its file records, what the rule knows of its
+-- acts, those that it keeps, and for how many more it has room
 pub record HandState : Type 0 where
   pub table : TableId
   pub view : View
@@ -35,7 +36,8 @@ pub record IsSame (old new : HandState) : Type 0 where
   pub entries : new.entries ≡ old.entries
   pub acts : new.acts ≡ old.acts
 
--- a hand that got this many calls of another: it knows the root that the other knows, has no right and no stamps, and has done nothing
+-- a hand that got this many calls of another: it knows the root that the other knows,
+-- has no right and no stamps, and has done nothing
 pub record IsBranch (calls : ℕ) (old new : HandState) : Type 0 where
   pub table : new.table ≡ old.table
   pub recording : new.recording ≡ old.recording
@@ -47,6 +49,6 @@ pub record IsBranch (calls : ℕ) (old new : HandState) : Type 0 where
 pub record IsJoined (first second new : HandState) : Type 0 where
   pub table : new.table ≡ first.table
   pub recording : new.recording ≡ first.recording
-  pub view : new.view ≡ joined first.view second.view
+  pub view : new.view ≡ joined_views first.view second.view
   pub entries : new.entries ≡ first.entries ++ second.entries
   pub acts : new.acts ≡ first.acts ++ second.acts

@@ -1,4 +1,5 @@
--- What each kind of atomic step does to the hand that takes it, and tells: of the step, the seat before it, the number that it found, and the seat after
+-- What each kind of atomic step does to the hand that takes it, and tells: of the step, the seat before
+-- it, the number that it found, and the seat after
 use Rattle.std.specs.Prelude.{◌≡◌, ◌≢◌, ℕ, ◌+◌, ◌*◌, ◌%◌, ◌<◌, ◌≤◌, ◌^◌, Bool, true, false, [], ◌∷◌, length, All}
 use Rattle.atomic_table.specs.Table.{Me, Step}
 use Rattle.lh_addr.specs.RootWord.{buckets_of}
@@ -8,7 +9,7 @@ use Rattle.lh_bucket.specs.declared.call.Call.{Call}
 use Rattle.lh_bucket.specs.declared.call.Reply.{Reply}
 use Rattle.lh_file.specs.History.Told.{IsTold}
 use Rattle.lh_file.specs.Words.Rule.{rights_of}
-use Rattle.lh_file.specs.Words.Seats.{with_view, acted, pointed_seat}
+use Rattle.lh_file.specs.Words.Seats.{with_view, with_act, pointed_seat}
 use Rattle.lh_file.specs.Words.Views.{rooted, floored}
 use Rattle.lh_file.specs.declared.words.seat_view.SeatView.{SeatView}
 use Rattle.lh_file.specs.declared.words.view.View.{View}
@@ -17,7 +18,8 @@ use Rattle.lh_file.specs.declared.words.view.View.{View}
 abbrev pub Seated : Type 0
 Seated = Me (Unit {0}) SeatView
 
--- the hand may move the next split of a file of this many buckets: it has the right, it knows that number, it has moved none, and no bucket and no slot lies with it
+-- the hand may move the next split of a file of this many buckets: it has the right, it knows that number, it has moved
+-- none, and no bucket and no slot lies with it
 pub record MayMove (buckets : ℕ) (me : Seated) : Type 0 where
   pub free : me.1 ≡ []
   pub bucketless : me.0.parts ≡ []
@@ -29,27 +31,34 @@ pub record MayMove (buckets : ℕ) (me : Seated) : Type 0 where
 abbrev pub Telling : Type 1
 Telling = Step (Unit {0}) → Seated → ℕ → Seated → Type 0
 
--- a root word that a hand may find: no fewer buckets than it has seen, within its file's limits, and the very word that it knows where it has the right
+-- a root word that a hand may find: no fewer buckets than it has seen, within its file's limits, and the
+-- very word that it knows where it has the right
 pub record IsFound (view : View) (word : ℕ) : Type 0 where
   pub rises : view.known ≤ buckets_of word
   pub least : view.initial ≤ buckets_of word
   pub greatest : buckets_of word + word % 2 ≤ view.max
   pub exact : view.has_right ≡ true → word ≡ 2 * view.known + 1
 
+-- a hand that has seen the size that a root word tells, with the right to split or without it
+abbrev pub seen_root : Seated → ℕ → Bool → Seated
+seen_root me word has_right = (with_view me.0 (rooted me.0.view (buckets_of word) has_right), me.1)
+
 -- a load of the root word: the hand has seen its size
 abbrev pub loaded_root : Telling
 loaded_root step before word after =
     IsFound before.0.view word
-    × (after ≡ (with_view before.0 (rooted before.0.view (buckets_of word) before.0.view.has_right), before.1))
+    × (after ≡ seen_root before word before.0.view.has_right)
 
--- a compare-exchange of the root word from even to odd: the hand has the right where it found the word that it expected, and has seen the size that it found
+-- a compare-exchange of the root word from even to odd: the hand has the right where it found the word that it
+-- expected, and has seen the size that it found
 abbrev pub claimed : Telling
 claimed step before word after =
     IsFound before.0.view word
-    × (word ≡ step.first → (before.0.view.has_right ≡ false) × (after ≡ (with_view before.0 (rooted before.0.view (buckets_of word) true), before.1)))
-    × (word ≢ step.first → after ≡ (with_view before.0 (rooted before.0.view (buckets_of word) before.0.view.has_right), before.1))
+    × (word ≡ step.first → (before.0.view.has_right ≡ false) × (after ≡ seen_root before word true))
+    × (word ≢ step.first → after ≡ seen_root before word before.0.view.has_right)
 
--- an addition of 1 to the root word, with the right: the file has one bucket more, the right is given up, and the split is over
+-- an addition of 1 to the root word, with the right: the file has one bucket
+-- more, the right is given up, and the split is over
 abbrev pub pointed : Telling
 pointed step before word after =
     (word ≡ 2 * before.0.view.known + 1)
@@ -58,24 +67,29 @@ pointed step before word after =
 -- a subtraction of 1 from the root word, with the right: it is given up
 abbrev pub dropped : Telling
 dropped step before word after =
-    (word ≡ 2 * before.0.view.known + 1) × (after ≡ (with_view before.0 (rooted before.0.view before.0.view.known false), before.1))
+    (word ≡ 2 * before.0.view.known + 1)
+    × (after ≡ (with_view before.0 (rooted before.0.view before.0.view.known false), before.1))
 
--- an addition of 1 to the stamp word, for an act on a bucket that isn't the file's: the hand drew the number found, which is greater than all that it had
+-- an addition of 1 to the stamp word, for an act on a bucket that isn't the file's: the hand drew the
+-- number found, which is greater than all that it had
 abbrev pub lent_out : Call → Reply → Telling
 lent_out call given step before stamp after =
     All (λ x. x < stamp) before.0.view.stamps
     × (before.0.view.inserted + before.0.view.deleted ≤ length before.0.view.stamps)
-    × (after ≡ (acted true call given before.0.parts stamp before.0, before.1))
+    × (after ≡ (with_act true call given before.0.parts stamp before.0, before.1))
 
--- an addition of 1 to the stamp word, for an act on the file's bucket that lies with the hand, and is this one now: the hand was told of no more acts than the number found
+-- an addition of 1 to the stamp word, for an act on the file's bucket that lies with the hand, and is this one now: the
+-- hand was told of no more acts than the number found
 abbrev pub drawn : Call → Reply → Seen → Telling
 drawn call given bucket step before stamp after =
     All (λ x. x < stamp) before.0.view.stamps
     × (before.0.view.floor ≤ stamp)
     × (before.0.view.inserted + before.0.view.deleted ≤ length before.0.view.stamps)
-    × (after ≡ (acted false call given (bucket ∷ []) stamp before.0, before.1))
+    × (after ≡ (with_act false call given (bucket ∷ []) stamp before.0, before.1))
 
--- a load of the stamp word: the hand was told that there are this many acts, which are no fewer than it was told before; and in a traced file that was opened from this listing, there is a legal log of this many, in which the hand's acts stand
+-- a load of the stamp word: the hand was told that there are this many acts, which are no fewer
+-- than it was told before; and in a traced file that was opened from this listing, there is a legal
+-- log of this many, in which the hand's acts stand
 abbrev pub told : Bool → Lists → Telling
 told traced opening step before word after =
     (after ≡ (with_view before.0 (floored before.0.view word), before.1))
@@ -84,13 +98,16 @@ told traced opening step before word after =
 
 -- an addition of 1 to the count of inserts
 abbrev pub counted_insert : Telling
-counted_insert step before word after = after ≡ (with_view before.0 (record (before.0.view) { inserted = before.0.view.inserted + 1 }), before.1)
+counted_insert step before word after =
+    after ≡ (with_view before.0 (record (before.0.view) { inserted = before.0.view.inserted + 1 }), before.1)
 
 -- an addition of 1 to the count of deletes
 abbrev pub counted_delete : Telling
-counted_delete step before word after = after ≡ (with_view before.0 (record (before.0.view) { deleted = before.0.view.deleted + 1 }), before.1)
+counted_delete step before word after =
+    after ≡ (with_view before.0 (record (before.0.view) { deleted = before.0.view.deleted + 1 }), before.1)
 
--- a load of the count of inserts: it is no less than the hand's own; and of any hand the rule bounds what it knows and what it may draw
+-- a load of the count of inserts: it is no less than the hand's own; and of any hand the
+-- rule bounds what it knows and what it may draw
 abbrev pub loaded_inserts : Telling
 loaded_inserts step before word after =
     (before.0.view.inserted ≤ word)

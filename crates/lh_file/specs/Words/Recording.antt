@@ -27,15 +27,19 @@ deletes_of Deleted = 1
 deletes_of Replaced = 0
 
 -- the seat counted the reply of an act
-abbrev pub counted : Reply → SeatView → SeatView
-counted reply seat = with_view seat (record (seat.view) { inserted = seat.view.inserted + inserts_of reply; deleted = seat.view.deleted + deletes_of reply })
+abbrev pub with_counts : Reply → SeatView → SeatView
+with_counts reply seat = with_view seat (record (seat.view) {
+  inserted = seat.view.inserted + inserts_of reply;
+  deleted = seat.view.deleted + deletes_of reply;
+})
 
 -- what is kept of an act: its line where the file records, else nothing
 abbrev pub kept_of : Bool → ActLine → List ActLine
 kept_of true line = line ∷ []
 kept_of false line = []
 
--- The hand drew exactly one stamp, greater than all that it had, and may draw one less; its counts rose by the reply; and where the file records, it keeps the line. Its right to split and what it knows of the root are as before.
+-- The hand drew exactly one stamp, greater than all that it had, and may draw one less; its counts rose by the reply;
+-- and where the file records, it keeps the line. Its right to split and what it knows of the root are as before.
 pub record IsAct (old : HandState) (stamp : ℕ) (call : Call) (reply : Reply) (new : HandState) : Type 0 where
   pub newest : All (λ x. x < stamp) old.view.stamps
   pub view : new.view ≡ record (old.view) {

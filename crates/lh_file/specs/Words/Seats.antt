@@ -5,9 +5,9 @@ use Rattle.lh_bucket.specs.Bucket.{Seen}
 use Rattle.lh_bucket.specs.Listing.{Lists, size, list_at}
 use Rattle.lh_bucket.specs.declared.call.Call.{Call}
 use Rattle.lh_bucket.specs.declared.call.Reply.{Reply}
-use Rattle.lh_file.specs.Buckets.Segments.{head_of}
+use Rattle.lh_file.specs.Buckets.Segments.{listed_head}
 use Rattle.lh_file.specs.History.Log.{entry}
-use Rattle.lh_file.specs.Words.Views.{Sizes, first_view, spent, rooted, stamped_with, lessened, branch, joined}
+use Rattle.lh_file.specs.Words.Views.{Sizes, first_view, spent, rooted, stamped_with, lessened, branch, joined_views}
 use Rattle.lh_file.specs.declared.words.seat_view.SeatView.{SeatView}
 use Rattle.lh_file.specs.declared.words.view.View.{View}
 
@@ -17,7 +17,7 @@ sizes_of opening = record { initial = opening.config.initial; opened = size open
 
 -- the bucket of a listing at a place
 abbrev pub opened_at : Lists → ℕ → Seen
-opened_at opening bucket = record { head = head_of opening bucket; pairs = list_at opening.lists bucket }
+opened_at opening bucket = record { head = listed_head opening bucket; pairs = list_at opening.lists bucket }
 
 -- the buckets of a listing
 abbrev pub buckets_in : Lists → List Seen
@@ -41,8 +41,8 @@ abbrev pub with_view : SeatView → View → SeatView
 with_view seat view = record seat { view = view }
 
 -- the seat made an act, lent or not: it has one stamp and one entry more, and these buckets
-abbrev pub acted : Bool → Call → Reply → List Seen → ℕ → SeatView → SeatView
-acted lent call given parts stamp seat = record {
+abbrev pub with_act : Bool → Call → Reply → List Seen → ℕ → SeatView → SeatView
+with_act lent call given parts stamp seat = record {
   view = stamped_with seat.view stamp;
   entries = seat.entries ++ entry lent stamp call given ∷ [];
   parts = parts;
@@ -78,8 +78,8 @@ abbrev pub moved_by : Bool → SeatView → SeatView
 moved_by traced seat = record seat { moved = traced }
 
 -- a bucket that is no file's
-abbrev pub no_bucket : Seen
-no_bucket = record { head = record { number = 0; initial = 1; capacity = 1; level = None }; pairs = [] }
+abbrev pub unowned_bucket : Seen
+unowned_bucket = record { head = record { number = 0; initial = 1; capacity = 1; level = None }; pairs = [] }
 
 -- what no file was opened from
 abbrev pub no_listing : Lists
@@ -96,7 +96,7 @@ branch_seat calls seat = record { view = branch calls seat.view; entries = []; p
 -- the seats of two hands in one
 abbrev pub joined_seats : SeatView → SeatView → SeatView
 joined_seats first second = record {
-  view = joined first.view second.view;
+  view = joined_views first.view second.view;
   entries = first.entries ++ second.entries;
   parts = first.parts ++ second.parts;
   moved = first.moved;

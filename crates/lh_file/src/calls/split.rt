@@ -149,8 +149,8 @@ impl<G: Gate, M: Mode, J: Room> HashFile<G, M, J> {
         self.gate.at(Point::Moved { old, new });
         Ok(())
     }
-    /// Divides the records of the two buckets of the next split in their slots, which the caller has locked. In a traced
-    /// file the seat of the bucket becomes those of its halves; a bucket without one is a defect of the file.
+    /// Divides the records of the two buckets of the next split in their slots, which the caller has locked. In a
+    /// traced file the seat of the bucket becomes those of its halves; a bucket without one is a defect of the file.
     fn divide_slots<R: Wait>(
         &self,
         rt: &R,

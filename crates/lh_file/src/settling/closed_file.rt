@@ -57,16 +57,17 @@ fn copied(alloc: Global, lists: &[Vec<Pair>]) -> Result<Vec<Vec<Pair>>, Memory>
 }
 
 impl Closed {
+    ghost use Rattle.lh_addr.specs.RootWord.{buckets_of};
     ghost use Rattle.lh_bucket.specs.Listing.{count_of};
     ghost use Rattle.lh_bucket.specs.ListingFault.{IsFaultOf};
-    ghost use Rattle.lh_file.specs.Settling.ClosedFile.{IsClosed, size_of};
+    ghost use Rattle.lh_file.specs.Settling.ClosedFile.{IsClosed};
 
     /// A closed file of these parts, such as one that is to be settled by hand: its configuration, its root
     /// word, which is twice its number of buckets, and one more while a hand had the right to split, its
     /// number of stamps, and the records of each bucket.
     pub fn new(config: Config, root: u64, stamps: u64, lists: Vec<Vec<Pair>>) -> Closed
-        requires from_initial { config.initial ≤ size_of root }
-        requires to_max { size_of root ≤ config.max }
+        requires from_initial { config.initial ≤ buckets_of root }
+        requires to_max { buckets_of root ≤ config.max }
         requires few { length lists.items ≤ config.max }
         ensures { result ≡ record {
           config = config;
@@ -87,8 +88,8 @@ impl Closed {
         lists: Vec<Vec<Pair>>,
         gathered: bool,
     ) -> Closed
-        requires from_initial { config.initial ≤ size_of root }
-        requires to_max { size_of root ≤ config.max }
+        requires from_initial { config.initial ≤ buckets_of root }
+        requires to_max { buckets_of root ≤ config.max }
         requires few { length lists.items ≤ config.max }
         ensures { result ≡ record {
           config = config;
@@ -117,7 +118,7 @@ impl Closed {
 
     /// The number of buckets, those of a split under way not counted twice.
     pub fn buckets(&self) -> u32
-        ensures value { result ≡ size_of self.now.root }
+        ensures value { result ≡ buckets_of self.now.root }
         ensures kept { IsClosed self.now }
     {
         (self.root / 2) as u32
@@ -139,8 +140,8 @@ impl Closed {
     }
 
     /// Whether the file was traced, each of its buckets was met with its seat, and no bucket past them had a record. A
-    /// file that was traced never answers no, as far as is known; nothing proves it, and one comparison a bucket tells it.
-    /// Where it is so, what the hands have done needs no settling: see [`HashFile::close`](crate::HashFile::close).
+    /// file that was traced never answers no, as far as is known; nothing proves it, and one comparison a bucket tells
+    /// it. Where it is so, what the hands have done needs no settling: see [`HashFile::close`](crate::HashFile::close).
     pub fn gathered(&self) -> bool
         ensures { result ≡ self.now.gathered }
     {
@@ -163,10 +164,10 @@ impl Closed {
     pub fn listing(&self) -> Result<Listing, ListingFault>
         ensures ok { IfOk result (λ listing. listing ≡ record {
           config = self.now.config;
-          lists = take (size_of self.now.root) self.now.lists;
+          lists = take (buckets_of self.now.root) self.now.lists;
         }) }
-        ensures err { IfErr result (IsFaultOf self.now.config (size_of self.now.root)
-            (take (size_of self.now.root) self.now.lists)) }
+        ensures err { IfErr result (IsFaultOf self.now.config (buckets_of self.now.root)
+            (take (buckets_of self.now.root) self.now.lists)) }
     {
         let alloc = *self.lists.allocator();
         let buckets = self.buckets();
@@ -182,9 +183,10 @@ impl Closed {
     pub fn into_listing(self) -> Result<Listing, ListingFault>
         ensures ok { IfOk result (λ listing. listing ≡ record {
           config = self.config;
-          lists = take (size_of self.root) self.lists;
+          lists = take (buckets_of self.root) self.lists;
         }) }
-        ensures err { IfErr result (IsFaultOf self.config (size_of self.root) (take (size_of self.root) self.lists)) }
+        ensures err { IfErr result (IsFaultOf self.config (buckets_of self.root)
+            (take (buckets_of self.root) self.lists)) }
     {
         let alloc = *self.lists.allocator();
         let buckets = self.buckets();

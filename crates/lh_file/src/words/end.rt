@@ -8,7 +8,7 @@ use crate::buckets::slot::Slot;
 use crate::words::Words;
 use crate::words::mode::Mode;
 use crate::words::numbers::FileWords;
-use crate::words::places::{DELETES, INSERTS, ROOT, STAMPS};
+use crate::words::offsets::{DELETES, INSERTS, ROOT, STAMPS};
 use crate::words::plays::TakeIn;
 use crate::words::seat_view::SeatView;
 use atomic_table::{Perch, Seat};

@@ -8,7 +8,7 @@ ghost use Rattle.lh_bucket.specs.declared.call.Call.TheVariants.{Search};
 ghost use Rattle.lh_bucket.specs.declared.call.Reply.{Reply};
 ghost use Rattle.lh_bucket.specs.declared.call.Reply.TheVariants.{Absent};
 ghost use Rattle.lh_file.specs.Words.Dealing.{dealt_seat, dealt_token};
-ghost use Rattle.lh_file.specs.Words.Seats.{holder, no_bucket, no_listing, with_token, partless, token_of, mover, upper_half, lessened_seat, branch_seat, joined_seats};
+ghost use Rattle.lh_file.specs.Words.Seats.{holder, unowned_bucket, no_listing, with_token, partless, token_of, mover, upper_half, lessened_seat, branch_seat, joined_seats};
 ghost use Rattle.lh_file.specs.Words.Plays.{loaded_root, claimed, pointed, dropped, lent_out, drawn, told, counted_insert, counted_delete, loaded_inserts, loaded_deletes};
 
 use crate::words::mode::Mode;
@@ -60,7 +60,7 @@ impl Deed for Brand {
 
     ghost reply = { Absent };
 
-    ghost bucket = { no_bucket };
+    ghost bucket = { unowned_bucket };
 }
 
 /// An addition of 1 to the stamp word, for an act on a bucket that isn't the file's.
@@ -144,9 +144,9 @@ pub trait Halves {
 }
 
 impl Halves for Brand {
-    ghost low = { no_bucket };
+    ghost low = { unowned_bucket };
 
-    ghost high = { no_bucket };
+    ghost high = { unowned_bucket };
 }
 
 /// A load of the root word with which the seat of a bucket that was split becomes those of its halves.
