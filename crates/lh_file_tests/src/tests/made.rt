@@ -4,7 +4,7 @@ ghost use Rattle.std.specs.Prelude.{IfOk, IfSome};
 ghost use Rattle.lh_file.specs.FileState.{IsOf};
 
 use lh_addr::Config;
-use lh_file::{Acts, Closed, Gate, Hand, HashFile, Memory};
+use lh_file::{Acts, Closed, Gate, Hand, HashFile, Memory, Mode, Right, Room};
 use std::alloc::Global;
 use std::sync::Wait;
 
@@ -26,6 +26,21 @@ pub(crate) fn second_of<G: Gate>(file: &HashFile<G>, first: &mut Hand, calls: u6
     ensures second { IfSome result (IsOf file.now.state) }
 {
     file.split_hand(first, calls).ok()
+}
+
+/// Splits a bucket, where the right to do so is free: whether it was split.
+pub(crate) fn split_once<G: Gate, M: Mode, J: Room, R: Wait>(
+    rt: &R,
+    file: &HashFile<G, M, J>,
+    hand: &mut Hand,
+) -> bool
+    requires { IsOf file.now.state hand.old }
+    ensures { IsOf file.now.state hand.new }
+{
+    if let Right::Got { .. } = file.try_split_right(hand) {
+        return file.split(rt, hand).is_ok();
+    }
+    false
 }
 
 /// One hand of two, unless the second has the right to split or there is no memory.

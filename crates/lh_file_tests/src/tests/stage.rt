@@ -92,6 +92,11 @@ impl Log {
         }
     }
 
+    /// Whether these points were met, in their order, and no others.
+    pub(crate) fn is_just(&self, points: &[Point]) -> bool {
+        self.count.load(Ordering::SeqCst) == points.len() as u64 && self.ends_with(points)
+    }
+
     /// Whether these points were the last that were met.
     pub(crate) fn ends_with(&self, points: &[Point]) -> bool {
         let count = self.count.load(Ordering::SeqCst) as usize;

@@ -1,0 +1,157 @@
+//! Traced files, whose calls stand at the points at which those of untraced ones stand.
+ghost use Rattle.std.specs.Prelude.{◌≡◌, true};
+ghost use Rattle.lh_file.specs.Buckets.Rooms.{IsRoomOf};
+ghost use Rattle.lh_file.specs.FileState.{IsOf};
+
+use super::made::{made, split_once};
+use super::stage::{Log, Progress, Stage};
+use lh_addr::Config;
+use lh_bucket::{Listing, Reply};
+use lh_file::{Gate, Hand, HashFile, Mode, Opening, Point, Room};
+use lh_page::{Key, Value};
+use std::marker::Brand;
+use std::sync::Wait;
+use std::test::Fail;
+
+/// Inserts three records by one letter each, the last of which splits a bucket. The replies.
+fn inserts<G: Gate, M: Mode, J: Room, R: Wait>(
+    rt: &R,
+    file: &HashFile<G, M, J>,
+    hand: &mut Hand,
+) -> Option<[Reply; 3]>
+    requires { IsOf file.now.state hand.old }
+    ensures { IsOf file.now.state hand.new }
+{
+    let value = Value::new(b"1").ok()?;
+    let first = file.insert(rt, hand, Key::new(b"a").ok()?, value).ok()?;
+    let second = file.insert(rt, hand, Key::new(b"b").ok()?, value).ok()?;
+    let third = file.insert(rt, hand, Key::new(b"c").ok()?, value).ok()?;
+    Some([first.reply(), second.reply(), third.reply()])
+}
+
+/// A call of each other kind by the second letter, and one that misses it. The replies.
+fn others<G: Gate, M: Mode, J: Room, R: Wait>(
+    rt: &R,
+    file: &HashFile<G, M, J>,
+    hand: &mut Hand,
+) -> Option<[Reply; 4]>
+    requires { IsOf file.now.state hand.old }
+    ensures { IsOf file.now.state hand.new }
+{
+    let key = Key::new(b"b").ok()?;
+    let found = file.search(rt, hand, key).ok()?;
+    let replaced = file.replace(rt, hand, key, Value::new(b"2").ok()?).ok()?;
+    let deleted = file.delete(rt, hand, key).ok()?;
+    let absent = file.search(rt, hand, key).ok()?;
+    Some([
+        found.reply(),
+        replaced.reply(),
+        deleted.reply(),
+        absent.reply(),
+    ])
+}
+
+/// What the calls of one hand were told, and whether the split after them was one.
+type Told = ([Reply; 3], [Reply; 4], bool);
+
+/// Three inserts, a call of each other kind, and a split.
+fn told<G: Gate, M: Mode, J: Room, R: Wait>(
+    rt: &R,
+    file: &HashFile<G, M, J>,
+    mut hand: Hand,
+) -> Option<Told>
+    requires { IsOf file.now.state hand }
+{
+    let three = inserts(rt, file, &mut hand)?;
+    let four = others(rt, file, &mut hand)?;
+    Some((three, four, split_once(rt, file, &mut hand)))
+}
+
+/// The same in a file that is being opened.
+fn told_of<J: Room, R: Wait>(rt: &R, opening: Opening<'_, Stage<'_>>) -> Option<Told>
+    requires { IsRoomOf true J.named J.table opening.table }
+{
+    let (file, hand) = opening.file::<J>().ok()?;
+    told(rt, &file, hand)
+}
+
+/// The points of those calls. A record with the second letter goes to bucket 1 with the first split.
+const POINTS: [Point; 34] = [
+    Point::Read,
+    Point::Holding { bucket: 0 },
+    Point::Acted { bucket: 0 },
+    Point::Released { bucket: 0 },
+    Point::Read,
+    Point::Holding { bucket: 0 },
+    Point::Acted { bucket: 0 },
+    Point::Released { bucket: 0 },
+    Point::Read,
+    Point::Holding { bucket: 0 },
+    Point::Acted { bucket: 0 },
+    Point::Released { bucket: 0 },
+    Point::RightGot,
+    Point::Moved { old: 0, new: 1 },
+    Point::Pointed { buckets: 2 },
+    Point::Read,
+    Point::Holding { bucket: 1 },
+    Point::Acted { bucket: 1 },
+    Point::Released { bucket: 1 },
+    Point::Read,
+    Point::Holding { bucket: 1 },
+    Point::Acted { bucket: 1 },
+    Point::Released { bucket: 1 },
+    Point::Read,
+    Point::Holding { bucket: 1 },
+    Point::Acted { bucket: 1 },
+    Point::Released { bucket: 1 },
+    Point::Read,
+    Point::Holding { bucket: 1 },
+    Point::Acted { bucket: 1 },
+    Point::Released { bucket: 1 },
+    Point::RightGot,
+    Point::Moved { old: 0, new: 2 },
+    Point::Pointed { buckets: 3 },
+];
+
+/// What the calls are told where each is answered as it is due.
+fn due() -> Result<Told, Fail> {
+    Ok((
+        [Reply::Inserted, Reply::Inserted, Reply::Inserted],
+        [
+            Reply::Found(Value::new(b"1")?),
+            Reply::Replaced,
+            Reply::Deleted,
+            Reply::Absent,
+        ],
+        true,
+    ))
+}
+
+#[test]
+fn calls_of_an_untraced_file_pass_these_points(rt: HostRuntime) -> Result<(), Fail> {
+    let (progress, log) = (Progress::new(), Log::new());
+    let gate = Stage {
+        holds: &[],
+        progress: &progress,
+        log: &log,
+    };
+    let (file, hand) = made(rt.alloc(), Config::new(1, 2, 100, 65536)?, gate)?;
+    assert_eq!(rt; told(&rt, &file, hand), Some(due()?));
+    assert!(rt; log.is_just(&POINTS));
+    Ok(())
+}
+
+#[test]
+fn calls_of_a_traced_file_pass_the_same_points(rt: HostRuntime) -> Result<(), Fail> {
+    let (progress, log) = (Progress::new(), Log::new());
+    let gate = Stage {
+        holds: &[],
+        progress: &progress,
+        log: &log,
+    };
+    let listing = Listing::empty(rt.alloc(), Config::new(1, 2, 100, 65536)?)?;
+    let opening = Opening::of(rt.alloc(), &listing, true, gate)?;
+    assert_eq!(rt; told_of::<Brand, _>(&rt, opening), Some(due()?));
+    assert!(rt; log.is_just(&POINTS));
+    Ok(())
+}
