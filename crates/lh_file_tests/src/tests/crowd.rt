@@ -70,8 +70,8 @@ fn call<R: Wait>(rt: &R, file: &HashFile<GiveWay>, hand: &mut Hand, number: u16,
     }
 }
 
-/// Inserts one of three letters in one turn, searches for it in the next one, and deletes it in the one after. Says whether
-/// it was told one of the two replies that there are.
+/// Inserts one of three letters in one turn, searches for it in the next one, and deletes it in the one after. Says
+/// whether it was told one of the two replies that there are.
 fn contend<R: Wait>(rt: &R, file: &HashFile<GiveWay>, hand: &mut Hand, turn: u16) -> bool
     requires { IsOf file.now.state hand.old }
     ensures { IsOf file.now.state hand.new }

@@ -232,8 +232,8 @@ fn join_again<R: Wait>(
 }
 
 /// Two hands insert and search eight letters, change two of them, and are joined. From the fourth letter on each insert
-/// passes the load, and so asks for a split, of which one may be refused: the file then has its old size. None where a call
-/// went wrong.
+/// passes the load, and so asks for a split, of which one may be refused: the file then has its old size. None where a
+/// call went wrong.
 fn used<R: Wait>(
     rt: &R,
     file: &HashFile<NoGate>,
@@ -294,8 +294,8 @@ fn second_again(file: &HashFile<NoGate>, first: &mut Hand) -> Option<Hand>
 /// A file that was closed, its acts, and how many calls were answered.
 type Used = (Closed, Acts, u64);
 
-/// Two hands use a file of pages of one record, so that much of what it does takes memory, and one closes it. None where
-/// a call went wrong.
+/// Two hands use a file of pages of one record, so that much of what it does takes memory, and one closes it. None
+/// where a call went wrong.
 fn used_and_closed<R: Wait>(rt: &R, alloc: Global, config: Config) -> Option<Result<Used, Memory>> {
     let (file, mut first) = made_again(alloc, config).ok()?;
     let second = second_again(&file, &mut first)?;
@@ -353,8 +353,8 @@ fn refused_growth_changes_nothing(rt: HostRuntime) -> Result<(), Fail> {
     Ok(())
 }
 
-/// Two hands take turns to insert letters and to search for them, until a call is refused: the joined hand, and how many
-/// letters were inserted. None where a call went wrong.
+/// Two hands take turns to insert letters and to search for them, until a call is refused: the joined hand, and how
+/// many letters were inserted. None where a call went wrong.
 fn used_until_refused<R: Wait>(
     rt: &R,
     file: &HashFile<NoGate>,

@@ -65,8 +65,8 @@ fn a_replace_asks_for_no_split(rt: HostRuntime) -> Result<(), Fail> {
     Ok(())
 }
 
-/// The load asks for more splits than one. Neither a search, a delete, nor an insert of a key that is there asks for one,
-/// and an insert makes one at most.
+/// The load asks for more splits than one. Neither a search, a delete, nor an insert of a key that is there asks for
+/// one, and an insert makes one at most.
 const ONE_SPLIT_AN_INSERT: [Turn; 15] = [
     (1, Task::TryRight, FIRST_RIGHT),
     (2, Task::Insert(b'a'), Told::Inserted),

@@ -165,8 +165,8 @@ fn room_for<'a>(alloc: Global, threads: u32) -> Option<Vec<PromisedHandle<Hand, 
     }
 }
 
-/// Works in this many threads while this one looks, and joins all hands into the first. A thread that is refused takes no
-/// part.
+/// Works in this many threads while this one looks, and joins all hands into the first. A thread that is refused takes
+/// no part.
 fn work_in_threads<R: Threads + Wait>(
     rt: &R,
     alloc: Global,
@@ -220,7 +220,8 @@ fn has_each_stamp(alloc: Global, acts: &[ActLine], count: usize) -> Result<bool,
     Ok(there.iter().all(|&is| is))
 }
 
-/// This many hands in threads take turns in a file, of two calls each. The file, and the hand into which all were joined.
+/// This many hands in threads take turns in a file, of two calls each. The file, and the hand into which all were
+/// joined.
 pub(crate) fn worked_apart<R: Threads + Wait + Abort>(
     rt: &R,
     alloc: Global,

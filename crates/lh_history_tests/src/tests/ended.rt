@@ -19,8 +19,8 @@ pub(crate) struct Ended {
     pub(crate) settled: Option<usize>,
 }
 
-/// How many acts of a file that was opened from a listing are settled, if they are. Asked for once more where memory was
-/// refused.
+/// How many acts of a file that was opened from a listing are settled, if they are. Asked for once more where memory
+/// was refused.
 fn settled(alloc: Global, listing: &Listing, closed: &Closed, acts: &Acts) -> Option<usize> {
     let history = match settle(alloc, listing, closed, acts) {
         Ok(history) => history,

@@ -13,8 +13,8 @@ use std::marker::Brand;
 use std::sync::Wait;
 use std::test::Fail;
 
-/// Inserts a number, and once more where memory was refused, which is told as no act and takes none of the hand's calls.
-/// Says whether all went as it has to.
+/// Inserts a number, and once more where memory was refused, which is told as no act and takes none of the hand's
+/// calls. Says whether all went as it has to.
 fn insert_again<J: Room, R: Wait>(
     rt: &R,
     file: &File<NoGate, J>,
