@@ -1,5 +1,5 @@
-//! A traced file: two threads book seats, and whatever was done so far is one legal history at any moment. When the file is
-//! closed, that history is settled by proof.
+//! A traced file: two threads book seats, and whatever was done so far is one legal history at any moment. When the
+//! file is closed, that history is settled by proof.
 #![tactic(auto)]
 
 ghost use Rattle.std.specs.Prelude.{true, IfOk, IfSome};
@@ -51,7 +51,8 @@ fn make<J: Room, R: Wait>(rt: &R, file: &File<J>, hand: &mut Hand, call: Call)
     };
 }
 
-/// What one thread does with its hand: it books each seat that is free, looks who has it, and gives up those before `m`.
+/// What one thread does with its hand: it books each seat that is free, looks who has it, and gives up those
+/// before `m`.
 fn book<J: Room, R: Wait>(rt: &R, file: &File<J>, mut hand: Hand, name: u8) -> Booked
     requires { IsOwn file.now.state hand }
     ensures { IsBooked file.now.state result }
@@ -141,8 +142,8 @@ fn book_in_threads<J: Room + Send + Sync, R: Threads + Wait + Sync>(
     )
 }
 
-/// Closes a file. What was done with it is one legal history, and the closed file holds just what that leaves. None where
-/// memory ran out, a call is left with another hand, a bucket wasn't met, or a split is under way.
+/// Closes a file. What was done with it is one legal history, and the closed file holds just what that leaves. None
+/// where memory ran out, a call is left with another hand, a bucket wasn't met, or a split is under way.
 fn close<J: Room, R: Wait>(rt: &R, file: File<J>, hand: Hand) -> Option<(Closed, Acts)>
     requires { IsOwn file.state hand }
     ensures { IfSome result (λ r. Settled file.state.listing r.0 r.1) }
