@@ -138,6 +138,38 @@ fn join_two<M: Mode, J: Room>(
     }
 }
 
+/// Lets all workers begin at once, and waits for them. It is a fault if there are fewer than the order has threads.
+fn shift_of<M: Mode, J: Room, R: Threads + Wait + Clock + CpuClock>(
+    rt: &R,
+    starter: &Starter,
+    file: &HashFile<NoGate, M, J>,
+    hand: Hand,
+    order: Order,
+    workers: Vec<Worker<'_, M, J>>,
+) -> Result<Shift>
+    requires first { IsOf file.now.state hand }
+    requires others { All (λ worker. worker.promise.0.now.state ≡ file.now.state) workers.items }
+    ensures { IfOk result (λ shift. IsOf file.now.state shift.hand) }
+{
+    let started = workers.len() as u64;
+    if started == order.threads {
+        starter.await_all(rt, started);
+    }
+    let watch = Stopwatch::start(rt);
+    starter.start();
+    let all = join_all(rt, file, Caller::new(hand, order.contents()), workers)?;
+    let spent = watch?.stop(rt)?;
+    if started != order.threads {
+        bail!("no memory for {started} threads and one more");
+    }
+    Ok(Shift {
+        hand: all.hand,
+        tally: all.tally,
+        calls: calls_of(order).wrapping_mul(started),
+        spent,
+    })
+}
+
 /// Plays the parts of an order in as many threads.
 pub fn play_in_threads<M, J, R>(
     rt: &R,
@@ -163,7 +195,6 @@ where
         {
             let mut all = hand;
             let mut workers = Vec::new(alloc);
-            let mut started = 0;
             for thread in 0..order.threads {
                 let Ok(part) = file.split_hand(&mut all, 1 << 40) else {
                     break;
@@ -180,24 +211,8 @@ where
                 if !keep(file, &mut workers, worker) {
                     break;
                 }
-                started = thread + 1;
             }
-            if started == order.threads {
-                starter.await_all(rt, started);
-            }
-            let watch = Stopwatch::start(rt);
-            starter.start();
-            let all = join_all(rt, file, Caller::new(all, order.contents()), workers)?;
-            let spent = watch?.stop(rt)?;
-            if started != order.threads {
-                bail!("no memory for {started} threads and one more");
-            }
-            Ok(Shift {
-                hand: all.hand,
-                tally: all.tally,
-                calls: calls_of(order).wrapping_mul(started),
-                spent,
-            })
+            shift_of(rt, starter, file, all, order, workers)
         },
     )
 }
