@@ -1,8 +1,11 @@
-// Preloaded into a program by .ci/hostile: refuses one of its requests, for memory, to read or to write, or all from
-// one on; or each request for more than so many bytes of memory at once. REFUSE says which, as in "memory 5", "memory 5..",
+// Preloaded into a program: refuses one of its requests, for memory, to read, to write or to start a thread, or all from
+// one on; or each request for more than so many bytes of memory at once. REFUSE says which, as in "memory 5", "thread 5..",
 // "interrupt write 5" and "large 5", and REFUSE_COUNT names a file of eight bytes in which the requests of that kind are counted.
+#define _GNU_SOURCE
+#include <dlfcn.h>
 #include <errno.h>
 #include <fcntl.h>
+#include <pthread.h>
 #include <stddef.h>
 #include <stdlib.h>
 #include <string.h>
@@ -16,8 +19,10 @@ static char kind;
 static long at;
 static int from, error = EIO;
 static long *count;
+static int (*start_thread)(pthread_t *, const pthread_attr_t *, void *(*)(void *), void *);
 
 __attribute__((constructor)) static void begin(void) {
+    *(void **)&start_thread = dlsym(RTLD_NEXT, "pthread_create");
     const char *order = getenv("REFUSE"), *file = getenv("REFUSE_COUNT");
     int fd = order && file ? open(file, O_RDWR) : -1;
     if (fd < 0) return;
@@ -68,4 +73,8 @@ ssize_t write(int fd, const void *bytes, size_t most) {
         return -1;
     }
     return syscall(SYS_write, fd, bytes, most);
+}
+
+int pthread_create(pthread_t *thread, const pthread_attr_t *how, void *(*work)(void *), void *given) {
+    return refused('t') ? EAGAIN : start_thread(thread, how, work, given);
 }
