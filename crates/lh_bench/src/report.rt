@@ -26,6 +26,8 @@ pub struct Outcome {
     pub read: u64,
     pub resident_bytes: u64,
     pub file_bytes: u64,
+    /// The buckets of the file at the end, where they are told.
+    pub buckets: u32,
     /// Whether there were as many replies of each kind as are due.
     pub is_due: bool,
 }
@@ -40,6 +42,7 @@ impl Outcome {
             read: 0,
             resident_bytes: 0,
             file_bytes: 0,
+            buckets: 0,
             is_due,
         }
     }
@@ -93,9 +96,9 @@ impl Outcome {
         print!(rt; ",\"seconds\":{seconds},\"cpu_s\":{processor},\"ops_per_s\":{speed}")?;
         let (write, read) = (Seconds(self.write), Seconds(self.read));
         let (memory, file) = (self.resident_bytes, self.file_bytes);
-        print!(rt;
-            ",\"rss_bytes\":{memory},\"write_s\":{write},\"read_s\":{read},\"file_bytes\":{file}"
-        )
+        let buckets = self.buckets;
+        print!(rt; ",\"rss_bytes\":{memory},\"write_s\":{write},\"read_s\":{read}")?;
+        print!(rt; ",\"file_bytes\":{file},\"buckets\":{buckets}")
     }
 
     fn print_times_apart(&self, rt: &impl Eprint) -> io::Result<()> {

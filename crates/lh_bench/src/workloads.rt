@@ -63,11 +63,12 @@ where
     requires { IsOf file.now.state hand }
 {
     let watch = Stopwatch::start(rt)?;
-    let caller = load(rt, file, hand, order, 1);
+    let mut caller = load(rt, file, hand, order, 1);
     let spent = watch.stop(rt)?;
     let tally = caller.tally;
     let is_due = tally.inserted == order.records;
     Ok(Outcome {
+        buckets: file.buckets(&mut caller.hand),
         resident_bytes: resident_bytes(rt).saturating_sub(before),
         ..Outcome::new(order.records, spent, tally, is_due)
     })
@@ -128,14 +129,19 @@ fn outcome_of<M: Mode, J: Room, R: Wait>(
     requires { IsOf file.now.state shift.hand }
 {
     let tally = shift.tally;
-    let there = records_there(rt, file, shift.hand, order);
+    let mut hand = shift.hand;
+    let buckets = file.buckets(&mut hand);
+    let there = records_there(rt, file, hand, order);
     let due = before
         .wrapping_add(tally.inserted)
         .wrapping_sub(tally.deleted);
     let is_due = there.wrong == 0
         && there.found == due
         && are_met(order.workload, &tally, shift.calls);
-    Outcome::new(shift.calls, shift.spent, tally, is_due)
+    Outcome {
+        buckets,
+        ..Outcome::new(shift.calls, shift.spent, tally, is_due)
+    }
 }
 
 /// Calls of several threads, in a file that has this many records before them: each `stride`th from the first on.
