@@ -18,16 +18,21 @@ use Rattle.lh_core.specs.Rules.{Allowed}
 use Rattle.lh_core.specs.Sound.{IsSound}
 use Rattle.lh_core.specs.World.{WorldSeen}
 
--- the state of the rules
-abbrev pub state_of : Control → State
-state_of c = record { buckets = c.root.buckets; filled = c.filled.buckets; workers = c.workers; splitter = c.splitter }
+-- the state of a world with this control
+abbrev pub control_state : Control → State
+control_state c = record {
+  buckets = c.root.buckets;
+  filled = c.filled.buckets;
+  workers = c.workers;
+  splitter = c.splitter;
+}
 
 -- the file's configuration is in range, both roots are of it, and the state is sound
 pub record IsControl (c : Control) : Type 0 where
   pub range : IsInRange c.config
   pub root : c.root.initial ≡ c.config.initial
   pub filled : c.filled.initial ≡ c.config.initial
-  pub sound : IsSound c.config (state_of c)
+  pub sound : IsSound c.config (control_state c)
 
 -- the configuration and what the file began with stay
 pub record KeepsFile (c d : Control) : Type 0 where
@@ -37,13 +42,13 @@ pub record KeepsFile (c d : Control) : Type 0 where
 
 -- what a step gave and left, as the rules see it
 abbrev pub step_to : Result Effect Refusal → Control → Allowed
-step_to (Ok effect) c = Ok (Some effect, state_of c)
+step_to (Ok effect) c = Ok (Some effect, control_state c)
 step_to (Err refusal) c = Err refusal
 
--- an effect that is no reply
-abbrev pub IsTold : Effect → Type 0
-IsTold (effect.Answered reply) = ⊥
-IsTold _ = Unit {0}
+-- an effect that tells no reply
+abbrev pub HasNoReply : Effect → Type 0
+HasNoReply (effect.Answered reply) = ⊥
+HasNoReply _ = Unit {0}
 
 -- an event that leaves the records where they are
 abbrev pub IsQuiet : Event → Type 0
@@ -65,4 +70,4 @@ acted state worker act = with_worker state worker (Acted act.call.now act.bucket
 
 -- a world with these buckets
 abbrev pub world_of : Control → List Seen → WorldSeen
-world_of c buckets = record { config = c.config; state = state_of c; buckets = buckets }
+world_of c buckets = record { config = c.config; state = control_state c; buckets = buckets }

@@ -40,7 +40,8 @@ abbrev pub may_want_memory : State → Event → Bool
 may_want_memory state event.SplitMove = true
 may_want_memory state event = has_insert (served_by state event)
 
--- An entry is the effect where the rules allow the event, and exactly the rules' refusal where they don't. Where they allow it, it may be refused because memory ran out, if it takes any. A refusal leaves the state.
+-- An entry is the effect where the rules allow the event, and exactly the rules' refusal where they don't. Where they
+-- allow it, it may be refused because memory ran out, if it takes any. A refusal leaves the state.
 abbrev pub IsEntry : Settings → State → Event → Entry → State → Type 0
 IsEntry config state event (Ok effect) next = allowed config state event ≡ Ok (outline effect, next)
 IsEntry config state event (Err refusal) next =

@@ -15,10 +15,11 @@ use Rattle.lh_core.specs.declared.state.WorkerState.{WorkerState}
 use Rattle.lh_core.specs.declared.state.WorkerState.TheVariants.{Idle, Called, Aimed, Holding, Acted}
 use Rattle.lh_core.specs.declared.state.SplitState.{SplitState}
 use Rattle.lh_core.specs.declared.state.SplitState.TheVariants as split
-use Rattle.lh_core.specs.State.{State, level, splitting, with_worker, with_splitter, with_moved, with_pointed}
+use Rattle.lh_core.specs.State.{State, local_level, splitting, with_worker, with_splitter, with_moved, with_pointed}
 use Rattle.lh_core.specs.Holds.{is_barred, is_held}
 
--- what a step makes of one worker: its effect and what the worker does next, or the refusal. The effect is none where it is an act's reply, which the map gives
+-- what a step makes of one worker: its effect and what the worker does next, or the refusal. The effect is none where
+-- it is an act's reply, which the map gives
 abbrev pub WorkerStep : Type 0
 WorkerStep = Result (Option Effect × WorkerState) Refusal
 
@@ -50,13 +51,13 @@ abbrev pub lock : Settings → State → WorkerState → WorkerStep
 lock config state (Aimed call k bucket) =
     if is_barred config state call bucket
     then Err Held
-    else Ok (Some (effect.Locked bucket (level config state bucket)), Holding call k bucket)
+    else Ok (Some (effect.Locked bucket (local_level config state bucket)), Holding call k bucket)
 lock config state _ = Err WrongState
 
 -- a rehash goes one level up, unless the bucket's level is the worker's
 abbrev pub rehash : Settings → State → WorkerState → WorkerStep
 rehash config state (Holding call k bucket) =
-    if k == level config state bucket
+    if k == local_level config state bucket
     then Err NothingToRehash
     else aimed call (k + 1) (hash_at config.initial (k + 1) (code_of (key_of call)))
 rehash config state _ = Err WrongState
@@ -64,7 +65,7 @@ rehash config state _ = Err WrongState
 -- an act takes place at the bucket's own level, and not below it
 abbrev pub act : Settings → State → WorkerState → WorkerStep
 act config state (Holding call k bucket) =
-    if nat_lt k (level config state bucket) then Err MustRehash else Ok (None, Acted call bucket)
+    if nat_lt k (local_level config state bucket) then Err MustRehash else Ok (None, Acted call bucket)
 act config state _ = Err WrongState
 
 -- a bucket is let go, after an act or without one
@@ -91,7 +92,8 @@ lock_both config state _ = Err WrongState
 
 -- the records are divided, and the new bucket is filled
 abbrev pub move_records : Settings → State → SplitState → Allowed
-move_records config state split.Locked = Ok (Some (effect.Moved (splitting config state) state.buckets), with_moved state)
+move_records config state split.Locked =
+    Ok (Some (effect.Moved (splitting config state) state.buckets), with_moved state)
 move_records config state _ = Err WrongState
 
 -- both buckets are let go; where nothing was moved, the split is where it began

@@ -10,7 +10,7 @@ use Rattle.lh_core.specs.declared.state.SplitState.TheVariants as split
 use Rattle.lh_core.specs.State.{State, all_idle}
 use Rattle.lh_core.specs.World.{WorldSeen, IsPlaced, HasLevels, StandsFor}
 
--- whether a file of `size` buckets grows after a reply: only after an insert that added its record, and by the split policy
+-- whether a file of `size` buckets grows after a reply: only where an insert added its record, and by the split policy
 abbrev pub grows_after : Settings → ℕ → ℕ → Reply → Bool
 grows_after config records size Inserted = wants_split config records size
 grows_after config records size _ = false
@@ -34,7 +34,8 @@ pub record IsAtRest (state : State) : Type 0 where
   pub workers : state.workers ≡ all_idle
   pub splitter : state.splitter ≡ split.Idle
 
--- Calls were served one after another: the replies are the plain map's, the file has grown as the policy wants, nobody is at work, and each record stands in its bucket and nowhere else.
+-- Calls were served one after another: the replies are the plain map's, the file has grown as the policy wants, nobody
+-- is at work, and each record stands in its bucket and nowhere else.
 pub record IsSerial (config : Settings) (calls : List Call) (told : List Reply) (world : WorldSeen) : Type 0 where
   pub same : world.config ≡ config
   pub replied : told ≡ replies empty calls
@@ -64,7 +65,8 @@ pub record HasGrown (world next : WorldSeen) : Type 0 where
   pub stands : (map : Records) → StandsFor world map → StandsFor next map
 
 -- a call was served, and the split that it asked for
-pub record IsServed (world : WorldSeen) (map : Records) (call : Call) (told : Reply) (records : ℕ) (next : WorldSeen) : Type 0 where
+pub record IsServed (world : WorldSeen) (map : Records) (call : Call) (told : Reply) (records : ℕ) (next : WorldSeen)
+    : Type 0 where
   pub same : next.config ≡ world.config
   pub rest : IsAtRest next.state
   pub size : next.state.buckets ≡ size_after world.config (after map call) world.state.buckets (reply map call)

@@ -6,7 +6,7 @@ use Rattle.lh_core.specs.declared.state.SplitState.TheVariants as split
 use Rattle.lh_core.specs.State.{State}
 use Rattle.lh_core.specs.Aims.{AimsLead}
 
--- how many buckets are filled, by what the splitter is doing: one more than the root counts from the move to the pointer
+-- how many buckets are filled, by what the splitter does: one more than the root counts from the move to the pointer
 abbrev pub IsPhase : Settings → ℕ → ℕ → SplitState → Type 0
 IsPhase config buckets filled split.Idle = filled ≡ buckets
 IsPhase config buckets filled split.Begun = (filled ≡ buckets) × (buckets < config.max)

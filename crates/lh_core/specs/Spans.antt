@@ -8,7 +8,7 @@ use Rattle.lh_core.specs.declared.effect.Effect.TheVariants as effect
 use Rattle.lh_core.specs.declared.event.Event.{Event}
 use Rattle.lh_core.specs.declared.event.Event.TheVariants as event
 use Rattle.lh_core.specs.declared.state.WorkerState.TheVariants.{Holding}
-use Rattle.lh_core.specs.State.{State, level}
+use Rattle.lh_core.specs.State.{State, local_level}
 use Rattle.lh_core.specs.Log.{Entry, Log, if_accepted, open_call}
 
 -- whether an event is a call, act or release of a worker
@@ -22,7 +22,8 @@ is_bound_by worker _ = false
 abbrev pub is_bound : ℕ → Event × Entry → Bool
 is_bound worker step = if_accepted step.1 (is_bound_by worker step.0) false
 
--- the span of a call of a worker reaches to the end of a log: the call was accepted there, and no call, act or release of that worker since
+-- the span of a call of a worker reaches to the end of a log: the call was accepted there, and no call, act or release
+-- of that worker since
 pub record IsInSpan (worker : ℕ) (log : Log) (call : Call) : Type 0 where
   pub later : Log
   pub earlier : Log
@@ -59,8 +60,8 @@ is_rehash_by worker (event.Rehash other) = other == worker
 is_rehash_by worker _ = false
 
 -- whether a step is an accepted rehash of a worker
-abbrev pub is_rehash : ℕ → Event × Entry → Bool
-is_rehash worker step = if_accepted step.1 (is_rehash_by worker step.0) false
+abbrev pub is_accepted_rehash : ℕ → Event × Entry → Bool
+is_accepted_rehash worker step = if_accepted step.1 (is_rehash_by worker step.0) false
 
 -- a worker has come to a level: it read a lower one, or this one, and has rehashed once for each level since
 pub record HasRisen (worker : ℕ) (log : Log) (k : ℕ) : Type 0 where
@@ -70,7 +71,7 @@ pub record HasRisen (worker : ℕ) (log : Log) (k : ℕ) : Type 0 where
   pub bucket : ℕ
   pub is : log ≡ later ++ (event.Read worker, Ok (effect.Aim low bucket)) ∷ earlier
   pub since : list_any (is_turn worker) later ≡ false
-  pub rises : k ≡ low + count_by (is_rehash worker) later
+  pub rises : k ≡ low + count_by (is_accepted_rehash worker) later
 
 -- a worker holds a bucket, and has come to just that bucket's level
 pub record HasRisenToAct (config : Settings) (state : State) (worker : ℕ) (log : Log) : Type 0 where
@@ -78,5 +79,5 @@ pub record HasRisenToAct (config : Settings) (state : State) (worker : ℕ) (log
   pub k : ℕ
   pub bucket : ℕ
   pub holding : slice_get state.workers worker ≡ Some (Holding call k bucket)
-  pub same : level config state bucket ≡ k
+  pub same : local_level config state bucket ≡ k
   pub risen : HasRisen worker log k

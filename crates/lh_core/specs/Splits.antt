@@ -8,7 +8,8 @@ use Rattle.lh_core.specs.World.{HasKeysOnce, bucket_at}
 abbrev pub unfilled : ℕ → ℕ → ℕ → Head
 unfilled number initial capacity = record { number = number; initial = initial; capacity = capacity; level = None }
 
--- Bucket i is split: it stays with the records whose codes still lead to it one level up, and all others go to a new bucket at the end.
+-- Bucket i is split: it stays with the records whose codes still lead to it one level up, and all others go to a new
+-- bucket at the end.
 pub record IsSplit (old : List Seen) (i initial capacity : ℕ) (new : List Seen) : Type 0 where
   pub stay : Seen
   pub go : Seen

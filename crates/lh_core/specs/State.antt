@@ -7,7 +7,7 @@ use Rattle.lh_core.specs.declared.state.WorkerState.TheVariants.{Idle}
 use Rattle.lh_core.specs.declared.state.SplitState.{SplitState}
 use Rattle.lh_core.specs.declared.state.SplitState.TheVariants as split
 
--- the buckets that the root counts, the buckets that are filled, what each worker is doing, and what the splitter is doing
+-- the buckets that the root counts, the buckets that are filled, and what each worker and the splitter are doing
 pub record State : Type 0 where
   pub buckets : ℕ
   pub filled : ℕ
@@ -23,8 +23,8 @@ abbrev pub first : Settings → State
 first config = record { buckets = config.initial; filled = config.initial; workers = all_idle; splitter = split.Idle }
 
 -- the local level of a bucket, by the number of filled buckets
-abbrev pub level : Settings → State → ℕ → ℕ
-level config state bucket = level_of config.initial state.filled bucket
+abbrev pub local_level : Settings → State → ℕ → ℕ
+local_level config state bucket = level_of config.initial state.filled bucket
 
 -- the bucket that splits next
 abbrev pub splitting : Settings → State → ℕ

@@ -30,10 +30,12 @@ no_bucket = record { head = record { number = 0; initial = 0; capacity = 0; leve
 abbrev pub bucket_at : List Seen → ℕ → Seen
 bucket_at buckets i = slice_index_or buckets i no_bucket
 
--- Each record of a map stands in the bucket of its address and nowhere else: bucket i holds just the pairs of the map whose address is i, and there are no buckets but these.
+-- Each record of a map stands in the bucket of its address and nowhere else: bucket i holds just the pairs of the map
+-- whose address is i, and there are no buckets but these.
 pub record IsPlaced (initial size : ℕ) (map : Records) (buckets : List Seen) : Type 0 where
   pub all : length buckets ≡ size
-  pub each : (i : ℕ) → i < size → content (bucket_at buckets i) ≡ retain_keys map (λ key. address initial size (code_of key) == i)
+  pub each : (i : ℕ) → i < size →
+      content (bucket_at buckets i) ≡ retain_keys map (λ key. address initial size (code_of key) == i)
 
 -- a bucket has each of its keys once
 abbrev pub HasKeysOnce : Seen → Type 0
@@ -61,14 +63,16 @@ abbrev pub map_after : Records → Option Call → Records
 map_after map None = map
 map_after map (Some call) = after map call
 
--- beside a map, a step tells the map's reply to the call that it serves, and leaves buckets that stand for the map after that call; a refusal leaves buckets that stand for the map
+-- beside a map, a step tells the map's reply to the call that it serves, and leaves buckets that stand for the map
+-- after that call; a refusal leaves buckets that stand for the map
 abbrev pub FollowsMap : WorldSeen → Records → Event → Entry → WorldSeen → Type 0
 FollowsMap world map event (Ok effect) next =
     (reply_of effect ≡ reply_to map (served_by world.state event))
     × StandsFor next (map_after map (served_by world.state event))
 FollowsMap world map event (Err refusal) next = StandsFor next map
 
--- One step of a world: the configuration stays, entry and state are those of the rules, and the buckets follow every map that they stand for.
+-- One step of a world: the configuration stays, entry and state are those of the rules, and the buckets follow every
+-- map that they stand for.
 pub record IsStep (world : WorldSeen) (event : Event) (entry : Entry) (next : WorldSeen) : Type 0 where
   pub config : next.config ≡ world.config
   pub ruled : IsEntry world.config world.state event entry next.state

@@ -1,9 +1,9 @@
 //! The part of a world that the rules of the steps speak of: all but its buckets.
 ghost use Rattle.std.specs.Prelude.{◌≡◌, ◌<◌, ◌≤◌, ◌||◌};
 ghost use Rattle.std.specs.List.{list_any};
-ghost use Rattle.lh_core.specs.State.{level};
+ghost use Rattle.lh_core.specs.State.{local_level};
 ghost use Rattle.lh_core.specs.Holds.{holds, holds_alone, split_holds, is_held, is_held_alone, is_barred};
-ghost use Rattle.lh_core.specs.Control.{IsControl, state_of};
+ghost use Rattle.lh_core.specs.Control.{IsControl, control_state};
 
 use crate::state::{SplitState, WorkerState};
 use lh_addr::{Config, Root};
@@ -67,7 +67,7 @@ fn any_holds_alone(workers: &[WorkerState], bucket: u32) -> bool
 impl Control {
     fn split_holds(&self, bucket: u32) -> bool
         requires { IsControl self.now }
-        ensures { result ≡ split_holds self.now.config (state_of self.now) bucket }
+        ensures { result ≡ split_holds self.now.config (control_state self.now) bucket }
     {
         match self.splitter {
             SplitState::Locked => bucket == self.root.pointer() || bucket == self.root.buckets(),
@@ -82,7 +82,7 @@ impl Control {
     #[tactic(auto, unfolding(crate::specs::Holds::is_held))]
     pub(crate) fn is_held(&self, bucket: u32) -> bool
         requires { IsControl self.now }
-        ensures { result ≡ is_held self.now.config (state_of self.now) bucket }
+        ensures { result ≡ is_held self.now.config (control_state self.now) bucket }
     {
         any_holds(&self.workers, bucket) || self.split_holds(bucket)
     }
@@ -90,7 +90,7 @@ impl Control {
     #[tactic(auto, unfolding(crate::specs::Holds::is_held_alone))]
     fn is_held_alone(&self, bucket: u32) -> bool
         requires { IsControl self.now }
-        ensures { result ≡ is_held_alone self.now.config (state_of self.now) bucket }
+        ensures { result ≡ is_held_alone self.now.config (control_state self.now) bucket }
     {
         any_holds_alone(&self.workers, bucket) || self.split_holds(bucket)
     }
@@ -99,7 +99,7 @@ impl Control {
     #[tactic(auto, unfolding(crate::specs::Holds::is_barred))]
     pub(crate) fn is_barred(&self, call: &Call, bucket: u32) -> bool
         requires { IsControl self.now }
-        ensures { result ≡ is_barred self.now.config (state_of self.now) call.now bucket }
+        ensures { result ≡ is_barred self.now.config (control_state self.now) call.now bucket }
     {
         if call.is_search() {
             self.is_held_alone(bucket)
@@ -112,7 +112,7 @@ impl Control {
     pub(crate) fn level(&self, bucket: u32) -> u8
         requires control { IsControl self.now }
         requires filled { bucket < self.now.filled.buckets }
-        ensures value { result ≡ level self.now.config (state_of self.now) bucket }
+        ensures value { result ≡ local_level self.now.config (control_state self.now) bucket }
         ensures at_most_16 { result ≤ 16 }
     {
         self.filled.level_of(bucket)

@@ -44,6 +44,7 @@ pub(crate) fn serve<B: Bucket>(
     ensures unchanged { OnErr result (map B.seen buckets.new.items ≡ map B.seen buckets.old.items) }
     ensures insert { OnErr result (IsInsert act.now.call.now) }
 {
+    // Its law: a code has one address, so the bucket says `Here`, and no other has the key.
     linear_hashing();
     let bucket = &mut buckets[act.bucket as usize];
     match bucket.serve(act.call, act.level) {
@@ -105,6 +106,7 @@ pub(crate) fn divide<B: Bucket>(
         (map B.seen buckets.new.items)) }
     ensures unchanged { OnErr result (map B.seen buckets.new.items ≡ map B.seen buckets.old.items) }
 {
+    // Its laws: a split raises the level of two buckets alone, and moves addresses from one to the other.
     linear_hashing();
     let pointer = control.root.pointer() as usize;
     let initial = control.config.initial();

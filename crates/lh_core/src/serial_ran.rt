@@ -54,6 +54,7 @@ impl<B: Bucket> World<B> {
         requires { IsAtRest self.old.state }
         ensures { IfOk result (λ reply. IsServedAlone self.old call reply self.new) }
     {
+        // What holds of every world: by it the rules allow each of the five steps.
         self.is_kept();
         self.take(Event::Call(0, call))?;
         self.take(Event::Read(0))?;
@@ -73,6 +74,7 @@ impl<B: Bucket> World<B> {
         requires room { self.old.state.buckets < self.old.config.max }
         ensures { OnOk result (HasGrown self.old self.new) }
     {
+        // What holds of every world: by it the rules allow each of the five steps.
         self.is_kept();
         self.take(Event::SplitBegin)?;
         self.take(Event::SplitLock)?;
@@ -122,7 +124,6 @@ impl<B: Bucket> World<B> {
         requires empty { StandsFor self.old empty }
         ensures { IfOk result (λ replies. IsSerial self.old.config calls.now replies.items self.new) }
     {
-        self.is_kept();
         let mut replies = Vec::with_capacity(alloc, calls.len())?;
         let mut records = 0_u64;
         for call in calls {
@@ -130,6 +131,7 @@ impl<B: Bucket> World<B> {
             records = count;
             replies.push(reply)?;
         }
+        // What holds of every world: each bucket has its local level.
         self.is_kept();
         Ok(replies)
     }

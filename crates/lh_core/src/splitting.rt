@@ -4,7 +4,7 @@ ghost use Rattle.lh_core.specs.declared.event.Event.TheVariants as event;
 ghost use Rattle.lh_core.specs.declared.state.SplitState.TheVariants as split;
 ghost use Rattle.lh_core.specs.State.{with_splitter, with_moved};
 ghost use Rattle.lh_core.specs.Rules.{begin_split, lock_both, free_both, point, drop_split, allowed};
-ghost use Rattle.lh_core.specs.Control.{IsControl, IsTold, IsQuiet, KeepsFile, state_of, step_to};
+ghost use Rattle.lh_core.specs.Control.{IsControl, HasNoReply, IsQuiet, KeepsFile, control_state, step_to};
 
 use crate::control::Control;
 use crate::effect::{Effect, Refusal};
@@ -14,8 +14,9 @@ use crate::state::SplitState;
 impl Control {
     fn begin_split(&mut self) -> Result<Effect, Refusal>
         requires { IsControl self.old }
-        ensures value { step_to result self.new ≡ begin_split self.old.config (state_of self.old) self.old.splitter }
-        ensures told { IfOk result IsTold }
+        ensures value { step_to result self.new
+            ≡ begin_split self.old.config (control_state self.old) self.old.splitter }
+        ensures told { IfOk result HasNoReply }
         ensures keeps { KeepsFile self.old self.new }
         ensures filled { self.new.filled ≡ self.old.filled }
         ensures err { OnErr result (self.new ≡ self.old) }
@@ -37,8 +38,8 @@ impl Control {
 
     fn lock_both(&mut self) -> Result<Effect, Refusal>
         requires { IsControl self.old }
-        ensures value { step_to result self.new ≡ lock_both self.old.config (state_of self.old) self.old.splitter }
-        ensures told { IfOk result IsTold }
+        ensures value { step_to result self.new ≡ lock_both self.old.config (control_state self.old) self.old.splitter }
+        ensures told { IfOk result HasNoReply }
         ensures keeps { KeepsFile self.old self.new }
         ensures filled { self.new.filled ≡ self.old.filled }
         ensures err { OnErr result (self.new ≡ self.old) }
@@ -61,11 +62,11 @@ impl Control {
     /// The effect of dividing the records of a split, if that is allowed now.
     pub(crate) fn moving(&self) -> Result<Effect, Refusal>
         requires { IsControl self.now }
-        ensures allowed { IfOk result (λ effect. allowed self.now.config (state_of self.now) event.SplitMove
-            ≡ Ok (Some effect, with_moved (state_of self.now))) }
-        ensures told { IfOk result IsTold }
+        ensures allowed { IfOk result (λ effect. allowed self.now.config (control_state self.now) event.SplitMove
+            ≡ Ok (Some effect, with_moved (control_state self.now))) }
+        ensures told { IfOk result HasNoReply }
         ensures locked { IfOk result (λ _. self.now.splitter ≡ split.Locked) }
-        ensures refused { IfErr result (λ r. allowed self.now.config (state_of self.now) event.SplitMove ≡ Err r) }
+        ensures refused { IfErr result (λ r. allowed self.now.config (control_state self.now) event.SplitMove ≡ Err r) }
     {
         match self.splitter {
             SplitState::Locked => {
@@ -81,7 +82,7 @@ impl Control {
     pub(crate) fn note_move(&mut self)
         requires control { IsControl self.old }
         requires room { self.old.root.buckets < self.old.config.max }
-        ensures state { state_of self.new ≡ with_moved (state_of self.old) }
+        ensures state { control_state self.new ≡ with_moved (control_state self.old) }
         ensures keeps { KeepsFile self.old self.new }
     {
         self.filled = self.root.grown();
@@ -89,8 +90,8 @@ impl Control {
     }
 
     fn free_both(&mut self) -> Result<Effect, Refusal>
-        ensures value { step_to result self.new ≡ free_both (state_of self.old) self.old.splitter }
-        ensures told { IfOk result IsTold }
+        ensures value { step_to result self.new ≡ free_both (control_state self.old) self.old.splitter }
+        ensures told { IfOk result HasNoReply }
         ensures keeps { KeepsFile self.old self.new }
         ensures filled { self.new.filled ≡ self.old.filled }
         ensures err { OnErr result (self.new ≡ self.old) }
@@ -110,8 +111,8 @@ impl Control {
 
     fn point(&mut self) -> Result<Effect, Refusal>
         requires { IsControl self.old }
-        ensures value { step_to result self.new ≡ point (state_of self.old) self.old.splitter }
-        ensures told { IfOk result IsTold }
+        ensures value { step_to result self.new ≡ point (control_state self.old) self.old.splitter }
+        ensures told { IfOk result HasNoReply }
         ensures keeps { KeepsFile self.old self.new }
         ensures filled { self.new.filled ≡ self.old.filled }
         ensures err { OnErr result (self.new ≡ self.old) }
@@ -129,8 +130,8 @@ impl Control {
     }
 
     fn drop_split(&mut self) -> Result<Effect, Refusal>
-        ensures value { step_to result self.new ≡ drop_split (state_of self.old) self.old.splitter }
-        ensures told { IfOk result IsTold }
+        ensures value { step_to result self.new ≡ drop_split (control_state self.old) self.old.splitter }
+        ensures told { IfOk result HasNoReply }
         ensures keeps { KeepsFile self.old self.new }
         ensures filled { self.new.filled ≡ self.old.filled }
         ensures err { OnErr result (self.new ≡ self.old) }
@@ -148,8 +149,8 @@ impl Control {
     pub(crate) fn turn(&mut self, event: Event) -> Result<Effect, Refusal>
         requires control { IsControl self.old }
         requires quiet { IsQuiet event }
-        ensures value { step_to result self.new ≡ allowed self.old.config (state_of self.old) event }
-        ensures told { IfOk result IsTold }
+        ensures value { step_to result self.new ≡ allowed self.old.config (control_state self.old) event }
+        ensures told { IfOk result HasNoReply }
         ensures keeps { KeepsFile self.old self.new }
         ensures filled { self.new.filled ≡ self.old.filled }
         ensures err { OnErr result (self.new ≡ self.old) }

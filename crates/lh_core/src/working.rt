@@ -5,7 +5,7 @@ ghost use Rattle.lh_core.specs.declared.event.Event.TheVariants as event;
 ghost use Rattle.lh_core.specs.declared.control.Act.{Act as ActOf};
 ghost use Rattle.lh_core.specs.Aims.{Leads};
 ghost use Rattle.lh_core.specs.Rules.{called, read, lock, rehash, release, at_worker, allowed};
-ghost use Rattle.lh_core.specs.Control.{IsControl, IsTold, IsActOf, KeepsFile, state_of, step_to, acted};
+ghost use Rattle.lh_core.specs.Control.{IsControl, HasNoReply, IsActOf, KeepsFile, control_state, step_to, acted};
 
 use crate::control::{Act, Control};
 use crate::effect::{Effect, Refusal};
@@ -27,8 +27,8 @@ impl Control {
     /// A call comes in at a worker.
     pub(crate) fn call(&mut self, worker: u8, call: Call) -> Result<Effect, Refusal>
         requires { IsControl self.old }
-        ensures value { step_to result self.new ≡ at_worker (state_of self.old) worker (called call) }
-        ensures told { IfOk result IsTold }
+        ensures value { step_to result self.new ≡ at_worker (control_state self.old) worker (called call) }
+        ensures told { IfOk result HasNoReply }
         ensures keeps { KeepsFile self.old self.new }
         ensures filled { self.new.filled ≡ self.old.filled }
         ensures err { OnErr result (self.new ≡ self.old) }
@@ -46,8 +46,8 @@ impl Control {
     pub(crate) fn read(&mut self, worker: u8) -> Result<Effect, Refusal>
         requires { IsControl self.old }
         ensures value { step_to result self.new
-            ≡ at_worker (state_of self.old) worker (read self.old.config (state_of self.old)) }
-        ensures told { IfOk result IsTold }
+            ≡ at_worker (control_state self.old) worker (read self.old.config (control_state self.old)) }
+        ensures told { IfOk result HasNoReply }
         ensures keeps { KeepsFile self.old self.new }
         ensures filled { self.new.filled ≡ self.old.filled }
         ensures err { OnErr result (self.new ≡ self.old) }
@@ -66,8 +66,8 @@ impl Control {
     pub(crate) fn lock(&mut self, worker: u8) -> Result<Effect, Refusal>
         requires { IsControl self.old }
         ensures value { step_to result self.new
-            ≡ at_worker (state_of self.old) worker (lock self.old.config (state_of self.old)) }
-        ensures told { IfOk result IsTold }
+            ≡ at_worker (control_state self.old) worker (lock self.old.config (control_state self.old)) }
+        ensures told { IfOk result HasNoReply }
         ensures keeps { KeepsFile self.old self.new }
         ensures filled { self.new.filled ≡ self.old.filled }
         ensures err { OnErr result (self.new ≡ self.old) }
@@ -91,8 +91,8 @@ impl Control {
     pub(crate) fn rehash(&mut self, worker: u8) -> Result<Effect, Refusal>
         requires { IsControl self.old }
         ensures value { step_to result self.new
-            ≡ at_worker (state_of self.old) worker (rehash self.old.config (state_of self.old)) }
-        ensures told { IfOk result IsTold }
+            ≡ at_worker (control_state self.old) worker (rehash self.old.config (control_state self.old)) }
+        ensures told { IfOk result HasNoReply }
         ensures keeps { KeepsFile self.old self.new }
         ensures filled { self.new.filled ≡ self.old.filled }
         ensures err { OnErr result (self.new ≡ self.old) }
@@ -115,8 +115,8 @@ impl Control {
     /// A worker lets its bucket go.
     pub(crate) fn release(&mut self, worker: u8) -> Result<Effect, Refusal>
         requires { IsControl self.old }
-        ensures value { step_to result self.new ≡ at_worker (state_of self.old) worker (release) }
-        ensures told { IfOk result IsTold }
+        ensures value { step_to result self.new ≡ at_worker (control_state self.old) worker (release) }
+        ensures told { IfOk result HasNoReply }
         ensures keeps { KeepsFile self.old self.new }
         ensures filled { self.new.filled ≡ self.old.filled }
         ensures err { OnErr result (self.new ≡ self.old) }
@@ -133,10 +133,11 @@ impl Control {
     /// The act that a worker may take now.
     pub(crate) fn act(&self, worker: u8) -> Result<Act<'_>, Refusal>
         requires { IsControl self.now }
-        ensures allowed { IfOk result (λ act. allowed self.now.config (state_of self.now) (event.Act worker)
-            ≡ Ok (None, acted (state_of self.now) worker act)) }
+        ensures allowed { IfOk result (λ act. allowed self.now.config (control_state self.now) (event.Act worker)
+            ≡ Ok (None, acted (control_state self.now) worker act)) }
         ensures act { IfOk result (IsActOf self.now worker) }
-        ensures refused { IfErr result (λ r. allowed self.now.config (state_of self.now) (event.Act worker) ≡ Err r) }
+        ensures refused { IfErr result (λ r.
+            allowed self.now.config (control_state self.now) (event.Act worker) ≡ Err r) }
     {
         match self.doing_at(worker) {
             Some(WorkerState::Holding(call, level, bucket)) => {
@@ -160,7 +161,7 @@ impl Control {
         requires control { IsControl self.old }
         requires there { worker < 16 }
         ensures state { (act : ActOf) → IsActOf self.old worker act →
-            state_of self.new ≡ acted (state_of self.old) worker act }
+            control_state self.new ≡ acted (control_state self.old) worker act }
         ensures keeps { KeepsFile self.old self.new }
         ensures filled { self.new.filled ≡ self.old.filled }
     {

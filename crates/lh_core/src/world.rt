@@ -51,6 +51,7 @@ impl<B: Bucket> World<B> {
         ensures empty { IfOk result (λ w. StandsFor w empty) }
         ensures led { IfOk result (HasLedTo []) }
     {
+        // Its laws: at first each bucket is at level 0.
         linear_hashing();
         let root = config.root(config.initial());
         let buckets = first_row(alloc, &config)?;
@@ -68,6 +69,7 @@ impl<B: Bucket> World<B> {
         ensures step { IsStep self.old (event.Act worker) result self.new }
         ensures unchanged { OnErr result (self.new ≡ self.old) }
     {
+        // Its laws: each aim leads to a filled bucket after the act too.
         linear_hashing();
         match self.control.act(worker) {
             Ok(act) => match serve(&self.control, &mut self.buckets, worker, &act) {
@@ -85,6 +87,7 @@ impl<B: Bucket> World<B> {
         ensures step { IsStep self.old event.SplitMove result self.new }
         ensures unchanged { OnErr result (self.new ≡ self.old) }
     {
+        // Its laws: each aim leads to a filled bucket after the move too.
         linear_hashing();
         match self.control.moving() {
             Ok(effect) => {
@@ -105,6 +108,7 @@ impl<B: Bucket> World<B> {
         ensures step { IsStep self.old event result self.new }
         ensures unchanged { OnErr result (self.new ≡ self.old) }
     {
+        // Its laws: each aim leads to a filled bucket after the step too.
         linear_hashing();
         self.control.turn(event)
     }
@@ -144,6 +148,7 @@ impl<B: Bucket> World<B> {
         // Whatever steps have led here, those and this one have led to the new world.
         ensures led { (log : Log) → HasLedTo log self.old → HasLedTo ((event, result) ∷ log) self.new }
     {
+        // Its laws: what holds of a log holds of one step more, by what is kept before the step and after it.
         linear_hashing();
         self.is_kept();
         let entry = self.advance(event);

@@ -20,7 +20,7 @@ use Rattle.lh_core.specs.Holds.{holds, is_barred}
 use Rattle.lh_core.specs.History.{IsEntry, outline}
 use Rattle.lh_core.specs.Log.{Entry}
 use Rattle.lh_core.specs.Rules.{WorkerStep, act, allowed, at_worker, begin_split, called, drop_split, free_both, lock, lock_both, move_records, point, read, rehash, release}
-use Rattle.lh_core.specs.State.{State, level}
+use Rattle.lh_core.specs.State.{State, local_level}
 use Rattle.lh_core.proofs.Logs.Steps.{became, err_ok, passed, some_same, step_at, told}
 use Rattle.lh_replay.specs.Lanes.{ends_at}
 use Rattle.lh_replay.specs.Meaning.{DoesHold, HeldLaw}
@@ -155,8 +155,8 @@ module _ (config : Settings) (a : State) (w m : ℕ) where
   lock_holds k Idle y e = err_ok e
   lock_holds k (Called d) y e = err_ok e
   lock_holds k (Aimed d j n) y e =
-      let done = (passed (is_barred config a d n) Held (Some (effect.Locked n (level config a n)), Holding d j n) (Some (effect.Locked m k), y) e).1 in
-      let bucket : n ≡ m = let same : effect.Locked n (level config a n) ≡ effect.Locked m k = some_same (told done) in cc in
+      let done = (passed (is_barred config a d n) Held (Some (effect.Locked n (local_level config a n)), Holding d j n) (Some (effect.Locked m k), y) e).1 in
+      let bucket : n ≡ m = let same : effect.Locked n (local_level config a n) ≡ effect.Locked m k = some_same (told done) in cc in
       subst (λ (z : WorkerState). holds m z ≡ true) (became done) (eq-eqb n m bucket)
   lock_holds k (Holding d j n) y e = err_ok e
   lock_holds k (Acted d n) y e = err_ok e

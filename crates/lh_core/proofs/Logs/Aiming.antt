@@ -18,7 +18,7 @@ use Rattle.lh_core.specs.declared.state.WorkerState.{WorkerState}
 use Rattle.lh_core.specs.declared.state.WorkerState.TheVariants.{Idle, Called, Aimed, Holding, Acted}
 use Rattle.lh_core.specs.declared.state.SplitState.{SplitState}
 use Rattle.lh_core.specs.declared.state.SplitState.TheVariants as split
-use Rattle.lh_core.specs.State.{State, first, all_idle, level, with_worker, with_splitter}
+use Rattle.lh_core.specs.State.{State, first, all_idle, local_level, with_worker, with_splitter}
 use Rattle.lh_core.specs.Aims.{Leads}
 use Rattle.lh_core.specs.Rules.{WorkerStep, allowed, called, read, lock, rehash, act, release, at_worker, begin_split, lock_both, move_records, free_both, point, drop_split}
 use Rattle.lh_core.specs.Sound.{IsPhase, IsSound}
@@ -86,7 +86,7 @@ module _ (g : LinearHashing) (s : Settings) (a : State) (h : IsSound s a) where
   aimed_rehash o (Aimed c k m) y i e = err_ok e
   aimed_rehash o (Holding c k m) y i e =
       let p = passed _ _ _ _ e in
-      subst (Leads s.initial a.filled) (became p.1) (g.rises s.initial a.filled (code_of (key_of c)) k m h.some some_filled (less k (level s a m) i.not_above p.0) i)
+      subst (Leads s.initial a.filled) (became p.1) (g.rises s.initial a.filled (code_of (key_of c)) k m h.some some_filled (less k (local_level s a m) i.not_above p.0) i)
   aimed_rehash o (Acted c m) y i e = err_ok e
 
   pub aimed_act : (o : Option Effect) (x y : WorkerState) → Leads s.initial a.filled x → act s a x ≡ Ok (o, y) → Leads s.initial a.filled y

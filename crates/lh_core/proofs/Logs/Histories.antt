@@ -17,7 +17,7 @@ use Rattle.lh_core.specs.declared.event.Event.{Event}
 use Rattle.lh_core.specs.declared.event.Event.TheVariants as event
 use Rattle.lh_core.specs.declared.state.WorkerState.{WorkerState}
 use Rattle.lh_core.specs.declared.state.WorkerState.TheVariants.{Idle, Called, Aimed, Holding, Acted}
-use Rattle.lh_core.specs.State.{State, first, level}
+use Rattle.lh_core.specs.State.{State, first, local_level}
 use Rattle.lh_core.specs.Aims.{Leads}
 use Rattle.lh_core.specs.Rules.{WorkerStep, allowed, called, read, lock, rehash, act, release, put, put_at, at_worker}
 use Rattle.lh_core.specs.Log.{Entry, Log, open_call, acts, and_call}
@@ -125,9 +125,9 @@ module _ (g : LinearHashing) (s : Settings) (log : Log) (a : State) (t : Told s 
   held_risen w f b (Called c) at ok steps = err_ok steps
   held_risen w f b (Aimed c k m) at ok steps = err_ok steps
   held_risen w f b (Holding c k m) at ok steps =
-      let test : nat_lt k (level s a m) ≡ false = put_passed w (nat_lt k (level s a m)) (None, Acted c m) (outline f) b steps in
+      let test : nat_lt k (local_level s a m) ≡ false = put_passed w (nat_lt k (local_level s a m)) (None, Acted c m) (outline f) b steps in
       let aim : IsAim s.initial a.filled (code_of (key_of c)) k m = t.sound.aims w (Holding c k m) at in
-      record { call = c; k = k; bucket = m; holding = at; same = sym (not_less k (level s a m) aim.not_above test); risen = (t.tied w (Holding c k m) at).1 }
+      record { call = c; k = k; bucket = m; holding = at; same = sym (not_less k (local_level s a m) aim.not_above test); risen = (t.tied w (Holding c k m) at).1 }
   held_risen w f b (Acted c m) at ok steps = err_ok steps
 
   act_risen : (w : ℕ) (f : Effect) (b : State) → allowed s a (event.Act w) ≡ Ok (outline f, b) → HasRisenToAct s a w log

@@ -16,7 +16,7 @@ use Rattle.lh_core.specs.declared.state.WorkerState.TheVariants.{Idle, Called, A
 use Rattle.lh_core.specs.State.{State}
 use Rattle.lh_core.specs.Rules.{called, read, lock, rehash, act, release, home}
 use Rattle.lh_core.specs.Log.{Entry, Log, open_after, open_call}
-use Rattle.lh_core.specs.Spans.{is_turn, is_turn_by, is_rehash, is_rehash_by, HasRisen}
+use Rattle.lh_core.specs.Spans.{is_turn, is_turn_by, is_accepted_rehash, is_rehash_by, HasRisen}
 use Rattle.lh_core.specs.History.{outline}
 use Rattle.lh_core.proofs.Logs.Steps.{IsOther, other_eq, other_cond, same_cond, err_ok, became, told, passed, outlined}
 
@@ -28,7 +28,7 @@ IsTied log w (Holding c k m) = (open_call w log ≡ Some c) × HasRisen w log k
 IsTied log w _ = Unit {0}
 
 -- a step more since the read
-pub risen_more : (w : ℕ) (d : Event × Entry) (log : Log) (k n : ℕ) → is_turn w d ≡ false → n ≡ k + cond (is_rehash w d) 1 0 → HasRisen w log k → HasRisen w (d ∷ log) n
+pub risen_more : (w : ℕ) (d : Event × Entry) (log : Log) (k n : ℕ) → is_turn w d ≡ false → n ≡ k + cond (is_accepted_rehash w d) 1 0 → HasRisen w log k → HasRisen w (d ∷ log) n
 risen_more w d log k n turn more h = record {
   later = d ∷ h.later;
   earlier = h.earlier;
@@ -36,7 +36,7 @@ risen_more w d log k n turn more h = record {
   bucket = h.bucket;
   is = ap (λ l. d ∷ l) h.is;
   since = ap (λ b. b || list_any (is_turn w) h.later) turn ∙ h.since;
-  rises = let count : count_by (is_rehash w) (d ∷ h.later) ≡ cond (is_rehash w d) 1 0 + count_by (is_rehash w) h.later = sum_by-cons (λ x. cond (is_rehash w x) 1 0) d h.later in omega (arith, count, more, h.rises);
+  rises = let count : count_by (is_accepted_rehash w) (d ∷ h.later) ≡ cond (is_accepted_rehash w d) 1 0 + count_by (is_accepted_rehash w) h.later = sum_by-cons (λ x. cond (is_accepted_rehash w x) 1 0) d h.later in omega (arith, count, more, h.rises);
 }
 
 open_other : (w : ℕ) (e : Event) (o : Option Call) → IsOther w e → open_after w e o ≡ o

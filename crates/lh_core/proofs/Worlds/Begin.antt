@@ -1,4 +1,4 @@
--- The first state
+-- The buckets that a file begins with, and the first world
 use Rattle.std.proofs.Common.{◌≡◌, ℕ, ◌+◌, ◌*◌, ◌^◌, ◌<◌, ◌≤◌, ◌||◌, Bool, true, false, cond, List, [], ◌∷◌, ◌++◌, None, Option, Some, get_or, nat_eq, nat_lt, nat_le, refl, sym, ap, subst, ◌∙◌, arith, ⊎_elim, length-append}
 use Rattle.std.specs.FinMap.{empty, get-empty}
 use Rattle.std.specs.List.{IsDistinct}
@@ -16,7 +16,7 @@ use Rattle.lh_bucket.specs.Bucket.{Seen, content}
 use Rattle.lh_bucket.specs.Records.{map_of}
 use Rattle.lh_core.specs.declared.control.Control.{Control}
 use Rattle.lh_core.specs.State.{first}
-use Rattle.lh_core.specs.Control.{IsControl, state_of, world_of}
+use Rattle.lh_core.specs.Control.{IsControl, control_state, world_of}
 use Rattle.lh_core.specs.Kept.{IsRow, IsWorld, IsEmptyRow, empty_at}
 use Rattle.lh_core.specs.Laws.{LinearHashing}
 use Rattle.lh_core.specs.Sound.{IsSound}
@@ -72,7 +72,7 @@ first_placed s row h = record {
   each = λ i lt. ap content (h.each i lt) ∙ empty_content ∙ same _ _ (λ q. get-empty (slice_cmp nat_cmp) q ∙ sym (get_kept empty (λ k. nat_eq (address s.initial s.initial (code_of k)) i) q ∙ ap (λ o. cond (nat_eq (address s.initial s.initial (code_of q)) i) o None) (get-empty (slice_cmp nat_cmp) q) ∙ sym (none_either (nat_eq (address s.initial s.initial (code_of q)) i))));
 }
 
-pub first_world : LinearHashing → (c : Control) (row : List Seen) → IsInRange c.config → c.root ≡ record { initial = c.config.initial; buckets = c.config.initial } → c.filled ≡ c.root → state_of c ≡ first c.config → IsEmptyRow c.config c.config.initial row → IsControl c × IsWorld (world_of c row)
+pub first_world : LinearHashing → (c : Control) (row : List Seen) → IsInRange c.config → c.root ≡ record { initial = c.config.initial; buckets = c.config.initial } → c.filled ≡ c.root → control_state c ≡ first c.config → IsEmptyRow c.config c.config.initial row → IsControl c × IsWorld (world_of c row)
 first_world g c row range root filled state h =
     let is : c.filled ≡ record { initial = c.config.initial; buckets = c.config.initial } = filled ∙ root in
     let sound = subst (IsSound c.config) (sym state) (first_sound c.config range.initial.0 range.max.0) in (

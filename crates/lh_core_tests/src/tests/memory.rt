@@ -38,8 +38,8 @@ fn run_again<B: Bucket>(alloc: Global, config: Config, events: &[Event]) -> Resu
     }
 }
 
-/// The entries have these effects in their order, and between them are events refused because memory ran out, or because
-/// what they ask for was done.
+/// The entries have these effects in their order, and between them are events refused because memory ran out, or
+/// because what they ask for was done.
 fn expect_effects(rt: &impl Abort, entries: &[Result<Effect, Refusal>], dues: &[Effect]) {
     let mut count: usize = 0;
     for entry in entries {

@@ -8,7 +8,7 @@ use Rattle.lh_addr.specs.Fnv.{code_of}
 use Rattle.lh_bucket.specs.Call.{key_of}
 use Rattle.lh_core.proofs.Logs.Aiming.{some_filled}
 use Rattle.lh_core.proofs.Records.Placing.{act_here, act_reply, act_placed, act_row}
-use Rattle.lh_core.specs.Control.{state_of}
+use Rattle.lh_core.specs.Control.{control_state}
 use Rattle.lh_bucket.specs.Answer.{Answered}
 use Rattle.lh_core.proofs.row.serve.Goals as goal
 
@@ -19,7 +19,7 @@ serve-requires-clause-here g c =
     let lt : i < length c.args.buckets.now.items = omega (arith, c.requires.act.aim.within, c.requires.world.row.all, length-map c.args.buckets.now.items g.B.Bucket.seen) in
     let is : g.B.Bucket.seen c.index_mut-bucket.result.now ≡ get_or row i no_bucket = ap g.B.Bucket.seen c.index_mut-bucket.ensures.value ∙ sym (get_or-map g.B.Bucket.seen c.args.buckets.now.items i _ no_bucket lt) in
     ap (λ (x : Seen). verdict x.head (code_of (key_of c.args.act.now.call.now)) c.args.act.now.level) is
-    ∙ act_here c.linear_hashing.ensures c.args.control.now.config c.args.control.now.filled.buckets row c.requires.world.row c.requires.world.sound.some (some_filled c.linear_hashing.ensures c.args.control.now.config (state_of c.args.control.now) c.requires.world.sound) c.args.act.now.call.now c.args.act.now.level i c.requires.act.aim c.requires.act.level
+    ∙ act_here c.linear_hashing.ensures c.args.control.now.config c.args.control.now.filled.buckets row c.requires.world.row c.requires.world.sound.some (some_filled c.linear_hashing.ensures c.args.control.now.config (control_state c.args.control.now) c.requires.world.sound) c.args.act.now.call.now c.args.act.now.level i c.requires.act.aim c.requires.act.level
 
 pub returns-in-Ok-clause-row : goal.returns-in-Ok-clause-row
 returns-in-Ok-clause-row g c =
@@ -27,7 +27,7 @@ returns-in-Ok-clause-row g c =
     let i = c.args.act.now.bucket in
     let lt : i < length c.args.buckets.now.items = omega (arith, c.requires.act.aim.within, c.requires.world.row.all, length-map c.args.buckets.now.items g.B.Bucket.seen) in
     let is : g.B.Bucket.seen c.index_mut-bucket.result.now ≡ get_or row i no_bucket = ap g.B.Bucket.seen c.index_mut-bucket.ensures.value ∙ sym (get_or-map g.B.Bucket.seen c.args.buckets.now.items i _ no_bucket lt) in
-    rw map-set (act_row c.linear_hashing.ensures c.args.control.now.config c.args.control.now.filled.buckets row c.requires.world.row c.requires.world.sound.some (some_filled c.linear_hashing.ensures c.args.control.now.config (state_of c.args.control.now) c.requires.world.sound) c.args.act.now.call.now c.args.act.now.level i c.requires.act.aim c.requires.act.level
+    rw map-set (act_row c.linear_hashing.ensures c.args.control.now.config c.args.control.now.filled.buckets row c.requires.world.row c.requires.world.sound.some (some_filled c.linear_hashing.ensures c.args.control.now.config (control_state c.args.control.now) c.requires.world.sound) c.args.act.now.call.now c.args.act.now.level i c.requires.act.aim c.requires.act.level
     (g.B.Bucket.seen c.serve.new.self) (c.serve.ensures.head ∙ ap (λ (x : Seen). x.head) is) c.len.ensures.kept.distinct)
 
 pub returns-in-Ok-clause-reply : goal.returns-in-Ok-clause-reply
@@ -37,7 +37,7 @@ returns-in-Ok-clause-reply g c = λ m p.
     let lt : i < length c.args.buckets.now.items = omega (arith, c.requires.act.aim.within, c.requires.world.row.all, length-map c.args.buckets.now.items g.B.Bucket.seen) in
     let is : g.B.Bucket.seen c.index_mut-bucket.result.now ≡ get_or row i no_bucket = ap g.B.Bucket.seen c.index_mut-bucket.ensures.value ∙ sym (get_or-map g.B.Bucket.seen c.args.buckets.now.items i _ no_bucket lt) in
     c.reply.ensures.value ∙ ap (λ (x : Answered). x.reply) c.in-Ok.ensures.answer ∙ ap (λ x. reply (content x) c.args.act.now.call.now) is
-    ∙ act_reply c.linear_hashing.ensures c.args.control.now.config c.args.control.now.filled.buckets row c.requires.world.row c.requires.world.sound.some (some_filled c.linear_hashing.ensures c.args.control.now.config (state_of c.args.control.now) c.requires.world.sound) c.args.act.now.call.now c.args.act.now.level i c.requires.act.aim c.requires.act.level m p
+    ∙ act_reply c.linear_hashing.ensures c.args.control.now.config c.args.control.now.filled.buckets row c.requires.world.row c.requires.world.sound.some (some_filled c.linear_hashing.ensures c.args.control.now.config (control_state c.args.control.now) c.requires.world.sound) c.args.act.now.call.now c.args.act.now.level i c.requires.act.aim c.requires.act.level m p
 
 pub returns-in-Ok-clause-stands : goal.returns-in-Ok-clause-stands
 returns-in-Ok-clause-stands g c = λ m p.
@@ -45,7 +45,7 @@ returns-in-Ok-clause-stands g c = λ m p.
     let i = c.args.act.now.bucket in
     let lt : i < length c.args.buckets.now.items = omega (arith, c.requires.act.aim.within, c.requires.world.row.all, length-map c.args.buckets.now.items g.B.Bucket.seen) in
     let is : g.B.Bucket.seen c.index_mut-bucket.result.now ≡ get_or row i no_bucket = ap g.B.Bucket.seen c.index_mut-bucket.ensures.value ∙ sym (get_or-map g.B.Bucket.seen c.args.buckets.now.items i _ no_bucket lt) in
-    rw map-set (act_placed c.linear_hashing.ensures c.args.control.now.config c.args.control.now.filled.buckets row c.requires.world.row c.requires.world.sound.some (some_filled c.linear_hashing.ensures c.args.control.now.config (state_of c.args.control.now) c.requires.world.sound) c.args.act.now.call.now c.args.act.now.level i c.requires.act.aim c.requires.act.level
+    rw map-set (act_placed c.linear_hashing.ensures c.args.control.now.config c.args.control.now.filled.buckets row c.requires.world.row c.requires.world.sound.some (some_filled c.linear_hashing.ensures c.args.control.now.config (control_state c.args.control.now) c.requires.world.sound) c.args.act.now.call.now c.args.act.now.level i c.requires.act.aim c.requires.act.level
     m (g.B.Bucket.seen c.serve.new.self) p (c.in-Ok.ensures.content ∙ ap (λ x. after (content x) c.args.act.now.call.now) is))
 
 pub returns-in-Err-clause-row : goal.returns-in-Err-clause-row

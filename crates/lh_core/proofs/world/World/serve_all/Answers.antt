@@ -19,4 +19,4 @@ loop-call-preserved g c =
 pub returns : goal.returns
 returns g c =
     let whole : take c.loop-call.call-index c.args.calls.now ≡ c.args.calls.now = take_all c.loop-call.call-index c.args.calls.now c.loop-call-test.false in
-    served_all c.args.self.now.config c.args.calls.now c.loop-call.replies.items c.loop-call.self c.loop-call.records c.is_kept-2.ensures (rw whole at c.loop-call.invariant)
+    served_all c.args.self.now.config c.args.calls.now c.loop-call.replies.items c.loop-call.self c.loop-call.records c.is_kept.ensures (rw whole at c.loop-call.invariant)
