@@ -32,9 +32,9 @@ abbrev pub page_total : Lists → ℕ
 page_total l = 1 + size l + overflow_before l (size l)
 
 -- the number in the file of page k of bucket i: the primary pages come first, then the overflow pages in the order of bucket and place
-abbrev pub number_of : Lists → ℕ → ℕ → ℕ
-number_of l i zero = 1 + i
-number_of l i (suc k) = 1 + size l + overflow_before l i + k
+abbrev pub page_number : Lists → ℕ → ℕ → ℕ
+page_number l i zero = 1 + i
+page_number l i (suc k) = 1 + size l + overflow_before l i + k
 
 -- page k of bucket i, which names the next one of the chain, if there is one
 abbrev pub page_in : Lists → ℕ → ℕ → Page
@@ -42,7 +42,7 @@ page_in l i k = record {
   kind = if k == 0 then Primary else Overflow;
   level = level_of l.config.initial (size l) i;
   bucket = i;
-  next = if k + 1 == page_count_in l i then 0 else number_of l i (suc k);
+  next = if k + 1 == page_count_in l i then 0 else page_number l i (suc k);
   pairs = slice_index_or (pages_in l i) k [];
 }
 

@@ -182,10 +182,10 @@ record_rows v =
     ∷ []
 
 -- the first fault of some rows
-unfoldable pub first_of : List (Option ImageFault) → Option ImageFault
-first_of [] = None
-first_of (None ∷ rows) = first_of rows
-first_of (Some fault ∷ rows) = Some fault
+unfoldable pub first_fault_of : List (Option ImageFault) → Option ImageFault
+first_fault_of [] = None
+first_fault_of (None ∷ rows) = first_fault_of rows
+first_fault_of (Some fault ∷ rows) = Some fault
 
 -- the rows of the faults of pages, which a View shows whatever the format of its bytes
 abbrev pub page_rows : View → List (Option ImageFault)
@@ -193,8 +193,8 @@ page_rows v = head_rows v ++ link_rows (links v) ++ record_rows v
 
 -- the first fault of the pages, or none
 unfoldable pub page_fault : View → Option ImageFault
-page_fault v = first_of (page_rows v)
+page_fault v = first_fault_of (page_rows v)
 
 -- the fault that is answered, or none: the first of the table
 unfoldable pub image_fault : List ℕ → Option ImageFault
-image_fault bytes = first_of (header_rows bytes ++ size_rows bytes ++ page_rows (view_of bytes))
+image_fault bytes = first_fault_of (header_rows bytes ++ size_rows bytes ++ page_rows (view_of bytes))

@@ -7,7 +7,7 @@ use Rattle.lh_image.specs.Layout.{header_of, ends_in_zeros, view_of}
 use Rattle.lh_image.specs.View.{View, page_count, links}
 
 -- the least number from a first one on, and below an end, for which a condition holds
-pub record IsLeast (test : ℕ → Bool) (first end n : ℕ) : Type 0 where
+pub record IsLeastInRange (test : ℕ → Bool) (first end n : ℕ) : Type 0 where
   pub from : first ≤ n
   pub below : n < end
   pub holds : test n ≡ true
@@ -34,15 +34,15 @@ number Memory = 0
 
 -- The condition of a fault of a page holds, and the page is the least of 1 to P - 1 where it does, or of 0 to P - 1 for the ninth.
 abbrev pub AppliesTo : View → ImageFault → Type 0
-AppliesTo v (Kind p) = IsLeast (at_head bad_kind v) 1 (page_count v) p
-AppliesTo v (BucketNumber p) = IsLeast (at_head bad_bucket v) 1 (page_count v) p
-AppliesTo v (Level p) = IsLeast (at_head bad_level v) 1 (page_count v) p
-AppliesTo v (Used p) = IsLeast (bad_used_at v) 0 (page_count v) p
-AppliesTo v (Next p) = IsLeast (bad_next (links v)) 1 (page_count v) p
-AppliesTo v (Twice p) = IsLeast (named_twice (links v)) 1 (page_count v) p
-AppliesTo v (Never p) = IsLeast (on_no_chain (links v)) 1 (page_count v) p
-AppliesTo v (Slot p) = IsLeast (has_bad_slot v) 1 (page_count v) p
-AppliesTo v (Misfit p) = IsLeast (has_misfit v) 1 (page_count v) p
+AppliesTo v (Kind p) = IsLeastInRange (at_head bad_kind v) 1 (page_count v) p
+AppliesTo v (BucketNumber p) = IsLeastInRange (at_head bad_bucket v) 1 (page_count v) p
+AppliesTo v (Level p) = IsLeastInRange (at_head bad_level v) 1 (page_count v) p
+AppliesTo v (Used p) = IsLeastInRange (bad_used_at v) 0 (page_count v) p
+AppliesTo v (Next p) = IsLeastInRange (bad_next (links v)) 1 (page_count v) p
+AppliesTo v (Twice p) = IsLeastInRange (named_twice (links v)) 1 (page_count v) p
+AppliesTo v (Never p) = IsLeastInRange (on_no_chain (links v)) 1 (page_count v) p
+AppliesTo v (Slot p) = IsLeastInRange (has_bad_slot v) 1 (page_count v) p
+AppliesTo v (Misfit p) = IsLeastInRange (has_misfit v) 1 (page_count v) p
 AppliesTo v f = ⊥
 
 -- The condition of a fault holds, and its place is the first where it does.
@@ -55,13 +55,13 @@ Applies bytes Trailing = has_trailing bytes ≡ true
 Applies bytes f = AppliesTo (view_of bytes) f
 
 -- A fault is due where its condition holds and no condition with a lower number does.
-pub record IsDue (bytes : List ℕ) (fault : ImageFault) : Type 0 where
+pub record IsFirstFault (bytes : List ℕ) (fault : ImageFault) : Type 0 where
   pub applies : Applies bytes fault
   pub first : (other : ImageFault) → number other < number fault → Applies bytes other → ⊥
 
 -- The fault that is answered is the one that is due.
 abbrev pub FirstFaultLaw : Type 0
-FirstFaultLaw = (bytes : List ℕ) (fault : ImageFault) → (image_fault bytes ≡ Some fault) ↔ IsDue bytes fault
+FirstFaultLaw = (bytes : List ℕ) (fault : ImageFault) → (image_fault bytes ≡ Some fault) ↔ IsFirstFault bytes fault
 
 -- No fault is answered exactly where no condition holds.
 abbrev pub NoFaultLaw : Type 0

@@ -8,10 +8,10 @@ use Rattle.lh_image.specs.declared.fault.ImageFault.{ImageFault}
 use Rattle.lh_image.specs.declared.reading.first_page.Fields.{Fields}
 use Rattle.lh_image.specs.declared.reading.first_page.Header.{Header}
 use Rattle.lh_image.specs.declared.version.Version.{Version}
-use Rattle.lh_image.specs.Faults.{header_rows, first_of, no_magic}
+use Rattle.lh_image.specs.Faults.{header_rows, first_fault_of, no_magic}
 use Rattle.lh_image.specs.Filling.{FillsWhole}
 use Rattle.lh_image.specs.Layout.{most_pages, header_of}
-use Rattle.lh_image.specs.Reading.{IsTold, Leaves, reading_of}
+use Rattle.lh_image.specs.Reading.{IsDueFault, Leaves, reading_of}
 use Rattle.lh_image.specs.Version.{page_bytes, slots, version_of}
 
 -- the header that some fields are
@@ -29,11 +29,11 @@ abbrev pub HasRoom : Header → Type 0
 HasRoom header = (1 ≤ header.config.capacity) × (header.config.capacity ≤ slots header.version)
 
 -- the first of the ranges of the configuration that a header is out of
-abbrev pub IsFirstOutOfRange : Header → Range → Type 0
-IsFirstOutOfRange h Initial = ¬ IsInitial h.config.initial
-IsFirstOutOfRange h Capacity = IsInitial h.config.initial × ¬ HasRoom h
-IsFirstOutOfRange h Load = IsInitial h.config.initial × HasRoom h × ¬ IsLoad h.config.load
-IsFirstOutOfRange h Max = IsInitial h.config.initial × HasRoom h × IsLoad h.config.load × ¬ IsSize h.config.initial h.config.max
+abbrev pub IsFirstBadSetting : Header → Range → Type 0
+IsFirstBadSetting h Initial = ¬ IsInitial h.config.initial
+IsFirstBadSetting h Capacity = IsInitial h.config.initial × ¬ HasRoom h
+IsFirstBadSetting h Load = IsInitial h.config.initial × HasRoom h × ¬ IsLoad h.config.load
+IsFirstBadSetting h Max = IsInitial h.config.initial × HasRoom h × IsLoad h.config.load × ¬ IsSize h.config.initial h.config.max
 
 -- the numbers of a header are in their ranges
 pub record AreInRange (header : Header) : Type 0 where
@@ -47,7 +47,7 @@ pub record AreInRange (header : Header) : Type 0 where
 -- the first page was read, and has a header without a fault
 pub record HasHeader (header : Header) (bytes : List ℕ) (now : Option (List ℕ)) : Type 0 where
   pub fields : header ≡ header_of bytes
-  pub faultless : first_of (header_rows bytes) ≡ None
+  pub faultless : first_fault_of (header_rows bytes) ≡ None
   pub size : page_bytes (version_of bytes) ≤ length bytes
   pub rest : now ≡ Some (drop (page_bytes (version_of bytes)) bytes)
   pub each_byte : (i : ℕ) → i < page_bytes (version_of bytes) → slice_index bytes i < 256
@@ -61,9 +61,9 @@ pub record HasBegun (version : Version) (bytes buffer : List ℕ) (now : Option 
 -- the front of the bytes, by the version that it tells, or the answer that is due
 abbrev pub ReadsFront : List ℕ → Result Version ImageFault → (Version → List ℕ) → Option (List ℕ) → Type 0
 ReadsFront bytes (Ok version) buffer now = HasBegun version bytes (buffer version) now
-ReadsFront bytes (Err f) buffer now = IsTold f (reading_of bytes) × Leaves {X = Version} (Err f) bytes now
+ReadsFront bytes (Err f) buffer now = IsDueFault f (reading_of bytes) × Leaves {X = Version} (Err f) bytes now
 
 -- the header, or the answer that is due
 abbrev pub ReadsHeader : List ℕ → Result Header ImageFault → Option (List ℕ) → Type 0
 ReadsHeader bytes (Ok header) now = HasHeader header bytes now
-ReadsHeader bytes (Err f) now = IsTold f (reading_of bytes) × Leaves {X = Header} (Err f) bytes now
+ReadsHeader bytes (Err f) now = IsDueFault f (reading_of bytes) × Leaves {X = Header} (Err f) bytes now

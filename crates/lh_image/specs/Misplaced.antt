@@ -24,9 +24,9 @@ lesser_of None p = p
 lesser_of (Some least) p = if nat_lt least p then least else p
 
 -- the least of some pages that fail a test, or none of them
-abbrev pub IsLeast : (ℕ → Bool) → List ℕ → Option ℕ → Type 0
-IsLeast bad pages None = (p : ℕ) → stands_in pages p ≡ true → bad p ≡ false
-IsLeast bad pages (Some m) = (stands_in pages m ≡ true) × (bad m ≡ true) × ((p : ℕ) → stands_in pages p ≡ true → p < m → bad p ≡ false)
+abbrev pub IsLeastAmong : (ℕ → Bool) → List ℕ → Option ℕ → Type 0
+IsLeastAmong bad pages None = (p : ℕ) → stands_in pages p ≡ true → bad p ≡ false
+IsLeastAmong bad pages (Some m) = (stands_in pages m ≡ true) × (bad m ≡ true) × ((p : ℕ) → stands_in pages p ≡ true → p < m → bad p ≡ false)
 
 -- a test of pages that says of each page of a chain whether it has a misfit
 abbrev pub IsTestOf : (ℕ → Bool) → (List ℕ → Bool) → (ℕ → List Pair) → List ℕ → Type 0

@@ -24,15 +24,15 @@ unfoldable pub reading_of : List ℕ → Result Lists ImageFault
 reading_of bytes = judged_by (image_fault bytes) (view_of bytes)
 
 -- A failed read and out of memory say nothing of the bytes; every other fault is the one that is due.
-abbrev pub IsTold : ImageFault → Result Lists ImageFault → Type 0
-IsTold ReadFault due = Unit {0}
-IsTold Memory due = Unit {0}
-IsTold f due = due ≡ Err f
+abbrev pub IsDueFault : ImageFault → Result Lists ImageFault → Type 0
+IsDueFault ReadFault due = Unit {0}
+IsDueFault Memory due = Unit {0}
+IsDueFault f due = due ≡ Err f
 
 -- an answer, made of a listing or not, is the one that is due
-abbrev pub IsAnswer : {X : Type 0} → (X → Lists → Type 0) → Result X ImageFault → Result Lists ImageFault → Type 0
-IsAnswer Shows (Ok x) due = (l : Lists) × (due ≡ Ok l) × Shows x l
-IsAnswer Shows (Err f) due = IsTold f due
+abbrev pub IsDueAnswer : {X : Type 0} → (X → Lists → Type 0) → Result X ImageFault → Result Lists ImageFault → Type 0
+IsDueAnswer Shows (Ok x) due = (l : Lists) × (due ≡ Ok l) × Shows x l
+IsDueAnswer Shows (Err f) due = IsDueFault f due
 
 -- What is left of the reader's bytes: nothing after an answer that says so, all but the first page after the faults of the header, and after trailing bytes all but one byte past the last page.
 abbrev pub Leaves : {X : Type 0} → Result X ImageFault → List ℕ → Option (List ℕ) → Type 0

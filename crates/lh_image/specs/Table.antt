@@ -24,8 +24,8 @@ unfoldable pub bucket_in : List Entry → ℕ → ℕ
 bucket_in entries p = (entry_at entries p).bucket
 
 -- the records of a page among those of all
-unfoldable pub records_in : List Entry → List Pair → ℕ → List Pair
-records_in entries pairs p = take (entry_at entries p).used (drop (entry_at entries p).start pairs)
+unfoldable pub page_records : List Entry → List Pair → ℕ → List Pair
+page_records entries pairs p = take (entry_at entries p).used (drop (entry_at entries p).start pairs)
 
 -- each page's records lie among those of all
 abbrev pub AreWithin : List Entry → List Pair → Type 0
@@ -60,4 +60,4 @@ pub record IsTable (v : View) (n : ℕ) (entries : List Entry) (pairs : List Pai
   pub size : length entries ≡ n
   pub next : (p : ℕ) → p < n → next_in entries p ≡ next v p
   pub bucket : (p : ℕ) → p < n → bucket_in entries p ≡ bucket v p
-  pub records : (p : ℕ) → 1 ≤ p → p < n → has_plain_head v p ≡ true → v.bad_slot p ≡ None → records_in entries pairs p ≡ v.records p
+  pub records : (p : ℕ) → 1 ≤ p → p < n → has_plain_head v p ≡ true → v.bad_slot p ≡ None → page_records entries pairs p ≡ v.records p

@@ -23,12 +23,12 @@ IsSent text (Ok done) before now = Appends before now text
 IsSent text (Err e) before now = TakesBeginning before now text
 
 -- Why a listing is not written in a version: the pages have not this many slots, or these no room for a record, or there would be too many pages. The first that holds is answered, and of records the one of the least bucket, there at the least place.
-abbrev pub IsRefused : Version → Lists → WriteImageFault → Type 0
-IsRefused version l OldCapacity = slots version < l.config.capacity
-IsRefused version l (OldRecord bucket place) = (l.config.capacity ≤ slots version) × IsFirst (IsFitting (format_of version)) (IsTooLong (format_of version)) l.lists bucket place
-IsRefused version l TooLarge = FitsVersion version l × (most_pages < page_total l)
-IsRefused version l WriteFault = ⊥
-IsRefused version l Memory = ⊥
+abbrev pub IsWriteRefusal : Version → Lists → WriteImageFault → Type 0
+IsWriteRefusal version l OldCapacity = slots version < l.config.capacity
+IsWriteRefusal version l (OldRecord bucket place) = (l.config.capacity ≤ slots version) × IsFirst (IsFitting (format_of version)) (IsTooLong (format_of version)) l.lists bucket place
+IsWriteRefusal version l TooLarge = FitsVersion version l × (most_pages < page_total l)
+IsWriteRefusal version l WriteFault = ⊥
+IsWriteRefusal version l Memory = ⊥
 
 -- the version's pages have room for the listing, and there are not too many of them
 pub record FitsImage (version : Version) (l : Lists) : Type 0 where
@@ -39,7 +39,7 @@ pub record FitsImage (version : Version) (l : Lists) : Type 0 where
 abbrev pub IsWritten : Version → Lists → Result (Unit {0}) WriteImageFault → Option (List ℕ) → Option (List ℕ) → Type 0
 IsWritten version l (Ok done) before now = FitsImage version l × Appends before now (canonical version l)
 IsWritten version l (Err WriteFault) before now = FitsImage version l × TakesBeginning before now (canonical version l)
-IsWritten version l (Err f) before now = IsRefused version l f × Keeps before now
+IsWritten version l (Err f) before now = IsWriteRefusal version l f × Keeps before now
 
 -- a fault that is neither of a listing's capacity nor of its records
 abbrev pub IsNotOld : WriteImageFault → Type 0

@@ -3,7 +3,7 @@ ghost use Rattle.std.specs.Prelude.{◌≡◌, ◌≤◌, IfSome};
 ghost use Rattle.lh_bucket.specs.Listing.{size};
 ghost use Rattle.lh_image.specs.Canonical.{page_total};
 ghost use Rattle.lh_image.specs.Census.{census_of, longest_before};
-ghost use Rattle.lh_image.specs.Reading.{IsAnswer, Leaves, reading_of};
+ghost use Rattle.lh_image.specs.Reading.{IsDueAnswer, Leaves, reading_of};
 ghost use Rattle.lh_image.specs.Layout.{most_pages};
 
 use crate::fault::ImageFault;
@@ -75,7 +75,7 @@ fn census_of(listing: &Listing) -> Census
 /// says it.
 pub fn check_image<R: Read>(alloc: Global, reader: &mut R) -> Result<Census, ImageFault>
     ensures exact { IfSome (R.remaining reader.old) (λ bytes.
-        IsAnswer (λ census l. census ≡ census_of l) result (reading_of bytes)) }
+        IsDueAnswer (λ census l. census ≡ census_of l) result (reading_of bytes)) }
     ensures rest { IfSome (R.remaining reader.old) (λ bytes. Leaves result bytes (R.remaining reader.new)) }
 {
     census_counts_pages();

@@ -1,7 +1,7 @@
 //! Reading an image, page by page.
 ghost use Rattle.std.specs.Prelude.{◌≡◌, IfSome, IfOk};
 ghost use Rattle.lh_image.specs.Image.{IsImage};
-ghost use Rattle.lh_image.specs.Reading.{IsAnswer, Leaves, reading_of};
+ghost use Rattle.lh_image.specs.Reading.{IsDueAnswer, Leaves, reading_of};
 
 mod filling;
 pub(crate) mod first_page;
@@ -26,7 +26,7 @@ use std::io::Read;
 /// page. Its first 1,024 bytes tell the version, and so whether more of it is read.
 pub fn read_image<R: Read>(alloc: Global, reader: &mut R) -> Result<Listing, ImageFault>
     ensures exact { IfSome (R.remaining reader.old) (λ bytes.
-        IsAnswer (λ listing l. listing ≡ l) result (reading_of bytes)) }
+        IsDueAnswer (λ listing l. listing ≡ l) result (reading_of bytes)) }
     ensures image { IfSome (R.remaining reader.old) (λ bytes. IfOk result (λ listing. IsImage bytes listing)) }
     ensures rest { IfSome (R.remaining reader.old) (λ bytes. Leaves result bytes (R.remaining reader.new)) }
 {

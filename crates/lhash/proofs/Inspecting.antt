@@ -15,7 +15,7 @@ use Rattle.lh_image.specs.Census.{census_of}
 use Rattle.lh_image.specs.Counted.{CensusLaw}
 use Rattle.lh_image.specs.Image.{IsImage}
 use Rattle.lh_image.specs.Layout.{most_pages, view_of}
-use Rattle.lh_image.specs.Reading.{IsTold, reading_of}
+use Rattle.lh_image.specs.Reading.{IsDueFault, reading_of}
 use Rattle.lh_image.specs.View.{page_count}
 use Rattle.lh_image.specs.Writing.{IsNotOld, IsWritten}
 use Rattle.lhash.specs.Devices.{TakesBeginning}
@@ -35,20 +35,20 @@ refused_for_bytes Memory a b = absurd (b refl)
 refused_for_bytes fault a b = refl
 
 -- a run that read no image ends without a write
-unread : (text : Lists → List ℕ) (fault : ImageFault) (due : Result Lists ImageFault) (a : Option (List ℕ)) → IsTold fault due → Ends (refused_as fault) (told_of text due) a a
+unread : (text : Lists → List ℕ) (fault : ImageFault) (due : Result Lists ImageFault) (a : Option (List ℕ)) → IsDueFault fault due → Ends (refused_as fault) (told_of text due) a a
 unread text ReadFault due a h = Keeps-refl a
 unread text Memory due a h = Keeps-refl a
 unread text fault due a h = (ap (told_of text) h, Keeps-refl a)
 
 pub unchecked : (fault : ImageFault) (status : Status) (left a : Option (List ℕ)) → status ≡ refused_as fault →
-    IfSome left (λ input. IsTold fault (reading_of input)) → IfSome left (λ input. Ends status (check_due input) a a)
+    IfSome left (λ input. IsDueFault fault (reading_of input)) → IfSome left (λ input. Ends status (check_due input) a a)
 unfolding check_due
 unchecked fault status None a is h = tt
 unchecked fault status (Some input) a is h =
     subst (λ (s : Status). Ends s (check_due input) a a) (sym is) (unread (λ l. check_text (census_of l)) fault (reading_of input) a h)
 
 pub undumped : (fault : ImageFault) (status : Status) (left a : Option (List ℕ)) → status ≡ refused_as fault →
-    IfSome left (λ input. IsTold fault (reading_of input)) → IfSome left (λ input. Ends status (dump_due input) a a)
+    IfSome left (λ input. IsDueFault fault (reading_of input)) → IfSome left (λ input. Ends status (dump_due input) a a)
 unfolding dump_due
 undumped fault status None a is h = tt
 undumped fault status (Some input) a is h =
@@ -100,7 +100,7 @@ unfolding draw_due
 drawing_due listing l input e is = ap (told_of drawing_of) e ∙ ap (λ (x : Lists). Ok (drawing_of x)) (sym is)
 
 pub undrawn : (fault : ImageFault) (status : Status) (left a : Option (List ℕ)) → status ≡ refused_as fault →
-    IfSome left (λ input. IsTold fault (reading_of input)) → IfSome left (λ input. Ends status (draw_due input) a a)
+    IfSome left (λ input. IsDueFault fault (reading_of input)) → IfSome left (λ input. Ends status (draw_due input) a a)
 unfolding draw_due
 undrawn fault status None a is h = tt
 undrawn fault status (Some input) a is h =
@@ -122,7 +122,7 @@ unfolding migrate_due
 image_due listing l input e is = ap (told_of (canonical Two)) e ∙ ap (λ (x : Lists). Ok (canonical Two x)) (sym is)
 
 pub unmigrated : (fault : ImageFault) (status : Status) (left a : Option (List ℕ)) → status ≡ refused_as fault →
-    IfSome left (λ input. IsTold fault (reading_of input)) → IfSome left (λ input. Ends status (migrate_due input) a a)
+    IfSome left (λ input. IsDueFault fault (reading_of input)) → IfSome left (λ input. Ends status (migrate_due input) a a)
 unfolding migrate_due
 unmigrated fault status None a is h = tt
 unmigrated fault status (Some input) a is h =

@@ -19,7 +19,7 @@ use Rattle.lh_image.specs.declared.version.Version.TheVariants.{One, Two}
 use Rattle.lh_image.specs.Canonical.{canonical}
 use Rattle.lh_image.specs.Census.{census_of}
 use Rattle.lh_image.specs.Reading.{reading_of}
-use Rattle.lh_image.specs.Writing.{FitsImage, IsRefused}
+use Rattle.lh_image.specs.Writing.{FitsImage, IsWriteRefusal}
 use Rattle.lh_options.specs.declared.options.ImageVersion.{ImageVersion}
 use Rattle.lh_options.specs.declared.options.ImageVersion.TheVariants.{First, Second}
 use Rattle.lh_script.specs.Commands.{command}
@@ -56,7 +56,7 @@ pub record IsBuilt (version : Version) (settings : Settings) (calls : List Call)
 pub record HasNoImage (version : Version) (settings : Settings) (calls : List Call) (fault : WriteImageFault) : Type 0 where
   pub listing : Lists
   pub led : IsLedTo settings calls listing
-  pub refused : IsRefused version listing fault
+  pub refused : IsWriteRefusal version listing fault
 
 -- how `build` ends on an input: with the reason, and the writer took nothing, where the file that the script leads to has no image; otherwise with the image of that file, or with the script's first fault
 unfoldable pub EndsBuilding : Version → Settings → List ℕ → Status → Option (List ℕ) → Option (List ℕ) → Type 0

@@ -1,7 +1,7 @@
 //! The subcommands for images: `build`, from a script to an image, `migrate`, from an image to one of version 2, and
 //! `check` and `dump`, from an image to a text.
 ghost use Rattle.std.specs.Prelude.{◌≡◌, IfOk, IfSome};
-ghost use Rattle.lh_image.specs.Reading.{IsAnswer};
+ghost use Rattle.lh_image.specs.Reading.{IsDueAnswer};
 ghost use Rattle.lh_image.specs.Writing.{IsWritten};
 ghost use Rattle.lhash.specs.Images.{EndsBuilding, IsLedTo, check_due, dump_due, migrate_due, refused_as, unwritten_as, version_asked};
 ghost use Rattle.lhash.specs.Run.{Ends};

@@ -7,7 +7,7 @@ use Rattle.byteorder.specs.Endian.{little_from}
 use Rattle.lh_addr.specs.Limits.{IsInitial, IsCapacity, IsLoad, IsSize}
 use Rattle.lh_image.specs.declared.fault.ImageFault.TheVariants.{HeaderField, Counts}
 use Rattle.lh_image.specs.declared.reading.first_page.Header.{Header}
-use Rattle.lh_image.specs.Faults.{is_bad_field, bad_field, bad_counts, field_rows, first_of, where_so, out_of}
+use Rattle.lh_image.specs.Faults.{is_bad_field, bad_field, bad_counts, field_rows, first_fault_of, where_so, out_of}
 use Rattle.lh_image.specs.Header.{AreInRange, HasRoom}
 use Rattle.lh_image.specs.Version.{slots}
 use Rattle.lh_image.proofs.bytes.Header.{from_drop}
@@ -138,8 +138,8 @@ are_in_range h zeros e few =
 
 -- ---- what is due
 
-pub due_field : (h : Header) (zeros : Bool) (o : ℕ) → Some o ≡ bad_field h zeros → Some (HeaderField o) ≡ first_of (field_rows h zeros)
-unfolding first_of
+pub due_field : (h : Header) (zeros : Bool) (o : ℕ) → Some o ≡ bad_field h zeros → Some (HeaderField o) ≡ first_fault_of (field_rows h zeros)
+unfolding first_fault_of
 due_field h zeros o e = rw (← e) refl
 
 -- a field out of its range is so whether the bytes behind the fields are zeros or not
@@ -172,12 +172,12 @@ last_zeros h zeros e = later (out_of 1 256 h.config.initial) (out_of 1 (slots h.
 pub due_zeros : (h : Header) (zeros : Bool) → None ≡ bad_field h true → zeros ≡ false → Some 36 ≡ bad_field h zeros
 due_zeros h zeros e z = sym (last_zeros h zeros e ∙ ap (λ (b : Bool). cond (not b) (Some 36) None) z)
 
-pub due_counts : (h : Header) (zeros bad : Bool) → None ≡ bad_field h true → zeros ≡ true → bad ≡ bad_counts h → where_so bad Counts ≡ first_of (field_rows h zeros)
-unfolding first_of
+pub due_counts : (h : Header) (zeros bad : Bool) → None ≡ bad_field h true → zeros ≡ true → bad ≡ bad_counts h → where_so bad Counts ≡ first_fault_of (field_rows h zeros)
+unfolding first_fault_of
 due_counts h zeros bad e z is =
     let none : bad_field h zeros ≡ None = last_zeros h zeros e ∙ ap (λ (b : Bool). cond (not b) (Some 36) None) z in
     rw (none, ← is) (by bad)
   where
-    by : (b : Bool) → where_so b Counts ≡ first_of (where_so b Counts ∷ [])
+    by : (b : Bool) → where_so b Counts ≡ first_fault_of (where_so b Counts ∷ [])
     by true = refl
     by false = refl

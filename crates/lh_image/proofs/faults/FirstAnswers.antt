@@ -2,7 +2,7 @@
 use Rattle.std.proofs.Common.{◌≡◌, inl, inr, ◌↔◌, ℕ, suc, ◌-◌, ◌<◌, ◌≤◌, List, [], ◌∷◌, ◌++◌, get_or, Option, Some, None, refl, sym, ap, subst, ◌∙◌, arith}
 use Rattle.std.proofs.lemmas.Bool.{cases_eq}
 use Rattle.lh_image.specs.declared.fault.ImageFault.{ImageFault}
-use Rattle.lh_image.specs.Faults.{first_of}
+use Rattle.lh_image.specs.Faults.{first_fault_of}
 use Rattle.lh_image.specs.FirstFault.{number}
 use Rattle.lh_image.proofs.faults.Ranges.{some_is}
 
@@ -33,8 +33,8 @@ answer_here A k o os all f same =
 pub nothing : {A : Type 0} (x : A) → None ≡ Some x → ⊥
 nothing x e = cc
 
-pub first_answers : (A : ImageFault → Type 0) (k : ℕ) (os : List (Option ImageFault)) → AreNumbered k os → AreAnswers A k os → Answers A k (first_of os)
-unfolding first_of
+pub first_answers : (A : ImageFault → Type 0) (k : ℕ) (os : List (Option ImageFault)) → AreNumbered k os → AreAnswers A k os → Answers A k (first_fault_of os)
+unfolding first_fault_of
 first_answers A k [] numbered all = record {
   some = λ f. (λ e. absurd (nothing f e), λ h. absurd (nothing f ((all f h.1).1 h.0)));
   none = (λ e f low a. nothing f ((all f low).1 a), λ h. refl);
@@ -70,22 +70,22 @@ abbrev pub AreNone : List (Option ImageFault) → Type 0
 AreNone [] = Unit {0}
 AreNone (o ∷ os) = (o ≡ None) × AreNone os
 
-pub none_first : (os : List (Option ImageFault)) → (first_of os ≡ None) ↔ AreNone os
-unfolding first_of
+pub none_first : (os : List (Option ImageFault)) → (first_fault_of os ≡ None) ↔ AreNone os
+unfolding first_fault_of
 none_first [] = (λ e. tt, λ h. refl)
 none_first (None ∷ os) = let rest = none_first os in (λ e. (refl, rest.0 e), λ h. rest.1 h.1)
 none_first (Some f ∷ os) = (λ e. absurd (nothing f (sym e)), λ h. absurd (nothing f (sym h.0)))
 
 -- rows without an answer come before others
-pub first_behind : (os ps : List (Option ImageFault)) → first_of os ≡ None → first_of (os ++ ps) ≡ first_of ps
-unfolding first_of
+pub first_behind : (os ps : List (Option ImageFault)) → first_fault_of os ≡ None → first_fault_of (os ++ ps) ≡ first_fault_of ps
+unfolding first_fault_of
 first_behind [] ps e = refl
 first_behind (None ∷ os) ps e = first_behind os ps e
 first_behind (Some f ∷ os) ps e = absurd (nothing f (sym e))
 
 -- rows with an answer come before others
-pub first_before : (os ps : List (Option ImageFault)) (f : ImageFault) → first_of os ≡ Some f → first_of (os ++ ps) ≡ Some f
-unfolding first_of
+pub first_before : (os ps : List (Option ImageFault)) (f : ImageFault) → first_fault_of os ≡ Some f → first_fault_of (os ++ ps) ≡ Some f
+unfolding first_fault_of
 first_before [] ps f e = absurd (nothing f e)
 first_before (None ∷ os) ps f e = first_before os ps f e
 first_before (Some g ∷ os) ps f e = e

@@ -5,8 +5,8 @@ use Rattle.std.specs.List.{find, range_with_len}
 use Rattle.std.proofs.lemmas.Bool.{false≢true}
 use Rattle.lh_image.specs.declared.fault.ImageFault.{ImageFault}
 use Rattle.lh_image.specs.declared.fault.ImageFault.TheVariants.{Magic, HeaderField, Counts, Short, Trailing, Kind, BucketNumber, Level, Used, Next, Twice, Never, Slot, Misfit, ReadFault, Memory}
-use Rattle.lh_image.specs.Faults.{at_head, bad_kind, bad_bucket, bad_level, bad_used_at, bad_next, named_twice, on_no_chain, has_bad_slot, has_misfit, no_magic, has_header, bad_field, bad_counts, is_short, has_trailing, where_so, least, header_rows, size_rows, page_rows, image_fault, first_of}
-use Rattle.lh_image.specs.FirstFault.{Applies, FirstFaultLaw, IsLeast, NoFaultLaw, number}
+use Rattle.lh_image.specs.Faults.{at_head, bad_kind, bad_bucket, bad_level, bad_used_at, bad_next, named_twice, on_no_chain, has_bad_slot, has_misfit, no_magic, has_header, bad_field, bad_counts, is_short, has_trailing, where_so, least, header_rows, size_rows, page_rows, image_fault, first_fault_of}
+use Rattle.lh_image.specs.FirstFault.{Applies, FirstFaultLaw, IsLeastInRange, NoFaultLaw, number}
 use Rattle.lh_image.specs.Layout.{header_of, ends_in_zeros, view_of}
 use Rattle.lh_image.specs.View.{View, numbers, page_count, links}
 use Rattle.lh_image.proofs.faults.FirstAnswers.{AreAnswers, AreNumbered, Answers, first_answers, nothing}
@@ -94,14 +94,14 @@ given_if true o f d = (λ e. (refl, d.0 e), λ a. d.1 a.1)
 given_if false o f d = (λ e. absurd (nothing f e), λ a. absurd (false≢true a.0))
 
 -- the first number that passes is the least one
-least_from : (test : ℕ → Bool) (a n end : ℕ) → ((p : ℕ) → a ≤ p → (p < a + n) ↔ (p < end)) → (p : ℕ) → (find test (range_with_len a n) ≡ Some p) ↔ IsLeast test a end p
+least_from : (test : ℕ → Bool) (a n end : ℕ) → ((p : ℕ) → a ≤ p → (p < a + n) ↔ (p < end)) → (p : ℕ) → (find test (range_with_len a n) ≡ Some p) ↔ IsLeastInRange test a end p
 least_from test a n end same p =
     let f = found_least test a n p in (
       λ e. let r = f.0 e in record { from = r.0; below = (same p r.0).0 r.1; holds = r.2; least = r.3 },
       λ l. f.1 (l.from, (same p l.from).1 l.below, l.holds, l.least),
     )
 
-least_at : (P : ℕ) (test : ℕ → Bool) (p : ℕ) → (least P test ≡ Some p) ↔ IsLeast test 1 P p
+least_at : (P : ℕ) (test : ℕ → Bool) (p : ℕ) → (least P test ≡ Some p) ↔ IsLeastInRange test 1 P p
 unfolding numbers
 least_at P test p = least_from test 1 (P - 1) P (λ q low. (λ l. omega arith, λ l. omega arith)) p
 
@@ -126,7 +126,7 @@ given bytes ReadFault low = (λ e. nothing ReadFault e, λ a. absurd a)
 given bytes Memory low = (λ e. nothing Memory e, λ a. absurd a)
 
 answered : (bytes : List ℕ) → Answers (Applies bytes) 0 (image_fault bytes)
-unfolding image_fault first_of
+unfolding image_fault first_fault_of
 answered bytes = first_answers (Applies bytes) 0 (answers bytes) (numbered bytes) (given bytes)
 
 pub first_fault_law : FirstFaultLaw

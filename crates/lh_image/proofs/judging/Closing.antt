@@ -15,9 +15,9 @@ use Rattle.lh_image.specs.declared.reading.table.Entry.{Entry}
 use Rattle.lh_image.specs.Chains.{stands_in, IsPath}
 use Rattle.lh_image.specs.Faults.{has_misfit, least, misfits, is_at_home, keys_before, page_fault}
 use Rattle.lh_image.specs.Image.{listing_of}
-use Rattle.lh_image.specs.Misplaced.{IsLeast, IsTestOf, is_home}
+use Rattle.lh_image.specs.Misplaced.{IsLeastAmong, IsTestOf, is_home}
 use Rattle.lh_image.specs.Reading.{judged, judged_by}
-use Rattle.lh_image.specs.Table.{records_in}
+use Rattle.lh_image.specs.Table.{page_records}
 use Rattle.lh_image.specs.View.{View, initial, buckets, page_count, numbers, bucket, next, links, chain_of}
 use Rattle.lh_image.proofs.judging.Judging.{judged_as, misfits_last}
 use Rattle.lh_image.proofs.judging.Last.{AreFine, covered, records_same, flat_same, chain_records_same, least_is, stands_flat}
@@ -46,7 +46,7 @@ AreChains v chains = map (λ (c : Vec ℕ Global). c.items) chains ≡ map (chai
 
 module _ (v : View) (entries : List Entry) (pairs : List Pair) (faults : PageFaults) (fine : AreFine v entries pairs faults) where
   -- the test of a page says what the search finds
-  tests_are : (i : ℕ) → i < buckets v → IsTestOf (has_misfit v) (is_at_home v i) (records_in entries pairs) (chain_of v i)
+  tests_are : (i : ℕ) → i < buckets v → IsTestOf (has_misfit v) (is_at_home v i) (page_records entries pairs) (chain_of v i)
   unfolding has_misfit
   tests_are i less k within =
       let C : List ℕ = chain_of v i in
@@ -56,9 +56,9 @@ module _ (v : View) (entries : List Entry) (pairs : List Pair) (faults : PageFau
       let cut : C ≡ take k C ++ p ∷ drop (k + 1) C = sym (take-append-drop k C) ∙ ap (λ (ys : List ℕ). take k C ++ ys) (drop_more C k 0 within) in
       let path : IsPath (next v) (1 + i) (take k C ++ p ∷ drop (k + 1) C) = subst (IsPath (next v) (1 + i)) cut (cover.follows i less) in
       let before : before_first (λ q. eqb q p) C ≡ take k C = ap (before_first (λ q. eqb q p)) cut ∙ before_is (take k C) (drop (k + 1) C) p (not_before (next v) (take k C) (drop (k + 1) C) (1 + i) p path) in
-      let same : flat_map (records_in entries pairs) (take k C) ≡ flat_map v.records (take k C) =
-      flat_same (records_in entries pairs) v.records (take k C) (λ q here. let its = cover.own i q less (stands_front k q C here) in records_same v entries pairs faults fine q its.0 its.1) in
-      let mine : records_in entries pairs p ≡ v.records p = records_same v entries pairs faults fine p own.0 own.1 in
+      let same : flat_map (page_records entries pairs) (take k C) ≡ flat_map v.records (take k C) =
+      flat_same (page_records entries pairs) v.records (take k C) (λ q here. let its = cover.own i q less (stands_front k q C here) in records_same v entries pairs faults fine q its.0 its.1) in
+      let mine : page_records entries pairs p ≡ v.records p = records_same v entries pairs faults fine p own.0 own.1 in
       ap (λ (j : ℕ). misfits (is_at_home v j) (keys_before v j p) (v.records p)) own.2
       ∙ ap (λ (ps : List ℕ). misfits (is_at_home v i) (keys_of (flat_map v.records ps)) (v.records p)) before
       ∙ sym (rw (same, mine) refl)
@@ -68,7 +68,7 @@ module _ (v : View) (entries : List Entry) (pairs : List Pair) (faults : PageFau
   pages_are chains made p = stands_flat (λ (c : Vec ℕ Global). c.items) chains p ∙ on_chains (links v) chains p made
 
   pub misfit_is : (root : Extent) (chains : List (Vec ℕ Global)) (r : Option ℕ) → root ≡ record { initial = initial v; buckets = buckets v } → AreChains v chains →
-      ((bad : ℕ → Bool) → ((i : ℕ) → i < length chains → IsTestOf bad (is_home root i) (records_in entries pairs) (get_or (map (λ (c : Vec ℕ Global). c.items) chains) i [])) → IsLeast bad (flat_map (λ (c : Vec ℕ Global). c.items) chains) r) →
+      ((bad : ℕ → Bool) → ((i : ℕ) → i < length chains → IsTestOf bad (is_home root i) (page_records entries pairs) (get_or (map (λ (c : Vec ℕ Global). c.items) chains) i [])) → IsLeastAmong bad (flat_map (λ (c : Vec ℕ Global). c.items) chains) r) →
       least (page_count v) (has_misfit v) ≡ r
   unfolding numbers
   misfit_is root chains r extent made found =
@@ -77,7 +77,7 @@ module _ (v : View) (entries : List Entry) (pairs : List Pair) (faults : PageFau
       let one = found (has_misfit v) (λ i less.
       let at : get_or (map (λ (c : Vec ℕ Global). c.items) chains) i [] ≡ chain_of v i =
       ap (λ xs. get_or xs i []) made ∙ get_or-map-range_with_len (chain_of v) 0 (buckets v) i i [] (omega arith) (omega arith) in
-      rw extent (subst (IsTestOf (has_misfit v) (is_at_home v i) (records_in entries pairs)) (sym at) (tests_are i (omega arith)))) in
+      rw extent (subst (IsTestOf (has_misfit v) (is_at_home v i) (page_records entries pairs)) (sym at) (tests_are i (omega arith)))) in
       least_is (has_misfit v) (flat_map (λ (c : Vec ℕ Global). c.items) chains) (page_count v - 1) r
       (λ p here.
       let at = any_of (λ i. stands_in (chain_of v i) p) 0 (buckets v) (sym (pages_are chains made p) ∙ here) in
@@ -98,10 +98,10 @@ module _ (v : View) (entries : List Entry) (pairs : List Pair) (faults : PageFau
 
   -- ---- the listing
 
-  pub listing_is : (chains : List (Vec ℕ Global)) (lists : List (List Pair)) → AreChains v chains → lists ≡ map (λ (c : Vec ℕ Global). flat_map (records_in entries pairs) c.items) chains → record { config = v.header.config; lists = lists } ≡ listing_of v
+  pub listing_is : (chains : List (Vec ℕ Global)) (lists : List (List Pair)) → AreChains v chains → lists ≡ map (λ (c : Vec ℕ Global). flat_map (page_records entries pairs) c.items) chains → record { config = v.header.config; lists = lists } ≡ listing_of v
   unfolding listing_of
   listing_is chains lists made filled =
-      let rec : ℕ → List Pair = records_in entries pairs in
+      let rec : ℕ → List Pair = page_records entries pairs in
       let all : lists ≡ map (λ i. flat_map v.records (chain_of v i)) (range_with_len 0 (buckets v)) =
       filled ∙ map_items (λ (c : Vec ℕ Global). c.items) (flat_map rec) chains ∙ ap (map (flat_map rec)) made ∙ sym (map_items (chain_of v) (flat_map rec) (range_with_len 0 (buckets v)))
       ∙ map_same (λ i. flat_map rec (chain_of v i)) (λ i. flat_map v.records (chain_of v i)) 0 (buckets v) (λ i low high. chain_records_same v entries pairs faults fine i (omega arith)) in

@@ -10,10 +10,10 @@ use Rattle.lh_image.specs.declared.fault.ImageFault.{ImageFault}
 use Rattle.lh_image.specs.declared.fault.ImageFault.TheVariants.{Kind, BucketNumber, Level, Used, Slot, Misfit, ReadFault, Memory}
 use Rattle.lh_image.specs.declared.judge.page_checks.PageFaults.{PageFaults}
 use Rattle.lh_image.specs.declared.reading.table.Entry.{Entry}
-use Rattle.lh_image.specs.Faults.{at_head, bad_kind, bad_bucket, bad_level, bad_used, bad_total, bad_used_at, has_bad_slot, has_misfit, least, where_so, head_rows, link_rows, record_rows, page_fault, first_of}
-use Rattle.lh_image.specs.Listed.{IsDue, IsKept}
+use Rattle.lh_image.specs.Faults.{at_head, bad_kind, bad_bucket, bad_level, bad_used, bad_total, bad_used_at, has_bad_slot, has_misfit, least, where_so, head_rows, link_rows, record_rows, page_fault, first_fault_of}
+use Rattle.lh_image.specs.Listed.{IsMemoryOr, IsViewKept}
 use Rattle.lh_image.specs.PageChecks.{known_bad_level, known_bad_slot, noted_rows}
-use Rattle.lh_image.specs.Reading.{IsTold, judged, judged_by}
+use Rattle.lh_image.specs.Reading.{IsDueFault, judged, judged_by}
 use Rattle.lh_image.specs.Table.{has_plain_head}
 use Rattle.lh_image.specs.View.{View, buckets, bucket, capacity, page_count, record_count, numbers, used, next, links}
 use Rattle.lh_image.proofs.judging.Finding.{find_same}
@@ -26,14 +26,14 @@ use Rattle.lh_image.proofs.faults.Ranges.{find_none}
 -- ---- heads
 
 join_heads : (k b l known : Option ℕ) (t : Bool) (u : Option ℕ) → (b ≡ None → l ≡ known) →
-    first_of (option_map Kind k ∷ option_map BucketNumber b ∷ option_map Level l ∷ option_map Used (cond t (Some 0) u) ∷ [])
-    ≡ first_of (option_map Kind k ∷ option_map BucketNumber b ∷ option_map Level known ∷ where_so t (Used 0) ∷ option_map Used u ∷ [])
-unfolding first_of
+    first_fault_of (option_map Kind k ∷ option_map BucketNumber b ∷ option_map Level l ∷ option_map Used (cond t (Some 0) u) ∷ [])
+    ≡ first_fault_of (option_map Kind k ∷ option_map BucketNumber b ∷ option_map Level known ∷ where_so t (Used 0) ∷ option_map Used u ∷ [])
+unfolding first_fault_of
 join_heads (Some p) b l known t u same = refl
 join_heads None (Some p) l known t u same = refl
 join_heads None None l known t u same = rw (same refl) (by known t)
   where
-    by : (known : Option ℕ) (t : Bool) → first_of (option_map Level known ∷ option_map Used (cond t (Some 0) u) ∷ []) ≡ first_of (option_map Level known ∷ where_so t (Used 0) ∷ option_map Used u ∷ [])
+    by : (known : Option ℕ) (t : Bool) → first_fault_of (option_map Level known ∷ option_map Used (cond t (Some 0) u) ∷ []) ≡ first_fault_of (option_map Level known ∷ where_so t (Used 0) ∷ option_map Used u ∷ [])
     by (Some p) t = refl
     by None true = refl
     by None false = refl
@@ -46,8 +46,8 @@ unfolding bad_bucket
 level_known v p fine = known_level (bucket v p) (buckets v) (leb p (buckets v) && not (eqb (bucket v p) (p - 1))) (at_head bad_level v p) fine
 
 -- no fault of heads
-heads_none : (k b l : Option ℕ) (t : Bool) (u : Option ℕ) → None ≡ first_of (option_map Kind k ∷ option_map BucketNumber b ∷ option_map Level l ∷ where_so t (Used 0) ∷ option_map Used u ∷ []) → (k ≡ None) × (b ≡ None) × (u ≡ None)
-unfolding first_of
+heads_none : (k b l : Option ℕ) (t : Bool) (u : Option ℕ) → None ≡ first_fault_of (option_map Kind k ∷ option_map BucketNumber b ∷ option_map Level l ∷ where_so t (Used 0) ∷ option_map Used u ∷ []) → (k ≡ None) × (b ≡ None) × (u ≡ None)
+unfolding first_fault_of
 heads_none (Some p) b l t u e = absurd cc
 heads_none None (Some p) l t u e = absurd cc
 heads_none None None (Some p) t u e = absurd cc
@@ -64,21 +64,21 @@ plain_head v p fine few =
     let u = (used_rule (capacity v) (used v p) (next v p) (v.head p).kind).0 few in
     rw (one_or_two (v.head p).kind (leb p (buckets v)) k.0, k.1, le-ltb (capacity v) (used v p) u.0) refl
 
-one_row : (o : Option ImageFault) → first_of (o ∷ []) ≡ o
-unfolding first_of
+one_row : (o : Option ImageFault) → first_fault_of (o ∷ []) ≡ o
+unfolding first_fault_of
 one_row None = refl
 one_row (Some f) = refl
 
 pub judged_as : (v : View) (f : ImageFault) → page_fault v ≡ Some f → judged v ≡ Err f
 judged_as v f e = ap (λ (o : Option ImageFault). judged_by o v) e
 
-due_told : (f : ImageFault) (o : Option ImageFault) (answer : Result Lists ImageFault) → IsDue f o → (o ≡ Some f → answer ≡ Err f) → IsTold f answer
+due_told : (f : ImageFault) (o : Option ImageFault) (answer : Result Lists ImageFault) → IsMemoryOr f o → (o ≡ Some f → answer ≡ Err f) → IsDueFault f answer
 due_told Memory o answer due then_err = tt
 due_told ReadFault o answer due then_err = tt
 due_told f o answer due then_err = told f answer (then_err due)
 
-module _ (v : View) (entries : List Entry) (pairs : List Pair) (faults : PageFaults) (some : buckets v < page_count v) (kept : IsKept v entries pairs faults) where
-  heads_are : first_of (head_rows v) ≡ first_of (noted_rows faults (record_count v))
+module _ (v : View) (entries : List Entry) (pairs : List Pair) (faults : PageFaults) (some : buckets v < page_count v) (kept : IsViewKept v entries pairs faults) where
+  heads_are : first_fault_of (head_rows v) ≡ first_fault_of (noted_rows faults (record_count v))
   unfolding numbers bad_total
   heads_are =
       let noted = kept.noted in
@@ -92,11 +92,11 @@ module _ (v : View) (entries : List Entry) (pairs : List Pair) (faults : PageFau
       (find (at_head bad_used v) (range_with_len 1 m))
       (λ none. find_same (at_head bad_level v) (at_head known_bad_level v) 1 m (λ p low high. level_known v p (find_none (at_head bad_bucket v) 1 m none p low high))))
 
-  pub heads_told : (f : ImageFault) → Some f ≡ first_of (noted_rows faults (record_count v)) → IsTold f (judged v)
+  pub heads_told : (f : ImageFault) → Some f ≡ first_fault_of (noted_rows faults (record_count v)) → IsDueFault f (judged v)
   unfolding page_fault
   heads_told f e = told f (judged v) (judged_as v f (first_before (head_rows v) (link_rows (links v) ++ record_rows v) f (heads_are ∙ sym e)))
 
-  module _ (fine : None ≡ first_of (noted_rows faults (record_count v))) where
+  module _ (fine : None ≡ first_fault_of (noted_rows faults (record_count v))) where
     -- no page has a fault of its head that the faults behind it rest on
     pub heads_fine : (p : ℕ) → 1 ≤ p → p < page_count v → (at_head bad_kind v p ≡ false) × (at_head bad_bucket v p ≡ false) × (at_head bad_used v p ≡ false)
     heads_fine p low high =
@@ -109,13 +109,13 @@ module _ (v : View) (entries : List Entry) (pairs : List Pair) (faults : PageFau
     pub plain : (p : ℕ) → 1 ≤ p → p < page_count v → has_plain_head v p ≡ true
     plain p low high = let f = heads_fine p low high in plain_head v p f.0 f.2
 
-    behind_heads : page_fault v ≡ first_of (link_rows (links v) ++ record_rows v)
+    behind_heads : page_fault v ≡ first_fault_of (link_rows (links v) ++ record_rows v)
     unfolding page_fault
     behind_heads = first_behind (head_rows v) (link_rows (links v) ++ record_rows v) (heads_are ∙ sym fine)
 
-    pub links_told : (f : ImageFault) → IsDue f (first_of (link_rows (links v))) → IsTold f (judged v)
+    pub links_told : (f : ImageFault) → IsMemoryOr f (first_fault_of (link_rows (links v))) → IsDueFault f (judged v)
     links_told f due =
-        due_told f (first_of (link_rows (links v))) (judged v) due (λ e. judged_as v f (behind_heads ∙ first_before (link_rows (links v)) (record_rows v) f e))
+        due_told f (first_fault_of (link_rows (links v))) (judged v) due (λ e. judged_as v f (behind_heads ∙ first_before (link_rows (links v)) (record_rows v) f e))
 
     pub slots_are : faults.slot ≡ least (page_count v) (has_bad_slot v)
     unfolding numbers
@@ -123,11 +123,11 @@ module _ (v : View) (entries : List Entry) (pairs : List Pair) (faults : PageFau
         kept.noted.slot
         ∙ find_same (known_bad_slot v) (has_bad_slot v) 1 (page_count v - 1) (λ p low high. rw (plain p low (omega arith)) refl)
 
-    module _ (linked : first_of (link_rows (links v)) ≡ None) where
-      behind_links : page_fault v ≡ first_of (record_rows v)
+    module _ (linked : first_fault_of (link_rows (links v)) ≡ None) where
+      behind_links : page_fault v ≡ first_fault_of (record_rows v)
       behind_links = behind_heads ∙ first_behind (link_rows (links v)) (record_rows v) linked
 
-      pub slots_told : (f : ImageFault) → Some f ≡ option_map Slot faults.slot → IsTold f (judged v)
+      pub slots_told : (f : ImageFault) → Some f ≡ option_map Slot faults.slot → IsDueFault f (judged v)
       slots_told f e =
           told f (judged v) (judged_as v f (behind_links
           ∙ first_before (option_map Slot (least (page_count v) (has_bad_slot v)) ∷ []) (option_map Misfit (least (page_count v) (has_misfit v)) ∷ []) f

@@ -11,11 +11,11 @@ use Rattle.lh_image.specs.declared.fault.ImageFault.TheVariants.{Next, Twice, Ne
 use Rattle.lh_image.specs.declared.judge.page_checks.PageFaults.{PageFaults}
 use Rattle.lh_image.specs.declared.reading.table.Entry.{Entry}
 use Rattle.lh_image.specs.Chains.{stands_in, IsCovered}
-use Rattle.lh_image.specs.Faults.{bad_next, named_twice, on_no_chain, has_bad_slot, link_rows, first_of}
-use Rattle.lh_image.specs.Listed.{IsKept}
-use Rattle.lh_image.specs.Misplaced.{IsLeast}
+use Rattle.lh_image.specs.Faults.{bad_next, named_twice, on_no_chain, has_bad_slot, link_rows, first_fault_of}
+use Rattle.lh_image.specs.Listed.{IsViewKept}
+use Rattle.lh_image.specs.Misplaced.{IsLeastAmong}
 use Rattle.lh_image.specs.PageChecks.{noted_rows}
-use Rattle.lh_image.specs.Table.{records_in}
+use Rattle.lh_image.specs.Table.{page_records}
 use Rattle.lh_image.specs.View.{View, bucket, next, buckets, page_count, record_count, links, chain_of}
 use Rattle.lh_image.proofs.faults.FirstAnswers.{none_first}
 use Rattle.lh_image.proofs.judging.Judging.{heads_fine, plain, slots_are}
@@ -27,9 +27,9 @@ use Rattle.lh_image.proofs.paths.Walks.{covered_chains}
 -- what is known behind the slots, where nothing was at fault
 pub record AreFine (v : View) (entries : List Entry) (pairs : List Pair) (faults : PageFaults) : Type 0 where
   pub some : buckets v < page_count v
-  pub kept : IsKept v entries pairs faults
-  pub heads : None ≡ first_of (noted_rows faults (record_count v))
-  pub linked : first_of (link_rows (links v)) ≡ None
+  pub kept : IsViewKept v entries pairs faults
+  pub heads : None ≡ first_fault_of (noted_rows faults (record_count v))
+  pub linked : first_fault_of (link_rows (links v)) ≡ None
   pub slots : None ≡ option_map Slot faults.slot
 
 none_of : (o : Option ℕ) → is_some o ≡ false → o ≡ None
@@ -45,7 +45,7 @@ module _ (v : View) (entries : List Entry) (pairs : List Pair) (faults : PageFau
       ((row_clean (page_count v) (named_twice (links v)) Twice).0 rows.1.0))
       (on_from_clean v ((row_clean (page_count v) (on_no_chain (links v)) Never).0 rows.1.1.0))
 
-  pub records_same : (p : ℕ) → 1 ≤ p → p < page_count v → records_in entries pairs p ≡ v.records p
+  pub records_same : (p : ℕ) → 1 ≤ p → p < page_count v → page_records entries pairs p ≡ v.records p
   records_same p low high =
       let slots : Clean (page_count v) (has_bad_slot v) = (row_clean (page_count v) (has_bad_slot v) Slot).0 (sym (fine.slots ∙ ap (option_map Slot) (slots_are v entries pairs faults fine.some fine.kept fine.heads))) in
       fine.kept.records p low high (plain v entries pairs faults fine.some fine.kept fine.heads p low high) (none_of (v.bad_slot p) (slots p low high))
@@ -59,14 +59,14 @@ flat_same f g (x ∷ xs) same =
     flat_map-cons f x xs ∙ ap (λ ys. ys ++ flat_map f xs) here ∙ ap (λ ys. g x ++ ys) rest ∙ sym (flat_map-cons g x xs)
 
 pub chain_records_same : (v : View) (entries : List Entry) (pairs : List Pair) (faults : PageFaults) → AreFine v entries pairs faults → (i : ℕ) → i < buckets v →
-    flat_map (records_in entries pairs) (chain_of v i) ≡ flat_map v.records (chain_of v i)
+    flat_map (page_records entries pairs) (chain_of v i) ≡ flat_map v.records (chain_of v i)
 chain_records_same v entries pairs faults fine i less =
     let cover = covered v entries pairs faults fine in
-    flat_same (records_in entries pairs) v.records (chain_of v i) (λ p here. let own = cover.own i p less here in records_same v entries pairs faults fine p own.0 own.1)
+    flat_same (page_records entries pairs) v.records (chain_of v i) (λ p here. let own = cover.own i p less here in records_same v entries pairs faults fine p own.0 own.1)
 
 -- ---- the least
 
-pub least_is : (bad : ℕ → Bool) (pages : List ℕ) (n : ℕ) (r : Option ℕ) → ((p : ℕ) → stands_in pages p ≡ true → (1 ≤ p) × (p < 1 + n)) → ((p : ℕ) → 1 ≤ p → p < 1 + n → stands_in pages p ≡ true) → IsLeast bad pages r →
+pub least_is : (bad : ℕ → Bool) (pages : List ℕ) (n : ℕ) (r : Option ℕ) → ((p : ℕ) → stands_in pages p ≡ true → (1 ≤ p) × (p < 1 + n)) → ((p : ℕ) → 1 ≤ p → p < 1 + n → stands_in pages p ≡ true) → IsLeastAmong bad pages r →
     find bad (range_with_len 1 n) ≡ r
 least_is bad pages n None within all least_one = none_found bad 1 n (λ p low high. least_one p (all p low high))
 least_is bad pages n (Some m) within all least_one =

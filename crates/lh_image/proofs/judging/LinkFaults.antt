@@ -3,24 +3,24 @@ use Rattle.std.proofs.Common.{◌≡◌, ℕ, ◌-◌, Bool, not, ◌||◌, List
 use Rattle.std.specs.List.{range_with_len, find, list_any}
 use Rattle.lh_image.specs.declared.fault.ImageFault.TheVariants.{Next, Twice, Never}
 use Rattle.lh_image.specs.Chains.{Links, chain, stands_in}
-use Rattle.lh_image.specs.Faults.{bad_next, named_twice, on_no_chain, least, link_rows, first_of}
+use Rattle.lh_image.specs.Faults.{bad_next, named_twice, on_no_chain, least, link_rows, first_fault_of}
 use Rattle.lh_image.specs.View.{numbers}
 use Rattle.lh_image.proofs.judging.Finding.{find_same}
 
-pub links_next : (l : Links) (p : ℕ) → Some p ≡ least l.pages (bad_next l) → first_of (link_rows l) ≡ Some (Next p)
-unfolding first_of
+pub links_next : (l : Links) (p : ℕ) → Some p ≡ least l.pages (bad_next l) → first_fault_of (link_rows l) ≡ Some (Next p)
+unfolding first_fault_of
 links_next l p e = rw (← e) refl
 
-pub links_twice : (l : Links) (p : ℕ) → None ≡ least l.pages (bad_next l) → Some p ≡ least l.pages (named_twice l) → first_of (link_rows l) ≡ Some (Twice p)
-unfolding first_of
+pub links_twice : (l : Links) (p : ℕ) → None ≡ least l.pages (bad_next l) → Some p ≡ least l.pages (named_twice l) → first_fault_of (link_rows l) ≡ Some (Twice p)
+unfolding first_fault_of
 links_twice l p e f = rw (← e, ← f) refl
 
-pub links_never : (l : Links) (p : ℕ) → None ≡ least l.pages (bad_next l) → None ≡ least l.pages (named_twice l) → Some p ≡ least l.pages (on_no_chain l) → first_of (link_rows l) ≡ Some (Never p)
-unfolding first_of
+pub links_never : (l : Links) (p : ℕ) → None ≡ least l.pages (bad_next l) → None ≡ least l.pages (named_twice l) → Some p ≡ least l.pages (on_no_chain l) → first_fault_of (link_rows l) ≡ Some (Never p)
+unfolding first_fault_of
 links_never l p e f g = rw (← e, ← f, ← g) refl
 
-pub links_none : (l : Links) → None ≡ least l.pages (bad_next l) → None ≡ least l.pages (named_twice l) → None ≡ least l.pages (on_no_chain l) → first_of (link_rows l) ≡ None
-unfolding first_of
+pub links_none : (l : Links) → None ≡ least l.pages (bad_next l) → None ≡ least l.pages (named_twice l) → None ≡ least l.pages (on_no_chain l) → first_fault_of (link_rows l) ≡ None
+unfolding first_fault_of
 links_none l e f g = rw (← e, ← f, ← g) refl
 
 pub any_of_items : {V : Type 0} {Y : Type 0} (items : V → Y) (t : Y → Bool) (vs : List V) → list_any (λ v. t (items v)) vs ≡ list_any t (map items vs)

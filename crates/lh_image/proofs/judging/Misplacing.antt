@@ -14,7 +14,7 @@ use Rattle.lh_page.specs.Records.{keys_of, no_pair}
 use Rattle.lh_image.specs.Chains.{stands_in}
 use Rattle.lh_image.proofs.judging.Finding.{flat_more}
 use Rattle.lh_image.specs.Faults.{misfits}
-use Rattle.lh_image.specs.Misplaced.{IsLeast, IsSetOf, lesser_of}
+use Rattle.lh_image.specs.Misplaced.{IsLeastAmong, IsSetOf, lesser_of}
 
 -- ---- keys
 
@@ -83,11 +83,11 @@ still_stands pages x q here = stands_last pages x q ∙ or_left (stands_in pages
 last_stands : (pages : List ℕ) (x : ℕ) → stands_in (pages ++ x ∷ []) x ≡ true
 last_stands pages x = stands_last pages x x ∙ or_right (stands_in pages x) (eqb x x) (eq-eqb x x refl)
 
-pub least_sound : (bad : ℕ → Bool) (pages : List ℕ) (x : ℕ) (o : Option ℕ) → bad x ≡ false → IsLeast bad pages o → IsLeast bad (pages ++ x ∷ []) o
+pub least_sound : (bad : ℕ → Bool) (pages : List ℕ) (x : ℕ) (o : Option ℕ) → bad x ≡ false → IsLeastAmong bad pages o → IsLeastAmong bad (pages ++ x ∷ []) o
 least_sound bad pages x None test least = λ p here. elim (before_or_last pages x p here) [ inl old ↦ least p old | inr new ↦ ap bad (sym new) ∙ test ]
 least_sound bad pages x (Some m) test least = (still_stands pages x m least.0, least.1, λ p here less. elim (before_or_last pages x p here) [ inl old ↦ least.2 p old less | inr new ↦ ap bad (sym new) ∙ test ])
 
-least_new : (bad : ℕ → Bool) (pages : List ℕ) (x m : ℕ) → bad x ≡ true → IsLeast bad pages (Some m) → IsLeast bad (pages ++ x ∷ []) (Some (cond (ltb m x) m x))
+least_new : (bad : ℕ → Bool) (pages : List ℕ) (x m : ℕ) → bad x ≡ true → IsLeastAmong bad pages (Some m) → IsLeastAmong bad (pages ++ x ∷ []) (Some (cond (ltb m x) m x))
 least_new bad pages x m test least = elim (cases_lt m x) [
   | inl less ↦ let t : ltb m x ≡ true = grind (arith, nat_tests) in
       rw t (still_stands pages x m least.0, least.1, λ p here below. elim (before_or_last pages x p here) [ inl old ↦ least.2 p old below | inr new ↦ absurd (omega arith) ])
@@ -95,7 +95,7 @@ least_new bad pages x m test least = elim (cases_lt m x) [
       rw t (last_stands pages x, test, λ p here below. elim (before_or_last pages x p here) [ inl old ↦ least.2 p old (omega arith) | inr new ↦ absurd (omega arith) ])
 ]
 
-pub least_bad : (bad : ℕ → Bool) (pages : List ℕ) (x : ℕ) (o : Option ℕ) → bad x ≡ true → IsLeast bad pages o → IsLeast bad (pages ++ x ∷ []) (Some (lesser_of o x))
+pub least_bad : (bad : ℕ → Bool) (pages : List ℕ) (x : ℕ) (o : Option ℕ) → bad x ≡ true → IsLeastAmong bad pages o → IsLeastAmong bad (pages ++ x ∷ []) (Some (lesser_of o x))
 least_bad bad pages x None test least = (last_stands pages x, test, λ p here less. elim (before_or_last pages x p here) [ inl old ↦ least p old | inr new ↦ absurd (omega arith) ])
 least_bad bad pages x (Some m) test least = least_new bad pages x m test least
 

@@ -14,12 +14,12 @@ use Rattle.lh_bucket.specs.Listing.{Lists}
 use Rattle.lh_image.specs.declared.fault.ImageFault.{ImageFault}
 use Rattle.lh_image.specs.declared.fault.ImageFault.TheVariants.{Magic, HeaderField, Counts, Short, ReadFault, Memory}
 use Rattle.lh_image.specs.declared.reading.first_page.Header.{Header}
-use Rattle.lh_image.specs.Faults.{bad_field, bad_counts, no_magic, is_short, where_so, field_rows, header_rows, size_rows, page_rows, first_of, image_fault}
+use Rattle.lh_image.specs.Faults.{bad_field, bad_counts, no_magic, is_short, where_so, field_rows, header_rows, size_rows, page_rows, first_fault_of, image_fault}
 use Rattle.lh_image.specs.Filling.{FillsWhole, IsCut, IsFilled}
 use Rattle.lh_image.specs.declared.version.Version.{Version}
 use Rattle.lh_image.specs.Header.{HasBegun, ReadsFront, ReadsHeader}
 use Rattle.lh_image.specs.Layout.{ends_in_zeros, header_of, padding, view_of}
-use Rattle.lh_image.specs.Reading.{IsTold, Leaves, reading_of}
+use Rattle.lh_image.specs.Reading.{IsDueFault, Leaves, reading_of}
 use Rattle.lh_image.specs.Version.{page_bytes, version_of}
 use Rattle.lh_image.proofs.bytes.Header.{bytes_joined, cut}
 use Rattle.lh_image.proofs.bytes.Versions.{least_page, no_magic-front, page_bytes-one, page_cut, version-front, version_of-none}
@@ -60,14 +60,14 @@ zeros-front bytes =
 
 -- what the header's fields are due
 abbrev pub due : List ℕ → Option ImageFault
-due bytes = first_of (field_rows (header_of bytes) (ends_in_zeros bytes))
+due bytes = first_fault_of (field_rows (header_of bytes) (ends_in_zeros bytes))
 
 due-front : (bytes : List ℕ) → due (front bytes) ≡ due bytes
 due-front bytes = rw (header-front bytes, zeros-front bytes) refl
 
 -- ---- the answers
 
-pub told : (f : ImageFault) (answer : Result Lists ImageFault) → answer ≡ Err f → IsTold f answer
+pub told : (f : ImageFault) (answer : Result Lists ImageFault) → answer ≡ Err f → IsDueFault f answer
 told ReadFault answer e = tt
 told Memory answer e = tt
 told f answer e = e
@@ -76,33 +76,33 @@ pub read_as : (bytes : List ℕ) (f : ImageFault) → image_fault bytes ≡ Some
 unfolding reading_of
 read_as bytes f e = rw e refl
 
-from_header : (bytes : List ℕ) (f : ImageFault) → first_of (header_rows bytes) ≡ Some f → reading_of bytes ≡ Err f
+from_header : (bytes : List ℕ) (f : ImageFault) → first_fault_of (header_rows bytes) ≡ Some f → reading_of bytes ≡ Err f
 unfolding image_fault
 from_header bytes f e = read_as bytes f (first_before (header_rows bytes) (size_rows bytes ++ page_rows (view_of bytes)) f e)
 
 consumed : (n : ℕ) (bytes : List ℕ) (now : Option (List ℕ)) → now ≡ Some (drop n bytes) → Consumes (Some bytes) now (take n bytes)
 consumed n bytes now e = rw e (sym (take-append-drop n bytes))
 
-leaves_due : (o : Option ℕ) (b : Bool) (f : ImageFault) (bytes : List ℕ) (now : Option (List ℕ)) → now ≡ Some (drop (page_bytes (version_of bytes)) bytes) → Some f ≡ first_of (option_map HeaderField o ∷ where_so b Counts ∷ []) →
+leaves_due : (o : Option ℕ) (b : Bool) (f : ImageFault) (bytes : List ℕ) (now : Option (List ℕ)) → now ≡ Some (drop (page_bytes (version_of bytes)) bytes) → Some f ≡ first_fault_of (option_map HeaderField o ∷ where_so b Counts ∷ []) →
     Leaves {X = Header} (Err f) bytes now
-unfolding first_of
+unfolding first_fault_of
 leaves_due (Some x) b f bytes now rest e = let is : f ≡ HeaderField x = cc in rw is (consumed (page_bytes (version_of bytes)) bytes now rest)
 leaves_due None true f bytes now rest e = let is : f ≡ Counts = cc in rw is (consumed (page_bytes (version_of bytes)) bytes now rest)
 leaves_due None false f bytes now rest e = let no_fault : ⊥ = cc in absurd no_fault
 
-magic_is : (bytes : List ℕ) → no_magic bytes ≡ true → first_of (header_rows bytes) ≡ Some Magic
-unfolding first_of
+magic_is : (bytes : List ℕ) → no_magic bytes ≡ true → first_fault_of (header_rows bytes) ≡ Some Magic
+unfolding first_fault_of
 magic_is bytes e = rw e refl
 
 short_is : (bytes : List ℕ) → no_magic bytes ≡ false → length bytes < page_bytes (version_of bytes) → reading_of bytes ≡ Err Short
-unfolding image_fault is_short first_of
+unfolding image_fault is_short first_fault_of
 short_is bytes e less =
     let test : leb (page_bytes (version_of bytes)) (length bytes) ≡ false = grind (arith, nat_tests) in
     let short : ltb (length bytes) (page_bytes (version_of bytes)) ≡ true = grind (arith, nat_tests) in
     read_as bytes Short (rw (e, test, short) refl)
 
-due_is : (bytes : List ℕ) → no_magic bytes ≡ false → page_bytes (version_of bytes) ≤ length bytes → first_of (header_rows bytes) ≡ due bytes
-unfolding first_of
+due_is : (bytes : List ℕ) → no_magic bytes ≡ false → page_bytes (version_of bytes) ≤ length bytes → first_fault_of (header_rows bytes) ≡ due bytes
+unfolding first_fault_of
 due_is bytes e enough = let test : leb (page_bytes (version_of bytes)) (length bytes) ≡ true = grind (arith, nat_tests) in rw (e, test) refl
 
 -- ---- the first bytes, which tell the version
@@ -147,7 +147,7 @@ rest_cut version (Some bytes) mid new front rest f first size has cut = due_to f
     left : mid ≡ Some (drop 1024 bytes)
     left = rw first at has.filled.rest
 
-    due_to : (f : ImageFault) → IsCut (drop 1024 bytes) (length rest) f → IsTold f (reading_of bytes) × Leaves {X = Version} (Err f) bytes new
+    due_to : (f : ImageFault) → IsCut (drop 1024 bytes) (length rest) f → IsDueFault f (reading_of bytes) × Leaves {X = Version} (Err f) bytes new
     due_to Short less =
         let same : page_bytes version ≡ page_bytes (version_of bytes) = ap page_bytes has.told in
         (short_is bytes has.magic (omega (arith, less, same, size, length-drop 1024 bytes, least_page version)), tt)

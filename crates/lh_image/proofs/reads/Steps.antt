@@ -18,7 +18,7 @@ use Rattle.lh_image.specs.Faults.{at_head, bad_kind, bad_bucket, bad_used}
 use Rattle.lh_image.specs.Layout.{header_of, page, view_of}
 use Rattle.lh_image.specs.PageChecks.{AreNoted, known_bad_level, known_bad_slot, noted, seen}
 use Rattle.lh_image.specs.Pages.{HaveCome}
-use Rattle.lh_image.specs.Table.{no_entry, entry_at, next_in, bucket_in, records_in, has_plain_head, AreWithin, IsPushed, IsTable, is_of_slot}
+use Rattle.lh_image.specs.Table.{no_entry, entry_at, next_in, bucket_in, page_records, has_plain_head, AreWithin, IsPushed, IsTable, is_of_slot}
 use Rattle.lh_image.specs.Version.{format_of, page_bytes, version_of}
 use Rattle.lh_image.specs.View.{View, capacity, used}
 use Rattle.lh_image.proofs.bytes.Header.{version_shown}
@@ -94,7 +94,7 @@ within_more entries new_entries pairs new_pairs own following version bytes room
 table_more : (v : View) (n : ℕ) (entries new_entries : List Entry) (pairs added : List Pair) (head : PageHead) → 1 ≤ n → head ≡ v.head n → AreWithin entries pairs →
     new_entries ≡ entries ++ record { bucket = head.bucket; next = head.next; start = length pairs; used = length added } ∷ [] →
     (has_plain_head v n ≡ true → v.bad_slot n ≡ None → added ≡ v.records n) → IsTable v n entries pairs → IsTable v (n + 1) new_entries (pairs ++ added)
-unfolding next_in bucket_in records_in
+unfolding next_in bucket_in page_records
 table_more v n entries new_entries pairs added head low shows within entered sound table =
     let last : Entry = record { bucket = head.bucket; next = head.next; start = length pairs; used = length added } in
     let here : entry_at new_entries n ≡ last = rw entered (entry_last entries last n table.size) in

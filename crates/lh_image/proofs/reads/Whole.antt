@@ -15,13 +15,13 @@ use Rattle.lh_image.specs.declared.fault.ImageFault.TheVariants.{Short, Trailing
 use Rattle.lh_image.specs.declared.reading.first_page.Header.{Header}
 use Rattle.lh_image.specs.declared.judge.page_checks.PageFaults.{PageFaults}
 use Rattle.lh_image.specs.declared.reading.table.Entry.{Entry}
-use Rattle.lh_image.specs.Faults.{header_rows, size_rows, page_rows, first_of, page_fault, image_fault, is_short, has_trailing}
+use Rattle.lh_image.specs.Faults.{header_rows, size_rows, page_rows, first_fault_of, page_fault, image_fault, is_short, has_trailing}
 use Rattle.lh_image.specs.Header.{HasHeader}
 use Rattle.lh_image.specs.Layout.{header_of, image_bytes, page, view_of}
-use Rattle.lh_image.specs.Listed.{IsKept, IsRead}
+use Rattle.lh_image.specs.Listed.{IsViewKept, IsRead}
 use Rattle.lh_image.specs.Filling.{IsCut}
 use Rattle.lh_image.specs.Pages.{HaveCome, IsNoEnd}
-use Rattle.lh_image.specs.Reading.{IsAnswer, IsTold, Leaves, judged, judged_by, reading_of}
+use Rattle.lh_image.specs.Reading.{IsDueAnswer, IsDueFault, Leaves, judged, judged_by, reading_of}
 use Rattle.lh_image.specs.Table.{next_in, bucket_in, entry_at, no_entry}
 use Rattle.lh_image.specs.Version.{page_bytes, version_of}
 use Rattle.lh_image.specs.View.{View, buckets, bucket, next, page_count}
@@ -43,27 +43,27 @@ enough_test : (n least all : ℕ) → least ≤ n → all ≤ n → (ltb n least
 enough_test n least all low enough = grind (arith, nat_tests)
 
 short_is : (bytes : List ℕ) (header : Header) (now : Option (List ℕ)) → HasHeader header bytes now → length bytes < page_bytes (version_of bytes) * header.pages → reading_of bytes ≡ Err Short
-unfolding is_short image_fault first_of
+unfolding is_short image_fault first_fault_of
 short_is bytes header now has less =
     let size : ℕ = page_bytes (version_of bytes) in
     let test : (ltb (length bytes) size || ltb (length bytes) (image_bytes bytes)) ≡ true = short_test (length bytes) size (image_bytes bytes) (rw (bytes_same bytes header has.fields) at less) in
     read_as bytes Short (first_behind (header_rows bytes) (size_rows bytes ++ page_rows (view_of bytes)) has.faultless ∙ rw test refl)
 
-cut_is : (bytes : List ℕ) (header : Header) (now : Option (List ℕ)) (f : ImageFault) → HasHeader header bytes now → IsCut bytes (page_bytes (version_of bytes) * header.pages) f → IsTold f (reading_of bytes)
+cut_is : (bytes : List ℕ) (header : Header) (now : Option (List ℕ)) (f : ImageFault) → HasHeader header bytes now → IsCut bytes (page_bytes (version_of bytes) * header.pages) f → IsDueFault f (reading_of bytes)
 cut_is bytes header now Short has cut = short_is bytes header now has cut
 cut_is bytes header now ReadFault has cut = tt
 cut_is bytes header now Memory has cut = tt
 cut_is bytes header now f has cut = absurd cut
 
 pub cut_told : (old mid : Option (List ℕ)) (header : Header) (f : ImageFault) → IfSome old (λ bytes. HasHeader header bytes mid) → ((bytes : List ℕ) → HasHeader header bytes mid → IsCut bytes (page_bytes (version_of bytes) * header.pages) f) →
-    IfSome old (λ bytes. IsTold f (reading_of bytes))
+    IfSome old (λ bytes. IsDueFault f (reading_of bytes))
 cut_told None mid header f has cut = tt
 cut_told (Some bytes) mid header f has cut = cut_is bytes header mid f has (cut bytes has)
 
 -- ---- more bytes
 
 long_is : (bytes : List ℕ) (header : Header) (now : Option (List ℕ)) → HasHeader header bytes now → page_bytes (version_of bytes) * header.pages < length bytes → reading_of bytes ≡ Err Trailing
-unfolding is_short has_trailing image_fault first_of
+unfolding is_short has_trailing image_fault first_fault_of
 long_is bytes header now has more =
     let size : ℕ = page_bytes (version_of bytes) in
     let over : image_bytes bytes < length bytes = rw (bytes_same bytes header has.fields) at more in
@@ -76,7 +76,7 @@ abbrev pub HaveAll : List ℕ → Header → Option (List ℕ) → Option (List 
 HaveAll bytes header mid last = HasHeader header bytes mid × (page_bytes (version_of bytes) * header.pages ≤ length bytes) × (last ≡ Some (drop (page_bytes (version_of bytes) * header.pages) bytes))
 
 end_is : (bytes : List ℕ) (header : Header) (mid now : Option (List ℕ)) (f : ImageFault) → HasHeader header bytes mid → page_bytes (version_of bytes) * header.pages ≤ length bytes → IsNoEnd (drop (page_bytes (version_of bytes) * header.pages) bytes) f now →
-    IsTold f (reading_of bytes) × Leaves {X = Lists} (Err f) bytes now
+    IsDueFault f (reading_of bytes) × Leaves {X = Lists} (Err f) bytes now
 end_is bytes header mid now Trailing has enough no_end =
     let all : ℕ = page_bytes (version_of bytes) * header.pages in
     let more : all < length bytes = omega (arith, no_end.0, length-drop all bytes) in
@@ -85,7 +85,7 @@ end_is bytes header mid now Trailing has enough no_end =
 end_is bytes header mid now ReadFault has enough no_end = (tt, tt)
 end_is bytes header mid now f has enough no_end = absurd no_end
 
-pub end_told : (old mid last now : Option (List ℕ)) (header : Header) (f : ImageFault) → IfSome old (λ bytes. HaveAll bytes header mid last) → IfSome last (λ rest. IsNoEnd rest f now) → IfSome old (λ bytes. IsTold f (reading_of bytes))
+pub end_told : (old mid last now : Option (List ℕ)) (header : Header) (f : ImageFault) → IfSome old (λ bytes. HaveAll bytes header mid last) → IfSome last (λ rest. IsNoEnd rest f now) → IfSome old (λ bytes. IsDueFault f (reading_of bytes))
 end_told None mid last now header f all no_end = tt
 end_told (Some bytes) mid last now header f all no_end = (end_is bytes header mid now f all.0 all.1 (rw all.2 at no_end)).0
 
@@ -114,7 +114,7 @@ have_all (Some bytes) mid last header entries pairs faults has read = let all = 
 
 -- the pages that the header tells of are all there is, so their View decides
 judged_is : (bytes : List ℕ) (header : Header) (entries : List Entry) (pairs : List Pair) (faults : PageFaults) → 1 ≤ header.pages → IsRead bytes header entries pairs faults → reading_of bytes ≡ judged (view_of bytes)
-unfolding is_short has_trailing image_fault page_fault first_of reading_of
+unfolding is_short has_trailing image_fault page_fault first_fault_of reading_of
 judged_is bytes header entries pairs faults some read =
     let size : ℕ = page_bytes (version_of bytes) in
     let whole : length bytes ≡ image_bytes bytes = read.size ∙ bytes_same bytes header read.come.fields in
@@ -133,7 +133,7 @@ past_end bytes p past =
     let empty : take w (drop (w * p) bytes) ≡ [] = ap (take w) (drop_all (w * p) bytes past) ∙ take_all w [] (omega arith) in
     elim (cases_eq p 0) [ inl first ↦ rw (next, bucket, eq-eqb p 0 first) (refl, refl) | inr other ↦ rw (next, bucket, ne_eqb p 0 other, empty) (refl, refl) ]
 
-kept_is : (bytes : List ℕ) (header : Header) (entries : List Entry) (pairs : List Pair) (faults : PageFaults) → IsRead bytes header entries pairs faults → IsKept (view_of bytes) entries pairs faults
+kept_is : (bytes : List ℕ) (header : Header) (entries : List Entry) (pairs : List Pair) (faults : PageFaults) → IsRead bytes header entries pairs faults → IsViewKept (view_of bytes) entries pairs faults
 unfolding next_in bucket_in
 kept_is bytes header entries pairs faults read =
     let v : View = view_of bytes in
@@ -160,10 +160,10 @@ kept_is bytes header entries pairs faults read =
 
 -- the answer to the View of the bytes
 abbrev pub AnswersView : Header → List Entry → List Pair → PageFaults → Result Lists ImageFault → Type 0
-AnswersView header entries pairs faults result = (v : View) → v.header ≡ header → IsKept v entries pairs faults → IsAnswer (λ listing l. listing ≡ l) result (judged v)
+AnswersView header entries pairs faults result = (v : View) → v.header ≡ header → IsViewKept v entries pairs faults → IsDueAnswer (λ listing l. listing ≡ l) result (judged v)
 
 exact_is : (bytes : List ℕ) (header : Header) (entries : List Entry) (pairs : List Pair) (faults : PageFaults) (result : Result Lists ImageFault) → 1 ≤ header.pages → IsRead bytes header entries pairs faults →
-    AnswersView header entries pairs faults result → IsAnswer (λ listing l. listing ≡ l) result (reading_of bytes)
+    AnswersView header entries pairs faults result → IsDueAnswer (λ listing l. listing ≡ l) result (reading_of bytes)
 exact_is bytes header entries pairs faults result some read exact =
     rw (judged_is bytes header entries pairs faults some read) (exact (view_of bytes) (header_same bytes ∙ sym read.come.fields) (kept_is bytes header entries pairs faults read))
 
@@ -171,7 +171,7 @@ pub answered : (old mid last now : Option (List ℕ)) (header : Header) (entries
     ((bytes : List ℕ) → HasHeader header bytes mid → HaveCome bytes header header.pages entries pairs faults × (last ≡ Some (drop (page_bytes (version_of bytes) * header.pages) bytes))) →
     IfSome last (λ rest. (rest ≡ []) × (now ≡ Some [])) →
     AnswersView header entries pairs faults result →
-    IfSome old (λ bytes. IsAnswer (λ listing l. listing ≡ l) result (reading_of bytes))
+    IfSome old (λ bytes. IsDueAnswer (λ listing l. listing ≡ l) result (reading_of bytes))
 answered None mid last now header entries pairs faults result some has read ended exact = tt
 answered (Some bytes) mid last now header entries pairs faults result some has read ended exact =
     let all = read bytes has in

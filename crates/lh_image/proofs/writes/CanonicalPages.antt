@@ -14,7 +14,7 @@ use Rattle.lh_page.specs.PageFields.{page_of}
 use Rattle.lh_page.specs.PageLaws.{PageTextLaw, ReadBackLaw}
 use Rattle.lh_page.specs.PageTable.{IsPage, IsWritable, page_text, kind_byte}
 use Rattle.lh_bucket.specs.Listing.{Lists, IsListing, size, list_at}
-use Rattle.lh_image.specs.Canonical.{canonical, page_count_in, pages_in, page_in, page_total, number_of, text_in, overflow_text, overflow_before, CanonicalLaw}
+use Rattle.lh_image.specs.Canonical.{canonical, page_count_in, pages_in, page_in, page_total, page_number, text_in, overflow_text, overflow_before, CanonicalLaw}
 use Rattle.lh_image.specs.Chains.{IsPath, IsCovered, stands_in}
 use Rattle.lh_image.specs.declared.version.Version.{Version}
 use Rattle.lh_image.specs.Fitting.{FitsVersion}
@@ -37,10 +37,10 @@ module _ (packing : PackingLaw) (pieces : PiecesLaw) (texts : PageTextLaw) (back
   one_page : (i : ℕ) → 1 ≤ page_count_in l i
   one_page = some_page pieces v l listing fit few
 
-  number_low : (i k : ℕ) → i < size l → k < page_count_in l i → (1 ≤ number_of l i k) × (number_of l i k < page_total l)
+  number_low : (i k : ℕ) → i < size l → k < page_count_in l i → (1 ≤ page_number l i k) × (page_number l i k < page_total l)
   number_low = number_within pieces v l listing fit few
 
-  some_number : (i k : ℕ) → i < size l → k < page_count_in l i → number_of l i k ≢ 0
+  some_number : (i k : ℕ) → i < size l → k < page_count_in l i → page_number l i k ≢ 0
   some_number i k low under = λ e. omega (arith, e, (number_low i k low under).0)
 
   -- ---- each page by itself
@@ -75,7 +75,7 @@ module _ (packing : PackingLaw) (pieces : PiecesLaw) (texts : PageTextLaw) (back
       ap (λ m. flat_map (overflow_text v l) (range_with_len 0 m)) (sym (add-one n)) ∙ texts_more (overflow_text v l) 0 n ∙ ap (λ m. flat_map (overflow_text v l) (range_with_len 0 n) ++ overflow_text v l m) (let e : 0 + n ≡ n = omega arith in e) in
       omega (arith, ap length more, length-append (flat_map (overflow_text v l) (range_with_len 0 n)) (overflow_text v l n), length-overflow n (omega arith), length-chain n (page_count_in l n - 1) (omega arith) (omega arith))
 
-  stands : (i k : ℕ) → i < size l → k < page_count_in l i → StandsAt (canonical v l) (page_bytes v * number_of l i k) (text_in v l i k)
+  stands : (i k : ℕ) → i < size l → k < page_count_in l i → StandsAt (canonical v l) (page_bytes v * page_number l i k) (text_in v l i k)
   unfolding canonical overflow_text
   stands i zero low under =
       behind (header_text (header_for v l (page_total l))) _ (text_in v l i 0) (length (flat_map (λ j. text_in v l j 0) (range_with_len 0 i))) (page_bytes v * (1 + i))
@@ -110,36 +110,36 @@ module _ (packing : PackingLaw) (pieces : PiecesLaw) (texts : PageTextLaw) (back
   unfolding page
   page_part n = ap (λ w. take (page_bytes w) (drop (page_bytes w * n) (canonical v l))) version_is
 
-  page_is : (i k : ℕ) → i < size l → k < page_count_in l i → page (canonical v l) (number_of l i k) ≡ text_in v l i k
-  page_is i k low under = page_part (number_of l i k) ∙ part_at (canonical v l) (text_in v l i k) (page_bytes v * number_of l i k) (page_bytes v) (stands i k low under) (length-text i k low under)
+  page_is : (i k : ℕ) → i < size l → k < page_count_in l i → page (canonical v l) (page_number l i k) ≡ text_in v l i k
+  page_is i k low under = page_part (page_number l i k) ∙ part_at (canonical v l) (text_in v l i k) (page_bytes v * page_number l i k) (page_bytes v) (stands i k low under) (length-text i k low under)
 
-  shown : (i k : ℕ) → i < size l → k < page_count_in l i → page_at (canonical v l) (number_of l i k) ≡ page_in l i k
+  shown : (i k : ℕ) → i < size l → k < page_count_in l i → page_at (canonical v l) (page_number l i k) ≡ page_in l i k
   shown i k low under =
-      ap (λ w. page_of (format_of w) (page (canonical v l) (number_of l i k))) version_is
+      ap (λ w. page_of (format_of w) (page (canonical v l) (page_number l i k))) version_is
       ∙ ap (page_of (format_of v)) (page_is i k low under) ∙ (back (format_of v) (text_in v l i k) (page_in l i k) (slots v) (writable i k low under) (is_page i k low under) (fits i k low under).few).0
 
-  level_at : (i k : ℕ) → i < size l → k < page_count_in l i → ((view_of (canonical v l)).head (number_of l i k)).level ≡ level_of l.config.initial (size l) i
+  level_at : (i k : ℕ) → i < size l → k < page_count_in l i → ((view_of (canonical v l)).head (page_number l i k)).level ≡ level_of l.config.initial (size l) i
   unfolding view_of
-  level_at i k low under = rw (ne_eqb (number_of l i k) 0 (some_number i k low under)) (ap (λ g. g.level) (shown i k low under))
+  level_at i k low under = rw (ne_eqb (page_number l i k) 0 (some_number i k low under)) (ap (λ g. g.level) (shown i k low under))
 
-  bucket_at : (i k : ℕ) → i < size l → k < page_count_in l i → bucket (view_of (canonical v l)) (number_of l i k) ≡ i
+  bucket_at : (i k : ℕ) → i < size l → k < page_count_in l i → bucket (view_of (canonical v l)) (page_number l i k) ≡ i
   unfolding view_of
-  bucket_at i k low under = rw (bucket, ne_eqb (number_of l i k) 0 (some_number i k low under)) (ap (λ g. g.bucket) (shown i k low under))
+  bucket_at i k low under = rw (bucket, ne_eqb (page_number l i k) 0 (some_number i k low under)) (ap (λ g. g.bucket) (shown i k low under))
 
-  records_at : (i k : ℕ) → i < size l → k < page_count_in l i → (view_of (canonical v l)).records (number_of l i k) ≡ get_or (pages_in l i) k []
+  records_at : (i k : ℕ) → i < size l → k < page_count_in l i → (view_of (canonical v l)).records (page_number l i k) ≡ get_or (pages_in l i) k []
   unfolding view_of
   records_at i k low under = ap (λ g. g.pairs) (shown i k low under)
 
-  next_at : (i k : ℕ) → i < size l → k < page_count_in l i → next (view_of (canonical v l)) (number_of l i k) ≡ cond (eqb (k + 1) (page_count_in l i)) 0 (number_of l i (suc k))
+  next_at : (i k : ℕ) → i < size l → k < page_count_in l i → next (view_of (canonical v l)) (page_number l i k) ≡ cond (eqb (k + 1) (page_count_in l i)) 0 (page_number l i (suc k))
   unfolding view_of
-  next_at i k low under = rw (next, ne_eqb (number_of l i k) 0 (some_number i k low under)) (ap (λ g. g.next) (shown i k low under))
+  next_at i k low under = rw (next, ne_eqb (page_number l i k) 0 (some_number i k low under)) (ap (λ g. g.next) (shown i k low under))
 
-  kind_at : (i k : ℕ) → i < size l → k < page_count_in l i → ((view_of (canonical v l)).head (number_of l i k)).kind ≡ cond (leb (number_of l i k) (size l)) 1 2
+  kind_at : (i k : ℕ) → i < size l → k < page_count_in l i → ((view_of (canonical v l)).head (page_number l i k)).kind ≡ cond (leb (page_number l i k) (size l)) 1 2
   unfolding view_of
-  kind_at i zero low under = rw (ne_eqb (number_of l i zero) 0 (some_number i zero low under)) (
+  kind_at i zero low under = rw (ne_eqb (page_number l i zero) 0 (some_number i zero low under)) (
       ap (λ xs. get_or xs 0 0) (page_is i zero low under) ∙ sym (get_or-take 1 (text_in v l i 0) 0 0 (omega arith)) ∙ ap (λ xs. get_or xs 0 0) (is_page i zero low under).kind
       ∙ sym (ap (λ b. cond b 1 2) (le-leb (1 + i) (size l) (omega arith))))
-  kind_at i (suc k) low under = rw (ne_eqb (number_of l i (suc k)) 0 (some_number i (suc k) low under)) (
+  kind_at i (suc k) low under = rw (ne_eqb (page_number l i (suc k)) 0 (some_number i (suc k) low under)) (
       ap (λ xs. get_or xs 0 0) (page_is i (suc k) low under) ∙ sym (get_or-take 1 (text_in v l i (suc k)) 0 0 (omega arith)) ∙ ap (λ xs. get_or xs 0 0) (is_page i (suc k) low under).kind
       ∙ ap (λ b. kind_byte (cond b Primary Overflow)) (ne_eqb (suc k) 0 (λ e. omega (arith, e)))
       ∙ sym (ap (λ b. cond b 1 2) (lt-leb (1 + size l + overflow_before l i + k) (size l) (omega arith))))
@@ -147,9 +147,9 @@ module _ (packing : PackingLaw) (pieces : PiecesLaw) (texts : PageTextLaw) (back
   -- ---- the paths
 
   path : ℕ → List ℕ
-  path i = map (number_of l i) (range_with_len 0 (page_count_in l i))
+  path i = map (page_number l i) (range_with_len 0 (page_count_in l i))
 
-  found : (p : ℕ) → 1 ≤ p → p < page_total l → (i : ℕ) × (k : ℕ) × (i < size l) × (k < page_count_in l i) × (number_of l i k ≡ p)
+  found : (p : ℕ) → 1 ≤ p → p < page_total l → (i : ℕ) × (k : ℕ) × (i < size l) × (k < page_count_in l i) × (page_number l i k ≡ p)
   found p low high = elim (cases_lt (size l) p) [
     | inl over ↦
         let r = overflow_found l (size l) (p - 1 - size l) (omega arith) in
@@ -157,16 +157,16 @@ module _ (packing : PackingLaw) (pieces : PiecesLaw) (texts : PageTextLaw) (back
     | inr under ↦ (p - 1, 0, omega arith, omega (arith, one_page (p - 1)), omega arith)
   ]
 
-  follows_from : (i m k : ℕ) → i < size l → k + m ≡ page_count_in l i → IsPath (next (view_of (canonical v l))) (cond (eqb k (page_count_in l i)) 0 (number_of l i k)) (map (number_of l i) (range_with_len k m))
+  follows_from : (i m k : ℕ) → i < size l → k + m ≡ page_count_in l i → IsPath (next (view_of (canonical v l))) (cond (eqb k (page_count_in l i)) 0 (page_number l i k)) (map (page_number l i) (range_with_len k m))
   follows_from i zero k low e = rw (eq-eqb k (page_count_in l i) (let f : k ≡ page_count_in l i = omega (arith, e) in f)) refl
   follows_from i (suc m) k low e =
       let under : k < page_count_in l i = omega (arith, e) in
       let other : k ≢ page_count_in l i = λ f. omega (arith, f, under) in
-      let rest : IsPath (next (view_of (canonical v l))) (cond (eqb (k + 1) (page_count_in l i)) 0 (number_of l i (k + 1))) (map (number_of l i) (range_with_len (k + 1) m)) = follows_from i m (k + 1) low (omega (arith, e)) in
-      let step : cond (eqb (k + 1) (page_count_in l i)) 0 (number_of l i (k + 1)) ≡ next (view_of (canonical v l)) (number_of l i k) =
-      ap (λ n. cond (eqb (k + 1) (page_count_in l i)) 0 (number_of l i n)) (add-one k) ∙ sym (next_at i k low under) in
+      let rest : IsPath (next (view_of (canonical v l))) (cond (eqb (k + 1) (page_count_in l i)) 0 (page_number l i (k + 1))) (map (page_number l i) (range_with_len (k + 1) m)) = follows_from i m (k + 1) low (omega (arith, e)) in
+      let step : cond (eqb (k + 1) (page_count_in l i)) 0 (page_number l i (k + 1)) ≡ next (view_of (canonical v l)) (page_number l i k) =
+      ap (λ n. cond (eqb (k + 1) (page_count_in l i)) 0 (page_number l i n)) (add-one k) ∙ sym (next_at i k low under) in
       rw (ne_eqb k (page_count_in l i) other)
-      (refl, (number_low i k low under).0, subst (λ p. IsPath (next (view_of (canonical v l))) p (map (number_of l i) (range_with_len (k + 1) m))) step rest)
+      (refl, (number_low i k low under).0, subst (λ p. IsPath (next (view_of (canonical v l))) p (map (page_number l i) (range_with_len (k + 1) m))) step rest)
 
   follows : (i : ℕ) → i < size l → IsPath (next (view_of (canonical v l))) (1 + i) (path i)
   unfolding path
@@ -179,14 +179,14 @@ module _ (packing : PackingLaw) (pieces : PiecesLaw) (texts : PageTextLaw) (back
   covered = record {
     follows = follows;
     own = λ i p low there.
-        let r = any_found (number_of l i) p 0 (page_count_in l i) there in
+        let r = any_found (page_number l i) p 0 (page_count_in l i) there in
         let under : r.0 < page_count_in l i = omega (arith, r.2) in
         (omega (arith, r.3, (number_low i r.0 low under).0), omega (arith, r.3, (number_low i r.0 low under).1), ap (bucket (view_of (canonical v l))) (sym r.3) ∙ bucket_at i r.0 low under);
     all = λ p low high.
         let r = found p low high in
         let at : bucket (view_of (canonical v l)) p ≡ r.0 = ap (bucket (view_of (canonical v l))) (sym r.4) ∙ bucket_at r.0 r.1 r.2 r.3 in (
           omega (arith, at, r.2),
-          ap (λ i. stands_in (map (number_of l i) (range_with_len 0 (page_count_in l i))) p) at ∙ any_there (number_of l r.0) p 0 (page_count_in l r.0) r.1 (omega arith) (omega (arith, r.3)) r.4,
+          ap (λ i. stands_in (map (page_number l i) (range_with_len 0 (page_count_in l i))) p) at ∙ any_there (page_number l r.0) p 0 (page_count_in l r.0) r.1 (omega arith) (omega (arith, r.3)) r.4,
         );
   }
 
@@ -195,8 +195,8 @@ module _ (packing : PackingLaw) (pieces : PiecesLaw) (texts : PageTextLaw) (back
   along : (i : ℕ) → i < size l → map ((view_of (canonical v l)).records) (path i) ≡ pages_in l i
   unfolding path page_count_in
   along i low =
-      map_map ((view_of (canonical v l)).records) (number_of l i) (range_with_len 0 (length (pages_in l i)))
-      ∙ sym (fill_by_all (λ k. (view_of (canonical v l)).records (number_of l i k)) (pages_in l i) (length (pages_in l i)) [] refl (λ k under. sym (records_at i k low under)))
+      map_map ((view_of (canonical v l)).records) (page_number l i) (range_with_len 0 (length (pages_in l i)))
+      ∙ sym (fill_by_all (λ k. (view_of (canonical v l)).records (page_number l i k)) (pages_in l i) (length (pages_in l i)) [] refl (λ k under. sym (records_at i k low under)))
 
   packed : (i : ℕ) → i < size l → IsPacked l.config.capacity (pages_in l i)
   packed i low = ((packing l.config.capacity (list_at l.lists i) (pages_in l i) listing.config.capacity.0).1 refl).0
@@ -257,7 +257,7 @@ module _ (packing : PackingLaw) (pieces : PiecesLaw) (texts : PageTextLaw) (back
     pages = λ p low high.
         let r = found p low high in
         subst (λ w. IsPageOf w p) (sym version_is) (subst (IsPageOf v) r.4
-        (subst (λ xs. IsPage (format_of v) xs (page_at (canonical v l) (number_of l r.0 r.1)) × IsWritable (format_of v) (page_at (canonical v l) (number_of l r.0 r.1))) (sym (page_is r.0 r.1 r.2 r.3))
+        (subst (λ xs. IsPage (format_of v) xs (page_at (canonical v l) (page_number l r.0 r.1)) × IsWritable (format_of v) (page_at (canonical v l) (page_number l r.0 r.1))) (sym (page_is r.0 r.1 r.2 r.3))
         (subst (λ g. IsPage (format_of v) (text_in v l r.0 r.1) g × IsWritable (format_of v) g) (sym (shown r.0 r.1 r.2 r.3)) (is_page r.0 r.1 r.2 r.3, writable r.0 r.1 r.2 r.3))));
     shown = shows;
   }

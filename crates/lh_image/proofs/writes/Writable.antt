@@ -10,7 +10,7 @@ use Rattle.lh_page.specs.PageLaws.{PageTextLaw}
 use Rattle.lh_page.specs.PageTable.{IsPage, IsWritable, page_text}
 use Rattle.lh_bucket.specs.Listing.{Lists, IsListing, size, list_at}
 use Rattle.lh_image.specs.declared.version.Version.{Version}
-use Rattle.lh_image.specs.Canonical.{page_count_in, pages_in, page_in, page_total, number_of, text_in}
+use Rattle.lh_image.specs.Canonical.{page_count_in, pages_in, page_in, page_total, page_number, text_in}
 use Rattle.lh_image.specs.Fitting.{FitsVersion}
 use Rattle.lh_image.specs.Layout.{most_pages}
 use Rattle.lh_image.specs.Version.{format_of}
@@ -21,11 +21,11 @@ module _ (pieces : PiecesLaw) (v : Version) (l : Lists) (listing : IsListing l) 
   pub some_page : (i : ℕ) → 1 ≤ page_count_in l i
   some_page i = omega (arith, page_count_is l i pieces listing.config.capacity.0)
 
-  pub number_within : (i k : ℕ) → i < size l → k < page_count_in l i → (1 ≤ number_of l i k) × (number_of l i k < page_total l)
+  pub number_within : (i k : ℕ) → i < size l → k < page_count_in l i → (1 ≤ page_number l i k) × (page_number l i k < page_total l)
   number_within i zero low under = (omega arith, omega arith)
   number_within i (suc k) low under = (omega arith, omega (arith, overflow_within l i (size l) low))
 
-  next_low : (i k : ℕ) → i < size l → k < page_count_in l i → cond (eqb (k + 1) (page_count_in l i)) 0 (number_of l i (suc k)) < 2 ^ 32
+  next_low : (i k : ℕ) → i < size l → k < page_count_in l i → cond (eqb (k + 1) (page_count_in l i)) 0 (page_number l i (suc k)) < 2 ^ 32
   next_low i k low under = elim (cases_eq (k + 1) (page_count_in l i)) [
     | inl last ↦ rw (eq-eqb (k + 1) (page_count_in l i) last) (omega arith)
     | inr more ↦ rw (ne_eqb (k + 1) (page_count_in l i) more) (omega (arith, few, number_within i (suc k) low (omega arith)))

@@ -3,9 +3,9 @@ ghost use Rattle.std.specs.Prelude.{◌≡◌, None, length, map, IfOk, IfErr};
 ghost use Rattle.std.specs.List.{range_with_len};
 ghost use Rattle.lh_image.specs.Header.{AreInRange};
 ghost use Rattle.lh_image.specs.Chains.{chain};
-ghost use Rattle.lh_image.specs.Faults.{first_of, link_rows};
-ghost use Rattle.lh_image.specs.Listed.{IsDue, IsKept, IsLate};
-ghost use Rattle.lh_image.specs.Reading.{IsAnswer, judged};
+ghost use Rattle.lh_image.specs.Faults.{first_fault_of, link_rows};
+ghost use Rattle.lh_image.specs.Listed.{IsMemoryOr, IsViewKept, IsLate};
+ghost use Rattle.lh_image.specs.Reading.{IsDueAnswer, judged};
 ghost use Rattle.lh_image.specs.Table.{AreWithin, links_in, next_in};
 ghost use Rattle.lh_image.specs.View.{View};
 
@@ -25,12 +25,12 @@ fn chains_of(alloc: Global, header: &Header, table: &Table) -> Result<Vec<Vec<u3
     requires in_range { AreInRange header.now }
     requires size { length table.now.entries.items ≡ header.now.pages }
     ensures faultless { IfOk result (λ v.
-        first_of (link_rows (links_in table.now.entries.items header.now.buckets)) ≡ None) }
+        first_fault_of (link_rows (links_in table.now.entries.items header.now.buckets)) ≡ None) }
     ensures chains { IfOk result (λ v. map (λ chain. chain.items) v.items
         ≡ map (chain (next_in table.now.entries.items) (length table.now.entries.items))
         (range_with_len 0 header.now.buckets)) }
-    ensures fault { IfErr result (λ f. IsDue f
-        (first_of (link_rows (links_in table.now.entries.items header.now.buckets)))) }
+    ensures fault { IfErr result (λ f. IsMemoryOr f
+        (first_fault_of (link_rows (links_in table.now.entries.items header.now.buckets)))) }
     ensures late { IfErr result IsLate }
 {
     if let Some(page) = least_bad_next(&table.entries, header.buckets) {
@@ -68,8 +68,8 @@ pub(crate) fn listing_of_pages(
     requires size { length table.now.entries.items ≡ header.now.pages }
     requires within { AreWithin table.now.entries.items table.now.pairs.items }
     ensures exact { (v : View) → v.header ≡ header.now →
-        IsKept v table.now.entries.items table.now.pairs.items faults.now →
-        IsAnswer (λ listing l. listing ≡ l) result (judged v) }
+        IsViewKept v table.now.entries.items table.now.pairs.items faults.now →
+        IsDueAnswer (λ listing l. listing ≡ l) result (judged v) }
     ensures late { IfErr result IsLate }
 {
     faults.of_heads(header.records)?;

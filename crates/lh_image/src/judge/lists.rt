@@ -2,7 +2,7 @@
 ghost use Rattle.std.specs.Prelude.{◌≡◌, length, map, IfOk, IfErr};
 ghost use Rattle.std.specs.List.{flat_map};
 ghost use Rattle.std.specs.Io.Iter.{u64_saturate};
-ghost use Rattle.lh_image.specs.Table.{AreWithin, records_in};
+ghost use Rattle.lh_image.specs.Table.{AreWithin, page_records};
 
 use crate::fault::ImageFault;
 use crate::reading::table::Table;
@@ -13,7 +13,7 @@ use std::alloc::Global;
 fn count_of(table: &Table, chain: &[u32]) -> usize
     requires { AreWithin table.now.entries.items table.now.pairs.items }
     ensures { result ≡ u64_saturate
-        (length (flat_map (records_in table.now.entries.items table.now.pairs.items) chain.now)) }
+        (length (flat_map (page_records table.now.entries.items table.now.pairs.items) chain.now)) }
 {
     let mut count = 0_usize;
     for page in chain {
@@ -26,7 +26,7 @@ fn count_of(table: &Table, chain: &[u32]) -> usize
 fn list_of(alloc: Global, table: &Table, chain: &[u32]) -> Result<Vec<Pair>, ImageFault>
     requires { AreWithin table.now.entries.items table.now.pairs.items }
     ensures ok { IfOk result (λ v. v.items ≡ flat_map
-        (records_in table.now.entries.items table.now.pairs.items) chain.now) }
+        (page_records table.now.entries.items table.now.pairs.items) chain.now) }
     ensures fault { IfErr result (λ f. f ≡ ImageFault.Memory) }
 {
     let mut list = Vec::with_capacity(alloc, count_of(table, chain))?;
@@ -44,7 +44,7 @@ pub(crate) fn lists_of(
 ) -> Result<Vec<Vec<Pair>>, ImageFault>
     requires { AreWithin table.now.entries.items table.now.pairs.items }
     ensures ok { IfOk result (λ v. map (λ list. list.items) v.items
-        ≡ map (λ chain. flat_map (records_in table.now.entries.items table.now.pairs.items) chain.items)
+        ≡ map (λ chain. flat_map (page_records table.now.entries.items table.now.pairs.items) chain.items)
         chains.now) }
     ensures fault { IfErr result (λ f. f ≡ ImageFault.Memory) }
 {

@@ -8,8 +8,8 @@ ghost use Rattle.std.specs.Str.{bytes_eq};
 ghost use Rattle.lh_addr.specs.Limits.{most_buckets};
 ghost use Rattle.lh_page.specs.Records.{keys_of};
 ghost use Rattle.lh_image.specs.Faults.{misfits};
-ghost use Rattle.lh_image.specs.Misplaced.{IsLeast, IsSetOf, IsTestOf, is_home, lesser_of};
-ghost use Rattle.lh_image.specs.Table.{AreWithin, records_in};
+ghost use Rattle.lh_image.specs.Misplaced.{IsLeastAmong, IsSetOf, IsTestOf, is_home, lesser_of};
+ghost use Rattle.lh_image.specs.Table.{AreWithin, page_records};
 
 use crate::fault::ImageFault;
 use crate::reading::table::Table;
@@ -79,8 +79,8 @@ fn least_in_chain(
 ) -> Result<Option<u32>, ImageFault>
     requires { AreWithin table.now.entries.items table.now.pairs.items }
     ensures least { IfOk result (λ r. (bad : ℕ → Bool) (seen : List ℕ) →
-        IsTestOf bad (is_home root.now bucket) (records_in table.now.entries.items table.now.pairs.items) chain.now →
-        IsLeast bad seen before → IsLeast bad (seen ++ chain.now) r) }
+        IsTestOf bad (is_home root.now bucket) (page_records table.now.entries.items table.now.pairs.items) chain.now →
+        IsLeastAmong bad seen before → IsLeastAmong bad (seen ++ chain.now) r) }
     ensures fault { IfErr result (λ f. f ≡ ImageFault.Memory) }
 {
     let mut came = BTreeSet::new(alloc);
@@ -103,9 +103,9 @@ pub(crate) fn least_misfit(
     requires within { AreWithin table.now.entries.items table.now.pairs.items }
     requires few { length chains.now ≤ most_buckets }
     ensures least { IfOk result (λ r. (bad : ℕ → Bool) → ((i : ℕ) → i < length chains.now →
-        IsTestOf bad (is_home root.now i) (records_in table.now.entries.items table.now.pairs.items)
+        IsTestOf bad (is_home root.now i) (page_records table.now.entries.items table.now.pairs.items)
         (slice_index_or (map (λ chain. chain.items) chains.now) i [])) →
-        IsLeast bad (flat_map (λ chain. chain.items) chains.now) r) }
+        IsLeastAmong bad (flat_map (λ chain. chain.items) chains.now) r) }
     ensures fault { IfErr result (λ f. f ≡ ImageFault.Memory) }
 {
     let mut least = None;

@@ -1,7 +1,7 @@
 //! The faults of pages by themselves: of each, the least page that has it.
 ghost use Rattle.std.specs.Prelude.{◌≡◌, ℕ, ◌*◌, ◌≤◌, None, option_map};
 ghost use Rattle.std.specs.Result.{result_err};
-ghost use Rattle.lh_image.specs.Faults.{bad_bucket, bad_kind, bad_used, first_of};
+ghost use Rattle.lh_image.specs.Faults.{bad_bucket, bad_kind, bad_used, first_fault_of};
 ghost use Rattle.lh_image.specs.PageChecks.{known_bad_level, noted, noted_rows, seen};
 
 use crate::fault::ImageFault;
@@ -107,9 +107,9 @@ impl PageFaults {
     }
 
     /// The first fault of the pages' heads.
-    #[tactic(auto, unfolding(crate::specs::Faults::first_of))]
+    #[tactic(auto, unfolding(crate::specs::Faults::first_fault_of))]
     pub(crate) fn of_heads(&self, records: u64) -> Result<(), ImageFault>
-        ensures fault { result_err result ≡ first_of (noted_rows self.now records) }
+        ensures fault { result_err result ≡ first_fault_of (noted_rows self.now records) }
         ensures late { IfErr result IsLate }
     {
         if let Some(page) = self.kind {

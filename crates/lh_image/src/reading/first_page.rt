@@ -4,8 +4,8 @@ ghost use Rattle.std.specs.Result.{result_err};
 ghost use Rattle.lh_addr.specs.Settings.{IsInRange};
 ghost use Rattle.lh_addr.specs.Limits.{most_buckets, most_capacity};
 ghost use Rattle.lh_page.specs.PageFields.{all_zero};
-ghost use Rattle.lh_image.specs.Faults.{bad_field, bad_counts, field_rows, first_of, out_of};
-ghost use Rattle.lh_image.specs.Header.{AreInRange, IsFirstOutOfRange, ReadsFront, ReadsHeader, header_with};
+ghost use Rattle.lh_image.specs.Faults.{bad_field, bad_counts, field_rows, first_fault_of, out_of};
+ghost use Rattle.lh_image.specs.Header.{AreInRange, IsFirstBadSetting, ReadsFront, ReadsHeader, header_with};
 ghost use Rattle.lh_image.specs.Layout.{ends_in_zeros, field_bytes, header_of};
 ghost use Rattle.lh_image.specs.Version.{page_bytes, slots, version_of};
 ghost use Rattle.lh_image.specs.declared.version.Version.{Version};
@@ -72,7 +72,7 @@ fn ranged(version: Version, fields: &Fields) -> Result<Config, Range>
     ensures ok { IfOk result (λ config. config ≡ (header_with version fields.now).config) }
     ensures in_range { IfOk result (λ config. IsInRange config) }
     ensures room { IfOk result (λ config. config.capacity ≤ slots version) }
-    ensures err { IfErr result (IsFirstOutOfRange (header_with version fields.now)) }
+    ensures err { IfErr result (IsFirstBadSetting (header_with version fields.now)) }
 {
     match Config::new(fields.initial, fields.capacity, fields.load, fields.max) {
         Err(Range::Initial) => Err(Range::Initial),
@@ -134,7 +134,7 @@ fn header_of(version: Version, page: &[u8]) -> Result<Header, ImageFault>
     requires size { length page.now ≡ page_bytes version }
     ensures header { IfOk result (λ header. header ≡ header_of page.now) }
     ensures in_range { IfOk result (λ header. AreInRange header) }
-    ensures fault { result_err result ≡ first_of (field_rows (header_of page.now) (ends_in_zeros page.now)) }
+    ensures fault { result_err result ≡ first_fault_of (field_rows (header_of page.now) (ends_in_zeros page.now)) }
 {
     let fields = fields_of(page);
     let config = match config_of(version, &fields) {

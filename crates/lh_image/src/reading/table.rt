@@ -1,7 +1,7 @@
 //! What is kept of the pages that came: where each leads, and its records.
 ghost use Rattle.std.specs.Prelude.{◌≡◌, ◌++◌, ◌∷◌, ◌≤◌, [], length, IfOk, IfErr, OnOk};
 ghost use Rattle.lh_page.specs.PageFields.{fault_of};
-ghost use Rattle.lh_image.specs.Table.{AreWithin, IsPushed, is_of_slot, no_entry, records_in};
+ghost use Rattle.lh_image.specs.Table.{AreWithin, IsPushed, is_of_slot, no_entry, page_records};
 ghost use Rattle.lh_image.specs.Version.{format_of, page_bytes, slots};
 
 use crate::fault::ImageFault;
@@ -97,10 +97,10 @@ impl Table {
     }
 
     /// The records of a page, none where there is no such page.
-    #[tactic(auto, unfolding(crate::specs::Table::records_in))]
+    #[tactic(auto, unfolding(crate::specs::Table::page_records))]
     pub(crate) fn records(&self, page: u32) -> &[Pair]
         requires { AreWithin self.now.entries.items self.now.pairs.items }
-        ensures { result.now ≡ records_in self.now.entries.items self.now.pairs.items page }
+        ensures { result.now ≡ page_records self.now.entries.items self.now.pairs.items page }
     {
         if page as usize >= self.entries.len() {
             return &[];

@@ -9,9 +9,9 @@ use Rattle.lh_image.specs.declared.reading.first_page.Header.{Header}
 use Rattle.lh_image.specs.declared.judge.page_checks.PageFaults.{PageFaults}
 use Rattle.lh_image.specs.declared.reading.table.Entry.{Entry}
 use Rattle.lh_image.specs.Chains.{Links, chain}
-use Rattle.lh_image.specs.Faults.{link_rows, first_of}
+use Rattle.lh_image.specs.Faults.{link_rows, first_fault_of}
 use Rattle.lh_image.specs.Image.{listing_of}
-use Rattle.lh_image.specs.Listed.{IsDue, IsKept}
+use Rattle.lh_image.specs.Listed.{IsMemoryOr, IsViewKept}
 use Rattle.lh_image.specs.Table.{links_in, next_in}
 use Rattle.lh_image.specs.View.{View, buckets, page_count, links}
 use Rattle.lh_image.proofs.judging.AtHome.{none_misfit}
@@ -22,11 +22,11 @@ use Rattle.lh_image.proofs.judging.Refusals.{lists_refused}
 use Rattle.lh_image.proofs.judge.listed.listing_of_pages.Goals as goal
 
 -- the links and the chains of what was kept are those of the View
-links_are : (v : View) (entries : List Entry) (header : Header) (pairs : List Pair) (faults : PageFaults) → v.header ≡ header → IsKept v entries pairs faults → links_in entries header.buckets ≡ links v
+links_are : (v : View) (entries : List Entry) (header : Header) (pairs : List Pair) (faults : PageFaults) → v.header ≡ header → IsViewKept v entries pairs faults → links_in entries header.buckets ≡ links v
 links_are v entries header pairs faults same kept = rw (← same) kept.links
 
-links_fine : {k l : Links} → k ≡ l → first_of (link_rows k) ≡ None → first_of (link_rows l) ≡ None
-links_fine same none = sym (ap (λ (l : Links). first_of (link_rows l)) same) ∙ none
+links_fine : {k l : Links} → k ≡ l → first_fault_of (link_rows k) ≡ None → first_fault_of (link_rows l) ≡ None
+links_fine same none = sym (ap (λ (l : Links). first_fault_of (link_rows l)) same) ∙ none
 
 chains_are : (v : View) (l : Links) (chains : List (Vec ℕ Global)) → l ≡ links v → map (λ (c : Vec ℕ Global). c.items) chains ≡ map (chain l.next l.pages) (range_with_len 0 l.heads) → AreChains v chains
 chains_are v l chains same made = made ∙ ap (λ (k : Links). map (chain k.next k.pages) (range_with_len 0 k.heads)) same
@@ -45,7 +45,7 @@ returns-in_err-chains-clause-exact c v same kept =
     let p = err_from_is_err_and c.from_residual-in_err-chains.result c.from_residual-in_err-chains.ensures.1 in
     let some : buckets v < page_count v = rw same (omega (arith, c.requires.in_range.enough)) in
     rw (p.1, p.2) (links_told v c.args.table.now.entries.items c.args.table.now.pairs.items c.args.faults.now some kept (rw same c.in_ok-of_heads.ensures.fault) c.in_err-chains.field-0.0
-    (subst (λ (l : Links). IsDue c.in_err-chains.field-0.0 (first_of (link_rows l))) (links_are v c.args.table.now.entries.items c.args.header.now c.args.table.now.pairs.items c.args.faults.now same kept) c.in_err-chains.ensures.fault))
+    (subst (λ (l : Links). IsMemoryOr c.in_err-chains.field-0.0 (first_fault_of (link_rows l))) (links_are v c.args.table.now.entries.items c.args.header.now c.args.table.now.pairs.items c.args.faults.now same kept) c.in_err-chains.ensures.fault))
 
 pub returns-in_err-of_slots-clause-exact : goal.returns-in_err-of_slots-clause-exact
 returns-in_err-of_slots-clause-exact c v same kept =

@@ -4,8 +4,8 @@ use Rattle.std.proofs.lemmas.List.{append-nil, take_all}
 use Rattle.lh_page.specs.declared.pair.Pair.{Pair}
 use Rattle.lh_page.specs.Records.{keys_of}
 use Rattle.lh_image.specs.Faults.{misfits}
-use Rattle.lh_image.specs.Misplaced.{IsLeast, is_home}
-use Rattle.lh_image.specs.Table.{records_in}
+use Rattle.lh_image.specs.Misplaced.{IsLeastAmong, is_home}
+use Rattle.lh_image.specs.Table.{page_records}
 use Rattle.lh_image.proofs.judging.Misplacing.{chain_keys, pages_more, least_bad, least_sound}
 use Rattle.lh_image.proofs.judge.misplaced.least_in_chain.Goals as goal
 use Rattle.lh_image.proofs.judge.misplaced.least_in_chain.Goals.{then-branch, else-branch}
@@ -20,13 +20,13 @@ pub loop-page-preserved : goal.loop-page-preserved
 loop-page-preserved c =
     let chain : List ℕ = c.args.chain.now in
     let i : ℕ = c.loop-page.page-index in
-    let rec : ℕ → List Pair = records_in c.args.table.now.entries.items c.args.table.now.pairs.items in
+    let rec : ℕ → List Pair = page_records c.args.table.now.entries.items c.args.table.now.pairs.items in
     let before : List (List ℕ) = keys_of (flat_map rec (take i chain)) in
     let less : i < length chain = omega arith in
     record {
       known = rw (chain_keys rec chain i (get_or chain i 0) c.records.result.now less refl c.records.ensures) at (c.in_ok-has_misfit.ensures.known before c.loop-page.invariant.known);
       least = λ bad seen tests old.
-          let so_far : IsLeast bad (seen ++ take i chain) c.loop-page.least = c.loop-page.invariant.least bad seen tests old in
+          let so_far : IsLeastAmong bad (seen ++ take i chain) c.loop-page.least = c.loop-page.invariant.least bad seen tests old in
           let here : c.in_ok-has_misfit.field-0 ≡ misfits (is_home c.args.root.now c.args.bucket) before c.records.result.now = c.in_ok-has_misfit.ensures.value before c.loop-page.invariant.known in
           let test : bad (get_or chain i 0) ≡ c.in_ok-has_misfit.field-0 = tests i less ∙ ap (misfits (is_home c.args.root.now c.args.bucket) before) (sym c.records.ensures) ∙ sym here in
           rw (pages_more seen chain i less) (elim c.if-branch.branch [
