@@ -31,7 +31,8 @@ overflow_before l (suc n) = overflow_before l n + (page_count_in l n - 1)
 abbrev pub page_total : Lists → ℕ
 page_total l = 1 + size l + overflow_before l (size l)
 
--- the number in the file of page k of bucket i: the primary pages come first, then the overflow pages in the order of bucket and place
+-- the number in the file of page k of bucket i: the primary pages come first,
+-- then the overflow pages in the order of bucket and place
 abbrev pub page_number : Lists → ℕ → ℕ → ℕ
 page_number l i zero = 1 + i
 page_number l i (suc k) = 1 + size l + overflow_before l i + k
@@ -54,12 +55,16 @@ text_in version l i k = page_text (format_of version) (page_in l i k)
 unfoldable pub overflow_text : Version → Lists → ℕ → List ℕ
 overflow_text version l i = flat_map (text_in version l i) (range_with_len 1 (page_count_in l i - 1))
 
--- the image that is written in a version: the header, the primary pages, and the overflow pages in the order of bucket and place
+-- the image that is written in a version: the header, the primary pages,
+-- and the overflow pages in the order of bucket and place
 unfoldable pub canonical : Version → Lists → List ℕ
 canonical version l =
     header_text (header_for version l (page_total l))
-    ++ (flat_map (λ i. text_in version l i 0) (range_with_len 0 (size l)) ++ flat_map (overflow_text version l) (range_with_len 0 (size l)))
+    ++ (flat_map (λ i. text_in version l i 0) (range_with_len 0 (size l))
+    ++ flat_map (overflow_text version l) (range_with_len 0 (size l)))
 
 -- What is written in a version for which the listing is fit is an image of the listing.
 abbrev pub CanonicalLaw : Type 0
-CanonicalLaw = (version : Version) (l : Lists) → IsListing l → FitsVersion version l → page_total l ≤ most_pages → IsImage (canonical version l) l
+CanonicalLaw =
+    (version : Version) (l : Lists) → IsListing l → FitsVersion version l → page_total l ≤ most_pages →
+    IsImage (canonical version l) l

@@ -2,7 +2,8 @@
 use Rattle.std.specs.Prelude.{◌≡◌, ◌≢◌, ℕ, zero, suc, Bool, true, ◌+◌, ◌<◌, ◌≤◌, List, [], ◌∷◌, length, slice_index, ◌==◌, if◌then◌else◌, ◌↔◌}
 use Rattle.std.specs.List.{list_any}
 
--- where pages lead: the next page of each and its bucket, how many of the pages from 1 on are heads of chains, and how many pages there are
+-- where pages lead: the next page of each and its bucket, how many of the pages from 1 on are heads of chains, and how
+-- many pages there are
 pub record Links : Type 0 where
   pub next : ℕ → ℕ
   pub bucket : ℕ → ℕ
@@ -23,7 +24,8 @@ abbrev pub IsPath : (ℕ → ℕ) → ℕ → List ℕ → Type 0
 IsPath next p [] = p ≡ 0
 IsPath next p (q ∷ rest) = (q ≡ p) × (1 ≤ p) × IsPath next (next p) rest
 
--- Pages 1 to P - 1 of which the first S are heads: where `next` isn't 0 it names a page that is no head, of the same bucket, and that no other page names.
+-- Pages 1 to P - 1 of which the first S are heads: where `next` isn't 0 it names a page that is no head, of the same
+-- bucket, and that no other page names.
 pub record IsLinked (next bucket : ℕ → ℕ) (S P : ℕ) : Type 0 where
   pub heads : (i : ℕ) → i < S → bucket (1 + i) ≡ i
   pub within : (p : ℕ) → 1 ≤ p → p < P → next p ≢ 0 → next p < P
@@ -31,7 +33,8 @@ pub record IsLinked (next bucket : ℕ → ℕ) (S P : ℕ) : Type 0 where
   pub same : (p : ℕ) → 1 ≤ p → p < P → next p ≢ 0 → bucket (next p) ≡ bucket p
   pub once : (p q : ℕ) → 1 ≤ p → p < P → 1 ≤ q → q < P → next p ≢ 0 → next p ≡ next q → p ≡ q
 
--- Each bucket has a path from its head, each page stands on the path of its bucket, and a path has pages of its bucket alone.
+-- Each bucket has a path from its head, each page stands on the path of its bucket,
+-- and a path has pages of its bucket alone.
 pub record IsCovered (next bucket : ℕ → ℕ) (S P : ℕ) (path : ℕ → List ℕ) : Type 0 where
   pub follows : (i : ℕ) → i < S → IsPath next (1 + i) (path i)
   pub own : (i p : ℕ) → i < S → stands_in (path i) p ≡ true → (1 ≤ p) × (p < P) × (bucket p ≡ i)
@@ -41,11 +44,14 @@ pub record IsCovered (next bucket : ℕ → ℕ) (S P : ℕ) (path : ℕ → Lis
 abbrev pub chain : (ℕ → ℕ) → ℕ → ℕ → List ℕ
 chain next P i = pages_from next P (1 + i)
 
--- Where the pages are linked and each is on a chain, the chains are the paths. Pages that have paths are linked, and the paths are their chains.
+-- Where the pages are linked and each is on a chain, the chains are the paths. Pages that have paths are linked,
+-- and the paths are their chains.
 abbrev pub ChainLaw : Type 0
 ChainLaw =
     (next bucket : ℕ → ℕ) (S P : ℕ) (path : ℕ → List ℕ) → next 0 ≡ 0 → S < P →
-    (IsLinked next bucket S P × ((p : ℕ) → 1 ≤ p → p < P → (i : ℕ) × (i < S) × (stands_in (chain next P i) p ≡ true)) × ((i : ℕ) → i < S → path i ≡ chain next P i))
+    (IsLinked next bucket S P
+    × ((p : ℕ) → 1 ≤ p → p < P → (i : ℕ) × (i < S) × (stands_in (chain next P i) p ≡ true))
+    × ((i : ℕ) → i < S → path i ≡ chain next P i))
     ↔ IsCovered next bucket S P path
 
 -- Paths have no page in common, and a path has no page twice.

@@ -1,4 +1,4 @@
--- Which fault of the table is due
+-- Which fault of the table is answered
 use Rattle.std.specs.Prelude.{◌≡◌, ◌↔◌, ℕ, ◌<◌, ◌≤◌, Bool, true, false, List, Some, None}
 use Rattle.lh_image.specs.declared.fault.ImageFault.{ImageFault}
 use Rattle.lh_image.specs.declared.fault.ImageFault.TheVariants.{Magic, HeaderField, Counts, Short, Trailing, Kind, BucketNumber, Level, Used, Next, Twice, Never, Slot, Misfit, ReadFault, Memory}
@@ -32,7 +32,8 @@ number (Misfit p) = 14
 number ReadFault = 0
 number Memory = 0
 
--- The condition of a fault of a page holds, and the page is the least of 1 to P - 1 where it does, or of 0 to P - 1 for the ninth.
+-- The condition of a fault of a page holds, and the page is the least of 1 to P - 1 where it does,
+-- or of 0 to P - 1 for the ninth.
 abbrev pub AppliesTo : View → ImageFault → Type 0
 AppliesTo v (Kind p) = IsLeastInRange (at_head bad_kind v) 1 (page_count v) p
 AppliesTo v (BucketNumber p) = IsLeastInRange (at_head bad_bucket v) 1 (page_count v) p
@@ -48,18 +49,19 @@ AppliesTo v f = ⊥
 -- The condition of a fault holds, and its place is the first where it does.
 abbrev pub Applies : List ℕ → ImageFault → Type 0
 Applies bytes Magic = no_magic bytes ≡ true
-Applies bytes (HeaderField offset) = (has_header bytes ≡ true) × (bad_field (header_of bytes) (ends_in_zeros bytes) ≡ Some offset)
+Applies bytes (HeaderField offset) =
+    (has_header bytes ≡ true) × (bad_field (header_of bytes) (ends_in_zeros bytes) ≡ Some offset)
 Applies bytes Counts = (has_header bytes ≡ true) × (bad_counts (header_of bytes) ≡ true)
 Applies bytes Short = is_short bytes ≡ true
 Applies bytes Trailing = has_trailing bytes ≡ true
 Applies bytes f = AppliesTo (view_of bytes) f
 
--- A fault is due where its condition holds and no condition with a lower number does.
+-- A fault is the first where its condition holds and no condition with a lower number does.
 pub record IsFirstFault (bytes : List ℕ) (fault : ImageFault) : Type 0 where
   pub applies : Applies bytes fault
   pub first : (other : ImageFault) → number other < number fault → Applies bytes other → ⊥
 
--- The fault that is answered is the one that is due.
+-- The fault that is answered is the first.
 abbrev pub FirstFaultLaw : Type 0
 FirstFaultLaw = (bytes : List ℕ) (fault : ImageFault) → (image_fault bytes ≡ Some fault) ↔ IsFirstFault bytes fault
 

@@ -28,12 +28,13 @@ header_with version f = record {
 abbrev pub HasRoom : Header → Type 0
 HasRoom header = (1 ≤ header.config.capacity) × (header.config.capacity ≤ slots header.version)
 
--- the first of the ranges of the configuration that a header is out of
+-- the first setting of a header's configuration that is out of its range, capacity by the slots of its version's pages
 abbrev pub IsFirstBadSetting : Header → Range → Type 0
 IsFirstBadSetting h Initial = ¬ IsInitial h.config.initial
 IsFirstBadSetting h Capacity = IsInitial h.config.initial × ¬ HasRoom h
 IsFirstBadSetting h Load = IsInitial h.config.initial × HasRoom h × ¬ IsLoad h.config.load
-IsFirstBadSetting h Max = IsInitial h.config.initial × HasRoom h × IsLoad h.config.load × ¬ IsSize h.config.initial h.config.max
+IsFirstBadSetting h Max =
+    IsInitial h.config.initial × HasRoom h × IsLoad h.config.load × ¬ IsSize h.config.initial h.config.max
 
 -- the numbers of a header are in their ranges
 pub record AreInRange (header : Header) : Type 0 where

@@ -16,13 +16,20 @@ use Rattle.lh_image.specs.View.{View, buckets, bucket, next, chain_of}
 
 -- the header of a listing in P pages
 abbrev pub header_for : Version → Lists → ℕ → Header
-header_for version l P = record { version = version; config = l.config; buckets = size l; pages = P; records = count_of l.lists }
+header_for version l P = record {
+  version = version;
+  config = l.config;
+  buckets = size l;
+  pages = P;
+  records = count_of l.lists;
+}
 
 -- P pages show a listing, with a path of page numbers for each bucket.
 pub record Shows (v : View) (l : Lists) (P : ℕ) (path : ℕ → List ℕ) : Type 0 where
   -- each record stands in the list of its bucket, and no key twice
   pub listing : IsListing l
-  -- there are not too many pages, each has slots for as many records as it may hold, and the header has the listing's numbers
+  -- there are not too many pages, each has slots for as many records as it may hold,
+  -- and the header has the listing's numbers
   pub few : P ≤ most_pages
   pub room : l.config.capacity ≤ slots v.header.version
   pub header : v.header ≡ header_for v.header.version l P
@@ -34,11 +41,14 @@ pub record Shows (v : View) (l : Lists) (P : ℕ) (path : ℕ → List ℕ) : Ty
   pub content : (i : ℕ) → i < size l → flat_map v.records (path i) ≡ list_at l.lists i
   pub packed : (i : ℕ) → i < size l → IsPacked l.config.capacity (map v.records (path i))
 
--- The bytes are P whole pages of their version: page 0 spells the header, the others are pages, and they show the listing.
+-- The bytes are P whole pages of their version: page 0 spells the header, the others are pages,
+-- and they show the listing.
 pub record IsImageBy (bytes : List ℕ) (l : Lists) (P : ℕ) (path : ℕ → List ℕ) : Type 0 where
   pub whole : length bytes ≡ page_bytes (version_of bytes) * P
   pub spelled : page bytes 0 ≡ header_text (header_of bytes)
-  pub pages : (p : ℕ) → 1 ≤ p → p < P → IsPage (format_of (version_of bytes)) (page bytes p) (page_at bytes p) × IsWritable (format_of (version_of bytes)) (page_at bytes p)
+  pub pages : (p : ℕ) → 1 ≤ p → p < P →
+      IsPage (format_of (version_of bytes)) (page bytes p) (page_at bytes p)
+      × IsWritable (format_of (version_of bytes)) (page_at bytes p)
   pub shown : Shows (view_of bytes) l P path
 
 -- the bytes are an image of the listing
@@ -54,8 +64,11 @@ listing_of v = record {
 
 -- An image has no fault, and no other listing.
 abbrev pub OneListingLaw : Type 0
-OneListingLaw = (bytes : List ℕ) (l : Lists) → IsImage bytes l → (image_fault bytes ≡ None) × (l ≡ listing_of (view_of bytes))
+OneListingLaw =
+    (bytes : List ℕ) (l : Lists) → IsImage bytes l → (image_fault bytes ≡ None) × (l ≡ listing_of (view_of bytes))
 
 -- Bytes have no fault exactly where they are an image of a listing, and then of that one alone.
 abbrev pub ImageLaw : Type 0
-ImageLaw = (bytes : List ℕ) (l : Lists) → AreBytes bytes → IsImage bytes l ↔ ((image_fault bytes ≡ None) × (l ≡ listing_of (view_of bytes)))
+ImageLaw =
+    (bytes : List ℕ) (l : Lists) → AreBytes bytes →
+    IsImage bytes l ↔ ((image_fault bytes ≡ None) × (l ≡ listing_of (view_of bytes)))

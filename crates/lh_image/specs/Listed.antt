@@ -14,7 +14,8 @@ use Rattle.lh_image.specs.Version.{page_bytes, version_of}
 use Rattle.lh_image.specs.View.{View, IsView, buckets, page_count, links}
 
 -- the bytes were read to their end, and are as many pages as their header says
-pub record IsRead (bytes : List ℕ) (header : Header) (entries : List Entry) (pairs : List Pair) (faults : PageFaults) : Type 0 where
+pub record IsRead (bytes : List ℕ) (header : Header) (entries : List Entry) (pairs : List Pair)
+    (faults : PageFaults) : Type 0 where
   pub come : HaveCome bytes header header.pages entries pairs faults
   pub faultless : first_fault_of (header_rows bytes) ≡ None
   pub size : length bytes ≡ page_bytes (version_of bytes) * header.pages
@@ -23,7 +24,8 @@ pub record IsRead (bytes : List ℕ) (header : Header) (entries : List Entry) (p
 pub record IsViewKept (v : View) (entries : List Entry) (pairs : List Pair) (faults : PageFaults) : Type 0 where
   pub view : IsView v
   pub links : links_in entries (buckets v) ≡ links v
-  pub records : (p : ℕ) → 1 ≤ p → p < page_count v → has_plain_head v p ≡ true → v.bad_slot p ≡ None → page_records entries pairs p ≡ v.records p
+  pub records : (p : ℕ) → 1 ≤ p → p < page_count v → has_plain_head v p ≡ true → v.bad_slot p ≡ None →
+      page_records entries pairs p ≡ v.records p
   pub noted : AreNoted v (page_count v - 1) faults
 
 -- a fault that is decided after all pages were read

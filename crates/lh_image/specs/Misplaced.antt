@@ -26,9 +26,12 @@ lesser_of (Some least) p = if nat_lt least p then least else p
 -- the least of some pages that fail a test, or none of them
 abbrev pub IsLeastAmong : (ℕ → Bool) → List ℕ → Option ℕ → Type 0
 IsLeastAmong bad pages None = (p : ℕ) → stands_in pages p ≡ true → bad p ≡ false
-IsLeastAmong bad pages (Some m) = (stands_in pages m ≡ true) × (bad m ≡ true) × ((p : ℕ) → stands_in pages p ≡ true → p < m → bad p ≡ false)
+IsLeastAmong bad pages (Some m) =
+    (stands_in pages m ≡ true) × (bad m ≡ true)
+    × ((p : ℕ) → stands_in pages p ≡ true → p < m → bad p ≡ false)
 
 -- a test of pages that says of each page of a chain whether it has a misfit
 abbrev pub IsTestOf : (ℕ → Bool) → (List ℕ → Bool) → (ℕ → List Pair) → List ℕ → Type 0
 IsTestOf bad home rec chain =
-    (k : ℕ) → k < length chain → bad (slice_index chain k) ≡ misfits home (keys_of (flat_map rec (take k chain))) (rec (slice_index chain k))
+    (k : ℕ) → k < length chain →
+    bad (slice_index chain k) ≡ misfits home (keys_of (flat_map rec (take k chain))) (rec (slice_index chain k))

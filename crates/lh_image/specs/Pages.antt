@@ -14,7 +14,8 @@ use Rattle.lh_image.specs.Table.{IsTable}
 use Rattle.lh_image.specs.Version.{page_bytes, version_of}
 
 -- the first n pages of these bytes came, the header's page among them
-pub record HaveCome (bytes : List ℕ) (header : Header) (n : ℕ) (entries : List Entry) (pairs : List Pair) (faults : PageFaults) : Type 0 where
+pub record HaveCome (bytes : List ℕ) (header : Header) (n : ℕ) (entries : List Entry) (pairs : List Pair)
+    (faults : PageFaults) : Type 0 where
   pub fields : header ≡ header_of bytes
   pub kept : IsTable (view_of bytes) n entries pairs
   pub noted : AreNoted (view_of bytes) (n - 1) faults
@@ -22,13 +23,17 @@ pub record HaveCome (bytes : List ℕ) (header : Header) (n : ℕ) (entries : Li
   pub each_byte : (i : ℕ) → i < page_bytes (version_of bytes) * n → slice_index bytes i < 256
 
 -- the first n pages came, and nothing behind them was read, or why they didn't come
-abbrev pub ReadsTo : {X : Type 0} → List ℕ → Header → ℕ → Result X ImageFault → List Entry → List Pair → PageFaults → Option (List ℕ) → Type 0
-ReadsTo bytes header n (Ok x) entries pairs faults now = HaveCome bytes header n entries pairs faults × (now ≡ Some (drop (page_bytes (version_of bytes) * n) bytes))
+abbrev pub ReadsTo : {X : Type 0} → List ℕ → Header → ℕ → Result X ImageFault → List Entry → List Pair → PageFaults →
+    Option (List ℕ) → Type 0
+ReadsTo bytes header n (Ok x) entries pairs faults now =
+    HaveCome bytes header n entries pairs faults × (now ≡ Some (drop (page_bytes (version_of bytes) * n) bytes))
 ReadsTo bytes header n (Err f) entries pairs faults now = IsCut bytes (page_bytes (version_of bytes) * n) f
 
 -- all pages came, or why they didn't
 abbrev pub ReadsAll : List ℕ → Header → Result (Table × PageFaults) ImageFault → Option (List ℕ) → Type 0
-ReadsAll bytes header (Ok r) now = HaveCome bytes header header.pages r.0.entries.items r.0.pairs.items r.1 × (now ≡ Some (drop (page_bytes (version_of bytes) * header.pages) bytes))
+ReadsAll bytes header (Ok r) now =
+    HaveCome bytes header header.pages r.0.entries.items r.0.pairs.items r.1
+    × (now ≡ Some (drop (page_bytes (version_of bytes) * header.pages) bytes))
 ReadsAll bytes header (Err f) now = IsCut bytes (page_bytes (version_of bytes) * header.pages) f
 
 -- why the last page isn't the end of the bytes

@@ -34,7 +34,8 @@ abbrev pub IsDueAnswer : {X : Type 0} → (X → Lists → Type 0) → Result X 
 IsDueAnswer Shows (Ok x) due = (l : Lists) × (due ≡ Ok l) × Shows x l
 IsDueAnswer Shows (Err f) due = IsDueFault f due
 
--- What is left of the reader's bytes: nothing after an answer that says so, all but the first page after the faults of the header, and after trailing bytes all but one byte past the last page.
+-- What is left of the reader's bytes: nothing after an answer that says so, all but the first page after the faults of
+-- the header, and after trailing bytes all but one byte past the last page.
 abbrev pub Leaves : {X : Type 0} → Result X ImageFault → List ℕ → Option (List ℕ) → Type 0
 Leaves (Ok x) bytes now = IsAtEnd now
 Leaves (Err Magic) bytes now = Consumes (Some bytes) now (take (page_bytes (version_of bytes)) bytes)

@@ -9,4 +9,6 @@ use Rattle.lh_image.specs.Reading.{reading_of}
 
 -- The image of either version that is written of a listing is read as that listing.
 abbrev pub RoundTripLaw : Type 0
-RoundTripLaw = (version : Version) (l : Lists) → IsListing l → FitsVersion version l → page_total l ≤ most_pages → reading_of (canonical version l) ≡ Ok l
+RoundTripLaw =
+    (version : Version) (l : Lists) → IsListing l → FitsVersion version l → page_total l ≤ most_pages →
+    reading_of (canonical version l) ≡ Ok l

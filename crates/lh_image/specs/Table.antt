@@ -33,7 +33,12 @@ AreWithin entries pairs = (p : ℕ) → (entry_at entries p).start + (entry_at e
 
 -- where the pages lead
 abbrev pub links_in : List Entry → ℕ → Links
-links_in entries heads = record { next = next_in entries; bucket = bucket_in entries; heads = heads; pages = length entries }
+links_in entries heads = record {
+  next = next_in entries;
+  bucket = bucket_in entries;
+  heads = heads;
+  pages = length entries;
+}
 
 -- ---- the pages that came
 
@@ -45,19 +50,24 @@ is_of_slot (Some Used) = false
 is_of_slot (Some (Slot i)) = true
 
 -- one page more: its records behind the others, unless the page has a fault
-pub record IsPushed (entries : List Entry) (pairs : List Pair) (new_entries : List Entry) (new_pairs : List Pair) (own_bucket following : ℕ) (version : Version) (bytes : List ℕ) (room : ℕ) : Type 0 where
+pub record IsPushed (entries : List Entry) (pairs : List Pair) (new_entries : List Entry) (new_pairs : List Pair)
+    (own_bucket following : ℕ) (version : Version) (bytes : List ℕ) (room : ℕ) : Type 0 where
   pub added : List Pair
   pub appended : new_pairs ≡ pairs ++ added
-  pub entered : new_entries ≡ entries ++ record { bucket = own_bucket; next = following; start = length pairs; used = length added } ∷ []
+  pub entered : new_entries
+      ≡ entries ++ record { bucket = own_bucket; next = following; start = length pairs; used = length added } ∷ []
   pub records : fault_of (format_of version) bytes room ≡ None → added ≡ pairs_of (format_of version) bytes
 
 -- a page's kind is known, its reserved bytes are zeros, and its records have room
 abbrev pub has_plain_head : View → ℕ → Bool
-has_plain_head v p = ((v.head p).kind == 1 || (v.head p).kind == 2) && (v.head p).clear && not (nat_lt v.header.config.capacity (v.head p).used)
+has_plain_head v p =
+    ((v.head p).kind == 1 || (v.head p).kind == 2) && (v.head p).clear
+    && not (nat_lt v.header.config.capacity (v.head p).used)
 
 -- the first n pages came, the header's page among them
 pub record IsTable (v : View) (n : ℕ) (entries : List Entry) (pairs : List Pair) : Type 0 where
   pub size : length entries ≡ n
   pub next : (p : ℕ) → p < n → next_in entries p ≡ next v p
   pub bucket : (p : ℕ) → p < n → bucket_in entries p ≡ bucket v p
-  pub records : (p : ℕ) → 1 ≤ p → p < n → has_plain_head v p ≡ true → v.bad_slot p ≡ None → page_records entries pairs p ≡ v.records p
+  pub records : (p : ℕ) → 1 ≤ p → p < n → has_plain_head v p ≡ true → v.bad_slot p ≡ None →
+      page_records entries pairs p ≡ v.records p

@@ -28,7 +28,8 @@ image_fault_text Memory = codes "no memory"
 -- the text of a fault of writing an image
 abbrev pub write_image_fault_text : WriteImageFault → List ℕ
 write_image_fault_text OldCapacity = codes "image V1"
-write_image_fault_text (OldRecord bucket place) = codes "image V2 at bucket " ++ decimal bucket ++ codes " place " ++ decimal place
+write_image_fault_text (OldRecord bucket place) =
+    codes "image V2 at bucket " ++ decimal bucket ++ codes " place " ++ decimal place
 write_image_fault_text TooLarge = codes "image too large"
 write_image_fault_text WriteFault = codes "write failed"
 write_image_fault_text NoMemory = codes "no memory"

@@ -22,10 +22,14 @@ abbrev pub IsSent : {E : Type 0} → List ℕ → Result (Unit {0}) E → Option
 IsSent text (Ok done) before now = Appends before now text
 IsSent text (Err e) before now = TakesBeginning before now text
 
--- Why a listing is not written in a version: the pages have not this many slots, or these no room for a record, or there would be too many pages. The first that holds is answered, and of records the one of the least bucket, there at the least place.
+-- Why a listing is not written in a version: the pages have not this many slots, or these no room for a record,
+-- or there would be too many pages. The first that holds is answered, and of records the one of the least bucket,
+-- there at the least place.
 abbrev pub IsWriteRefusal : Version → Lists → WriteImageFault → Type 0
 IsWriteRefusal version l OldCapacity = slots version < l.config.capacity
-IsWriteRefusal version l (OldRecord bucket place) = (l.config.capacity ≤ slots version) × IsFirst (IsFitting (format_of version)) (IsTooLong (format_of version)) l.lists bucket place
+IsWriteRefusal version l (OldRecord bucket place) =
+    (l.config.capacity ≤ slots version)
+    × IsFirst (IsFitting (format_of version)) (IsTooLong (format_of version)) l.lists bucket place
 IsWriteRefusal version l TooLarge = FitsVersion version l × (most_pages < page_total l)
 IsWriteRefusal version l WriteFault = ⊥
 IsWriteRefusal version l Memory = ⊥
@@ -35,7 +39,8 @@ pub record FitsImage (version : Version) (l : Lists) : Type 0 where
   pub fits : FitsVersion version l
   pub few : page_total l ≤ most_pages
 
--- A listing that can be written is written as its canonical image, and a beginning of it where a write failed; of one that is refused nothing is.
+-- A listing that can be written is written as its canonical image, and a beginning of it where a write failed; of one
+-- that is refused nothing is.
 abbrev pub IsWritten : Version → Lists → Result (Unit {0}) WriteImageFault → Option (List ℕ) → Option (List ℕ) → Type 0
 IsWritten version l (Ok done) before now = FitsImage version l × Appends before now (canonical version l)
 IsWritten version l (Err WriteFault) before now = FitsImage version l × TakesBeginning before now (canonical version l)

@@ -7,8 +7,8 @@ use std::alloc::Global;
 use std::process::Abort;
 use std::test::Fail;
 
-/// The census of an image, however few bytes a read gives, which is asked for once more where memory was refused. No read
-/// is of more bytes than a page has.
+/// The census of an image, however few bytes a read gives, which is asked for once more where memory was refused.
+/// No read is of more bytes than a page has.
 pub(crate) fn expect_census(rt: &impl Abort, alloc: Global, bytes: &[u8], wanted: Census) {
     let page = if bytes.first_chunk() == Some(b"LHF1") {
         1024
