@@ -56,6 +56,7 @@ fn longest_chain(listing: &Listing) -> usize
 fn census_of(listing: &Listing) -> Census
     ensures { page_total listing.now ≤ most_pages → result ≡ census_of listing.now }
 {
+    // Its law: no page has more records than it may hold, so in so few pages there are fewer than 2^64.
     pages_are_pieces();
     let root = listing.root();
     let buckets = listing.buckets();
@@ -78,6 +79,7 @@ pub fn check_image<R: Read>(alloc: Global, reader: &mut R) -> Result<Census, Ima
         IsDueAnswer (λ census l. census ≡ census_of l) result (reading_of bytes)) }
     ensures rest { IfSome (R.remaining reader.old) (λ bytes. Leaves result bytes (R.remaining reader.new)) }
 {
+    // Its law: the listing of an image takes as many pages as the image has, so they are not too many.
     census_counts_pages();
     let listing = read_image(alloc, reader)?;
     Ok(census_of(&listing))

@@ -30,6 +30,7 @@ pub fn read_image<R: Read>(alloc: Global, reader: &mut R) -> Result<Listing, Ima
     ensures image { IfSome (R.remaining reader.old) (λ bytes. IfOk result (λ listing. IsImage bytes listing)) }
     ensures rest { IfSome (R.remaining reader.old) (λ bytes. Leaves result bytes (R.remaining reader.new)) }
 {
+    // Its law: bytes without a fault are an image, and of the listing that they show.
     faultless_bytes_are_an_image();
     let header = read_header(reader)?;
     let (table, faults) = read_pages(alloc, &header, reader)?;

@@ -44,6 +44,7 @@ fn write_page_of<W: Write>(
     requires following { following ≡ 1 + size listing.now + overflow_before listing.now bucket }
     ensures { IsSent (text_in version listing.now bucket k) result (W.contents writer.old) (W.contents writer.new) }
 {
+    // Its law: a page has one row of bytes, so those that are written are its text.
     a_page_is_its_bytes();
     let page = page_in(listing, root, bucket, k, following);
     match version {
