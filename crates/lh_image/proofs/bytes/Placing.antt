@@ -1,4 +1,4 @@
--- Where a part stands in a text.
+-- Where a part stands in a text, and a number among those that a function gives
 use Rattle.std.proofs.Common.{◌≡◌, ℕ, zero, suc, ◌+◌, ◌-◌, ◌*◌, ◌<◌, ◌≤◌, List, [], ◌++◌, length, take, drop, map, true, eqb, inl, inr, refl, sym, ap, subst, ◌∙◌, append_assoc, length-append, arith}
 use Rattle.std.specs.List.{range_with_len, flat_map, list_any}
 use Rattle.std.proofs.Math.Seq.{drop-append_seam, take-append_seam}

@@ -1,4 +1,4 @@
--- One step of a loop that follows `next`, and its end
+-- A chain after one step along `next`, and how many pages name a page after one page more
 use Rattle.std.specs.List.{range_with_len, count_by}
 use Rattle.std.proofs.lemmas.List.FromFn.{length-range_with_len}
 use Rattle.std.proofs.lemmas.List.Sums.{count_by-le-length}

@@ -1,4 +1,4 @@
--- The table of the header alone
+-- What is kept and noted of the header alone
 use Rattle.std.proofs.Common.{◌≡◌, ℕ, zero, suc, List, [], ◌∷◌, Option, None, refl, arith}
 use Rattle.lh_page.specs.declared.pair.Pair.{Pair}
 use Rattle.lh_image.specs.declared.reading.first_page.Header.{Header}

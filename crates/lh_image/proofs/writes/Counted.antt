@@ -1,4 +1,4 @@
--- The census of a listing.
+-- How many pages the longest chain has, after one bucket more, and at most
 use Rattle.std.proofs.Common.{◌≡◌, ℕ, zero, suc, ◌+◌, ◌-◌, ◌≤◌, sym, ap, ◌∙◌, arith}
 use Rattle.std.specs.Prelude.{max}
 use Rattle.std.proofs.Math.Numerals.{add-one}
