@@ -13,7 +13,7 @@ use Rattle.lh_image.specs.declared.fault.ImageFault.{ImageFault}
 use Rattle.lh_image.specs.declared.fault.ImageFault.TheVariants.{Magic, HeaderField, Counts, Short, Trailing, Kind, BucketNumber, Level, Used, Next, Twice, Never, Slot, Misfit}
 use Rattle.lh_image.specs.declared.reading.first_page.Header.{Header}
 use Rattle.lh_image.specs.Chains.{Links, chain, stands_in}
-use Rattle.lh_image.specs.Layout.{most_pages, header_of, ends_in_zeros, image_bytes, view_of}
+use Rattle.lh_image.specs.Layout.{most_pages, initial_offset, capacity_offset, load_offset, buckets_offset, max_offset, fields_end, header_of, ends_in_zeros, image_bytes, view_of}
 use Rattle.lh_image.specs.Version.{begins, page_bytes, slots, version_of}
 use Rattle.lh_image.specs.declared.version.Version.TheVariants.{One, Two}
 use Rattle.lh_image.specs.View.{View, initial, buckets, page_count, record_count, numbers, used, bucket, links, chain_of}
@@ -32,23 +32,33 @@ has_header bytes = nat_le (page_bytes (version_of bytes)) (length bytes)
 abbrev pub out_of : ℕ → ℕ → ℕ → Bool
 out_of low high x = nat_lt x low || nat_lt high x
 
--- the field of the header at an offset is out of its range; offset 36 stands for the bytes behind the fields, and `zeros` says whether they are zeros
+-- the greatest number of buckets is out of its range, or below the number of buckets
+abbrev pub is_bad_max : Header → Bool
+is_bad_max h = out_of h.config.initial most_buckets h.config.max || nat_lt h.config.max h.buckets
+
+-- the field of the header at an offset is out of its range; the offset where the fields end stands for the bytes behind
+-- them, and `zeros` says whether those are zeros
 unfoldable pub is_bad_field : Header → Bool → ℕ → Bool
 is_bad_field h zeros offset =
-    if offset == 4 then out_of 1 most_initial h.config.initial
-    else if offset == 8 then out_of 1 (slots h.version) h.config.capacity
-    else if offset == 12 then out_of least_load most_load h.config.load
-    else if offset == 16 then out_of h.config.initial most_buckets h.buckets
-    else if offset == 20 then out_of h.config.initial most_buckets h.config.max || nat_lt h.config.max h.buckets
+    if offset == initial_offset then out_of 1 most_initial h.config.initial
+    else if offset == capacity_offset then out_of 1 (slots h.version) h.config.capacity
+    else if offset == load_offset then out_of least_load most_load h.config.load
+    else if offset == buckets_offset then out_of h.config.initial most_buckets h.buckets
+    else if offset == max_offset then is_bad_max h
     else not zeros
 
 -- the offset of the first field of the header at fault (I2)
 unfoldable pub bad_field : Header → Bool → Option ℕ
-bad_field h zeros = find (is_bad_field h zeros) (4 ∷ 8 ∷ 12 ∷ 16 ∷ 20 ∷ 36 ∷ [])
+bad_field h zeros =
+    find (is_bad_field h zeros)
+    (initial_offset ∷ capacity_offset ∷ load_offset ∷ buckets_offset ∷ max_offset ∷ fields_end ∷ [])
 
--- fewer pages than header and buckets, more pages than an image may have, or more records than the pages have slots for (I3)
+-- fewer pages than header and buckets, more pages than an image may have,
+-- or more records than the pages have slots for (I3)
 unfoldable pub bad_counts : Header → Bool
-bad_counts h = nat_lt h.pages (1 + h.buckets) || nat_lt most_pages h.pages || nat_lt (h.config.capacity * (h.pages - 1)) h.records
+bad_counts h =
+    nat_lt h.pages (1 + h.buckets) || nat_lt most_pages h.pages
+    || nat_lt (h.config.capacity * (h.pages - 1)) h.records
 
 -- fewer bytes than a header, or than the header's number of pages (I4)
 unfoldable pub is_short : List ℕ → Bool
@@ -119,7 +129,8 @@ has_bad_slot v p = is_some (v.bad_slot p)
 -- of some records, which stand behind some keys, one isn't at home or has a key that stands before it
 unfoldable pub misfits : (List ℕ → Bool) → List (List ℕ) → List Pair → Bool
 misfits at_home before [] = false
-misfits at_home before (r ∷ rs) = not (at_home r.key) || list_any (bytes_eq r.key) before || misfits at_home (before ++ r.key ∷ []) rs
+misfits at_home before (r ∷ rs) =
+    not (at_home r.key) || list_any (bytes_eq r.key) before || misfits at_home (before ++ r.key ∷ []) rs
 
 -- whether a key's address is bucket i
 abbrev pub is_at_home : View → ℕ → List ℕ → Bool

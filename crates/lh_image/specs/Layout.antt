@@ -1,4 +1,6 @@
--- The bytes of an image, by page, offset and size. An image is a row of pages of 1,024 bytes, or of 4,096 in version 2: page 0 is the header, page 1 + i is the primary page of bucket i, and behind those come overflow pages. Numbers are little-endian.
+-- The bytes of an image, by page, offset and size. An image is a row of pages of 1,024 bytes, or of 4,096 in version 2:
+-- page 0 is the header, page 1 + i is the primary page of bucket i, and behind those come overflow pages. Numbers are
+-- little-endian.
 use Rattle.std.specs.Prelude.{ℕ, ◌*◌, ◌-◌, Bool, true, List, ◌++◌, take, drop, replicate, ◌==◌, if◌then◌else◌}
 use Rattle.byteorder.specs.Endian.{little_from, little_bytes}
 use Rattle.lh_page.specs.declared.head.PageHead.{PageHead}
@@ -15,31 +17,53 @@ most_pages = 1048576
 
 -- ---- the header
 
--- the bytes of the header's fields, and those behind them
-abbrev pub field_bytes : ℕ
-field_bytes = 36
+-- where each field begins, behind the bytes of the version
+abbrev pub initial_offset : ℕ
+initial_offset = 4
+
+abbrev pub capacity_offset : ℕ
+capacity_offset = 8
+
+abbrev pub load_offset : ℕ
+load_offset = 12
+
+abbrev pub buckets_offset : ℕ
+buckets_offset = 16
+
+abbrev pub max_offset : ℕ
+max_offset = 20
+
+abbrev pub pages_offset : ℕ
+pages_offset = 24
+
+abbrev pub records_offset : ℕ
+records_offset = 28
+
+-- where the fields end, and the bytes from there to the end of the page
+abbrev pub fields_end : ℕ
+fields_end = 36
 
 abbrev pub padding : Version → ℕ
-padding version = page_bytes version - field_bytes
+padding version = page_bytes version - fields_end
 
 -- the header that the bytes show
 unfoldable pub header_of : List ℕ → Header
 header_of bytes = record {
   version = version_of bytes;
   config = record {
-    initial = little_from 4 4 bytes;
-    capacity = little_from 8 4 bytes;
-    load = little_from 12 4 bytes;
-    max = little_from 20 4 bytes;
+    initial = little_from initial_offset 4 bytes;
+    capacity = little_from capacity_offset 4 bytes;
+    load = little_from load_offset 4 bytes;
+    max = little_from max_offset 4 bytes;
   };
-  buckets = little_from 16 4 bytes;
-  pages = little_from 24 4 bytes;
-  records = little_from 28 8 bytes;
+  buckets = little_from buckets_offset 4 bytes;
+  pages = little_from pages_offset 4 bytes;
+  records = little_from records_offset 8 bytes;
 }
 
 -- whether the bytes behind the header's fields are zeros
 abbrev pub ends_in_zeros : List ℕ → Bool
-ends_in_zeros bytes = all_zero (take (padding (version_of bytes)) (drop field_bytes bytes))
+ends_in_zeros bytes = all_zero (take (padding (version_of bytes)) (drop fields_end bytes))
 
 -- the bytes of the numbers of a header
 abbrev pub number_text : Header → List ℕ

@@ -6,14 +6,18 @@ use Rattle.lh_page.specs.Format.{version_1, version_2, page_size}
 use Rattle.lh_image.specs.declared.version.Version.{Version}
 use Rattle.lh_image.specs.declared.version.Version.TheVariants.{One, Two}
 
--- the first four bytes: LHF1 or LHF2
+-- the bytes that tell the version
+abbrev pub magic_bytes : ℕ
+magic_bytes = 4
+
+-- what they are: LHF1 or LHF2
 abbrev pub magic : Version → List ℕ
 magic One = 76 ∷ 72 ∷ 70 ∷ 49 ∷ []
 magic Two = 76 ∷ 72 ∷ 70 ∷ 50 ∷ []
 
 -- whether bytes begin as an image of a version does
 unfoldable pub begins : List ℕ → Version → Bool
-begins bytes version = bytes_eq (take 4 bytes) (magic version)
+begins bytes version = bytes_eq (take magic_bytes bytes) (magic version)
 
 -- the version of some bytes: 2 where they begin so, and 1 for all others
 unfoldable pub version_of : List ℕ → Version

@@ -13,6 +13,7 @@ mod census;
 mod fault;
 mod judge;
 pub mod laws;
+mod layout;
 mod limits;
 mod reading;
 mod version;

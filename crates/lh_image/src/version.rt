@@ -3,6 +3,7 @@ ghost use Rattle.std.specs.Prelude.{◌≡◌, ◌≤◌, IfNone, IfSome, false,
 ghost use Rattle.lh_image.specs.Faults.{no_magic};
 ghost use Rattle.lh_image.specs.Version.{begins, format_of, magic, page_bytes, slots, version_of};
 
+use crate::layout::MAGIC;
 use lh_page::format::{Format, PAGE_1, PAGE_2, VERSION_1, VERSION_2};
 
 /// A version of the image: what it begins with, and what its pages have room for.
@@ -31,8 +32,8 @@ impl Version {
         None
     }
 
-    /// The first four bytes of an image.
-    pub(crate) fn magic(self) -> &'static [u8; 4]
+    /// The bytes that an image begins with.
+    pub(crate) fn magic(self) -> &'static [u8; MAGIC]
         ensures { result.now ≡ magic self }
     {
         match self {
@@ -80,5 +81,5 @@ impl Version {
 fn begins(bytes: &[u8], version: Version) -> bool
     ensures { result ≡ begins bytes.now version }
 {
-    bytes.len() >= 4 && &bytes[..4] == version.magic().as_slice()
+    bytes.len() >= MAGIC && &bytes[..MAGIC] == version.magic().as_slice()
 }

@@ -11,7 +11,7 @@ use Rattle.byteorder.specs.Endian.{little_from, little_bytes}
 use Rattle.lh_page.specs.PageFields.{all_zero}
 use Rattle.lh_page.specs.PageLaws.{AreBytes}
 use Rattle.lh_image.specs.declared.version.Version.{Version}
-use Rattle.lh_image.specs.Layout.{ends_in_zeros, header_of, header_text, number_text, padding, page}
+use Rattle.lh_image.specs.Layout.{fields_end, ends_in_zeros, header_of, header_text, number_text, padding, page}
 use Rattle.lh_image.specs.Faults.{no_magic}
 use Rattle.lh_image.specs.Version.{magic, page_bytes, version_of}
 use Rattle.lh_image.proofs.bytes.Versions.{least_page, length-magic, magic_of, no_magic_from_magic, page_cut}
@@ -92,9 +92,9 @@ page_first bytes = let none : page_bytes (version_of bytes) * 0 ≡ 0 = omega ar
 
 module _ (bytes : List ℕ) (fit : AreBytes bytes) (long : page_bytes (version_of bytes) ≤ length bytes) where
   -- the first four bytes, the numbers, and what stands behind them
-  header_parts : (n : ℕ) → take (36 + n) bytes ≡ take 4 bytes ++ (take 4 (drop 4 bytes) ++ (take 4 (drop 8 bytes) ++ (take 4 (drop 12 bytes) ++ (take 4 (drop 16 bytes) ++ (take 4 (drop 20 bytes) ++ (take 4 (drop 24 bytes) ++ (take 8 (drop 28 bytes) ++ take n (drop 36 bytes))))))))
+  header_parts : (n : ℕ) → take (fields_end + n) bytes ≡ take 4 bytes ++ (take 4 (drop 4 bytes) ++ (take 4 (drop 8 bytes) ++ (take 4 (drop 12 bytes) ++ (take 4 (drop 16 bytes) ++ (take 4 (drop 20 bytes) ++ (take 4 (drop 24 bytes) ++ (take 8 (drop 28 bytes) ++ take n (drop fields_end bytes))))))))
   header_parts n =
-      let all : 36 + n ≡ 4 + (4 + (4 + (4 + (4 + (4 + (4 + (8 + n))))))) = omega arith in
+      let all : fields_end + n ≡ 4 + (4 + (4 + (4 + (4 + (4 + (4 + (8 + n))))))) = omega arith in
       ap (λ k. take k bytes) all
       ∙ cut 4 (4 + (4 + (4 + (4 + (4 + (4 + (8 + n))))))) 0 bytes ∙ ap (λ x. take 4 bytes ++ x) (cut 4 (4 + (4 + (4 + (4 + (4 + (8 + n)))))) 4 bytes ∙ ap (λ x. take 4 (drop 4 bytes) ++ x) (cut 4 (4 + (4 + (4 + (4 + (8 + n))))) 8 bytes ∙ ap (λ x. take 4 (drop 8 bytes) ++ x)
       (cut 4 (4 + (4 + (4 + (8 + n)))) 12 bytes ∙ ap (λ x. take 4 (drop 12 bytes) ++ x) (cut 4 (4 + (4 + (8 + n))) 16 bytes ∙ ap (λ x. take 4 (drop 16 bytes) ++ x) (cut 4 (4 + (8 + n)) 20 bytes ∙ ap (λ x. take 4 (drop 20 bytes) ++ x)
@@ -105,9 +105,9 @@ module _ (bytes : List ℕ) (fit : AreBytes bytes) (long : page_bytes (version_o
   unfolding header_of
   header_spelled m z =
       let v : Version = version_of bytes in
-      let size : page_bytes v ≡ 36 + padding v = page_cut v in
+      let size : page_bytes v ≡ fields_end + padding v = page_cut v in
       let low = least_page v in
-      let e : take (padding v) (drop 36 bytes) ≡ replicate (padding v) 0 = zeros_are (take (padding v) (drop 36 bytes)) z ∙ ap (λ n. replicate n 0) (length-part bytes 36 (padding v) (omega arith)) in
+      let e : take (padding v) (drop fields_end bytes) ≡ replicate (padding v) 0 = zeros_are (take (padding v) (drop fields_end bytes)) z ∙ ap (λ n. replicate n 0) (length-part bytes fields_end (padding v) (omega arith)) in
       page_first bytes ∙ ap (λ n. take n bytes) size ∙ header_parts (padding v)
       ∙ rw (magic_of bytes m, e, field4 bytes 4 fit (omega arith), field4 bytes 8 fit (omega arith), field4 bytes 12 fit (omega arith), field4 bytes 16 fit (omega arith), field4 bytes 20 fit (omega arith), field4 bytes 24 fit (omega arith), field8 bytes 28 fit (omega arith))
       (sym (append_assoc (magic v) (number_text (header_of bytes)) (replicate (padding v) 0)))
@@ -128,16 +128,16 @@ header_zeros bytes e =
     let v : Version = version_of bytes in
     let low = least_page v in
     let front : List ℕ = magic v ++ number_text (header_of bytes) in
-    let size : length front ≡ 36 = length-append (magic v) (number_text (header_of bytes)) ∙ ap (λ n. n + 32) (length-magic v) in
-    let a : take (padding v) (drop 36 bytes) ≡ drop 36 (take (page_bytes v) bytes) = sym (drop-take 36 (padding v) bytes) ∙ ap (λ n. drop 36 (take n bytes)) (sym (page_cut v)) in
-    let b : drop 36 (take (page_bytes v) bytes) ≡ replicate (padding v) 0 = ap (drop 36) (sym (page_first bytes) ∙ e) ∙ ap (λ n. drop n (front ++ replicate (padding v) 0)) (sym size) ∙ drop-append_seam front (replicate (padding v) 0) in
+    let size : length front ≡ fields_end = length-append (magic v) (number_text (header_of bytes)) ∙ ap (λ n. n + 32) (length-magic v) in
+    let a : take (padding v) (drop fields_end bytes) ≡ drop fields_end (take (page_bytes v) bytes) = sym (drop-take fields_end (padding v) bytes) ∙ ap (λ n. drop fields_end (take n bytes)) (sym (page_cut v)) in
+    let b : drop fields_end (take (page_bytes v) bytes) ≡ replicate (padding v) 0 = ap (drop fields_end) (sym (page_first bytes) ∙ e) ∙ ap (λ n. drop n (front ++ replicate (padding v) 0)) (sym size) ∙ drop-append_seam front (replicate (padding v) 0) in
     rw (a ∙ b) (zeros_all (padding v))
 
 -- the bytes behind the fields of a page are those to its end
-pub zeros_behind : (v : Version) (bytes : List ℕ) → v ≡ version_of bytes → length bytes ≡ page_bytes v → ends_in_zeros bytes ≡ all_zero (take (length bytes - 36) (drop 36 bytes))
+pub zeros_behind : (v : Version) (bytes : List ℕ) → v ≡ version_of bytes → length bytes ≡ page_bytes v → ends_in_zeros bytes ≡ all_zero (take (length bytes - fields_end) (drop fields_end bytes))
 zeros_behind v bytes told size =
-    let same : padding (version_of bytes) ≡ length bytes - 36 = ap padding (sym told) ∙ ap (λ n. n - 36) (sym size) in
-    ap (λ n. all_zero (take n (drop 36 bytes))) same
+    let same : padding (version_of bytes) ≡ length bytes - fields_end = ap padding (sym told) ∙ ap (λ n. n - fields_end) (sym size) in
+    ap (λ n. all_zero (take n (drop fields_end bytes))) same
 
 -- a header passes its own tests
 pub header_tests : (bytes : List ℕ) → page bytes 0 ≡ header_text (header_of bytes) → (no_magic bytes ≡ false) × (ends_in_zeros bytes ≡ true)

@@ -7,7 +7,7 @@ use Rattle.lh_image.specs.declared.version.Version.{Version}
 use Rattle.byteorder.specs.Numbers.{little_number-reads_back}
 use Rattle.byteorder.specs.Endian.{little_from, little_bytes}
 use Rattle.lh_image.specs.declared.reading.first_page.Header.{Header}
-use Rattle.lh_image.specs.Layout.{header_of, header_text, number_text, padding}
+use Rattle.lh_image.specs.Layout.{initial_offset, capacity_offset, load_offset, buckets_offset, max_offset, pages_offset, records_offset, header_of, header_text, number_text, padding}
 use Rattle.lh_image.specs.Version.{magic, page_bytes, version_of}
 use Rattle.lh_image.proofs.bytes.Header.{from_drop}
 use Rattle.lh_image.proofs.bytes.Versions.{length-magic, most_page, page_cut, version_from_magic}
@@ -46,13 +46,13 @@ header_of_text h rest fits =
     let ys : List ℕ = number_text h ++ (replicate (padding h.version) 0 ++ rest) in
     let first : drop 4 xs ≡ ys = ap (drop 4) (text_parts h rest) ∙ ap (λ n. drop n (magic h.version ++ ys)) (sym (length-magic h.version)) ∙ drop-append_seam (magic h.version) ys in
     let p0 : version_of xs ≡ h.version = version_of_text h rest in
-    let p4 : little_from 4 4 xs ≡ h.config.initial = read_at 0 4 h.config.initial xs ys (drop 4 ys) first refl fits.initial in
-    let p8 : little_from 8 4 xs ≡ h.config.capacity = read_at 4 4 h.config.capacity xs ys (drop 8 ys) first refl fits.capacity in
-    let p12 : little_from 12 4 xs ≡ h.config.load = read_at 8 4 h.config.load xs ys (drop 12 ys) first refl fits.load in
-    let p16 : little_from 16 4 xs ≡ h.buckets = read_at 12 4 h.buckets xs ys (drop 16 ys) first refl fits.buckets in
-    let p20 : little_from 20 4 xs ≡ h.config.max = read_at 16 4 h.config.max xs ys (drop 20 ys) first refl fits.max in
-    let p24 : little_from 24 4 xs ≡ h.pages = read_at 20 4 h.pages xs ys (drop 24 ys) first refl fits.pages in
-    let p28 : little_from 28 8 xs ≡ h.records = read_at 24 8 h.records xs ys (drop 32 ys) first refl fits.records in
+    let p4 : little_from initial_offset 4 xs ≡ h.config.initial = read_at 0 4 h.config.initial xs ys (drop 4 ys) first refl fits.initial in
+    let p8 : little_from capacity_offset 4 xs ≡ h.config.capacity = read_at 4 4 h.config.capacity xs ys (drop 8 ys) first refl fits.capacity in
+    let p12 : little_from load_offset 4 xs ≡ h.config.load = read_at 8 4 h.config.load xs ys (drop 12 ys) first refl fits.load in
+    let p16 : little_from buckets_offset 4 xs ≡ h.buckets = read_at 12 4 h.buckets xs ys (drop 16 ys) first refl fits.buckets in
+    let p20 : little_from max_offset 4 xs ≡ h.config.max = read_at 16 4 h.config.max xs ys (drop 20 ys) first refl fits.max in
+    let p24 : little_from pages_offset 4 xs ≡ h.pages = read_at 20 4 h.pages xs ys (drop 24 ys) first refl fits.pages in
+    let p28 : little_from records_offset 8 xs ≡ h.records = read_at 24 8 h.records xs ys (drop 32 ys) first refl fits.records in
     λ i. record { version = p0 i; config = record { initial = p4 i; capacity = p8 i; load = p12 i; max = p20 i }; buckets = p16 i; pages = p24 i; records = p28 i }
 
 -- a page of zeros over which the first four bytes and the numbers were written

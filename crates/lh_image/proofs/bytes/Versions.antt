@@ -5,7 +5,7 @@ use Rattle.std.proofs.lemmas.Slice.Eq.{bytes_eq-Decides}
 use Rattle.lh_image.specs.declared.version.Version.{Version}
 use Rattle.lh_image.specs.declared.version.Version.TheVariants.{One, Two}
 use Rattle.lh_image.specs.Faults.{no_magic}
-use Rattle.lh_image.specs.Layout.{padding}
+use Rattle.lh_image.specs.Layout.{fields_end, padding}
 use Rattle.lh_image.specs.Version.{begins, magic, page_bytes, slots, version_of}
 
 -- a page of version 1 is the shorter one
@@ -25,7 +25,7 @@ most_page One = omega arith
 most_page Two = omega arith
 
 -- a page is the bytes of the header's fields and those behind them
-pub page_cut : (v : Version) → page_bytes v ≡ 36 + padding v
+pub page_cut : (v : Version) → page_bytes v ≡ fields_end + padding v
 unfolding page_bytes
 page_cut One = refl
 page_cut Two = refl

@@ -18,7 +18,7 @@ use Rattle.lh_image.specs.Faults.{bad_field, bad_counts, no_magic, is_short, whe
 use Rattle.lh_image.specs.Filling.{FillsWhole, IsCut, IsFilled}
 use Rattle.lh_image.specs.declared.version.Version.{Version}
 use Rattle.lh_image.specs.Header.{HasBegun, ReadsFront, ReadsHeader}
-use Rattle.lh_image.specs.Layout.{ends_in_zeros, header_of, padding, view_of}
+use Rattle.lh_image.specs.Layout.{initial_offset, capacity_offset, load_offset, buckets_offset, max_offset, pages_offset, records_offset, fields_end, ends_in_zeros, header_of, padding, view_of}
 use Rattle.lh_image.specs.Reading.{IsDueFault, Leaves, reading_of}
 use Rattle.lh_image.specs.Version.{page_bytes, version_of}
 use Rattle.lh_image.proofs.bytes.Header.{bytes_joined, cut}
@@ -40,14 +40,14 @@ header-front bytes =
     λ i. record {
       version = version-front w bytes (omega arith) i;
       config = record {
-        initial = little_from-take 4 4 w bytes (omega arith) i;
-        capacity = little_from-take 8 4 w bytes (omega arith) i;
-        load = little_from-take 12 4 w bytes (omega arith) i;
-        max = little_from-take 20 4 w bytes (omega arith) i;
+        initial = little_from-take initial_offset 4 w bytes (omega arith) i;
+        capacity = little_from-take capacity_offset 4 w bytes (omega arith) i;
+        load = little_from-take load_offset 4 w bytes (omega arith) i;
+        max = little_from-take max_offset 4 w bytes (omega arith) i;
       };
-      buckets = little_from-take 16 4 w bytes (omega arith) i;
-      pages = little_from-take 24 4 w bytes (omega arith) i;
-      records = little_from-take 28 8 w bytes (omega arith) i;
+      buckets = little_from-take buckets_offset 4 w bytes (omega arith) i;
+      pages = little_from-take pages_offset 4 w bytes (omega arith) i;
+      records = little_from-take records_offset 8 w bytes (omega arith) i;
     }
 
 zeros-front : (bytes : List ℕ) → ends_in_zeros (front bytes) ≡ ends_in_zeros bytes
@@ -55,8 +55,8 @@ zeros-front bytes =
     let v : Version = version_of bytes in
     let low : 1024 ≤ page_bytes v = least_page v in
     let same : version_of (front bytes) ≡ v = version-front (page_bytes v) bytes (omega arith) in
-    let behind : drop 36 (front bytes) ≡ take (padding v) (drop 36 bytes) = ap (λ n. drop 36 (take n bytes)) (page_cut v) ∙ drop-take 36 (padding v) bytes in
-    ap (λ w. all_zero (take (padding w) (drop 36 (front bytes)))) same ∙ ap all_zero (ap (take (padding v)) behind ∙ take-take (padding v) (padding v) (drop 36 bytes) (omega arith))
+    let behind : drop fields_end (front bytes) ≡ take (padding v) (drop fields_end bytes) = ap (λ n. drop fields_end (take n bytes)) (page_cut v) ∙ drop-take fields_end (padding v) bytes in
+    ap (λ w. all_zero (take (padding w) (drop fields_end (front bytes)))) same ∙ ap all_zero (ap (take (padding v)) behind ∙ take-take (padding v) (padding v) (drop fields_end bytes) (omega arith))
 
 -- what the header's fields are due
 abbrev pub due : List ℕ → Option ImageFault

@@ -6,11 +6,12 @@ ghost use Rattle.lh_addr.specs.Limits.{most_buckets, most_capacity};
 ghost use Rattle.lh_page.specs.PageFields.{all_zero};
 ghost use Rattle.lh_image.specs.Faults.{bad_field, bad_counts, field_rows, first_fault_of, out_of};
 ghost use Rattle.lh_image.specs.Header.{AreInRange, IsFirstBadSetting, ReadsFront, ReadsHeader, header_with};
-ghost use Rattle.lh_image.specs.Layout.{ends_in_zeros, field_bytes, header_of};
+ghost use Rattle.lh_image.specs.Layout.{ends_in_zeros, fields_end, header_of};
 ghost use Rattle.lh_image.specs.Version.{page_bytes, slots, version_of};
 ghost use Rattle.lh_image.specs.declared.version.Version.{Version};
 
 use crate::fault::ImageFault;
+use crate::layout;
 use crate::limits::MAX_PAGES;
 use crate::reading::filling::{read_into, read_whole};
 use crate::version::Version;
@@ -45,17 +46,17 @@ pub(crate) struct Header {
 
 /// The numbers that stand in a page's bytes.
 fn fields_of(page: &[u8]) -> Fields
-    requires { field_bytes ≤ length page.now }
+    requires { fields_end ≤ length page.now }
     ensures { header_with (version_of page.now) result ≡ header_of page.now }
 {
     Fields {
-        initial: LittleEndian::read_u32(&page[4..8]),
-        capacity: LittleEndian::read_u32(&page[8..12]),
-        load: LittleEndian::read_u32(&page[12..16]),
-        buckets: LittleEndian::read_u32(&page[16..20]),
-        max: LittleEndian::read_u32(&page[20..24]),
-        pages: LittleEndian::read_u32(&page[24..28]),
-        records: LittleEndian::read_u64(&page[28..36]),
+        initial: LittleEndian::read_u32(&page[layout::INITIAL..layout::CAPACITY]),
+        capacity: LittleEndian::read_u32(&page[layout::CAPACITY..layout::LOAD]),
+        load: LittleEndian::read_u32(&page[layout::LOAD..layout::BUCKETS]),
+        buckets: LittleEndian::read_u32(&page[layout::BUCKETS..layout::MAX]),
+        max: LittleEndian::read_u32(&page[layout::MAX..layout::PAGES]),
+        pages: LittleEndian::read_u32(&page[layout::PAGES..layout::RECORDS]),
+        records: LittleEndian::read_u64(&page[layout::RECORDS..layout::FIELDS_END]),
     }
 }
 
@@ -91,16 +92,20 @@ fn config_of(version: Version, fields: &Fields) -> Result<Config, u32>
     ensures fault { result_err result ≡ bad_field (header_with version fields.now) true }
 {
     match ranged(version, fields) {
-        Err(Range::Initial) => Err(4),
-        Err(Range::Capacity) => Err(8),
-        Err(Range::Load) => Err(12),
-        Err(Range::Max) => Err(if has_bad_buckets(fields) { 16 } else { 20 }),
+        Err(Range::Initial) => Err(layout::INITIAL as u32),
+        Err(Range::Capacity) => Err(layout::CAPACITY as u32),
+        Err(Range::Load) => Err(layout::LOAD as u32),
+        Err(Range::Max) => Err(if has_bad_buckets(fields) {
+            layout::BUCKETS as u32
+        } else {
+            layout::MAX as u32
+        }),
         Ok(config) => {
             if has_bad_buckets(fields) {
-                return Err(16);
+                return Err(layout::BUCKETS as u32);
             }
             if fields.buckets > fields.max {
-                return Err(20);
+                return Err(layout::MAX as u32);
             }
             Ok(config)
         }
@@ -141,8 +146,8 @@ fn header_of(version: Version, page: &[u8]) -> Result<Header, ImageFault>
         Ok(config) => config,
         Err(offset) => return Err(ImageFault::HeaderField(offset)),
     };
-    if !are_zeros(&page[36..]) {
-        return Err(ImageFault::HeaderField(36));
+    if !are_zeros(&page[layout::FIELDS_END..]) {
+        return Err(ImageFault::HeaderField(layout::FIELDS_END as u32));
     }
     if has_bad_counts(&fields) {
         return Err(ImageFault::Counts);

@@ -10,6 +10,7 @@ ghost use Rattle.lh_image.specs.Layout.{header_text, most_pages, number_text};
 ghost use Rattle.lh_image.specs.Version.{format_of, page_bytes};
 ghost use Rattle.lh_image.specs.declared.version.Version.{Version};
 
+use crate::layout::{FIELDS, FIELDS_END, MAGIC, RECORDS};
 use crate::version::Version;
 use byteorder::{ByteOrder, LittleEndian};
 use lh_addr::Root;
@@ -25,6 +26,7 @@ pub(crate) fn page_count_in(listing: &Listing, bucket: u32) -> usize
     ensures some { 1 ≤ result }
     ensures kept { IsListing listing.now }
 {
+    // Its law: a chain of packed pages has as many as `pages_needed` says.
     pages_are_pieces();
     pages_needed(listing.len_of(bucket), listing.config().capacity())
 }
@@ -43,7 +45,7 @@ pub(crate) fn page_total(listing: &Listing) -> u64
     pages
 }
 
-/// The numbers of the header, as they stand behind its first four bytes.
+/// The numbers of the header, as they stand behind the bytes of the version.
 fn number_bytes(
     initial: u32,
     capacity: u32,
@@ -52,7 +54,7 @@ fn number_bytes(
     max: u32,
     pages: u32,
     records: u64,
-) -> [u8; 32]
+) -> [u8; FIELDS]
     ensures { (version : Version) → result ≡ number_text (record {
       version = version;
       config = record { initial = initial; capacity = capacity; load = load; max = max };
@@ -61,10 +63,10 @@ fn number_bytes(
       records = records;
     }) }
 {
-    let mut bytes = [0; 32];
+    let mut bytes = [0; FIELDS];
     let numbers = [initial, capacity, load, buckets, max, pages];
-    LittleEndian::write_u32_into(&numbers, &mut bytes[..24]);
-    LittleEndian::write_u64(&mut bytes[24..], records);
+    LittleEndian::write_u32_into(&numbers, &mut bytes[..RECORDS - MAGIC]);
+    LittleEndian::write_u64(&mut bytes[RECORDS - MAGIC..], records);
     bytes
 }
 
@@ -74,6 +76,7 @@ pub(crate) fn header_bytes(listing: &Listing, version: Version, pages: u32) -> [
     requires pages { pages ≡ page_total listing.now }
     ensures { take (page_bytes version) result ≡ header_text (header_for version listing.now pages) }
 {
+    // Its law: no page has more records than it may hold, so in so few pages there are fewer than 2^64.
     pages_are_pieces();
     let config = listing.config();
     let numbers = number_bytes(
@@ -86,8 +89,8 @@ pub(crate) fn header_bytes(listing: &Listing, version: Version, pages: u32) -> [
         listing.len(),
     );
     let mut bytes = [0; PAGE_2];
-    bytes[..4].copy_from_slice(version.magic());
-    bytes[4..36].copy_from_slice(&numbers);
+    bytes[..MAGIC].copy_from_slice(version.magic());
+    bytes[MAGIC..FIELDS_END].copy_from_slice(&numbers);
     bytes
 }
 
@@ -153,6 +156,7 @@ pub(crate) fn page_in(listing: &Listing, root: &Root, bucket: u32, k: u32, follo
     ensures writable { (version : Version) → FitsVersion version listing.now →
         IsWritable (format_of version) result }
 {
+    // Its law: page `k` of a chain holds the records from place `k` times the capacity on.
     pages_are_pieces();
     let kind = kind_of(k);
     let level = root.level_of(bucket);

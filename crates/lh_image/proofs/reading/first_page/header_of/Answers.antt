@@ -1,6 +1,6 @@
 use Rattle.std.proofs.Common.{◌≡◌, true, false, sym, ap, ◌∙◌, arith}
 use Rattle.lh_image.specs.Header.{header_with}
-use Rattle.lh_image.specs.Layout.{ends_in_zeros, header_of}
+use Rattle.lh_image.specs.Layout.{fields_end, ends_in_zeros, header_of}
 use Rattle.lh_image.proofs.bytes.Header.{zeros_behind}
 use Rattle.lh_image.proofs.bytes.Versions.{least_page}
 use Rattle.lh_image.proofs.bytes.HeaderTests.{due_field, due_range, due_zeros, due_counts, few_pages}
@@ -15,7 +15,7 @@ returns-in-Err-clause-fault c =
 pub returns-then-not-are_zeros-clause-fault : goal.returns-then-not-are_zeros-clause-fault
 returns-then-not-are_zeros-clause-fault c =
     let shown : header_with c.args.version c.fields_of-fields.result ≡ header_of c.args.page.now = ap (λ v. header_with v c.fields_of-fields.result) c.requires.version ∙ c.fields_of-fields.ensures in
-    due_field (header_of c.args.page.now) (ends_in_zeros c.args.page.now) 36
+    due_field (header_of c.args.page.now) (ends_in_zeros c.args.page.now) fields_end
     (due_zeros (header_of c.args.page.now) (ends_in_zeros c.args.page.now) (rw shown at c.in-Ok.ensures.fault)
     (zeros_behind c.args.version c.args.page.now c.requires.version c.requires.size ∙ sym c.if-not-are_zeros.ensures))
 
