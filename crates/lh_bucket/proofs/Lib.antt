@@ -1,4 +1,5 @@
 pub mod Chained
+pub mod Copies
 pub mod Filling
 pub mod Kept
 pub mod Listings

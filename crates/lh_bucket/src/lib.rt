@@ -16,6 +16,7 @@
 mod answer;
 mod bucket;
 mod call;
+mod copied;
 pub mod laws;
 mod leaving;
 mod listing;
@@ -27,6 +28,7 @@ mod verdict;
 pub use answer::Answer;
 pub use bucket::Bucket;
 pub use call::{Call, Reply};
+pub use copied::copied_pairs;
 pub use lh_page::Memory;
 pub use listing::{Listing, ListingFault};
 pub use paged_bucket::PagedBucket;

@@ -6,22 +6,9 @@ ghost use Rattle.lh_core.specs.World.{bucket_at};
 
 use crate::laws::linear_hashing;
 use crate::world::World;
-use lh_bucket::{Bucket, Listing, ListingFault, Memory};
+use lh_bucket::{Bucket, Listing, ListingFault, Memory, copied_pairs};
 use lh_page::Pair;
 use std::alloc::Global;
-
-/// The records of a bucket, in the order of their places.
-fn pairs_of<B: Bucket>(alloc: Global, bucket: &B) -> Result<Vec<Pair>, Memory>
-    ensures pairs { IfOk result (λ pairs. pairs.items ≡ (B.seen bucket.now).pairs) }
-    ensures kept { IsKept (B.seen bucket.now) }
-{
-    let count = bucket.len();
-    let mut pairs = Vec::with_capacity(alloc, count)?;
-    for place in 0..count {
-        pairs.push(bucket.pair_at(place))?;
-    }
-    Ok(pairs)
-}
 
 /// The records of each bucket of a row.
 fn lists_of<B: Bucket>(alloc: Global, buckets: &[B]) -> Result<Vec<Vec<Pair>>, Memory>
@@ -30,7 +17,7 @@ fn lists_of<B: Bucket>(alloc: Global, buckets: &[B]) -> Result<Vec<Vec<Pair>>, M
 {
     let mut lists = Vec::with_capacity(alloc, buckets.len())?;
     for bucket in buckets {
-        let pairs = pairs_of(alloc, bucket)?;
+        let pairs = copied_pairs(alloc, bucket)?;
         lists.push(pairs)?;
     }
     Ok(lists)
@@ -44,8 +31,8 @@ impl<B: Bucket> World<B> {
         ensures { IfOk result (λ listing. listing
             ≡ record { config = self.now.config; lists = map (λ b. b.pairs) self.now.buckets }) }
     {
+        // Its law: a code has one address.
         linear_hashing();
-        self.is_kept();
         let alloc = *self.buckets.allocator();
         let lists = lists_of(alloc, &self.buckets)?;
         match Listing::new(

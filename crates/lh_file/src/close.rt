@@ -1,6 +1,5 @@
 //! How a file is closed.
 ghost use Rattle.std.specs.Prelude.{◌≡◌, ℕ, ◌+◌, ◌-◌, ◌%◌, ◌^◌, ◌<◌, ◌≤◌, true, [], length, map, IfOk, OnOk};
-ghost use Rattle.lh_bucket.specs.Bucket.{IsKept};
 ghost use Rattle.lh_file.specs.Closing.{NoneIsLost, AreGathered, NoneLent};
 ghost use Rattle.lh_file.specs.FileState.{IsOf};
 ghost use Rattle.lh_file.specs.HashFile.{IsClosing};
@@ -20,23 +19,10 @@ use crate::words::seat_view::SeatView;
 use atomic_table::Seat;
 use lh_addr::RootWord;
 use lh_addr::laws::address_is_only_bucket;
-use lh_bucket::{Bucket, Memory, PagedBucket};
+use lh_bucket::{Memory, copied_pairs};
 use lh_page::Pair;
 use std::alloc::Global;
 use std::sync::Wait;
-
-/// The records of a bucket, in the order of their places.
-fn pairs_of(alloc: Global, bucket: &PagedBucket) -> Result<Vec<Pair>, Memory>
-    ensures pairs { IfOk result (λ pairs. pairs.items ≡ bucket.now.pairs) }
-    ensures kept { IsKept bucket.now }
-{
-    let count = bucket.len();
-    let mut pairs = Vec::with_capacity(alloc, count)?;
-    for place in 0..count {
-        pairs.push(bucket.pair_at(place))?;
-    }
-    Ok(pairs)
-}
 
 /// What is copied from a file that is closed, bucket after bucket.
 #[derive(Drop)]
@@ -68,7 +54,7 @@ impl Copies {
         ensures after { OnOk result (AreGathered seat.new.me.0.parts
             (map (λ v. v.items) self.new.lists.items) self.new.whole self.new.clean) }
     {
-        let pairs = pairs_of(alloc, slot.bucket())?;
+        let pairs = copied_pairs(alloc, slot.bucket())?;
         if self.whole as usize == self.lists.len() && words.gather(seat, slot, self.whole) {
             self.whole += 1;
         } else if !pairs.is_empty() {
