@@ -3,7 +3,6 @@ ghost use Rattle.std.specs.Prelude.{◌≡◌, ◌≤◌, ◌||◌, true, take, 
 ghost use Rattle.std.specs.Result.{result_err};
 ghost use Rattle.lh_addr.specs.Settings.{IsInRange};
 ghost use Rattle.lh_addr.specs.Limits.{most_buckets, most_capacity};
-ghost use Rattle.lh_page.specs.PageFields.{all_zero};
 ghost use Rattle.lh_image.specs.Faults.{bad_field, bad_counts, field_rows, first_fault_of, out_of};
 ghost use Rattle.lh_image.specs.Header.{AreInRange, IsFirstBadSetting, ReadsFront, ReadsHeader, header_with};
 ghost use Rattle.lh_image.specs.Layout.{ends_in_zeros, fields_end, header_of};
@@ -19,6 +18,7 @@ use byteorder::{ByteOrder, LittleEndian};
 use lh_addr::limits::MAX_BUCKETS;
 use lh_addr::{Config, Range};
 use lh_page::format::{PAGE_1, PAGE_2};
+use lh_page::is_zero;
 use std::io::Read;
 
 /// The numbers of a header, as they stand there.
@@ -126,13 +126,6 @@ fn has_bad_counts(fields: &Fields) -> bool
     fields.records > fields.capacity as u64 * (pages as u64 - 1)
 }
 
-/// Whether bytes are zero.
-fn are_zeros(bytes: &[u8]) -> bool
-    ensures { result ≡ all_zero bytes.now }
-{
-    bytes.iter().all(|byte| *byte == 0)
-}
-
 /// The header that a page is, or the fault of its fields.
 fn header_of(version: Version, page: &[u8]) -> Result<Header, ImageFault>
     requires version { version ≡ version_of page.now }
@@ -146,7 +139,7 @@ fn header_of(version: Version, page: &[u8]) -> Result<Header, ImageFault>
         Ok(config) => config,
         Err(offset) => return Err(ImageFault::HeaderField(offset)),
     };
-    if !are_zeros(&page[layout::FIELDS_END..]) {
+    if !is_zero(&page[layout::FIELDS_END..]) {
         return Err(ImageFault::HeaderField(layout::FIELDS_END as u32));
     }
     if has_bad_counts(&fields) {

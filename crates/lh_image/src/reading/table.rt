@@ -1,12 +1,12 @@
 //! What is kept of the pages that came: where each leads, and its records.
 ghost use Rattle.std.specs.Prelude.{◌≡◌, ◌++◌, ◌∷◌, ◌≤◌, [], length, IfOk, IfErr, OnOk};
-ghost use Rattle.lh_page.specs.PageFields.{fault_of};
+ghost use Rattle.lh_page.specs.PageFields.{fault_of, head_of};
 ghost use Rattle.lh_image.specs.Table.{AreWithin, IsPushed, is_of_slot, no_entry, page_records};
 ghost use Rattle.lh_image.specs.Version.{format_of, page_bytes, slots};
 
 use crate::fault::ImageFault;
 use crate::reading::first_page::Header;
-use lh_page::{PageFault, PageHead, Pair, Pairs, pairs_from_bytes};
+use lh_page::{PageFault, PageHead, Pair, Pairs, pairs_behind_head};
 use std::alloc::Global;
 
 /// Where a page leads, and where its records stand among those of all pages.
@@ -67,6 +67,7 @@ impl Table {
         head: &PageHead,
         bytes: &[u8],
     ) -> Result<bool, ImageFault>
+        requires head { head.now ≡ head_of bytes.now }
         requires size { length bytes.now ≡ page_bytes header.now.version }
         requires room { header.now.config.capacity ≤ slots header.now.version }
         ensures pushed { OnOk result (IsPushed self.old.entries.items self.old.pairs.items self.new.entries.items
@@ -79,7 +80,7 @@ impl Table {
         let start = self.pairs.len();
         let format = header.version.format();
         let capacity = header.config.capacity();
-        let has_bad_slot = match pairs_from_bytes(bytes, format, capacity, &mut self.page) {
+        let has_bad_slot = match pairs_behind_head(head, bytes, format, capacity, &mut self.page) {
             Ok(()) => {
                 append(&mut self.pairs, &self.page)?;
                 false

@@ -12,12 +12,12 @@ returns-in-Err-clause-fault c =
     due_field (header_of c.args.page.now) (ends_in_zeros c.args.page.now) c.in-Err.offset
     (due_range (header_of c.args.page.now) (ends_in_zeros c.args.page.now) c.in-Err.offset (rw shown at c.in-Err.ensures.fault))
 
-pub returns-then-not-are_zeros-clause-fault : goal.returns-then-not-are_zeros-clause-fault
-returns-then-not-are_zeros-clause-fault c =
+pub returns-then-not-is_zero-clause-fault : goal.returns-then-not-is_zero-clause-fault
+returns-then-not-is_zero-clause-fault c =
     let shown : header_with c.args.version c.fields_of-fields.result ≡ header_of c.args.page.now = ap (λ v. header_with v c.fields_of-fields.result) c.requires.version ∙ c.fields_of-fields.ensures in
     due_field (header_of c.args.page.now) (ends_in_zeros c.args.page.now) fields_end
     (due_zeros (header_of c.args.page.now) (ends_in_zeros c.args.page.now) (rw shown at c.in-Ok.ensures.fault)
-    (zeros_behind c.args.version c.args.page.now c.requires.version c.requires.size ∙ sym c.if-not-are_zeros.ensures))
+    (zeros_behind c.args.version c.args.page.now c.requires.version c.requires.size ∙ sym c.if-not-is_zero.ensures))
 
 pub has_bad_counts-requires-clause-buckets : goal.has_bad_counts-requires-clause-buckets
 has_bad_counts-requires-clause-buckets c = omega (arith, c.in-Ok.ensures.buckets.1, c.in-Ok.ensures.in_range.max.1)
@@ -26,13 +26,13 @@ pub returns-then-has_bad_counts-clause-fault : goal.returns-then-has_bad_counts-
 returns-then-has_bad_counts-clause-fault c =
     let shown : header_with c.args.version c.fields_of-fields.result ≡ header_of c.args.page.now = ap (λ v. header_with v c.fields_of-fields.result) c.requires.version ∙ c.fields_of-fields.ensures in
     due_counts (header_of c.args.page.now) (ends_in_zeros c.args.page.now) true (rw shown at c.in-Ok.ensures.fault)
-    (zeros_behind c.args.version c.args.page.now c.requires.version c.requires.size ∙ sym c.if-not-are_zeros.ensures) (rw shown at (c.if-has_bad_counts.ensures c.args.version))
+    (zeros_behind c.args.version c.args.page.now c.requires.version c.requires.size ∙ sym c.if-not-is_zero.ensures) (rw shown at (c.if-has_bad_counts.ensures c.args.version))
 
 pub returns-clause-fault : goal.returns-clause-fault
 returns-clause-fault c =
     let shown : header_with c.args.version c.fields_of-fields.result ≡ header_of c.args.page.now = ap (λ v. header_with v c.fields_of-fields.result) c.requires.version ∙ c.fields_of-fields.ensures in
     due_counts (header_of c.args.page.now) (ends_in_zeros c.args.page.now) false (rw shown at c.in-Ok.ensures.fault)
-    (zeros_behind c.args.version c.args.page.now c.requires.version c.requires.size ∙ sym c.if-not-are_zeros.ensures) (rw shown at (c.if-has_bad_counts.ensures c.args.version))
+    (zeros_behind c.args.version c.args.page.now c.requires.version c.requires.size ∙ sym c.if-not-is_zero.ensures) (rw shown at (c.if-has_bad_counts.ensures c.args.version))
 
 pub returns-clause-in_range : goal.returns-clause-in_range
 returns-clause-in_range c =
@@ -49,8 +49,8 @@ returns-clause-in_range c =
 pub fields_of-fields-requires : goal.fields_of-fields-requires
 fields_of-fields-requires c = omega (arith, c.requires.size, least_page c.args.version)
 
-pub slice_bounds-are_zeros-count : goal.slice_bounds-are_zeros-count
-slice_bounds-are_zeros-count c = omega (arith, c.requires.size, least_page c.args.version)
+pub slice_bounds-is_zero-count : goal.slice_bounds-is_zero-count
+slice_bounds-is_zero-count c = omega (arith, c.requires.size, least_page c.args.version)
 
-pub slice_bounds-are_zeros-start : goal.slice_bounds-are_zeros-start
-slice_bounds-are_zeros-start c = omega (arith, c.requires.size, least_page c.args.version)
+pub slice_bounds-is_zero-start : goal.slice_bounds-is_zero-start
+slice_bounds-is_zero-start c = omega (arith, c.requires.size, least_page c.args.version)

@@ -3,6 +3,6 @@ use Rattle.lh_page.specs.Format.{page_size}
 use Rattle.lh_image.specs.Version.{page_bytes}
 use Rattle.lh_image.proofs.reading.table.Table.push.Goals as goal
 
-pub pairs_from_bytes-requires-clause-size : goal.pairs_from_bytes-requires-clause-size
+pub pairs_behind_head-requires-clause-size : goal.pairs_behind_head-requires-clause-size
 unfolding page_bytes
-pairs_from_bytes-requires-clause-size c = c.requires.size ∙ ap page_size (sym c.format-format.ensures)
+pairs_behind_head-requires-clause-size c = c.requires.size ∙ ap page_size (sym c.format-format.ensures)
