@@ -9,7 +9,7 @@ use Rattle.lh_options.proofs.Asking.{asked_named, build, commands, drive, refuse
 use Rattle.lh_options.specs.declared.options.Request.{Request}
 use Rattle.lh_options.specs.declared.options.Request.TheVariants as request
 use Rattle.lhash.specs.Driving.{EndsDriving}
-use Rattle.lhash.specs.Images.{EndsBuilding, check_due, draw_due, dump_due, migrate_due, version_asked}
+use Rattle.lhash.specs.Images.{EndsBuilding, check_due, draw_due, dump_due, migrate_due, wanted_version}
 use Rattle.lhash.specs.Run.{EndsReplay, EndsSteps}
 use Rattle.lhash.specs.Serving.{Ending, EndsCommands, EndsTold, IsHelped, IsRun, IsTurnedAway, IsWordsOf, RefusesBelow, Serves, ServesBuild, ServesFile, ServesImage, TurnsAway, below_initial}
 use Rattle.lhash.specs.declared.status.DeviceFault.TheVariants.{Read, Write}
@@ -74,7 +74,7 @@ serves_replay words status left rest before now settings asks given within run =
 pub serves_build : ServesBuild
 unfolding EndsBuilding
 serves_build words status left rest before now settings n asks given image within run =
-    served words status left rest before now (codes "build") (request.Build settings (version_numbered n)) (EndsBuilding (version_asked (version_numbered n)) settings)
+    served words status left rest before now (codes "build") (request.Build settings (version_numbered n)) (EndsBuilding (wanted_version (version_numbered n)) settings)
     (λ h. h) (λ input keeps. keeps) asks
     (build (codes "build") _ _ _ settings (version_numbered n) refl given (ap (option_map version_numbered) image) within) run
 

@@ -41,9 +41,9 @@ pub record IsLedTo (settings : Settings) (calls : List Call) (l : Lists) : Type 
   pub listing : IsListing l
 
 -- the version of an image that is asked for
-abbrev pub version_asked : ImageVersion → Version
-version_asked First = One
-version_asked Second = Two
+abbrev pub wanted_version : ImageVersion → Version
+wanted_version First = One
+wanted_version Second = Two
 
 -- What `build` may write for calls: the canonical image, in a version, of a listing of the file that they lead to, where it has one.
 pub record IsBuilt (version : Version) (settings : Settings) (calls : List Call) (output : List ℕ) : Type 0 where

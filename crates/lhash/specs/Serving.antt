@@ -4,7 +4,7 @@ use Rattle.std.specs.String.{string_bytes}
 use Rattle.std.specs.Io.KnownBytes.{Appends, Keeps}
 use Rattle.lhash.specs.Devices.{TakesBeginning}
 use Rattle.lhash.specs.Driving.{EndsDriving}
-use Rattle.lhash.specs.Images.{EndsBuilding, check_due, draw_due, dump_due, migrate_due, version_asked}
+use Rattle.lhash.specs.Images.{EndsBuilding, check_due, draw_due, dump_due, migrate_due, wanted_version}
 use Rattle.lh_addr.specs.Settings.{Settings}
 use Rattle.lh_options.specs.Options.{Accepts, Answers, Asks, AsksForHelp, IsRefused, Text, number_given, settings_given, version_numbered}
 use Rattle.lhash.specs.Run.{Ends, EndsReplay, EndsSteps, commands_due}
@@ -36,7 +36,7 @@ abbrev pub Serves : Request → Status → Option (List ℕ) → Option (List �
 Serves (Commands config) status left rest before now = IfSome left (λ input. Ends status (commands_due config input) before now)
 Serves (Steps config) status left rest before now = IfSome left (λ input. EndsSteps config input status before now)
 Serves (Replay config) status left rest before now = IfSome left (λ input. EndsReplay config input status before now)
-Serves (Build config image) status left rest before now = IfSome left (λ input. EndsBuilding (version_asked image) config input status before now)
+Serves (Build config image) status left rest before now = IfSome left (λ input. EndsBuilding (wanted_version image) config input status before now)
 Serves Check status left rest before now = IfSome left (λ input. Ends status (check_due input) before now)
 Serves Dump status left rest before now = IfSome left (λ input. Ends status (dump_due input) before now)
 Serves Draw status left rest before now = IfSome left (λ input. Ends status (draw_due input) before now)
@@ -87,7 +87,7 @@ ServesBuild =
     (words : List Text) (status : Status) (left rest before now : Option (List ℕ)) (settings : Settings) (n : ℕ) →
     Asks words (codes "build") → settings_given words ≡ Some settings → number_given words (codes "image") ≡ Some n →
     settings.initial ≤ settings.max → IsRun words status left rest before now →
-    IfSome left (λ input. EndsBuilding (version_asked (version_numbered n)) settings input status before now)
+    IfSome left (λ input. EndsBuilding (wanted_version (version_numbered n)) settings input status before now)
 
 -- a run for words that ask for this subcommand, which reads an image, ends so
 abbrev pub ServesImage : Text → Ending → Type 0

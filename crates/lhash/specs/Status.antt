@@ -12,13 +12,13 @@ use Rattle.lhash.specs.declared.status.Status.TheVariants.{Done, Input, Words, D
 use Rattle.lhash.specs.Unsettled.{unsettled_text}
 
 -- the exit status
-abbrev pub code_of : Status → ℕ
-code_of Done = 0
-code_of (Input fault) = 1
-code_of (Words text) = 2
-code_of (Device fault) = 3
-code_of Memory = 4
-code_of (NotSettled fault) = 5
+abbrev pub status_code : Status → ℕ
+status_code Done = 0
+status_code (Input fault) = 1
+status_code (Words text) = 2
+status_code (Device fault) = 3
+status_code Memory = 4
+status_code (NotSettled fault) = 5
 
 abbrev pub input_fault_text : InputFault → List ℕ
 input_fault_text (Script fault) = script_fault_text fault

@@ -3,7 +3,7 @@
 ghost use Rattle.std.specs.Prelude.{◌≡◌, IfOk, IfSome};
 ghost use Rattle.lh_image.specs.Reading.{IsDueAnswer};
 ghost use Rattle.lh_image.specs.Writing.{IsWritten};
-ghost use Rattle.lhash.specs.Images.{EndsBuilding, IsLedTo, check_due, dump_due, migrate_due, refused_as, unwritten_as, version_asked};
+ghost use Rattle.lhash.specs.Images.{EndsBuilding, IsLedTo, check_due, dump_due, migrate_due, refused_as, unwritten_as, wanted_version};
 ghost use Rattle.lhash.specs.Run.{Ends};
 
 use crate::answer::read_script;
@@ -37,7 +37,7 @@ fn write_in<W: Write>(
     listing: &Listing,
     writer: &mut W,
 ) -> Result<(), WriteImageFault>
-    ensures { IsWritten (version_asked version) listing.now result (W.contents writer.old) (W.contents writer.new) }
+    ensures { IsWritten (wanted_version version) listing.now result (W.contents writer.old) (W.contents writer.new) }
 {
     match version {
         ImageVersion::First => write_image_v1(listing, writer),
@@ -68,7 +68,7 @@ pub fn answer_build<R: Read, W: Write>(
     writer: &mut W,
 ) -> Status
     ensures { IfSome (R.remaining reader.old) (λ input.
-        EndsBuilding (version_asked version) config input result (W.contents writer.old) (W.contents writer.new)) }
+        EndsBuilding (wanted_version version) config input result (W.contents writer.old) (W.contents writer.new)) }
 {
     let calls: Vec<Call> = match read_script(alloc, reader) {
         Ok(calls) => calls,

@@ -1,6 +1,6 @@
 //! How a run of the program ended.
 ghost use Rattle.std.specs.Prelude.{◌≡◌, Some};
-ghost use Rattle.lhash.specs.Status.{code_of, status_text};
+ghost use Rattle.lhash.specs.Status.{status_code, status_text};
 
 use crate::unsettled::Unsettled;
 use lh_image::{ImageFault, WriteImageFault};
@@ -48,7 +48,7 @@ impl Status {
     /// The exit status: 0 done, 1 a fault in the input, 2 the words, 3 a device, 4 out of memory,
     /// 5 not settled.
     pub fn code(&self) -> u8
-        ensures { result ≡ code_of self.now }
+        ensures { result ≡ status_code self.now }
     {
         match self {
             Status::Done => 0,
