@@ -21,9 +21,11 @@ pub record Sends (before now : Option (List ℕ)) (waiting text : List ℕ) : Ty
 -- where all went well, a text was sent behind what was sent before; of what is sent, a part may wait
 abbrev pub Adds : {A E : Type 0} → Result A E → Option (List ℕ) → Option (List ℕ) → List ℕ → List ℕ → List ℕ → Type 0
 Adds result was now waited waits text =
-    (before : Option (List ℕ)) (sent : List ℕ) → Sends before was waited sent → OnOk result (Sends before now waits (sent ++ text))
+    (before : Option (List ℕ)) (sent : List ℕ) → Sends before was waited sent →
+    OnOk result (Sends before now waits (sent ++ text))
 
 -- where a write failed, the writer took a beginning of what was sent before and a text behind it
 abbrev pub Breaks : {A E : Type 0} → Result A E → Option (List ℕ) → Option (List ℕ) → List ℕ → List ℕ → Type 0
 Breaks result was now waited text =
-    (before : Option (List ℕ)) (sent : List ℕ) → Sends before was waited sent → OnErr result (TakesBeginning before now (sent ++ text))
+    (before : Option (List ℕ)) (sent : List ℕ) → Sends before was waited sent →
+    OnErr result (TakesBeginning before now (sent ++ text))

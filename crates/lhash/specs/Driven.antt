@@ -58,4 +58,8 @@ replies_text d =
 
 -- what `drive` writes: a line with a word alone, and the totals
 abbrev pub driven_text : Driven → List ℕ
-driven_text d = line (codes "settled") ++ number_line (codes "calls ") d.calls ++ replies_text d ++ number_line (codes "records ") d.records
+driven_text d =
+    line (codes "settled")
+    ++ number_line (codes "calls ") d.calls
+    ++ replies_text d
+    ++ number_line (codes "records ") d.records

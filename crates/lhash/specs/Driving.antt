@@ -29,7 +29,9 @@ use Rattle.lhash.specs.declared.unsettled.Unsettled.TheVariants as unsettled
 abbrev pub empty_file : Settings → Lists
 empty_file settings = record { config = settings; lists = replicate settings.initial [] }
 
--- The totals are those of a legal history: a closed file of the settings, and some acts, are settled with it, from an empty file on; the replies are counted, one for each call of the script, and the records of the closed file (from 2^64 on it would be 2^64 - 1).
+-- The totals are those of a legal history: a closed file of the settings, and some acts, are settled with it, from an
+-- empty file on; the replies are counted, one for each call of the script, and the records of the closed file (from
+-- 2^64 on it would be 2^64 - 1).
 pub record IsDriven (settings : Settings) (calls : List CallOf) (d : Driven) : Type 0 where
   pub closed : ClosedFile
   pub acts : List ActLine
@@ -46,17 +48,21 @@ IsDefect (file.Spent left) = ⊥
 IsDefect file.Memory = ⊥
 IsDefect (file.Defect wanted_bucket wanted_level found_bucket found_level) = Unit {0}
 
--- the threads' work failed: a call was not answered, since its bucket isn't what it has to be; a thread could not be started; or memory ran out
+-- the threads' work failed: a call was not answered, since its bucket isn't what it has to be; a thread could not be
+-- started; or memory ran out
 abbrev pub IsWorkersFault : DriveFault → Type 0
 IsWorkersFault (Settle fault) = ⊥
 IsWorkersFault (Call fault) = IsDefect fault
 IsWorkersFault Thread = Unit {0}
 IsWorkersFault Memory = Unit {0}
 
--- why there are no totals: a fault of settling, other than out of memory, that is due for a closed file of the settings and some acts, from an empty file on, where a bucket was not gathered or a split was under way; or the threads' work failed
+-- why there are no totals: a fault of settling, other than out of memory, that is due for a closed file of the settings
+-- and some acts, from an empty file on, where a bucket was not gathered or a split was under way; or the threads' work
+-- failed
 abbrev pub IsDriveFault : Settings → DriveFault → Type 0
 IsDriveFault settings (Settle fault) =
-    (closed : ClosedFile) × (acts : List ActLine) × (closed.config ≡ settings) × IsDue (empty_file settings) closed acts fault × (fault ≢ settle.Memory)
+    (closed : ClosedFile) × (acts : List ActLine) × (closed.config ≡ settings)
+    × IsDue (empty_file settings) closed acts fault × (fault ≢ settle.Memory)
     × (closed.gathered ≡ true → closed.root % 2 ≡ 0 → ⊥)
 IsDriveFault settings fault = IsWorkersFault fault
 
@@ -94,7 +100,8 @@ IsTotals settings calls output = (d : Driven) × IsDriven settings calls d × (o
 abbrev pub IsUnsettled : Settings → Unsettled → Type 0
 IsUnsettled settings reason = (fault : DriveFault) × IsDriveFault settings fault × (ended_by fault ≡ NotSettled reason)
 
--- how `drive` ends on an input: not settled, and the writer took nothing; otherwise with the totals of a legal history, or with the script's first fault
+-- how `drive` ends on an input: not settled, and the writer took nothing; otherwise with the totals of a legal history,
+-- or with the script's first fault
 unfoldable pub EndsDriving : Settings → List ℕ → Status → Option (List ℕ) → Option (List ℕ) → Type 0
 EndsDriving settings input (NotSettled reason) before now =
     (calls : List CallOf) × (script command input ≡ Ok calls) × IsUnsettled settings reason × Keeps before now

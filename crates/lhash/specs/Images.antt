@@ -33,11 +33,15 @@ use Rattle.lhash.specs.declared.status.InputFault.TheVariants.{Image, Unwritten}
 use Rattle.lhash.specs.declared.status.Status.{Status}
 use Rattle.lhash.specs.declared.status.Status.TheVariants.{Input, Device, Memory as NoMemory}
 
--- A listing of the file that calls lead to, as `commands` has it at its end: the settings, the number of buckets to which the split policy has the file grow, and each record of the calls' outcome in the list of the bucket of its address and nowhere else, once.
+-- A listing of the file that calls lead to, as `commands` has it at its end: the settings, the number of buckets to
+-- which the split policy has the file grow, and each record of the calls' outcome in the list of the bucket of its
+-- address and nowhere else, once.
 pub record IsLedTo (settings : Settings) (calls : List Call) (l : Lists) : Type 0 where
   pub config : l.config ≡ settings
   pub buckets : size l ≡ size_of settings calls
-  pub placed : (i : ℕ) → i < size l → map_of (list_at l.lists i) ≡ retain_keys (outcome empty calls) (λ key. address settings.initial (size l) (code_of key) == i)
+  pub placed : (i : ℕ) → i < size l →
+      map_of (list_at l.lists i)
+      ≡ retain_keys (outcome empty calls) (λ key. address settings.initial (size l) (code_of key) == i)
   pub listing : IsListing l
 
 -- the version of an image that is asked for
@@ -45,7 +49,8 @@ abbrev pub wanted_version : ImageVersion → Version
 wanted_version First = One
 wanted_version Second = Two
 
--- What `build` may write for calls: the canonical image, in a version, of a listing of the file that they lead to, where it has one.
+-- What `build` may write for calls: the canonical image, in a version, of a listing of the file that they lead to,
+-- where it has one.
 pub record IsBuilt (version : Version) (settings : Settings) (calls : List Call) (output : List ℕ) : Type 0 where
   pub listing : Lists
   pub led : IsLedTo settings calls listing
@@ -53,16 +58,19 @@ pub record IsBuilt (version : Version) (settings : Settings) (calls : List Call)
   pub bytes : output ≡ canonical version listing
 
 -- the file that calls lead to has no image in a version, for this reason
-pub record HasNoImage (version : Version) (settings : Settings) (calls : List Call) (fault : WriteImageFault) : Type 0 where
+pub record HasNoImage (version : Version) (settings : Settings) (calls : List Call) (fault : WriteImageFault) :
+    Type 0 where
   pub listing : Lists
   pub led : IsLedTo settings calls listing
   pub refused : IsWriteRefusal version listing fault
 
--- how `build` ends on an input: with the reason, and the writer took nothing, where the file that the script leads to has no image; otherwise with the image of that file, or with the script's first fault
+-- how `build` ends on an input: with the reason, and the writer took nothing, where the file that the script leads to
+-- has no image; otherwise with the image of that file, or with the script's first fault
 unfoldable pub EndsBuilding : Version → Settings → List ℕ → Status → Option (List ℕ) → Option (List ℕ) → Type 0
 EndsBuilding version settings input (Input (Unwritten fault)) before now =
     (calls : List Call) × (script command input ≡ Ok calls) × HasNoImage version settings calls fault × Keeps before now
-EndsBuilding version settings input status before now = EndsTelling (IsBuilt version settings) status (script command input) before now
+EndsBuilding version settings input status before now =
+    EndsTelling (IsBuilt version settings) status (script command input) before now
 
 -- what is to be written of an image, or the first fault of bytes that are none
 abbrev pub told_of : (Lists → List ℕ) → Result Lists ImageFault → Result (List ℕ) InputFault

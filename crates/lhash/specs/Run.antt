@@ -26,7 +26,8 @@ use Rattle.lhash.specs.declared.status.InputFault.TheVariants.{Script}
 use Rattle.lhash.specs.declared.status.Status.{Status}
 use Rattle.lhash.specs.declared.status.Status.TheVariants.{Done, Input, Words, Device, Memory, NotSettled}
 
--- the statements of a script were read, or how the run ends: with the script's first fault, or where the device or memory failed
+-- the statements of a script were read, or how the run ends: with the script's first fault, or where the device or
+-- memory failed
 abbrev pub ReadsScript : {A : Type 0} → Result (Vec A Global) Status → Result (List A) ScriptFault → Type 0
 ReadsScript (Ok statements) given = given ≡ Ok statements.items
 ReadsScript (Err (Input (Script fault))) given = given ≡ Err fault
@@ -39,9 +40,11 @@ abbrev pub due : {A : Type 0} → (List A → List ℕ) → Result (List A) Scri
 due output (Ok statements) = Ok (output statements)
 due output (Err fault) = Err (Script fault)
 
--- what `commands` is to write for an input: the replies of one plain map to the script's calls, then the number of buckets to which the split policy has the file grow
+-- what `commands` is to write for an input: the replies of one plain map to the script's calls, then the number of
+-- buckets to which the split policy has the file grow
 unfoldable pub commands_due : Settings → List ℕ → Result (List ℕ) InputFault
-commands_due settings input = due (λ calls. commands_text (replies empty calls) (size_of settings calls)) (script command input)
+commands_due settings input =
+    due (λ calls. commands_text (replies empty calls) (size_of settings calls)) (script command input)
 
 -- a status, and what the writer took, where this is due:
 -- done, and it took just the output; a fault, the one that is due, and it took nothing;
@@ -76,15 +79,19 @@ pub record IsPictured (settings : Settings) (events : List Event) (output : List
   pub memory : list_any is_want entries ≡ false
   pub picture : output ≡ picture_of events entries
 
--- a status, and what the writer took, where a script gives this, and its statements may have any output that this relation allows them:
+-- a status, and what the writer took, where a script gives this, and its statements may have any output that this
+-- relation allows them:
 -- done, and it took just such an output; a fault, the script's first, and it took nothing;
 -- a failed write, and it took a beginning of such an output; a failed read or out of memory, and it took nothing
-abbrev pub EndsTelling : {A : Type 0} → (List A → List ℕ → Type 0) → Status → Result (List A) ScriptFault → Option (List ℕ) → Option (List ℕ) → Type 0
+abbrev pub EndsTelling : {A : Type 0} → (List A → List ℕ → Type 0) → Status → Result (List A) ScriptFault →
+    Option (List ℕ) → Option (List ℕ) → Type 0
 EndsTelling {A} IsOutput Done given before now =
-    (statements : List A) × (output : List ℕ) × (given ≡ Ok statements) × IsOutput statements output × Appends before now output
+    (statements : List A) × (output : List ℕ) × (given ≡ Ok statements) × IsOutput statements output
+    × Appends before now output
 EndsTelling IsOutput (Input (Script fault)) given before now = (given ≡ Err fault) × Keeps before now
 EndsTelling {A} IsOutput (Device Write) given before now =
-    (statements : List A) × (output : List ℕ) × (given ≡ Ok statements) × IsOutput statements output × TakesBeginning before now output
+    (statements : List A) × (output : List ℕ) × (given ≡ Ok statements) × IsOutput statements output
+    × TakesBeginning before now output
 EndsTelling IsOutput (Device Read) given before now = Keeps before now
 EndsTelling IsOutput Memory given before now = Keeps before now
 EndsTelling IsOutput _ given before now = ⊥

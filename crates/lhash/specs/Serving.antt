@@ -33,15 +33,18 @@ below_initial = codes "max is less than initial"
 
 -- what a request led to, with what the reader had left and has, and what the writer held and holds
 abbrev pub Serves : Request → Status → Option (List ℕ) → Option (List ℕ) → Option (List ℕ) → Option (List ℕ) → Type 0
-Serves (Commands config) status left rest before now = IfSome left (λ input. Ends status (commands_due config input) before now)
+Serves (Commands config) status left rest before now =
+    IfSome left (λ input. Ends status (commands_due config input) before now)
 Serves (Steps config) status left rest before now = IfSome left (λ input. EndsSteps config input status before now)
 Serves (Replay config) status left rest before now = IfSome left (λ input. EndsReplay config input status before now)
-Serves (Build config image) status left rest before now = IfSome left (λ input. EndsBuilding (wanted_version image) config input status before now)
+Serves (Build config image) status left rest before now =
+    IfSome left (λ input. EndsBuilding (wanted_version image) config input status before now)
 Serves Check status left rest before now = IfSome left (λ input. Ends status (check_due input) before now)
 Serves Dump status left rest before now = IfSome left (λ input. Ends status (dump_due input) before now)
 Serves Draw status left rest before now = IfSome left (λ input. Ends status (draw_due input) before now)
 Serves Migrate status left rest before now = IfSome left (λ input. Ends status (migrate_due input) before now)
-Serves (Drive config threads) status left rest before now = IfSome left (λ input. EndsDriving config input status before now)
+Serves (Drive config threads) status left rest before now =
+    IfSome left (λ input. EndsDriving config input status before now)
 Serves (Help text) status left rest before now = IsHelped (string_bytes text) status before now × Keeps left rest
 Serves (Refused text) status left rest before now = (status ≡ Words text) × Keeps left rest × Keeps before now
 Serves MaxBelowInitial status left rest before now = IsWordsOf below_initial status × Keeps left rest × Keeps before now
@@ -54,7 +57,8 @@ IsTurnedAway words Done before now = AsksForHelp words
 IsTurnedAway words (Device Write) before now = AsksForHelp words
 IsTurnedAway words _ before now = ⊥
 
--- What a run did with words: what they ask for, or memory ran out before that was known, with nothing read and nothing written.
+-- What a run did with words: what they ask for, or memory ran out before that was known, with nothing read and nothing
+-- written.
 abbrev pub IsRun : List Text → Status → Option (List ℕ) → Option (List ℕ) → Option (List ℕ) → Option (List ℕ) → Type 0
 IsRun words status left rest before now =
     ((request : Request) × Answers words request × Serves request status left rest before now)

@@ -11,5 +11,6 @@ unsettled_text SplitUnderWay = codes "split under way"
 unsettled_text (MissingStamp stamp) = codes "missing stamp " ++ decimal stamp
 unsettled_text (Reply stamp) = codes "reply at " ++ decimal stamp
 unsettled_text (Content key) = codes "content of " ++ hexadecimal_text key
-unsettled_text (Placed bucket key) = codes "place of " ++ (hexadecimal_text key ++ (codes " in bucket " ++ decimal bucket))
+unsettled_text (Placed bucket key) =
+    codes "place of " ++ (hexadecimal_text key ++ (codes " in bucket " ++ decimal bucket))
 unsettled_text Call = codes "call fault"

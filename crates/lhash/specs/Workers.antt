@@ -17,7 +17,8 @@ pub record IsPartOf (file : FileState) (calls : ℕ) (hand : HandState) : Type 0
   pub right : hand.view.has_right ≡ false
   pub share : share_of hand ≡ calls
 
--- what a thread that was to make these calls comes back with: its hand of them, which has made all of them unless there is a fault, and a fault that is none for want of calls
+-- what a thread that was to make these calls comes back with: its hand of them, which has made all of them unless there
+-- is a fault, and a fault that is none for want of calls
 pub record IsWorked (file : FileState) (calls : ℕ) (worked : Worked) : Type 0 where
   pub part : IsPartOf file calls worked.hand
   pub done : worked.fault ≡ None → worked.hand.view.left ≡ 0

@@ -92,9 +92,11 @@ fn write_groups<W: Write>(
     listing: &Listing,
 ) -> Result<(), WriteFailed>
     ensures ok { Adds result (W.contents writer.old) (W.contents writer.new)
-        (string_bytes waiting.old) (string_bytes waiting.new) (in_turn (λ column. bar_text (group_bar listing.now column)) (column_count (size listing.now))) }
+        (string_bytes waiting.old) (string_bytes waiting.new)
+        (in_turn (λ column. bar_text (group_bar listing.now column)) (column_count (size listing.now))) }
     ensures err { Breaks result (W.contents writer.old) (W.contents writer.new)
-        (string_bytes waiting.old) (in_turn (λ column. bar_text (group_bar listing.now column)) (column_count (size listing.now))) }
+        (string_bytes waiting.old)
+        (in_turn (λ column. bar_text (group_bar listing.now column)) (column_count (size listing.now))) }
 {
     for column in 0..column_count(listing.buckets()) {
         put(writer, waiting, group_bar(listing, column))?;

@@ -69,8 +69,8 @@ impl From<SettleFault> for DriveFault {
     }
 }
 
-/// Counts what was done with a file that was empty when it was opened. That it is settled is known; settling says so again,
-/// on its own.
+/// Counts what was done with a file that was empty when it was opened. That it is settled is known; settling says so
+/// again, on its own.
 fn settled(
     alloc: Global,
     empty: &Listing,
@@ -115,9 +115,9 @@ fn driven_in<G: Gate + Sync, J: Room + Send + Sync, R: Threads + Wait + Sync>(
 /// The totals are those of the history that is settled, which has as many calls as the script. Which one it is depends
 /// on how the threads' calls fall together; where all calls on each key go to one thread, the replies don't.
 ///
-/// The file is a traced one, so closing it says that its history is settled; `settle` finds the same out again, by itself.
-/// It answers a fault only where a bucket of the file was not met when it was closed or a split was under way, or where
-/// memory ran out.
+/// The file is a traced one, so closing it says that its history is settled; `settle` finds the same out again, by
+/// itself. It answers a fault only where a bucket of the file was not met when it was closed or a split was under way,
+/// or where memory ran out.
 ///
 /// If a thread can't be started, or a call isn't answered, all threads that run are waited for, and
 /// the fault is answered.

@@ -1,11 +1,11 @@
 //! Scripts of commands and of steps on a linear hash file, and images of files: all of the program
 //! `lhash` but its process.
 //!
-//! `lhash commands` reads a command script, answers its calls and writes their replies. `lhash
-//! steps` reads a step script, takes its steps and writes the effect of each; `lhash replay` draws them. `lhash build`
-//! reads a command script and writes the resulting file as an image; `lhash check` reads an image and writes its counts,
-//! `lhash dump` its records, `lhash draw` a drawing. `lhash drive` makes the calls of a command script in threads that
-//! share one file, and writes totals. `run` does it from words and bytes to bytes and a status.
+//! `lhash commands` reads a command script, answers its calls and writes their replies. `lhash steps` reads a step
+//! script, takes its steps and writes the effect of each; `lhash replay` draws them. `lhash build` reads a command
+//! script and writes the resulting file as an image; `lhash check` reads an image and writes its counts, `lhash dump`
+//! its records, `lhash draw` a drawing. `lhash drive` makes the calls of a command script in threads that share one
+//! file, and writes totals. `run` does it from words and bytes to bytes and a status.
 #![tactic(auto)]
 
 mod answer;

@@ -22,8 +22,8 @@ use std::io::Write;
 const CHUNK: usize = 65_536;
 
 /// No line is longer: key and value take two digits a byte, and all else takes less than 256 bytes; a step of a picture
-/// has none of them, and takes less than 550. What stands above a picture's steps is longer, and comes first, when nothing
-/// waits.
+/// has none of them, and takes less than 550. What stands above a picture's steps is longer, and comes first, when
+/// nothing waits.
 const LONGEST_LINE: usize = 256 + 2 * (LONGEST_KEY + LONGEST_VALUE);
 
 /// Room for the lines that wait, so that none of them needs memory later.

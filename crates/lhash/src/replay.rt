@@ -47,9 +47,11 @@ fn write_steps<W: Write>(
 ) -> Result<(), WriteFailed>
     requires { length entries.now ≡ length events.now }
     ensures ok { Adds result (W.contents writer.old) (W.contents writer.new)
-        (string_bytes waiting.old) (string_bytes waiting.new) (in_turn (λ row. step_text (step_of events.now entries.now row)) (length events.now)) }
+        (string_bytes waiting.old) (string_bytes waiting.new)
+        (in_turn (λ row. step_text (step_of events.now entries.now row)) (length events.now)) }
     ensures err { Breaks result (W.contents writer.old) (W.contents writer.new)
-        (string_bytes waiting.old) (in_turn (λ row. step_text (step_of events.now entries.now row)) (length events.now)) }
+        (string_bytes waiting.old)
+        (in_turn (λ row. step_text (step_of events.now entries.now row)) (length events.now)) }
 {
     for row in 0..events.len() {
         put(writer, waiting, step_of(events, entries, row))?;

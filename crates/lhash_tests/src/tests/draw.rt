@@ -94,8 +94,8 @@ fn a_long_chain_is_drawn_in_part(rt: HostRuntime) -> Result<(), Fail> {
     draws(&rt, "--max=1", 26, parts.as_slice())
 }
 
-/// Three buckets to a column, which is two wide: the column of bucket 1023 is blue, and the last one orange. That no chain is
-/// longer than two pages, and how many there are, comes of the codes of the keys.
+/// Three buckets to a column, which is two wide: the column of bucket 1023 is blue, and the last one orange. That no
+/// chain is longer than two pages, and how many there are, comes of the codes of the keys.
 #[test]
 fn many_buckets_are_drawn_in_groups(rt: HostRuntime) -> Result<(), Fail> {
     let parts = [

@@ -90,8 +90,8 @@ lock 0
 act 0
 ";
 
-/// No split gets the bucket before place 0 lets go of it. Then the file grows to two buckets, and place 1, whose aim is older,
-/// finds its way to the second one, where place 0 has deleted its key.
+/// No split gets the bucket before place 0 lets go of it. Then the file grows to two buckets, and place 1, whose aim is
+/// older, finds its way to the second one, where place 0 has deleted its key.
 const SPLIT: &str = "split-begin
 split-begin
 split-lock
@@ -118,8 +118,8 @@ release 1
 lock 0
 ";
 
-/// The steps of [`FOUND`] and of [`SPLIT`], 9 and 24; in between each place but the first tries six times to lock that bucket,
-/// in 8 steps.
+/// The steps of [`FOUND`] and of [`SPLIT`], 9 and 24; in between each place but the first tries six times to lock that
+/// bucket, in 8 steps.
 fn many_steps(alloc: Global) -> Result<String, AllocError> {
     let mut script = String::from_str(alloc, FOUND)?;
     for place in 1..16_u32 {
@@ -134,8 +134,8 @@ fn many_steps(alloc: Global) -> Result<String, AllocError> {
     Ok(script)
 }
 
-/// How often what is written of such steps has these parts: a row for each step, the lanes of all places, each word of an event,
-/// each refusal, a box over 126 rows and an arrow over 6.
+/// How often what is written of such steps has these parts: a row for each step, the lanes of all places, each word of
+/// an event, each refusal, a box over 126 rows and an arrow over 6.
 const MANY_PARTS: [(&str, usize); 28] = [
     (" width='4944' height='3756' ", 1),
     (", steps 153</title>", 1),
