@@ -101,6 +101,7 @@ pub fn answer_migrate<R: Read, W: Write>(alloc: Global, reader: &mut R, writer: 
     ensures { IfSome (R.remaining reader.old) (λ input.
         Ends result (migrate_due input) (W.contents writer.old) (W.contents writer.new)) }
 {
+    // The image that was read has a page for each of the file's, so those aren't too many for another one.
     census_counts_pages();
     let listing = match read_image(alloc, reader) {
         Ok(listing) => listing,

@@ -50,6 +50,7 @@ fn make<G: Gate, J: Room, R: Wait>(
     ensures right { hand.new.view.has_right ≡ hand.old.view.has_right }
     ensures err { IfErr result IsNotSpent }
 {
+    // A served call leaves the hand the file's own, with its share.
     hands_keep_their_shares();
     match *call {
         Call::Search(key) => file.search(rt, hand, key),
@@ -124,6 +125,7 @@ fn divide<G: Gate, J: Room>(
     ensures share { OnOk result (share_of hand.new + calls ≡ share_of hand.old) }
     ensures too_few { OnErr result (hand.old.view.left < calls) }
 {
+    // Both parts of a hand are the file's own, and have its share between them.
     hands_keep_their_shares();
     file.split_hand(hand, calls)
 }
@@ -142,6 +144,7 @@ fn unite<G: Gate, J: Room>(
     ensures acts { IfOk result (λ all. length all.acts ≡ length first.acts + length second.acts) }
     ensures err { IfErr result IsWorkersFault }
 {
+    // A hand made of two is the file's own, and has both shares.
     hands_keep_their_shares();
     match file.join_hands(first, second) {
         Ok(joined) => Ok(joined),
