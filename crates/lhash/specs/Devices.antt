@@ -1,6 +1,8 @@
 -- What reads and writes do to the bytes that a reader has left and a writer holds
-use Rattle.std.specs.Prelude.{◌≡◌, ◌⊎◌, ℕ, ◌<◌, length, List, ◌++◌, Option, Result, OnOk, OnErr}
+use Rattle.std.specs.Prelude.{◌≡◌, ◌⊎◌, ℕ, ◌<◌, ◌≤◌, ◌+◌, length, List, ◌++◌, Option, Result, OnOk, OnErr, String}
 use Rattle.std.specs.Io.KnownBytes.{Appends, Consumes}
+use Rattle.std.specs.String.{string_capacity}
+use Rattle.lhash.specs.declared.output.TheConstants.{CHUNK, LONGEST_LINE}
 -- the writer took a beginning of a text
 pub use Rattle.lh_image.specs.Writing.{TakesBeginning}
 
@@ -11,6 +13,10 @@ ReadsOnto before now old new = (more : List ℕ) × Consumes before now more × 
 -- the whole input was read, or so much of it that it is seen to have more than `most` bytes
 abbrev pub IsReadOf : ℕ → List ℕ → List ℕ → Type 0
 IsReadOf most input read = (read ≡ input) ⊎ ((most < length input) × (most < length read))
+
+-- what waits has room for as many bytes as are written at once, and a line more
+abbrev pub HasRoom : {Z : Type 0} → String Z → Type 0
+HasRoom waiting = CHUNK + LONGEST_LINE ≤ string_capacity waiting
 
 -- the writer took all of a text but its end, which waits
 pub record Sends (before now : Option (List ℕ)) (waiting text : List ℕ) : Type 0 where

@@ -1,9 +1,9 @@
 //! Lines on their way to a writer: they wait until there are enough of them for one write.
-ghost use Rattle.std.specs.Prelude.{◌≡◌, ◌<◌, ◌≤◌, ◌+◌, ◌++◌, ℕ, List, Option, OnOk, OnErr, IfOk, IfSome, flat_map, length, Some, []};
-ghost use Rattle.std.specs.String.{string_bytes, string_capacity};
+ghost use Rattle.std.specs.Prelude.{◌≡◌, ◌<◌, ◌++◌, ℕ, List, Option, OnOk, OnErr, IfOk, IfSome, flat_map, length, Some, []};
+ghost use Rattle.std.specs.String.{string_bytes};
 ghost use Rattle.std.specs.Io.KnownBytes.{Appends};
 ghost use Rattle.lh_bucket.specs.Listing.{list_at, size};
-ghost use Rattle.lhash.specs.Devices.{Adds, Breaks, Sends, TakesBeginning};
+ghost use Rattle.lhash.specs.Devices.{Adds, Breaks, HasRoom, Sends, TakesBeginning};
 ghost use Rattle.lhash.specs.ImageTexts.{bucket_text, dump_text};
 ghost use Rattle.lh_script.specs.StepTexts.{steps_text};
 ghost use Rattle.lh_script.specs.Texts.{commands_text, line, reply_text, size_text};
@@ -29,7 +29,7 @@ const LONGEST_LINE: usize = 256 + 2 * (LONGEST_KEY + LONGEST_VALUE);
 /// Room for the lines that wait, so that none of them needs memory later.
 pub fn room(alloc: Global) -> Result<String, AllocError>
     ensures empty { IfOk result (λ waiting. string_bytes waiting ≡ []) }
-    ensures reserved { IfOk result (λ waiting. CHUNK + LONGEST_LINE ≤ string_capacity waiting) }
+    ensures reserved { IfOk result HasRoom }
 {
     String::with_capacity(alloc, CHUNK + LONGEST_LINE)
 }
@@ -105,7 +105,8 @@ pub fn write_replies<W: Write>(
     replies: &[Reply],
     buckets: u32,
 ) -> Result<(), WriteFailed>
-    requires { string_bytes waiting.old ≡ [] }
+    requires empty { string_bytes waiting.old ≡ [] }
+    requires room { HasRoom waiting.old }
     ensures ok { OnOk result (Appends (W.contents writer.old) (W.contents writer.new)
         (commands_text replies.now buckets)) }
     ensures err { OnErr result (TakesBeginning (W.contents writer.old) (W.contents writer.new)
@@ -124,7 +125,8 @@ pub fn write_entries<W: Write>(
     waiting: &mut String,
     entries: &[Result<Effect, Refusal>],
 ) -> Result<(), WriteFailed>
-    requires { string_bytes waiting.old ≡ [] }
+    requires empty { string_bytes waiting.old ≡ [] }
+    requires room { HasRoom waiting.old }
     ensures ok { OnOk result (Appends (W.contents writer.old) (W.contents writer.new)
         (steps_text entries.now)) }
     ensures err { OnErr result (TakesBeginning (W.contents writer.old) (W.contents writer.new)
@@ -169,7 +171,8 @@ pub fn write_records<W: Write>(
     waiting: &mut String,
     listing: &Listing,
 ) -> Result<(), WriteFailed>
-    requires { string_bytes waiting.old ≡ [] }
+    requires empty { string_bytes waiting.old ≡ [] }
+    requires room { HasRoom waiting.old }
     ensures ok { OnOk result (Appends (W.contents writer.old) (W.contents writer.new)
         (dump_text listing.now)) }
     ensures err { OnErr result (TakesBeginning (W.contents writer.old) (W.contents writer.new)

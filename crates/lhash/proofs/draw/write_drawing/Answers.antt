@@ -12,20 +12,20 @@ unfolding drawing_of
 returns-in_err-write_head-clause-err g c =
     let start = g.W.Write.contents c.args.writer.now in
     on_err c.from_residual.result
-    (begins_longer start _ _ _ (begins_longer start _ _ _ (c.in_err-write_head.ensures.err start [] (sends_nothing start _ c.requires))))
+    (begins_longer start _ _ _ (begins_longer start _ _ _ (c.in_err-write_head.ensures.err start [] (sends_nothing start _ c.requires.empty))))
 
 pub returns-in_err-write_columns-clause-err : goal.returns-in_err-write_columns-clause-err
 unfolding drawing_of
 returns-in_err-write_columns-clause-err g c =
     let start = g.W.Write.contents c.args.writer.now in
-    let head = c.in_ok-write_head.ensures.ok start [] (sends_nothing start _ c.requires) in
+    let head = c.in_ok-write_head.ensures.ok start [] (sends_nothing start _ c.requires.empty) in
     on_err c.from_residual-in_err-write_columns.result (begins_longer start _ _ _ (c.in_err-write_columns.ensures.err start _ head))
 
 pub returns-in_err-write_foot-clause-err : goal.returns-in_err-write_foot-clause-err
 unfolding drawing_of
 returns-in_err-write_foot-clause-err g c =
     let start = g.W.Write.contents c.args.writer.now in
-    let head = c.in_ok-write_head.ensures.ok start [] (sends_nothing start _ c.requires) in
+    let head = c.in_ok-write_head.ensures.ok start [] (sends_nothing start _ c.requires.empty) in
     let columns = c.in_ok-write_columns.ensures.ok start _ head in
     on_err c.from_residual-in_err-write_foot.result (c.in_err-write_foot.ensures.err start _ columns)
 
@@ -35,7 +35,7 @@ returns g c =
     let start = g.W.Write.contents c.args.writer.now in
     let now = g.W.Write.contents c.write_foot.new.writer in
     let end = g.W.Write.contents c.write_all.new.writer in
-    let head = c.in_ok-write_head.ensures.ok start [] (sends_nothing start _ c.requires) in
+    let head = c.in_ok-write_head.ensures.ok start [] (sends_nothing start _ c.requires.empty) in
     let columns = c.in_ok-write_columns.ensures.ok start _ head in
     let sent : Sends start now (string_bytes c.write_foot.new.waiting) (drawing_of c.args.listing.now) = c.in_ok-write_foot.ensures.ok start _ columns in
     record {
