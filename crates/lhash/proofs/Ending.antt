@@ -1,8 +1,7 @@
 -- What was read gives what the input gives.
-use Rattle.std.proofs.Common.{◌≡◌, ◌∙◌, refl, sym, false, inl, inr, ℕ, List, Option, None, Some, IfSome, ap, ap₂, arith}
+use Rattle.std.proofs.Common.{◌≡◌, ◌∙◌, refl, sym, inl, inr, ℕ, List, Option, None, Some, IfSome, ap, ap₂, arith}
 use Rattle.std.proofs.KnownBytes.{Keeps-refl}
 use Rattle.std.specs.Io.KnownBytes.{Appends}
-use Rattle.std.specs.List.{list_any}
 use Rattle.std.specs.FinMap.{empty}
 use Rattle.std.proofs.lemmas.Bool.Decides.{nat_tests}
 use Rattle.std.specs.Prelude.{Result, Ok, Err}
@@ -10,13 +9,11 @@ use Rattle.lh_addr.specs.Settings.{Settings}
 use Rattle.lh_bucket.specs.PlainMap.{replies}
 use Rattle.lh_bucket.specs.declared.call.Call.{Call}
 use Rattle.lh_bucket.specs.declared.call.Reply.{Reply}
-use Rattle.lh_core.specs.Headline.{IsHeadline}
 use Rattle.lh_core.specs.Log.{Entry}
 use Rattle.lh_core.specs.Serial.{size_of}
-use Rattle.lh_core.specs.World.{WorldSeen}
 use Rattle.lh_core.specs.declared.event.Event.{Event}
 use Rattle.lhash.specs.Devices.{IsReadOf, TakesBeginning}
-use Rattle.lhash.specs.Run.{Ends, EndsReplay, EndsSteps, EndsTelling, IsPictured, IsTold, ReadsScript, commands_due, due, is_want}
+use Rattle.lhash.specs.Run.{Ends, EndsReplay, EndsSteps, EndsTelling, HaveEntries, IsPictured, IsTold, ReadsScript, commands_due, due}
 use Rattle.lh_replay.specs.Picture.{picture_of}
 use Rattle.lh_script.specs.Commands.{command}
 use Rattle.lh_script.specs.Texts.{commands_text}
@@ -89,40 +86,40 @@ unfolding EndsSteps
 no_memory settings input a = Keeps-refl a
 
 -- the lines of all entries were written
-pub steps_told : (settings : Settings) (left before now : Option (List ℕ)) (events : List Event) (entries : List Entry) (world : WorldSeen) →
-    IfSome left (λ input. script step input ≡ Ok events) → Appends before now (steps_text entries) →
-    IsHeadline settings events entries world → list_any is_want entries ≡ false → IfSome left (λ input. EndsSteps settings input Done before now)
+pub steps_told : (settings : Settings) (left before now : Option (List ℕ)) (events : List Event) (entries : List Entry) →
+    IfSome left (λ input. script step input ≡ Ok events) → HaveEntries settings events entries → Appends before now (steps_text entries) →
+    IfSome left (λ input. EndsSteps settings input Done before now)
 unfolding EndsSteps
-steps_told settings None before now events entries world given written headline memory = tt
-steps_told settings (Some input) before now events entries world given written headline memory =
-    (events, steps_text entries, given, record { entries = entries; world = world; headline = headline; memory = memory; lines = refl }, written)
+steps_told settings None before now events entries given had written = tt
+steps_told settings (Some input) before now events entries given had written =
+    (events, steps_text entries, given, record { entries = entries; had = had; lines = refl }, written)
 
 -- a beginning of the lines of all entries was written
-pub steps_begun : (settings : Settings) (left before now : Option (List ℕ)) (events : List Event) (entries : List Entry) (world : WorldSeen) →
-    IfSome left (λ input. script step input ≡ Ok events) → TakesBeginning before now (steps_text entries) →
-    IsHeadline settings events entries world → list_any is_want entries ≡ false → IfSome left (λ input. EndsSteps settings input (Device Write) before now)
+pub steps_begun : (settings : Settings) (left before now : Option (List ℕ)) (events : List Event) (entries : List Entry) →
+    IfSome left (λ input. script step input ≡ Ok events) → HaveEntries settings events entries → TakesBeginning before now (steps_text entries) →
+    IfSome left (λ input. EndsSteps settings input (Device Write) before now)
 unfolding EndsSteps
-steps_begun settings None before now events entries world given written headline memory = tt
-steps_begun settings (Some input) before now events entries world given written headline memory =
-    (events, steps_text entries, given, record { entries = entries; world = world; headline = headline; memory = memory; lines = refl }, written)
+steps_begun settings None before now events entries given had written = tt
+steps_begun settings (Some input) before now events entries given had written =
+    (events, steps_text entries, given, record { entries = entries; had = had; lines = refl }, written)
 
 -- the picture was written
-pub schedule_drawn : (settings : Settings) (left before now : Option (List ℕ)) (events : List Event) (entries : List Entry) (world : WorldSeen) →
-    IfSome left (λ input. script step input ≡ Ok events) → Appends before now (picture_of events entries) →
-    IsHeadline settings events entries world → list_any is_want entries ≡ false → IfSome left (λ input. EndsReplay settings input Done before now)
+pub schedule_drawn : (settings : Settings) (left before now : Option (List ℕ)) (events : List Event) (entries : List Entry) →
+    IfSome left (λ input. script step input ≡ Ok events) → HaveEntries settings events entries → Appends before now (picture_of events entries) →
+    IfSome left (λ input. EndsReplay settings input Done before now)
 unfolding EndsReplay
-schedule_drawn settings None before now events entries world given written headline memory = tt
-schedule_drawn settings (Some input) before now events entries world given written headline memory =
-    (events, picture_of events entries, given, record { entries = entries; world = world; headline = headline; memory = memory; picture = refl }, written)
+schedule_drawn settings None before now events entries given had written = tt
+schedule_drawn settings (Some input) before now events entries given had written =
+    (events, picture_of events entries, given, record { entries = entries; had = had; picture = refl }, written)
 
 -- a beginning of the picture was written
-pub schedule_begun : (settings : Settings) (left before now : Option (List ℕ)) (events : List Event) (entries : List Entry) (world : WorldSeen) →
-    IfSome left (λ input. script step input ≡ Ok events) → TakesBeginning before now (picture_of events entries) →
-    IsHeadline settings events entries world → list_any is_want entries ≡ false → IfSome left (λ input. EndsReplay settings input (Device Write) before now)
+pub schedule_begun : (settings : Settings) (left before now : Option (List ℕ)) (events : List Event) (entries : List Entry) →
+    IfSome left (λ input. script step input ≡ Ok events) → HaveEntries settings events entries → TakesBeginning before now (picture_of events entries) →
+    IfSome left (λ input. EndsReplay settings input (Device Write) before now)
 unfolding EndsReplay
-schedule_begun settings None before now events entries world given written headline memory = tt
-schedule_begun settings (Some input) before now events entries world given written headline memory =
-    (events, picture_of events entries, given, record { entries = entries; world = world; headline = headline; memory = memory; picture = refl }, written)
+schedule_begun settings None before now events entries given had written = tt
+schedule_begun settings (Some input) before now events entries given had written =
+    (events, picture_of events entries, given, record { entries = entries; had = had; picture = refl }, written)
 
 pub same_script : {A : Type 0} (read : Reading A) (input bytes : List ℕ) → IsReadOf 16777216 input bytes → script read bytes ≡ script read input
 same_script read input bytes (inl e) = ap (script read) e

@@ -63,20 +63,23 @@ abbrev pub is_want : Entry → Bool
 is_want (Err refusal.Memory) = true
 is_want _ = false
 
--- What `steps` may write for events: with some world, the headline holds of the settings, the events and some entries; none of these is out of memory, and the output is a line for each.
+-- Events have these entries: with some world, the headline holds of the settings, the events and the entries, and none
+-- of these is out of memory.
+pub record HaveEntries (settings : Settings) (events : List Event) (entries : List Entry) : Type 0 where
+  pub world : WorldSeen
+  pub headline : IsHeadline settings events entries world
+  pub memory : list_any is_want entries ≡ false
+
+-- What `steps` may write for events: a line for each of the entries that they have.
 pub record IsTold (settings : Settings) (events : List Event) (output : List ℕ) : Type 0 where
   pub entries : List Entry
-  pub world : WorldSeen
-  pub headline : IsHeadline settings events entries world
-  pub memory : list_any is_want entries ≡ false
+  pub had : HaveEntries settings events entries
   pub lines : output ≡ steps_text entries
 
--- What `replay` may write for events: with some world, the headline holds of the settings, the events and some entries; none of these is out of memory, and the output is the picture of events and entries.
+-- What `replay` may write for events: the picture of them and of the entries that they have.
 pub record IsPictured (settings : Settings) (events : List Event) (output : List ℕ) : Type 0 where
   pub entries : List Entry
-  pub world : WorldSeen
-  pub headline : IsHeadline settings events entries world
-  pub memory : list_any is_want entries ≡ false
+  pub had : HaveEntries settings events entries
   pub picture : output ≡ picture_of events entries
 
 -- a status, and what the writer took, where a script gives this, and its statements may have any output that this

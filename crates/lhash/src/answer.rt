@@ -1,9 +1,11 @@
 //! The subcommands `commands` and `steps`, from the bytes of a script to the bytes of the output.
-ghost use Rattle.std.specs.Prelude.{◌≡◌, IfSome};
+ghost use Rattle.std.specs.Prelude.{◌≡◌, IfErr, IfOk, IfSome};
 ghost use Rattle.std.specs.List.{list_any};
+ghost use Rattle.lh_core.specs.declared.event.Event.{Event as EventOf};
 ghost use Rattle.lh_script.specs.Commands.{command};
-ghost use Rattle.lhash.specs.Run.{Ends, EndsSteps, ReadsScript, commands_due, is_want};
 ghost use Rattle.lh_script.specs.Scripts.{script};
+ghost use Rattle.lh_script.specs.Steps.{step};
+ghost use Rattle.lhash.specs.Run.{Ends, EndsSteps, HaveEntries, ReadsScript, commands_due, is_want};
 
 use crate::device::{ReadError, WriteFailed, read_up_to};
 use crate::output::{room, write_entries, write_replies};
@@ -72,10 +74,42 @@ fn is_want_of_memory(entry: &Result<Effect, Refusal>) -> bool
 }
 
 /// Whether memory ran out at one of some events.
-pub fn wanted_memory(entries: &[Result<Effect, Refusal>]) -> bool
+fn wanted_memory(entries: &[Result<Effect, Refusal>]) -> bool
     ensures { result ≡ list_any is_want entries.now }
 {
     entries.iter().any(|entry| is_want_of_memory(entry))
+}
+
+/// The events of a step script, and what was told of each.
+#[derive(Drop)]
+pub struct Taken {
+    pub events: Vec<Event>,
+    pub entries: Vec<Result<Effect, Refusal>>,
+}
+
+/// Reads a step script whole, and takes its steps in turn from an empty file; or says how the run ends, with status 4
+/// where memory ran out at one of them.
+pub fn take_steps<R: Read>(alloc: Global, config: Config, reader: &mut R) -> Result<Taken, Status>
+    ensures read { IfOk result (λ taken. IfSome (R.remaining reader.old) (λ input.
+        script step input ≡ Ok taken.events.items)) }
+    ensures told { IfOk result (λ taken. HaveEntries config taken.events.items taken.entries.items) }
+    ensures err { IfErr result (λ status. IfSome (R.remaining reader.old) (λ input.
+        ReadsScript {A = EventOf} (Err status) (script step input))) }
+{
+    let events: Vec<Event> = match read_script(alloc, reader) {
+        Ok(events) => events,
+        Err(status) => return Err(status),
+    };
+    let Ok(ran) = run::<PagedBucket>(alloc, config, events.as_slice()) else {
+        return Err(Status::Memory);
+    };
+    if wanted_memory(ran.entries.as_slice()) {
+        return Err(Status::Memory);
+    }
+    Ok(Taken {
+        events,
+        entries: ran.entries,
+    })
 }
 
 /// Reads a step script whole, takes its steps in turn from an empty file, and writes a line for each.
@@ -90,20 +124,14 @@ pub fn answer_steps<R: Read, W: Write>(
     ensures { IfSome (R.remaining reader.old) (λ input.
         EndsSteps config input result (W.contents writer.old) (W.contents writer.new)) }
 {
-    let events: Vec<Event> = match read_script(alloc, reader) {
-        Ok(events) => events,
+    let taken = match take_steps(alloc, config, reader) {
+        Ok(taken) => taken,
         Err(status) => return status,
     };
-    let Ok(ran) = run::<PagedBucket>(alloc, config, events.as_slice()) else {
-        return Status::Memory;
-    };
-    if wanted_memory(ran.entries.as_slice()) {
-        return Status::Memory;
-    }
     let Ok(mut waiting) = room(alloc) else {
         return Status::Memory;
     };
-    match write_entries(writer, &mut waiting, ran.entries.as_slice()) {
+    match write_entries(writer, &mut waiting, taken.entries.as_slice()) {
         Ok(()) => Status::Done,
         Err(WriteFailed) => Status::Device(DeviceFault::Write),
     }

@@ -8,13 +8,12 @@ ghost use Rattle.lh_replay.specs.PictureTexts.{step_text};
 ghost use Rattle.lhash.specs.Devices.{Adds, Breaks, HasRoom, TakesBeginning};
 ghost use Rattle.lhash.specs.Run.{EndsReplay};
 
-use crate::answer::{read_script, wanted_memory};
+use crate::answer::take_steps;
 use crate::device::{WriteFailed, write_all};
 use crate::output::{put, room};
 use crate::status::{DeviceFault, Status};
 use lh_addr::Config;
-use lh_bucket::PagedBucket;
-use lh_core::{Effect, Event, Refusal, run};
+use lh_core::{Effect, Event, Refusal};
 use lh_replay::{End, canvas_of, caption_of, heading_of, lane_count, step_of};
 use std::alloc::Global;
 use std::io::{Read, Write};
@@ -92,24 +91,18 @@ pub fn answer_replay<R: Read, W: Write>(
     ensures { IfSome (R.remaining reader.old) (λ input.
         EndsReplay config input result (W.contents writer.old) (W.contents writer.new)) }
 {
-    let events: Vec<Event> = match read_script(alloc, reader) {
-        Ok(events) => events,
+    let taken = match take_steps(alloc, config, reader) {
+        Ok(taken) => taken,
         Err(status) => return status,
     };
-    let Ok(ran) = run::<PagedBucket>(alloc, config, events.as_slice()) else {
-        return Status::Memory;
-    };
-    if wanted_memory(ran.entries.as_slice()) {
-        return Status::Memory;
-    }
     let Ok(mut waiting) = room(alloc) else {
         return Status::Memory;
     };
     match write_picture(
         writer,
         &mut waiting,
-        events.as_slice(),
-        ran.entries.as_slice(),
+        taken.events.as_slice(),
+        taken.entries.as_slice(),
     ) {
         Ok(()) => Status::Done,
         Err(_) => Status::Device(DeviceFault::Write),

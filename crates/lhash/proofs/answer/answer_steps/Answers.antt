@@ -4,10 +4,8 @@ use Rattle.lhash.proofs.answer.answer_steps.Goals as goal
 
 pub returns-in-Ok-write_entries : goal.returns-in-Ok-write_entries
 returns-in-Ok-write_entries g c =
-    steps_told c.args.config _ _ _ c.in-Ok.events.items _ c.in-Ok-run.ran.world c.in-Ok.ensures c.in-Ok-write_entries.ensures.ok
-    (search rules) (search rules)
+    steps_told c.args.config _ _ _ c.in-Ok.taken.events.items _ c.in-Ok.ensures.read (search rules) c.in-Ok-write_entries.ensures.ok
 
 pub returns : goal.returns
 returns g c =
-    steps_begun c.args.config _ _ _ c.in-Ok.events.items _ c.in-Ok-run.ran.world c.in-Ok.ensures c.in-Err-write_entries.ensures.err
-    (search rules) (search rules)
+    steps_begun c.args.config _ _ _ c.in-Ok.taken.events.items _ c.in-Ok.ensures.read (search rules) c.in-Err-write_entries.ensures.err
