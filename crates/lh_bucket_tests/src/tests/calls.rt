@@ -4,7 +4,7 @@ ghost use Rattle.lh_bucket.specs.Bucket.{answer, content};
 ghost use Rattle.lh_bucket.specs.PlainMap.{after};
 
 use lh_addr::fnv1a;
-use lh_bucket::{Answer, Bucket, Call, Memory, PagedBucket, Reply, Verdict, copied_pairs};
+use lh_bucket::{Answer, Bucket, Call, Memory, Reply, Verdict};
 use lh_page::{Key, Pair, Value};
 use std::alloc::Global;
 use std::test::Fail;
@@ -67,16 +67,6 @@ pub(super) fn keys_of<B: Bucket>(alloc: Global, bucket: &B) -> Result<Vec<u8>, F
         keys.push(bucket.pair_at(place).key.bytes()[0])?;
     }
     Ok(keys)
-}
-
-#[test]
-fn records_are_copied_in_order(rt: HostRuntime) -> Result<(), Fail> {
-    let mut bucket = PagedBucket::make(rt.alloc(), 1, 14, 0, Some(0))?;
-    fill(&mut bucket, b"bac", 0)?;
-    let pairs = copied_pairs(rt.alloc(), &bucket)?;
-    let dues = [pair(b"b", b"b")?, pair(b"a", b"a")?, pair(b"c", b"c")?];
-    assert_eq!(rt; pairs.as_slice(), dues.as_slice());
-    Ok(())
 }
 
 #[test]
