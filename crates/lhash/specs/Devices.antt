@@ -15,8 +15,8 @@ abbrev pub IsReadOf : ℕ → List ℕ → List ℕ → Type 0
 IsReadOf most input read = (read ≡ input) ⊎ ((most < length input) × (most < length read))
 
 -- what waits has room for as many bytes as are written at once, and a line more
-abbrev pub HasRoom : {Z : Type 0} → String Z → Type 0
-HasRoom waiting = CHUNK + LONGEST_LINE ≤ string_capacity waiting
+abbrev pub IsReserved : {Z : Type 0} → String Z → Type 0
+IsReserved waiting = CHUNK + LONGEST_LINE ≤ string_capacity waiting
 
 -- the writer took all of a text but its end, which waits
 pub record Sends (before now : Option (List ℕ)) (waiting text : List ℕ) : Type 0 where

@@ -4,7 +4,7 @@ ghost use Rattle.std.specs.String.{string_bytes};
 ghost use Rattle.std.specs.Io.KnownBytes.{Appends};
 ghost use Rattle.lh_bucket.specs.Listing.{size};
 ghost use Rattle.lh_draw.specs.Columns.{column_count, whole_tally};
-ghost use Rattle.lhash.specs.Devices.{Adds, Breaks, HasRoom, TakesBeginning};
+ghost use Rattle.lhash.specs.Devices.{Adds, Breaks, IsReserved, TakesBeginning};
 ghost use Rattle.lh_draw.specs.Drawing.{chain_text, columns_text, drawing_foot_text, drawing_head_text, drawing_of, group_bar, in_turn};
 ghost use Rattle.lh_draw.specs.DrawingTexts.{bar_text};
 ghost use Rattle.lhash.specs.Images.{draw_due};
@@ -149,7 +149,7 @@ fn write_drawing<W: Write>(
     listing: &Listing,
 ) -> Result<(), WriteFailed>
     requires empty { string_bytes waiting.old ≡ [] }
-    requires room { HasRoom waiting.old }
+    requires room { IsReserved waiting.old }
     ensures ok { OnOk result (Appends (W.contents writer.old) (W.contents writer.new)
         (drawing_of listing.now)) }
     ensures err { OnErr result (TakesBeginning (W.contents writer.old) (W.contents writer.new)

@@ -3,7 +3,7 @@ ghost use Rattle.std.specs.Prelude.{◌≡◌, ◌<◌, ◌++◌, ℕ, List, Opt
 ghost use Rattle.std.specs.String.{string_bytes};
 ghost use Rattle.std.specs.Io.KnownBytes.{Appends};
 ghost use Rattle.lh_bucket.specs.Listing.{list_at, size};
-ghost use Rattle.lhash.specs.Devices.{Adds, Breaks, HasRoom, Sends, TakesBeginning};
+ghost use Rattle.lhash.specs.Devices.{Adds, Breaks, IsReserved, Sends, TakesBeginning};
 ghost use Rattle.lhash.specs.ImageTexts.{bucket_text, dump_text};
 ghost use Rattle.lh_script.specs.StepTexts.{steps_text};
 ghost use Rattle.lh_script.specs.Texts.{commands_text, line, reply_text, size_text};
@@ -29,7 +29,7 @@ const LONGEST_LINE: usize = 256 + 2 * (LONGEST_KEY + LONGEST_VALUE);
 /// Room for the lines that wait, so that none of them needs memory later.
 pub fn room(alloc: Global) -> Result<String, AllocError>
     ensures empty { IfOk result (λ waiting. string_bytes waiting ≡ []) }
-    ensures reserved { IfOk result HasRoom }
+    ensures reserved { IfOk result IsReserved }
 {
     String::with_capacity(alloc, CHUNK + LONGEST_LINE)
 }
@@ -106,7 +106,7 @@ pub fn write_replies<W: Write>(
     buckets: u32,
 ) -> Result<(), WriteFailed>
     requires empty { string_bytes waiting.old ≡ [] }
-    requires room { HasRoom waiting.old }
+    requires room { IsReserved waiting.old }
     ensures ok { OnOk result (Appends (W.contents writer.old) (W.contents writer.new)
         (commands_text replies.now buckets)) }
     ensures err { OnErr result (TakesBeginning (W.contents writer.old) (W.contents writer.new)
@@ -126,7 +126,7 @@ pub fn write_entries<W: Write>(
     entries: &[Result<Effect, Refusal>],
 ) -> Result<(), WriteFailed>
     requires empty { string_bytes waiting.old ≡ [] }
-    requires room { HasRoom waiting.old }
+    requires room { IsReserved waiting.old }
     ensures ok { OnOk result (Appends (W.contents writer.old) (W.contents writer.new)
         (steps_text entries.now)) }
     ensures err { OnErr result (TakesBeginning (W.contents writer.old) (W.contents writer.new)
@@ -172,7 +172,7 @@ pub fn write_records<W: Write>(
     listing: &Listing,
 ) -> Result<(), WriteFailed>
     requires empty { string_bytes waiting.old ≡ [] }
-    requires room { HasRoom waiting.old }
+    requires room { IsReserved waiting.old }
     ensures ok { OnOk result (Appends (W.contents writer.old) (W.contents writer.new)
         (dump_text listing.now)) }
     ensures err { OnErr result (TakesBeginning (W.contents writer.old) (W.contents writer.new)

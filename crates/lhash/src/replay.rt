@@ -5,7 +5,7 @@ ghost use Rattle.std.specs.Io.KnownBytes.{Appends};
 ghost use Rattle.lh_draw.specs.Drawing.{in_turn};
 ghost use Rattle.lh_replay.specs.Picture.{picture_of, step_of, top_text};
 ghost use Rattle.lh_replay.specs.PictureTexts.{step_text};
-ghost use Rattle.lhash.specs.Devices.{Adds, Breaks, HasRoom, TakesBeginning};
+ghost use Rattle.lhash.specs.Devices.{Adds, Breaks, IsReserved, TakesBeginning};
 ghost use Rattle.lhash.specs.Run.{EndsReplay};
 
 use crate::answer::take_steps;
@@ -67,7 +67,7 @@ fn write_picture<W: Write>(
 ) -> Result<(), WriteFailed>
     requires same { length entries.now ≡ length events.now }
     requires empty { string_bytes waiting.old ≡ [] }
-    requires room { HasRoom waiting.old }
+    requires room { IsReserved waiting.old }
     ensures ok { OnOk result (Appends (W.contents writer.old) (W.contents writer.new)
         (picture_of events.now entries.now)) }
     ensures err { OnErr result (TakesBeginning (W.contents writer.old) (W.contents writer.new)
