@@ -19,6 +19,7 @@ mod order;
 mod replacing;
 mod report;
 mod settling;
+mod splits;
 mod starter;
 mod steps;
 mod streams;
@@ -47,7 +48,10 @@ where
     }
     let outcome = match order.workload {
         Workload::Image => image::write_and_read(rt, order)?,
-        Workload::Steps => return steps::measure(rt, order),
+        Workload::Steps => {
+            steps::measure(rt, order)?;
+            return splits::measure(rt);
+        }
         Workload::Settling => return settling::measure(rt, order),
         Workload::All => return Ok(()),
         _ if order.traced => kinds::run_traced(rt, order)?,
