@@ -44,6 +44,6 @@ pub use packing::pages_needed;
 pub use page::{Page, PageKind};
 pub use pair::Pair;
 pub use pairs::Pairs;
-pub use reading::{page_from_bytes, page2_from_bytes, pairs_behind_head, pairs_from_bytes};
+pub use reading::{page_from_bytes, page2_from_bytes, pairs_behind_head};
 pub use value::{Value, ValueLength};
 pub use writing::{page_to_bytes, page2_to_bytes};

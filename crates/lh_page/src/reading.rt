@@ -61,24 +61,8 @@ fn read_page(bytes: &[u8], format: Format, capacity: u32) -> Result<Page, PageFa
     Ok(page)
 }
 
-/// Puts the records of a page in place of others, or tells the page's first fault. A page is long to make and to
-/// move: a reader of many makes room for their records once.
-pub fn pairs_from_bytes(
-    bytes: &[u8],
-    format: Format,
-    capacity: u32,
-    pairs: &mut Pairs,
-) -> Result<(), PageFault>
-    requires size { length bytes.now ≡ page_size format }
-    requires limits { IsWithinLimits format }
-    requires capacity { capacity ≤ format.slots }
-    ensures pairs { OnOk result (pairs.new ≡ pairs_of format bytes.now) }
-    ensures fault { result_err result ≡ fault_of format bytes.now capacity }
-{
-    pairs_behind_head(&head_in(bytes), bytes, format, capacity, pairs)
-}
-
-/// The same as [`pairs_from_bytes`], where the page's head has been read already.
+/// Puts the records of a page, whose head has been read, in place of others, or tells the page's first fault. A page is
+/// long to make and to move: a reader of many makes room for their records once.
 #[tactic(auto, unfolding(crate::specs::PageFields::fault_of, crate::specs::PageFields::has_bad_kind))]
 pub fn pairs_behind_head(
     head: &PageHead,
