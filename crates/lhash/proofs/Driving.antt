@@ -11,18 +11,18 @@ use Rattle.lh_file.specs.Acts.{calls_of, replies_of, IsInOrder}
 use Rattle.lh_file.specs.declared.act.ActLine.{ActLine}
 use Rattle.lh_file.specs.declared.settling.settle_fault.SettleFault.TheVariants as settle
 use Rattle.lh_script.specs.Commands.{command}
-use Rattle.lhash.specs.Devices.{TakesBeginning}
+use Rattle.lh_subcommands.specs.Devices.{TakesBeginning}
 use Rattle.lhash.specs.Driven.{driven_text}
 use Rattle.lhash.specs.Driving.{EndsDriving, IsDriven, IsDriveFault, ended_by}
-use Rattle.lhash.specs.Run.{ReadsScript}
+use Rattle.lh_subcommands.specs.Run.{ReadsScript}
 use Rattle.lh_script.specs.Scripts.{script}
 use Rattle.lhash.specs.declared.drive.DriveFault.{DriveFault}
 use Rattle.lhash.specs.declared.drive.DriveFault.TheVariants.{Settle, Call, Thread, Memory}
 use Rattle.lhash.specs.declared.driven.Driven.{Driven}
-use Rattle.lhash.specs.declared.status.DeviceFault.TheVariants.{Read, Write}
-use Rattle.lhash.specs.declared.status.InputFault.TheVariants.{Script, Image, Unwritten}
-use Rattle.lhash.specs.declared.status.Status.{Status}
-use Rattle.lhash.specs.declared.status.Status.TheVariants.{Done, Input, Words, Device, NotSettled, Memory as NoMemory}
+use Rattle.lh_subcommands.specs.declared.status.DeviceFault.TheVariants.{Read, Write}
+use Rattle.lh_subcommands.specs.declared.status.InputFault.TheVariants.{Script, Image, Unwritten}
+use Rattle.lh_subcommands.specs.declared.status.Status.{Status}
+use Rattle.lh_subcommands.specs.declared.status.Status.TheVariants.{Done, Input, Words, Device, NotSettled, Memory as NoMemory}
 
 -- a run that read no script ends without a write
 unread : (settings : Settings) (status : Status) (input : List ℕ) (a : Option (List ℕ)) →

@@ -1,12 +1,4 @@
-pub mod Building
 pub mod Counting
-pub mod Devices
 pub mod Driving
-pub mod Ending
-pub mod Inspecting
 pub mod Places
-pub mod RecordLines
-pub mod ReplyLines
-pub mod Sending
 pub mod Serving
-pub mod Turns

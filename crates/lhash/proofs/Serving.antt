@@ -9,12 +9,12 @@ use Rattle.lh_options.proofs.Asking.{asked_named, build, commands, drive, refuse
 use Rattle.lh_options.specs.declared.options.Request.{Request}
 use Rattle.lh_options.specs.declared.options.Request.TheVariants as request
 use Rattle.lhash.specs.Driving.{EndsDriving}
-use Rattle.lhash.specs.Images.{EndsBuilding, check_due, draw_due, dump_due, migrate_due, wanted_version}
-use Rattle.lhash.specs.Run.{EndsReplay, EndsSteps}
-use Rattle.lhash.specs.Serving.{Ending, EndsCommands, EndsTold, IsHelped, IsRun, IsTurnedAway, IsWordsOf, RefusesBelow, Serves, ServesBuild, ServesFile, ServesImage, TurnsAway, below_initial}
-use Rattle.lhash.specs.declared.status.DeviceFault.TheVariants.{Read, Write}
-use Rattle.lhash.specs.declared.status.Status.{Status}
-use Rattle.lhash.specs.declared.status.Status.TheVariants.{Done, Input, Words, Device, Memory, NotSettled}
+use Rattle.lh_subcommands.specs.Images.{EndsBuilding, check_due, draw_due, dump_due, migrate_due}
+use Rattle.lh_subcommands.specs.Run.{EndsReplay, EndsSteps}
+use Rattle.lhash.specs.Serving.{Ending, EndsCommands, EndsTold, IsHelped, IsRun, IsTurnedAway, IsWordsOf, RefusesBelow, Serves, ServesBuild, ServesFile, ServesImage, TurnsAway, below_initial, wanted_version}
+use Rattle.lh_subcommands.specs.declared.status.DeviceFault.TheVariants.{Read, Write}
+use Rattle.lh_subcommands.specs.declared.status.Status.{Status}
+use Rattle.lh_subcommands.specs.declared.status.Status.TheVariants.{Done, Input, Words, Device, Memory, NotSettled}
 
 -- a request is served as what it is
 pub served_as : {r asked : Request} → r ≡ asked → (status : Status) (left rest before now : Option (List ℕ)) →

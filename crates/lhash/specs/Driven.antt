@@ -2,7 +2,7 @@
 use Rattle.std.specs.Prelude.{◌≡◌, ℕ, Bool, true, false, List, ◌++◌, length, count_by, codes}
 use Rattle.lh_bucket.specs.declared.call.Reply.{Reply}
 use Rattle.lh_bucket.specs.declared.call.Reply.TheVariants.{Found, Absent, Inserted, Exists, Deleted, Replaced}
-use Rattle.lhash.specs.ImageTexts.{number_line}
+use Rattle.lh_subcommands.specs.ImageTexts.{number_line}
 use Rattle.lh_script.specs.Texts.{line}
 use Rattle.lhash.specs.declared.driven.Driven.{Driven}
 

@@ -15,15 +15,15 @@ use Rattle.lh_file.specs.declared.settling.settle_fault.SettleFault.{SettleFault
 use Rattle.lh_file.specs.declared.settling.settle_fault.SettleFault.TheVariants as settle
 use Rattle.lh_script.specs.Commands.{command}
 use Rattle.lhash.specs.Driven.{Counts, driven_text}
-use Rattle.lhash.specs.Run.{EndsTelling}
+use Rattle.lh_subcommands.specs.Run.{EndsTelling}
 use Rattle.lh_script.specs.Scripts.{script}
 use Rattle.lhash.specs.declared.drive.DriveFault.{DriveFault}
 use Rattle.lhash.specs.declared.drive.DriveFault.TheVariants.{Settle, Call, Thread, Memory}
 use Rattle.lhash.specs.declared.driven.Driven.{Driven}
-use Rattle.lhash.specs.declared.status.Status.{Status}
-use Rattle.lhash.specs.declared.status.Status.TheVariants.{NotSettled, Memory as NoMemory}
-use Rattle.lhash.specs.declared.unsettled.Unsettled.{Unsettled}
-use Rattle.lhash.specs.declared.unsettled.Unsettled.TheVariants as unsettled
+use Rattle.lh_subcommands.specs.declared.status.Status.{Status}
+use Rattle.lh_subcommands.specs.declared.status.Status.TheVariants.{NotSettled, Memory as NoMemory}
+use Rattle.lh_subcommands.specs.declared.unsettled.Unsettled.{Unsettled}
+use Rattle.lh_subcommands.specs.declared.unsettled.Unsettled.TheVariants as unsettled
 
 -- the listing of an empty file
 abbrev pub empty_file : Settings → Lists

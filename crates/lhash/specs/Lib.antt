@@ -1,10 +1,4 @@
-pub mod Devices
 pub mod Driven
 pub mod Driving
-pub mod ImageTexts
-pub mod Images
-pub mod Run
 pub mod Serving
-pub mod Status
-pub mod Unsettled
 pub mod Workers

@@ -2,18 +2,22 @@
 use Rattle.std.specs.Prelude.{◌≡◌, ◌⊎◌, ℕ, ◌<◌, ◌≤◌, List, Option, Some, IfSome, Result, codes}
 use Rattle.std.specs.String.{string_bytes}
 use Rattle.std.specs.Io.KnownBytes.{Appends, Keeps}
-use Rattle.lhash.specs.Devices.{TakesBeginning}
+use Rattle.lh_subcommands.specs.Devices.{TakesBeginning}
+use Rattle.lh_image.specs.declared.version.Version.{Version}
+use Rattle.lh_image.specs.declared.version.Version.TheVariants.{One, Two}
 use Rattle.lhash.specs.Driving.{EndsDriving}
-use Rattle.lhash.specs.Images.{EndsBuilding, check_due, draw_due, dump_due, migrate_due, wanted_version}
+use Rattle.lh_subcommands.specs.Images.{EndsBuilding, check_due, draw_due, dump_due, migrate_due}
 use Rattle.lh_addr.specs.Settings.{Settings}
 use Rattle.lh_options.specs.Options.{Accepts, Answers, Asks, AsksForHelp, IsRefused, Text, number_given, settings_given, version_numbered}
-use Rattle.lhash.specs.Run.{Ends, EndsReplay, EndsSteps, commands_due}
+use Rattle.lh_subcommands.specs.Run.{Ends, EndsReplay, EndsSteps, commands_due}
+use Rattle.lh_options.specs.declared.options.ImageVersion.{ImageVersion}
+use Rattle.lh_options.specs.declared.options.ImageVersion.TheVariants.{First, Second}
 use Rattle.lh_options.specs.declared.options.Request.{Request}
 use Rattle.lh_options.specs.declared.options.Request.TheVariants.{Commands, Steps, Replay, Build, Check, Draw, Dump, Drive, Migrate, Help, Refused, MaxBelowInitial}
-use Rattle.lhash.specs.declared.status.DeviceFault.TheVariants.{Write}
-use Rattle.lhash.specs.declared.status.InputFault.{InputFault}
-use Rattle.lhash.specs.declared.status.Status.{Status}
-use Rattle.lhash.specs.declared.status.Status.TheVariants.{Done, Words, Device, Memory}
+use Rattle.lh_subcommands.specs.declared.status.DeviceFault.TheVariants.{Write}
+use Rattle.lh_subcommands.specs.declared.status.InputFault.{InputFault}
+use Rattle.lh_subcommands.specs.declared.status.Status.{Status}
+use Rattle.lh_subcommands.specs.declared.status.Status.TheVariants.{Done, Words, Device, Memory}
 
 -- the words are refused for this reason, unless memory ran out
 abbrev pub IsWordsOf : List ℕ → Status → Type 0
@@ -30,6 +34,11 @@ IsHelped text _ before now = ⊥
 -- `--max` is below `--initial`
 abbrev pub below_initial : List ℕ
 below_initial = codes "max is less than initial"
+
+-- the version of an image that is asked for
+abbrev pub wanted_version : ImageVersion → Version
+wanted_version First = One
+wanted_version Second = Two
 
 -- what a request led to, with what the reader had left and has, and what the writer held and holds
 abbrev pub Serves : Request → Status → Option (List ℕ) → Option (List ℕ) → Option (List ℕ) → Option (List ℕ) → Type 0

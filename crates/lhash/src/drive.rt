@@ -5,15 +5,12 @@ ghost use Rattle.lh_file.specs.Buckets.Rooms.{IsRoomOf};
 ghost use Rattle.lh_file.specs.Settling.Settled.{Settled};
 ghost use Rattle.lhash.specs.Driving.{EndsDriving, IsDriven, IsDriveFault, empty_file, ended_by, unsettled_as};
 
-use crate::answer::read_script;
-use crate::device::write_all;
 use crate::driven::Driven;
-use crate::status::{DeviceFault, Status};
-use crate::unsettled::Unsettled;
 use crate::workers::work_in_threads;
 use lh_addr::Config;
 use lh_bucket::{Call, Listing, Memory};
 use lh_file::{Acts, Closed, FileFault, Gate, NoGate, Opening, Room, SettleFault, settle};
+use lh_subcommands::{DeviceFault, Status, Unsettled, read_script, write_all};
 use std::alloc::Global;
 use std::io::{Read, Write};
 use std::marker::Brand;

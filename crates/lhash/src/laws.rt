@@ -2,8 +2,8 @@
 //! a function that does nothing.
 ghost use Rattle.std.specs.Prelude.{codes};
 ghost use Rattle.lhash.specs.Driving.{EndsDriving};
-ghost use Rattle.lhash.specs.Images.{check_due, draw_due, dump_due, migrate_due};
-ghost use Rattle.lhash.specs.Run.{EndsReplay, EndsSteps};
+ghost use Rattle.lh_subcommands.specs.Images.{check_due, draw_due, dump_due, migrate_due};
+ghost use Rattle.lh_subcommands.specs.Run.{EndsReplay, EndsSteps};
 ghost use Rattle.lhash.specs.Serving.{EndsCommands, EndsTold, RefusesBelow, ServesBuild, ServesFile, ServesImage, TurnsAway};
 
 /// Words that ask for `commands` have the replies of one plain map to the script's calls written, and the number of

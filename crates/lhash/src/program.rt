@@ -1,16 +1,15 @@
 //! The program, from words and bytes to bytes and a status.
 ghost use Rattle.std.specs.Prelude.{◌≡◌, map};
 ghost use Rattle.lh_options.specs.Options.{IsServable};
-ghost use Rattle.lhash.specs.Serving.{IsHelped, IsRun, IsWordsOf, Serves};
+ghost use Rattle.lhash.specs.Serving.{IsHelped, IsRun, IsWordsOf, Serves, wanted_version};
 
-use crate::answer::{answer_commands, answer_steps};
-use crate::device::write_all;
-use crate::draw::answer_draw;
 use crate::drive::answer_drive;
-use crate::images::{answer_build, answer_check, answer_dump, answer_migrate};
-use crate::replay::answer_replay;
-use crate::status::{DeviceFault, Status};
-use lh_options::{Request, request_of};
+use lh_image::Version;
+use lh_options::{ImageVersion, Request, request_of};
+use lh_subcommands::{
+    DeviceFault, Status, answer_build, answer_check, answer_commands, answer_draw, answer_dump,
+    answer_migrate, answer_replay, answer_steps, write_all,
+};
 use std::alloc::Global;
 use std::io::{Read, Write};
 use std::sync::Wait;
@@ -36,6 +35,16 @@ fn refuse(alloc: Global, reason: &str) -> Status
     }
 }
 
+/// The version of an image that is asked for.
+fn version_of(asked: ImageVersion) -> Version
+    ensures { result ≡ wanted_version asked }
+{
+    match asked {
+        ImageVersion::First => Version::One,
+        ImageVersion::Second => Version::Two,
+    }
+}
+
 /// Does what is asked for.
 fn serve<A: Threads + Wait + Sync, R: Read, W: Write>(
     rt: &A,
@@ -52,7 +61,9 @@ fn serve<A: Threads + Wait + Sync, R: Read, W: Write>(
         Request::Commands(config) => answer_commands(alloc, config, reader, writer),
         Request::Steps(config) => answer_steps(alloc, config, reader, writer),
         Request::Replay(config) => answer_replay(alloc, config, reader, writer),
-        Request::Build(config, version) => answer_build(alloc, config, version, reader, writer),
+        Request::Build(config, version) => {
+            answer_build(alloc, config, version_of(version), reader, writer)
+        },
         Request::Check => answer_check(alloc, reader, writer),
         Request::Dump => answer_dump(alloc, reader, writer),
         Request::Draw => answer_draw(alloc, reader, writer),

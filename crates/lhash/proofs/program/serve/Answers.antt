@@ -8,7 +8,7 @@ pub returns-in-Commands : goal.returns-in-Commands
 returns-in-Commands g c = served_as c.in-Commands.is _ _ _ _ _ c.answer_commands.ensures
 
 pub returns-in-Build : goal.returns-in-Build
-returns-in-Build g c = served_as c.in-Build.is _ _ _ _ _ c.answer_build.ensures
+returns-in-Build g c = served_as c.in-Build.is _ _ _ _ _ (rw c.version_of.ensures at c.answer_build.ensures)
 
 pub returns-in-Check : goal.returns-in-Check
 returns-in-Check g c = served_as c.in-Check.is _ _ _ _ _ c.answer_check.ensures

@@ -1,0 +1,126 @@
+-- What was read gives what the input gives.
+use Rattle.std.proofs.Common.{◌≡◌, ◌∙◌, refl, sym, inl, inr, ℕ, List, Option, None, Some, IfSome, ap, ap₂, arith}
+use Rattle.std.proofs.KnownBytes.{Keeps-refl}
+use Rattle.std.specs.Io.KnownBytes.{Appends}
+use Rattle.std.specs.FinMap.{empty}
+use Rattle.std.proofs.lemmas.Bool.Decides.{nat_tests}
+use Rattle.std.specs.Prelude.{Result, Ok, Err}
+use Rattle.lh_addr.specs.Settings.{Settings}
+use Rattle.lh_bucket.specs.PlainMap.{replies}
+use Rattle.lh_bucket.specs.declared.call.Call.{Call}
+use Rattle.lh_bucket.specs.declared.call.Reply.{Reply}
+use Rattle.lh_core.specs.Log.{Entry}
+use Rattle.lh_core.specs.Serial.{size_of}
+use Rattle.lh_core.specs.declared.event.Event.{Event}
+use Rattle.lh_subcommands.specs.Devices.{IsReadOf, TakesBeginning}
+use Rattle.lh_subcommands.specs.Run.{Ends, EndsReplay, EndsSteps, EndsTelling, HaveEntries, IsPictured, IsTold, ReadsScript, commands_due, due}
+use Rattle.lh_replay.specs.Picture.{picture_of}
+use Rattle.lh_script.specs.Commands.{command}
+use Rattle.lh_script.specs.Texts.{commands_text}
+use Rattle.lh_script.specs.StepTexts.{steps_text}
+use Rattle.lh_script.specs.Steps.{step}
+use Rattle.lh_script.specs.declared.fault.ScriptFault.{ScriptFault}
+use Rattle.lh_subcommands.specs.declared.status.DeviceFault.TheVariants.{Read, Write}
+use Rattle.lh_subcommands.specs.declared.status.InputFault.TheVariants.{Script, Image, Unwritten}
+use Rattle.lh_subcommands.specs.declared.status.Status.{Status}
+use Rattle.lh_subcommands.specs.declared.status.Status.TheVariants.{Done, Input, Words, Device, Memory, NotSettled}
+use Rattle.lh_script.specs.Scripts.{Reading, script}
+
+-- a run that read no script ends without a write
+pub unread : {A : Type 0} (status : Status) (given : Result (List A) ScriptFault) (output : List A → List ℕ) (a : Option (List ℕ)) →
+    ReadsScript {A = A} (Err status) given → Ends status (due output given) a a
+unread Done given output a h = absurd h
+unread (Input (Script fault)) given output a h = (ap (due output) h, Keeps-refl a)
+unread (Input (Image fault)) given output a h = absurd h
+unread (Input (Unwritten fault)) given output a h = absurd h
+unread (Words text) given output a h = absurd h
+unread (Device Read) given output a h = Keeps-refl a
+unread (Device Write) given output a h = absurd h
+unread Memory given output a h = Keeps-refl a
+unread (NotSettled fault) given output a h = absurd h
+
+-- the replies to a script's calls and the number of buckets were written
+pub answered : (settings : Settings) (left before now : Option (List ℕ)) (calls : List Call) (told : List Reply) (buckets : ℕ) →
+    IfSome left (λ input. script command input ≡ Ok calls) → Appends before now (commands_text told buckets) →
+    told ≡ replies empty calls → buckets ≡ size_of settings calls → IfSome left (λ input. Ends Done (commands_due settings input) before now)
+unfolding commands_due
+answered settings None before now calls told buckets given written replied size = tt
+answered settings (Some input) before now calls told buckets given written replied size =
+    (commands_text told buckets, ap (due (λ calls. commands_text (replies empty calls) (size_of settings calls))) given ∙ ap Ok (ap₂ commands_text (sym replied) (sym size)), written)
+
+-- a beginning of them was written
+pub answered_in_part : (settings : Settings) (left before now : Option (List ℕ)) (calls : List Call) (told : List Reply) (buckets : ℕ) →
+    IfSome left (λ input. script command input ≡ Ok calls) → TakesBeginning before now (commands_text told buckets) →
+    told ≡ replies empty calls → buckets ≡ size_of settings calls → IfSome left (λ input. Ends (Device Write) (commands_due settings input) before now)
+unfolding commands_due
+answered_in_part settings None before now calls told buckets given written replied size = tt
+answered_in_part settings (Some input) before now calls told buckets given written replied size =
+    (commands_text told buckets, ap (due (λ calls. commands_text (replies empty calls) (size_of settings calls))) given ∙ ap Ok (ap₂ commands_text (sym replied) (sym size)), written)
+
+-- a run that read no script ends without a write
+untold : {A : Type 0} (IsOutput : List A → List ℕ → Type 0) (status : Status) (given : Result (List A) ScriptFault) (a : Option (List ℕ)) →
+    ReadsScript {A = A} (Err status) given → EndsTelling IsOutput status given a a
+untold IsOutput Done given a h = absurd h
+untold IsOutput (Input (Script fault)) given a h = (h, Keeps-refl a)
+untold IsOutput (Input (Image fault)) given a h = absurd h
+untold IsOutput (Input (Unwritten fault)) given a h = absurd h
+untold IsOutput (Words text) given a h = absurd h
+untold IsOutput (Device Read) given a h = Keeps-refl a
+untold IsOutput (Device Write) given a h = absurd h
+untold IsOutput Memory given a h = Keeps-refl a
+untold IsOutput (NotSettled fault) given a h = absurd h
+
+pub no_steps : (settings : Settings) (status : Status) (input : List ℕ) (a : Option (List ℕ)) →
+    ReadsScript {A = Event} (Err status) (script step input) → EndsSteps settings input status a a
+unfolding EndsSteps
+no_steps settings status input a h = untold (IsTold settings) status (script step input) a h
+
+pub no_schedule : (settings : Settings) (status : Status) (input : List ℕ) (a : Option (List ℕ)) →
+    ReadsScript {A = Event} (Err status) (script step input) → EndsReplay settings input status a a
+unfolding EndsReplay
+no_schedule settings status input a h = untold (IsPictured settings) status (script step input) a h
+
+-- a run that is out of memory ends without a write
+pub no_memory : (settings : Settings) (input : List ℕ) (a : Option (List ℕ)) → EndsSteps settings input Memory a a
+unfolding EndsSteps
+no_memory settings input a = Keeps-refl a
+
+-- the lines of all entries were written
+pub steps_told : (settings : Settings) (left before now : Option (List ℕ)) (events : List Event) (entries : List Entry) →
+    IfSome left (λ input. script step input ≡ Ok events) → HaveEntries settings events entries → Appends before now (steps_text entries) →
+    IfSome left (λ input. EndsSteps settings input Done before now)
+unfolding EndsSteps
+steps_told settings None before now events entries given had written = tt
+steps_told settings (Some input) before now events entries given had written =
+    (events, steps_text entries, given, record { entries = entries; had = had; lines = refl }, written)
+
+-- a beginning of the lines of all entries was written
+pub steps_begun : (settings : Settings) (left before now : Option (List ℕ)) (events : List Event) (entries : List Entry) →
+    IfSome left (λ input. script step input ≡ Ok events) → HaveEntries settings events entries → TakesBeginning before now (steps_text entries) →
+    IfSome left (λ input. EndsSteps settings input (Device Write) before now)
+unfolding EndsSteps
+steps_begun settings None before now events entries given had written = tt
+steps_begun settings (Some input) before now events entries given had written =
+    (events, steps_text entries, given, record { entries = entries; had = had; lines = refl }, written)
+
+-- the picture was written
+pub schedule_drawn : (settings : Settings) (left before now : Option (List ℕ)) (events : List Event) (entries : List Entry) →
+    IfSome left (λ input. script step input ≡ Ok events) → HaveEntries settings events entries → Appends before now (picture_of events entries) →
+    IfSome left (λ input. EndsReplay settings input Done before now)
+unfolding EndsReplay
+schedule_drawn settings None before now events entries given had written = tt
+schedule_drawn settings (Some input) before now events entries given had written =
+    (events, picture_of events entries, given, record { entries = entries; had = had; picture = refl }, written)
+
+-- a beginning of the picture was written
+pub schedule_begun : (settings : Settings) (left before now : Option (List ℕ)) (events : List Event) (entries : List Entry) →
+    IfSome left (λ input. script step input ≡ Ok events) → HaveEntries settings events entries → TakesBeginning before now (picture_of events entries) →
+    IfSome left (λ input. EndsReplay settings input (Device Write) before now)
+unfolding EndsReplay
+schedule_begun settings None before now events entries given had written = tt
+schedule_begun settings (Some input) before now events entries given had written =
+    (events, picture_of events entries, given, record { entries = entries; had = had; picture = refl }, written)
+
+pub same_script : {A : Type 0} (read : Reading A) (input bytes : List ℕ) → IsReadOf 16777216 input bytes → script read bytes ≡ script read input
+same_script read input bytes (inl e) = ap (script read) e
+same_script read input bytes (inr h) = grind (arith, nat_tests, h.0, h.1)

@@ -1,0 +1,9 @@
+use Rattle.std.proofs.Common.{rules}
+use Rattle.lh_subcommands.proofs.answer.take_steps.Goals as goal
+
+pub returns : goal.returns
+returns g c = record {
+  read = c.in-Ok.ensures;
+  told = record { world = c.in-Ok-run.ran.world; headline = search rules; memory = search rules };
+  err = tt;
+}

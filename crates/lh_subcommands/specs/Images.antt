@@ -1,0 +1,99 @@
+-- What the subcommands for images do: which image `build` and `migrate` write, and what `check` and `dump` tell of one
+use Rattle.std.specs.Prelude.{◌≡◌, ℕ, ◌<◌, List, Option, Result, Ok, Err, ◌==◌}
+use Rattle.std.specs.FinMap.{empty, retain_keys}
+use Rattle.std.specs.Io.KnownBytes.{Keeps}
+use Rattle.lh_addr.specs.Fnv.{code_of}
+use Rattle.lh_addr.specs.Growth.{address}
+use Rattle.lh_addr.specs.Settings.{Settings}
+use Rattle.lh_bucket.specs.declared.call.Call.{Call}
+use Rattle.lh_bucket.specs.Listing.{Lists, IsListing, size, list_at}
+use Rattle.lh_bucket.specs.PlainMap.{outcome}
+use Rattle.lh_bucket.specs.Records.{map_of}
+use Rattle.lh_core.specs.Serial.{size_of}
+use Rattle.lh_image.specs.declared.fault.ImageFault.{ImageFault}
+use Rattle.lh_image.specs.declared.fault.ImageFault.TheVariants.{ReadFault, Memory}
+use Rattle.lh_image.specs.declared.fault.WriteImageFault.{WriteImageFault}
+use Rattle.lh_image.specs.declared.fault.WriteImageFault.TheVariants.{WriteFault, Memory as MemoryToWrite}
+use Rattle.lh_image.specs.declared.version.Version.{Version}
+use Rattle.lh_image.specs.declared.version.Version.TheVariants.{Two}
+use Rattle.lh_image.specs.Canonical.{canonical}
+use Rattle.lh_image.specs.Census.{census_of}
+use Rattle.lh_image.specs.Reading.{reading_of}
+use Rattle.lh_image.specs.Writing.{FitsImage, IsWriteRefusal}
+use Rattle.lh_script.specs.Commands.{command}
+use Rattle.lh_draw.specs.Drawing.{drawing_of}
+use Rattle.lh_subcommands.specs.ImageTexts.{check_text, dump_text}
+use Rattle.lh_subcommands.specs.Run.{EndsTelling}
+use Rattle.lh_script.specs.Scripts.{script}
+use Rattle.lh_subcommands.specs.declared.status.DeviceFault.TheVariants.{Read, Write}
+use Rattle.lh_subcommands.specs.declared.status.InputFault.{InputFault}
+use Rattle.lh_subcommands.specs.declared.status.InputFault.TheVariants.{Image, Unwritten}
+use Rattle.lh_subcommands.specs.declared.status.Status.{Status}
+use Rattle.lh_subcommands.specs.declared.status.Status.TheVariants.{Input, Device, Memory as NoMemory}
+
+-- A listing of the file that calls lead to, as `commands` has it at its end: the settings, the number of buckets to
+-- which the split policy has the file grow, and each record of the calls' outcome in the list of the bucket of its
+-- address and nowhere else, once.
+pub record IsLedTo (settings : Settings) (calls : List Call) (l : Lists) : Type 0 where
+  pub config : l.config ≡ settings
+  pub buckets : size l ≡ size_of settings calls
+  pub placed : (i : ℕ) → i < size l →
+      map_of (list_at l.lists i)
+      ≡ retain_keys (outcome empty calls) (λ key. address settings.initial (size l) (code_of key) == i)
+  pub listing : IsListing l
+
+-- What `build` may write for calls: the canonical image, in a version, of a listing of the file that they lead to,
+-- where it has one.
+pub record IsBuilt (version : Version) (settings : Settings) (calls : List Call) (output : List ℕ) : Type 0 where
+  pub listing : Lists
+  pub led : IsLedTo settings calls listing
+  pub fits : FitsImage version listing
+  pub bytes : output ≡ canonical version listing
+
+-- the file that calls lead to has no image in a version, for this reason
+pub record HasNoImage (version : Version) (settings : Settings) (calls : List Call) (fault : WriteImageFault) :
+    Type 0 where
+  pub listing : Lists
+  pub led : IsLedTo settings calls listing
+  pub refused : IsWriteRefusal version listing fault
+
+-- how `build` ends on an input: with the reason, and the writer took nothing, where the file that the script leads to
+-- has no image; otherwise with the image of that file, or with the script's first fault
+unfoldable pub EndsBuilding : Version → Settings → List ℕ → Status → Option (List ℕ) → Option (List ℕ) → Type 0
+EndsBuilding version settings input (Input (Unwritten fault)) before now =
+    (calls : List Call) × (script command input ≡ Ok calls) × HasNoImage version settings calls fault × Keeps before now
+EndsBuilding version settings input status before now =
+    EndsTelling (IsBuilt version settings) status (script command input) before now
+
+-- what is to be written of an image, or the first fault of bytes that are none
+abbrev pub told_of : (Lists → List ℕ) → Result Lists ImageFault → Result (List ℕ) InputFault
+told_of text (Ok l) = Ok (text l)
+told_of text (Err fault) = Err (Image fault)
+
+-- what `check` is to write for an input: the census of the listing that it is an image of
+unfoldable pub check_due : List ℕ → Result (List ℕ) InputFault
+check_due input = told_of (λ l. check_text (census_of l)) (reading_of input)
+
+-- what `dump` is to write for an input: the records of the listing that it is an image of
+unfoldable pub dump_due : List ℕ → Result (List ℕ) InputFault
+dump_due input = told_of dump_text (reading_of input)
+
+-- what `draw` is to write for an input: a drawing of the listing that it is an image of
+unfoldable pub draw_due : List ℕ → Result (List ℕ) InputFault
+draw_due input = told_of drawing_of (reading_of input)
+
+-- what `migrate` is to write for an input: the canonical image of version 2 of the listing that it is an image of
+unfoldable pub migrate_due : List ℕ → Result (List ℕ) InputFault
+migrate_due input = told_of (canonical Two) (reading_of input)
+
+-- how a run ends whose file was not written as an image
+abbrev pub unwritten_as : WriteImageFault → Status
+unwritten_as WriteFault = Device Write
+unwritten_as MemoryToWrite = NoMemory
+unwritten_as fault = Input (Unwritten fault)
+
+-- how a run ends whose input was not read as an image
+abbrev pub refused_as : ImageFault → Status
+refused_as ReadFault = Device Read
+refused_as Memory = NoMemory
+refused_as fault = Input (Image fault)

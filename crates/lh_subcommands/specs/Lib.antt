@@ -1,0 +1,6 @@
+pub mod Devices
+pub mod ImageTexts
+pub mod Images
+pub mod Run
+pub mod Status
+pub mod Unsettled

@@ -1,0 +1,26 @@
+//! The subcommands of `lhash` that work in one thread, each from the bytes of its input to those of its output and a
+//! status. They rest on no running file, so they are proved beside it.
+//!
+//! `commands` reads a command script, answers its calls and writes their replies. `steps` reads a step script, takes
+//! its steps and writes the effect of each; `replay` draws them. `build` reads a command script and writes the resulting
+//! file as an image; `check` reads an image and writes its counts, `dump` its records, `draw` a drawing, and `migrate`
+//! its image in version 2. What the one that works in threads shares with them stands here too.
+#![tactic(auto)]
+
+mod answer;
+mod device;
+mod draw;
+mod image_texts;
+mod images;
+mod output;
+mod replay;
+mod status;
+mod unsettled;
+
+pub use answer::{answer_commands, answer_steps, read_script};
+pub use device::{WriteFailed, write_all};
+pub use draw::answer_draw;
+pub use images::{answer_build, answer_check, answer_dump, answer_migrate};
+pub use replay::answer_replay;
+pub use status::{DeviceFault, InputFault, Status};
+pub use unsettled::Unsettled;
