@@ -80,36 +80,40 @@ check_built = shape_at 4 (built program_app).subs
 abbrev dump_built : Shape
 dump_built = shape_at 5 (built program_app).subs
 
+-- a text of another name fails the test, so what the test would lead to need not be shown
+unequal : {P : Type 0} → false ≡ true → P
+unequal h = absurd (false≢true h)
+
 commands-options : HasOptions commands_built
 commands-options = record {
-  initial = (((λ _. refl), ((λ h. cc), ((λ h. cc), ((λ h. cc), ((λ h. cc), tt))))), inl refl);
-  capacity = (((λ h. cc), ((λ _. refl), ((λ h. cc), ((λ h. cc), ((λ h. cc), tt))))), inr (inl refl));
-  load = (((λ h. cc), ((λ h. cc), ((λ _. refl), ((λ h. cc), ((λ h. cc), tt))))), inr (inr (inl refl)));
-  max = (((λ h. cc), ((λ h. cc), ((λ h. cc), ((λ _. refl), ((λ h. cc), tt))))), inr (inr (inr (inl refl))));
+  initial = (((λ _. refl), (unequal, (unequal, (unequal, (unequal, tt))))), inl refl);
+  capacity = ((unequal, ((λ _. refl), (unequal, (unequal, (unequal, tt))))), inr (inl refl));
+  load = ((unequal, (unequal, ((λ _. refl), (unequal, (unequal, tt))))), inr (inr (inl refl)));
+  max = ((unequal, (unequal, (unequal, ((λ _. refl), (unequal, tt))))), inr (inr (inr (inl refl))));
 }
 
 steps-options : HasOptions steps_built
 steps-options = record {
-  initial = (((λ _. refl), ((λ h. cc), ((λ h. cc), ((λ h. cc), ((λ h. cc), tt))))), inl refl);
-  capacity = (((λ h. cc), ((λ _. refl), ((λ h. cc), ((λ h. cc), ((λ h. cc), tt))))), inr (inl refl));
-  load = (((λ h. cc), ((λ h. cc), ((λ _. refl), ((λ h. cc), ((λ h. cc), tt))))), inr (inr (inl refl)));
-  max = (((λ h. cc), ((λ h. cc), ((λ h. cc), ((λ _. refl), ((λ h. cc), tt))))), inr (inr (inr (inl refl))));
+  initial = (((λ _. refl), (unequal, (unequal, (unequal, (unequal, tt))))), inl refl);
+  capacity = ((unequal, ((λ _. refl), (unequal, (unequal, (unequal, tt))))), inr (inl refl));
+  load = ((unequal, (unequal, ((λ _. refl), (unequal, (unequal, tt))))), inr (inr (inl refl)));
+  max = ((unequal, (unequal, (unequal, ((λ _. refl), (unequal, tt))))), inr (inr (inr (inl refl))));
 }
 
 replay-options : HasOptions replay_built
 replay-options = record {
-  initial = (((λ _. refl), ((λ h. cc), ((λ h. cc), ((λ h. cc), ((λ h. cc), tt))))), inl refl);
-  capacity = (((λ h. cc), ((λ _. refl), ((λ h. cc), ((λ h. cc), ((λ h. cc), tt))))), inr (inl refl));
-  load = (((λ h. cc), ((λ h. cc), ((λ _. refl), ((λ h. cc), ((λ h. cc), tt))))), inr (inr (inl refl)));
-  max = (((λ h. cc), ((λ h. cc), ((λ h. cc), ((λ _. refl), ((λ h. cc), tt))))), inr (inr (inr (inl refl))));
+  initial = (((λ _. refl), (unequal, (unequal, (unequal, (unequal, tt))))), inl refl);
+  capacity = ((unequal, ((λ _. refl), (unequal, (unequal, (unequal, tt))))), inr (inl refl));
+  load = ((unequal, (unequal, ((λ _. refl), (unequal, (unequal, tt))))), inr (inr (inl refl)));
+  max = ((unequal, (unequal, (unequal, ((λ _. refl), (unequal, tt))))), inr (inr (inr (inl refl))));
 }
 
 build-options : HasOptions build_built
 build-options = record {
-  initial = (((λ _. refl), ((λ h. cc), ((λ h. cc), ((λ h. cc), ((λ h. cc), ((λ h. cc), tt)))))), inl refl);
-  capacity = (((λ h. cc), ((λ _. refl), ((λ h. cc), ((λ h. cc), ((λ h. cc), ((λ h. cc), tt)))))), inr (inl refl));
-  load = (((λ h. cc), ((λ h. cc), ((λ _. refl), ((λ h. cc), ((λ h. cc), ((λ h. cc), tt)))))), inr (inr (inl refl)));
-  max = (((λ h. cc), ((λ h. cc), ((λ h. cc), ((λ _. refl), ((λ h. cc), ((λ h. cc), tt)))))), inr (inr (inr (inl refl))));
+  initial = (((λ _. refl), (unequal, (unequal, (unequal, (unequal, (unequal, tt)))))), inl refl);
+  capacity = ((unequal, ((λ _. refl), (unequal, (unequal, (unequal, (unequal, tt)))))), inr (inl refl));
+  load = ((unequal, (unequal, ((λ _. refl), (unequal, (unequal, (unequal, tt)))))), inr (inr (inl refl)));
+  max = ((unequal, (unequal, (unequal, ((λ _. refl), (unequal, (unequal, tt)))))), inr (inr (inr (inl refl))));
 }
 
 abbrev draw_built : Shape
@@ -123,16 +127,17 @@ drive_built = shape_at 6 (built program_app).subs
 
 drive-options : HasOptions drive_built
 drive-options = record {
-  initial = (((λ _. refl), ((λ h. cc), ((λ h. cc), ((λ h. cc), ((λ h. cc), ((λ h. cc), tt)))))), inl refl);
-  capacity = (((λ h. cc), ((λ _. refl), ((λ h. cc), ((λ h. cc), ((λ h. cc), ((λ h. cc), tt)))))), inr (inl refl));
-  load = (((λ h. cc), ((λ h. cc), ((λ _. refl), ((λ h. cc), ((λ h. cc), ((λ h. cc), tt)))))), inr (inr (inl refl)));
-  max = (((λ h. cc), ((λ h. cc), ((λ h. cc), ((λ _. refl), ((λ h. cc), ((λ h. cc), tt)))))), inr (inr (inr (inl refl))));
+  initial = (((λ _. refl), (unequal, (unequal, (unequal, (unequal, (unequal, tt)))))), inl refl);
+  capacity = ((unequal, ((λ _. refl), (unequal, (unequal, (unequal, (unequal, tt)))))), inr (inl refl));
+  load = ((unequal, (unequal, ((λ _. refl), (unequal, (unequal, (unequal, tt)))))), inr (inr (inl refl)));
+  max = ((unequal, (unequal, (unequal, ((λ _. refl), (unequal, (unequal, tt)))))), inr (inr (inr (inl refl))));
 }
 
 -- the number of threads
 threads-after : (words : List Text) → level_fault drive_built [] nothing_held words false [] ≡ [] → HasThreads (rows_after drive_built.rules [] words)
 threads-after words e =
-    let own : Every (IsTarget (codes "threads") (codes "4") 1 64) drive_built.rules = ((λ h. cc), ((λ h. cc), ((λ h. cc), ((λ h. cc), ((λ _. refl), ((λ h. cc), tt)))))) in
+    let own : Every (IsTarget (codes "threads") (codes "4") 1 64) drive_built.rules =
+    (unequal, (unequal, (unequal, (unequal, ((λ _. refl), (unequal, tt)))))) in
     let has : HasTarget (codes "threads") (codes "4") 1 64 drive_built.rules = inr (inr (inr (inr (inl refl)))) in
     let row = level-row (codes "threads") (codes "4") 1 64 drive_built own has [] words false [] e in
     number-fits (codes "threads") (codes "4") 1 64 (omega arith) _ row.0 row.1 row.2
@@ -140,7 +145,8 @@ threads-after words e =
 -- the version of the image
 image-after : (words : List Text) → level_fault build_built [] nothing_held words false [] ≡ [] → HasImage (rows_after build_built.rules [] words)
 image-after words e =
-    let own : Every (IsTarget (codes "image") (codes "2") 1 2) build_built.rules = ((λ h. cc), ((λ h. cc), ((λ h. cc), ((λ h. cc), ((λ _. refl), ((λ h. cc), tt)))))) in
+    let own : Every (IsTarget (codes "image") (codes "2") 1 2) build_built.rules =
+    (unequal, (unequal, (unequal, (unequal, ((λ _. refl), (unequal, tt)))))) in
     let has : HasTarget (codes "image") (codes "2") 1 2 build_built.rules = inr (inr (inr (inr (inl refl)))) in
     let row = level-row (codes "image") (codes "2") 1 2 build_built own has [] words false [] e in
     number-fits (codes "image") (codes "2") 1 2 (omega arith) _ row.0 row.1 row.2
@@ -174,16 +180,16 @@ accepted-rows words e = entered-some (built program_app) IsEntered (
       (
         (λ t is other ws f. inl (inr (inr (inl refl)), settings-after build_built build-options ws f, other-name (codes "build") _ refl, λ _. image-after ws f)),
         (
-          (λ t is other ws f. inr (inl refl, no-settings check_built ((λ h. cc), tt) ws f)),
+          (λ t is other ws f. inr (inl refl, no-settings check_built (unequal, tt) ws f)),
           (
-            (λ t is other ws f. inr (inr (inl refl), no-settings dump_built ((λ h. cc), tt) ws f)),
+            (λ t is other ws f. inr (inr (inl refl), no-settings dump_built (unequal, tt) ws f)),
             (
               (λ t is other ws f. inl (inr (inr (inr (inl refl))), settings-after drive_built drive-options ws f, (λ _. threads-after ws f), other-name (codes "drive") _ refl)),
               (
-                (λ t is other ws f. inr (inr (inr (inl refl)), no-settings draw_built ((λ h. cc), tt) ws f)),
+                (λ t is other ws f. inr (inr (inr (inl refl)), no-settings draw_built (unequal, tt) ws f)),
                 (
-                  (λ t is other ws f. inr (inr (inr (inr refl)), no-settings migrate_built ((λ h. cc), tt) ws f)),
-                  ((λ t is other ws f. let same = is_help t is in cc), tt),
+                  (λ t is other ws f. inr (inr (inr (inr refl)), no-settings migrate_built (unequal, tt) ws f)),
+                  ((λ t is other ws f. absurd (false≢true (sym other ∙ is_help t is))), tt),
                 ),
               ),
             ),

@@ -1,6 +1,8 @@
 -- Each example computes.
-use Rattle.std.proofs.Common.{refl, inl, inr, codes}
+use Rattle.std.proofs.Common.{ap, refl, inl, inr, codes}
+use Rattle.std.proofs.lemmas.Bool.{false≢true}
 use Rattle.clap.proofs.OnLiterals.{clap_on_literals}
+use Rattle.clap.specs.Walk.{is_empty}
 use Rattle.clap.specs.declared.error.kind.ErrorKind.TheVariants as kind
 use Rattle.lh_options.specs.OptionLaws.{GivesBuild, GivesCommands, GivesDrive, GivesReplay, GivesSteps, Refuses, build_given, check_alone, check_with_option, draw_alone, drive_alone, drive_given, dump_alone, first_image_given, help_asked, initial_twice, initial_zero, max_below_initial, max_given, max_over_limit, migrate_alone, no_options, no_subcommand, program_version_asked, replay_given, steps_given, third_image, threads_over_limit, threads_zero, unknown_option}
 use Rattle.lh_options.specs.declared.options.ImageVersion.TheVariants.{First, Second}
@@ -61,39 +63,39 @@ draw = (refl, refl)
 
 without_options : Refuses check_with_option
 unfolding clap_on_literals Accepts
-without_options = λ e. cc
+without_options = λ e. false≢true (ap is_empty e)
 
 none : Refuses no_subcommand
 unfolding clap_on_literals Accepts
-none = λ e. cc
+none = λ e. false≢true (ap is_empty e)
 
 too_small : Refuses initial_zero
 unfolding clap_on_literals Accepts
-too_small = λ e. cc
+too_small = λ e. false≢true (ap is_empty e)
 
 no_thread : Refuses threads_zero
 unfolding clap_on_literals Accepts
-no_thread = λ e. cc
+no_thread = λ e. false≢true (ap is_empty e)
 
 too_many_threads : Refuses threads_over_limit
 unfolding clap_on_literals Accepts
-too_many_threads = λ e. cc
+too_many_threads = λ e. false≢true (ap is_empty e)
 
 too_great : Refuses max_over_limit
 unfolding clap_on_literals Accepts
-too_great = λ e. cc
+too_great = λ e. false≢true (ap is_empty e)
 
 no_third : Refuses third_image
 unfolding clap_on_literals Accepts
-no_third = λ e. cc
+no_third = λ e. false≢true (ap is_empty e)
 
 twice : Refuses initial_twice
 unfolding clap_on_literals Accepts
-twice = λ e. cc
+twice = λ e. false≢true (ap is_empty e)
 
 unknown : Refuses unknown_option
 unfolding clap_on_literals Accepts
-unknown = λ e. cc
+unknown = λ e. false≢true (ap is_empty e)
 
 help : AsksForHelp help_asked
 unfolding clap_on_literals AsksForHelp
