@@ -1,9 +1,9 @@
 -- The row of marks: after an append, a removal, a change of value.
-use Rattle.std.proofs.Common.{◌≡◌, ◌≢◌, ℕ, ◌-◌, ◌<◌, List, [], ◌∷◌, ◌++◌, length, get_or, set, sym, ap, ◌∙◌, inl, inr, arith}
+use Rattle.std.proofs.Common.{◌≡◌, ◌≢◌, ℕ, ◌-◌, ◌<◌, List, [], ◌∷◌, ◌++◌, length, get_or, slice_index, set, sym, ap, ◌∙◌, inl, inr, arith}
 use Rattle.std.specs.Int.{bit_at}
 use Rattle.std.specs.List.{swap_remove}
 use Rattle.std.proofs.lemmas.Bool.{cases_eq}
-use Rattle.std.proofs.lemmas.List.{get_or-take, get_or-set_other, get_or-set_same, get_or_append_left, length-take, length-set, length_push}
+use Rattle.std.proofs.lemmas.List.{get_or_default, get_or-take, get_or-set_other, get_or-set_same, get_or_append_left, length-take, length-set, length_push}
 use Rattle.lh_page.specs.declared.pair.Pair.{Pair}
 use Rattle.lh_page.specs.Mark.{mark_of}
 use Rattle.lh_page.specs.Marks.{marked_room, IsMarked, IsMarkedAt}
@@ -26,6 +26,15 @@ marked_remove old new pairs place p within h at = marked_but old new pairs (swap
     let moved = set pairs place (get_or pairs (length pairs - 1) p) in
     let less : i < length pairs - 1 = omega (arith, length-take (length pairs - 1) moved, length-set pairs place (get_or pairs (length pairs - 1) p)) in
     (omega arith, ap (λ (q : Pair). q.key) (get_or-take (length pairs - 1) moved i no_pair less ∙ get_or-set_other pairs place i (get_or pairs (length pairs - 1) p) no_pair other)))
+
+-- the last record's mark is that of the place into which the record moves
+pub moved_mark : (marks : List ℕ) (pairs : List Pair) (place last : ℕ) (p : Pair) → last ≡ length pairs - 1 → place < length pairs → IsMarked marks pairs → last < marked_room → place < length (swap_remove pairs place p) → slice_index marks last ≡ mark_of (key_at (swap_remove pairs place p) place)
+moved_mark marks pairs place last p is within h low below =
+    let moved = set pairs place (get_or pairs (length pairs - 1) p) in
+    let less : place < length pairs - 1 = omega (arith, length-take (length pairs - 1) moved, length-set pairs place (get_or pairs (length pairs - 1) p)) in
+    h last low (omega arith) ∙ ap mark_of (ap (λ (q : Pair). q.key)
+    (get_or_default pairs last no_pair p (omega arith) ∙ ap (λ n. get_or pairs n p) is
+    ∙ sym (get_or-take (length pairs - 1) moved place no_pair less ∙ get_or-set_same pairs place (get_or pairs (length pairs - 1) p) no_pair within)))
 
 pub marked_set : (marks : List ℕ) (pairs : List Pair) (place : ℕ) (p : Pair) → p.key ≡ key_at pairs place → IsMarked marks pairs → IsMarked marks (set pairs place p)
 marked_set marks pairs place p same h i low below =

@@ -1,14 +1,15 @@
 -- Full units one after another: the place of a row, a write of a row, a unit more.
-use Rattle.std.proofs.Common.{◌≡◌, ℕ, zero, suc, ◌+◌, ◌-◌, ◌*◌, ◌/◌, ◌%◌, ◌<◌, ◌≤◌, List, [], ◌∷◌, ◌++◌, length, take, get_or, set, refl, sym, ap, ◌∙◌, arith, Result, Ok, Err, length-append, length-take-le}
+use Rattle.std.proofs.Common.{◌≡◌, ℕ, zero, suc, ◌+◌, ◌-◌, ◌*◌, ◌/◌, ◌%◌, ◌<◌, ◌≤◌, List, [], ◌∷◌, ◌++◌, length, take, drop, get_or, set, refl, sym, ap, subst, ◌∙◌, arith, Result, Ok, Err, length-append, length-take-le}
 use Rattle.std.specs.List.{swap_remove}
 use Rattle.std.specs.Result.{OnErr}
-use Rattle.std.proofs.lemmas.List.{get_or_append_left, get_or-append_right, set-append_left, set-append_right, take-append-le, get_or-take, take-take, take_more_set}
+use Rattle.std.proofs.lemmas.List.{take_at, length-set, get_or_default, get_or_append_left, get_or-append_right, set-append_left, set-append_right, take-append-le, get_or-take, take-take, take_more_set}
 use Rattle.std.proofs.Math.Seq.{take-set-lt}
 use Rattle.std.proofs.lemmas.List.Concat.{flat_map-append}
-use Rattle.std.proofs.lemmas.List.Elements.{All-head, All-tail}
+use Rattle.std.proofs.lemmas.List.Elements.{All-head, All-tail, All-set}
 use Rattle.lh_page.specs.declared.pair.Pair.{Pair}
 use Rattle.lh_page.specs.Lines.{AreUnits}
 use Rattle.lh_page.specs.PackedList.{joined}
+use Rattle.lh_page.specs.Records.{no_pair}
 
 abbrev IsFull : List Pair → Type 0
 IsFull unit = length unit ≡ 4
@@ -93,13 +94,49 @@ pub more-first : (n : ℕ) (units : List (List Pair)) (unit : List Pair) → Are
 more-first n units unit h within =
     ap (take n) (flat_map-append (λ (page : List Pair). page) units (unit ∷ [])) ∙ take-append-le n (joined units) (joined (unit ∷ [])) (omega (arith, length-joined units h))
 
+-- ---- a record copied over another one
+
+-- within one unit
+pub copied-within : (units : List (List Pair)) (i j : ℕ) (was unit : List Pair) → AreUnits units → j < 4 * length units → i / 4 ≡ j / 4 → was ≡ get_or units (i / 4) was → unit ≡ set was (i % 4) (get_or was (j % 4) no_pair) →
+    joined (set units (i / 4) unit) ≡ set (joined units) i (get_or (joined units) j no_pair)
+copied-within units i j was unit h within one at is =
+    set-place units i was unit (get_or was (j % 4) no_pair) h (omega arith) at is
+    ∙ ap (set (joined units) i) (ap (λ u. get_or u (j % 4) no_pair) (at ∙ ap (λ q. get_or units q was) one) ∙ sym (get_or-place units j was no_pair h within))
+
+-- from one unit into an earlier one
+pub copied-across : (front back : List (List Pair)) (i j : ℕ) (d e unit : List Pair) → AreUnits (front ++ back) → j < 4 * length (front ++ back) → length front ≡ j / 4 → i / 4 < j / 4 →
+    unit ≡ set (get_or front (i / 4) d) (i % 4) (get_or (get_or back 0 e) (j % 4) no_pair) → joined (set front (i / 4) unit ++ back) ≡ set (joined (front ++ back)) i (get_or (joined (front ++ back)) j no_pair)
+copied-across front back i j d e unit h within cut less is =
+    let units = front ++ back in
+    let was = get_or front (i / 4) d in
+    let from = get_or back 0 e in
+    let none : j / 4 - j / 4 ≡ 0 = omega arith in
+    let at : was ≡ get_or units (i / 4) was = get_or_default front (i / 4) d was (omega arith) ∙ sym (get_or_append_left front back was (i / 4) (omega arith)) in
+    let there : get_or units (j / 4) e ≡ from = get_or-append_right front back (j / 4) (j / 4) e cut (omega arith) ∙ ap (λ k. get_or back k e) none in
+    ap joined (sym (set-append_left front back (i / 4) unit (omega arith)))
+    ∙ (set-place units i was unit (get_or from (j % 4) no_pair) h (omega arith) at is
+    ∙ ap (set (joined units) i) (ap (λ u. get_or u (j % 4) no_pair) (sym there) ∙ sym (get_or-place units j e no_pair h within)))
+
+-- where the parts stand in the whole again
+pub written-back : (n q : ℕ) (front back whole : List (List Pair)) (unit : List Pair) → length front + length back ≡ n → take n ((set front q unit ++ back) ++ drop (length (set front q unit ++ back)) whole) ≡ set front q unit ++ back
+written-back n q front back whole unit many = take_at (set front q unit ++ back) _ n (omega (arith, length-append (set front q unit) back, length-set front q unit))
+
+pub units-across : (front back : List (List Pair)) (q r : ℕ) (d unit : List Pair) (p : Pair) → AreUnits (front ++ back) → q < length front → unit ≡ set (get_or front q d) r p → AreUnits (set front q unit ++ back)
+units-across front back q r d unit p h low is =
+    let full : IsFull unit = ap length is ∙ length-set (get_or front q d) r p ∙ ap length (sym (get_or_append_left front back d q low)) ∙ h q d (omega (arith, length-append front back)) in
+    subst AreUnits (set-append_left front back q unit low) (All-set IsFull (front ++ back) q unit full h)
+
 -- the last record moved into a hole
-pub remove-first : (n : ℕ) (units : List (List Pair)) (i : ℕ) (was unit : List Pair) (p q : Pair) → AreUnits units → n ≤ 4 * length units → i < n → was ≡ get_or units (i / 4) was → unit ≡ set was (i % 4) q →
-    q ≡ get_or (take n (joined units)) (n - 1) p → take (n - 1) (joined (set units (i / 4) unit)) ≡ swap_remove (take n (joined units)) i p
-remove-first n units i was unit p q h within below at is last =
-    let list = take n (joined units) in
+pub remove-first : (n : ℕ) (units new : List (List Pair)) (i : ℕ) (p : Pair) → AreUnits units → n ≤ 4 * length units → i < n → joined new ≡ set (joined units) i (get_or (joined units) (n - 1) no_pair) →
+    take (n - 1) (joined new) ≡ swap_remove (take n (joined units)) i p
+remove-first n units new i p h within below is =
+    let all = joined units in
+    let list = take n all in
+    let x = get_or all (n - 1) no_pair in
     let long = length-first n units h within in
     let less : n - 1 ≤ n = omega arith in
-    sym (take-take (n - 1) n (joined (set units (i / 4) unit)) less)
-    ∙ (ap (take (n - 1)) (set-first n units i was unit q h within below at is)
-    ∙ (ap (λ x. take (n - 1) (set list i x)) last ∙ ap (λ m. take (m - 1) (set list i (get_or list (m - 1) p))) (sym long)))
+    let last : x ≡ get_or list (n - 1) p = get_or_default all (n - 1) no_pair p (omega (arith, length-joined units h)) ∙ sym (get_or-take n all (n - 1) p (omega arith)) in
+    ap (take (n - 1)) is
+    ∙ (sym (take-take (n - 1) n (set all i x) less)
+    ∙ (ap (take (n - 1)) (take-set-lt n all i x below)
+    ∙ (ap (λ y. take (n - 1) (set list i y)) last ∙ ap (λ m. take (m - 1) (set list i (get_or list (m - 1) p))) (sym long))))

@@ -1,16 +1,16 @@
 //! Packed chains of records.
-ghost use Rattle.std.specs.Prelude.{not, ◌≡◌, ◌+◌, ◌%◌, ◌<◌, [], ◌∷◌, ◌++◌, length, slice_get, Some, None, IsOk, IfOk, IfSome, IfNone, OnOk, OnErr};
+ghost use Rattle.std.specs.Prelude.{not, ◌≡◌, ◌+◌, ◌%◌, ◌<◌, [], ◌∷◌, ◌++◌, length, slice_get, slice_index_or, Some, None, IsOk, IfOk, IfSome, IfNone, OnOk, OnErr};
 ghost use Rattle.std.specs.List.{IsDistinct, filter, swap_remove};
 ghost use Rattle.std.specs.Str.{bytes_eq};
-ghost use Rattle.lh_page.specs.Limits.{IsCapacity};
+ghost use Rattle.lh_page.specs.Limits.{IsCapacity, IsValue};
 ghost use Rattle.lh_page.specs.Lines.{unit_size};
 ghost use Rattle.lh_page.specs.PackedList.{IsPackedList, pages_of};
-ghost use Rattle.lh_page.specs.Records.{keys_of, place_of, value_at, with_value, AbsentBelow, StandsFirst};
+ghost use Rattle.lh_page.specs.Records.{keys_of, no_pair, place_of, value_at, with_value, AbsentBelow, StandsFirst};
 
 use crate::division::{Division, Part, copied, divided};
 use crate::key::Key;
 use crate::key_set::KeySet;
-use crate::marks::{MARKED, find_marked, mark_at, marks_of, put_mark};
+use crate::marks::{MARKED, find_marked, marks_of, move_mark, put_mark};
 use crate::memory::Memory;
 use crate::packing::pages_needed;
 use crate::pair::Pair;
@@ -120,6 +120,16 @@ impl Chain {
         self.pairs.value_at(place)
     }
 
+    /// The bytes of the value of the record at a place, which are not copied. Its key isn't read.
+    #[inline]
+    pub fn value_bytes(&self, place: usize) -> &[u8]
+        requires { place < length self.now.pairs }
+        ensures value { result.now ≡ value_at self.now.pairs place }
+        ensures kept { IsValue result.now }
+    {
+        self.pairs.value_bytes(place)
+    }
+
     /// Appends a record whose key is not there yet. After an error the chain is as it was.
     pub fn push(&mut self, pair: Pair) -> Result<(), Memory>
         requires { place_of self.old.pairs pair.key ≡ None }
@@ -127,10 +137,22 @@ impl Chain {
         ensures err { OnErr result (self.new ≡ self.old) }
         ensures full { OnErr result (length self.old.pairs % unit_size ≡ 0) }
     {
+        self.append(&pair.key, &pair.value)
+    }
+
+    /// Appends a record whose key is not there yet, without a pair being made. After an error the chain is as it was.
+    #[inline]
+    pub fn append(&mut self, key: &Key, value: &Value) -> Result<(), Memory>
+        requires { place_of self.old.pairs key.now ≡ None }
+        ensures ok { OnOk result (
+            self.new ≡ record self.old { pairs = self.old.pairs ++ record { key = key.now; value = value.now } ∷ [] }) }
+        ensures err { OnErr result (self.new ≡ self.old) }
+        ensures full { OnErr result (length self.old.pairs % unit_size ≡ 0) }
+    {
         let place = self.pairs.len();
-        self.pairs.push(&pair)?;
+        self.pairs.append(key, value)?;
         // Made of the key at hand: reading it back would wait until the record has reached its memory.
-        put_mark(&mut self.marks, place, &pair.key);
+        put_mark(&mut self.marks, place, key);
         Ok(())
     }
 
@@ -140,9 +162,22 @@ impl Chain {
         ensures removed { slice_get self.old.pairs place ≡ Some result }
         ensures left { self.new ≡ record self.old { pairs = swap_remove self.old.pairs place result } }
     {
-        let removed = self.pairs.swap_remove(place);
-        mark_at(&mut self.marks, &self.pairs, place);
+        let removed = self.pair_at(place);
+        self.discard(place);
         removed
+    }
+
+    /// Drops the record at a place, and moves the last record into the hole.
+    #[inline]
+    pub fn discard(&mut self, place: usize)
+        requires { place < length self.old.pairs }
+        ensures { self.new ≡ record self.old {
+          pairs = swap_remove self.old.pairs place (slice_index_or self.old.pairs place no_pair);
+        } }
+    {
+        let last = self.pairs.len() - 1;
+        self.pairs.discard(place);
+        move_mark(&mut self.marks, &self.pairs, place, last);
     }
 
     /// Takes the records whose keys are in a set out, into a chain of their own. Both parts keep their order.
@@ -173,7 +208,18 @@ impl Chain {
         ensures replaced { result ≡ value_at self.old.pairs place }
         ensures changed { self.new ≡ record self.old { pairs = with_value self.old.pairs place value } }
     {
-        self.pairs.replace(place, &value)
+        let replaced = self.value_at(place);
+        self.set_value(place, &value);
+        replaced
+    }
+
+    /// Puts a value in the place of the one under a record's key.
+    #[inline]
+    pub fn set_value(&mut self, place: usize, value: &Value)
+        requires { place < length self.old.pairs }
+        ensures { self.new ≡ record self.old { pairs = with_value self.old.pairs place value.now } }
+    {
+        self.pairs.set_value(place, value);
     }
 }
 

@@ -71,7 +71,7 @@ pub fn copied(alloc: Global, pairs: &[Pair]) -> Result<RecordList, Memory>
 {
     let mut copy = RecordList::with_room(alloc, pairs.len())?;
     for pair in pairs {
-        copy.push(pair)?;
+        copy.append(&pair.key, &pair.value)?;
     }
     Ok(copy)
 }

@@ -1,10 +1,10 @@
 //! Lines: of each record its lengths, its key and, where there is room for it, its value.
 ghost use Rattle.std.specs.Prelude.{◌≡◌, [], ◌∷◌};
 ghost use Rattle.std.specs.Str.{bytes_eq};
+ghost use Rattle.lh_page.specs.Limits.{IsValue};
 ghost use Rattle.lh_page.specs.Lines.{fits_line, key_in, record_in, value_in, IsLine};
 
 use crate::key::Key;
-use crate::pair::Pair;
 use crate::rows::{KEY_ROOM, VALUE_ROOM};
 use crate::value::Value;
 
@@ -58,49 +58,46 @@ impl Line {
         Key::of(&self.bytes[..self.key_len as usize])
     }
 
-    /// The value, which is read from the cold row where it isn't behind the key.
+    /// The value.
     #[inline]
     pub fn value(&self, cold: &[u8; VALUE_ROOM]) -> Value
         requires { IsLine self.now }
         ensures { result ≡ value_in self.now cold.now }
     {
+        Value::of(self.value_bytes(cold))
+    }
+
+    /// The bytes of the value, lent by the cold row where they aren't behind the key.
+    #[inline]
+    pub fn value_bytes<'a>(&'a self, cold: &'a [u8; VALUE_ROOM]) -> &'a [u8]
+        requires { IsLine self.now }
+        ensures value { result.now ≡ value_in self.now cold.now }
+        ensures kept { IsValue result.now }
+    {
         let key_len = self.key_len as usize;
         let value_len = self.value_len as usize;
         if self.fits() {
-            Value::of(&self.bytes[key_len..key_len + value_len])
+            &self.bytes[key_len..key_len + value_len]
         } else {
-            Value::of(&cold[..value_len])
+            &cold[..value_len]
         }
     }
 
     /// Writes a record over the one that is there, its value into the cold row where it doesn't fit behind the key.
     #[inline]
-    pub fn put(&mut self, cold: &mut [u8; VALUE_ROOM], pair: &Pair)
+    pub fn put(&mut self, cold: &mut [u8; VALUE_ROOM], key: &Key, value: &Value)
         requires { IsLine self.old }
         ensures sound { IsLine self.new }
-        ensures record { record_in self.new cold.new ≡ pair.now }
+        ensures record { record_in self.new cold.new ≡ record { key = key.now; value = value.now } }
     {
-        self.key_len = pair.key.len();
-        self.bytes[..KEY_ROOM].copy_from_slice(pair.key.row());
-        self.put_value(cold, &pair.value);
-    }
-
-    /// Puts a value in the place of the one under the key, which is handed out.
-    #[inline]
-    pub fn replace(&mut self, cold: &mut [u8; VALUE_ROOM], value: &Value) -> Value
-        requires { IsLine self.old }
-        ensures sound { IsLine self.new }
-        ensures replaced { result ≡ value_in self.old cold.old }
-        ensures changed { record_in self.new cold.new ≡ record { key = key_in self.old; value = value.now } }
-    {
-        let replaced = self.value(cold);
+        self.key_len = key.len();
+        self.bytes[..KEY_ROOM].copy_from_slice(key.row());
         self.put_value(cold, value);
-        replaced
     }
 
     /// Writes another value under the key, into the cold row where it doesn't fit behind the key.
     #[inline]
-    fn put_value(&mut self, cold: &mut [u8; VALUE_ROOM], value: &Value)
+    pub fn put_value(&mut self, cold: &mut [u8; VALUE_ROOM], value: &Value)
         requires { IsLine self.old }
         ensures sound { IsLine self.new }
         ensures record { record_in self.new cold.new ≡ record { key = key_in self.old; value = value.now } }

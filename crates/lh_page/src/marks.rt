@@ -1,9 +1,9 @@
 //! The row of one-byte marks in the head of a chain. A look-up reads the records of its key's mark alone.
-ghost use Rattle.std.specs.Prelude.{◌≡◌, ◌≢◌, ◌↔◌, ℕ, ◌+◌, ◌^◌, ◌<◌, length, slice_index, IfSome, IfNone};
+ghost use Rattle.std.specs.Prelude.{◌≡◌, ◌≢◌, ◌↔◌, ℕ, ◌+◌, ◌^◌, ◌<◌, ◌≤◌, length, slice_index, IfSome, IfNone};
 ghost use Rattle.std.specs.Int.{bit_at};
 ghost use Rattle.lh_page.specs.Mark.{mark_of};
 ghost use Rattle.lh_page.specs.Marks.{IsMarked, IsMarkedAt};
-ghost use Rattle.lh_page.specs.Records.{AbsentBelow, StandsFirst};
+ghost use Rattle.lh_page.specs.Records.{key_at, AbsentBelow, StandsFirst};
 
 use crate::key::Key;
 use crate::record_list::RecordList;
@@ -29,6 +29,21 @@ pub fn put_mark(marks: &mut [u8; MARKED], place: usize, key: &Key)
 {
     if place < MARKED {
         marks[place] = key.mark();
+    }
+}
+
+/// Marks the record that has moved from the last place to this one, where one stands there and its mark has room.
+pub fn move_mark(marks: &mut [u8; MARKED], pairs: &RecordList, place: usize, last: usize)
+    requires order { place ≤ last }
+    requires moved { last < MARKED → place < length pairs.now → slice_index marks.old last ≡ mark_of (key_at pairs.now place) }
+    ensures { IsMarkedAt marks.old marks.new pairs.now place }
+{
+    if last < MARKED {
+        // Made of no key: reading one would wait for its line.
+        let mark = marks[last];
+        marks[place] = mark;
+    } else {
+        mark_at(marks, pairs, place);
     }
 }
 

@@ -1,7 +1,8 @@
 //! Lists of records, kept in units of four.
-ghost use Rattle.std.specs.Prelude.{◌≡◌, ◌*◌, ◌%◌, ◌<◌, ◌≤◌, [], ◌∷◌, ◌++◌, length, take, slice_get, slice_index_or, Some, IsOk, IfOk, OnOk, OnErr};
+ghost use Rattle.std.specs.Prelude.{◌≡◌, ◌*◌, ◌%◌, ◌<◌, ◌≤◌, [], ◌∷◌, ◌++◌, length, take, slice_get, slice_index_or, slice_set, Some, IsOk, IfOk, OnOk, OnErr};
 ghost use Rattle.std.specs.List.{swap_remove};
 ghost use Rattle.std.specs.Str.{bytes_eq};
+ghost use Rattle.lh_page.specs.Limits.{IsValue};
 ghost use Rattle.lh_page.specs.Lines.{AreUnits};
 ghost use Rattle.lh_page.specs.PackedList.{joined};
 ghost use Rattle.lh_page.specs.Records.{key_at, value_at, with_value, no_pair};
@@ -98,6 +99,17 @@ impl RecordList {
         unit.value_at(place % UNIT)
     }
 
+    /// The bytes of the value of the record at a place.
+    #[inline]
+    pub fn value_bytes(&self, place: usize) -> &[u8]
+        requires { place < length self.now }
+        ensures value { result.now ≡ value_at self.now place }
+        ensures kept { IsValue result.now }
+    {
+        let unit = &self.units[place / UNIT];
+        unit.value_bytes(place % UNIT)
+    }
+
     /// Whether the record at a place has a key.
     #[inline]
     pub fn has_key(&self, place: usize, key: &Key) -> bool
@@ -110,14 +122,14 @@ impl RecordList {
 
     /// Appends a record. After an error the list is as it was.
     #[inline]
-    pub fn push(&mut self, pair: &Pair) -> Result<(), Memory>
-        ensures ok { OnOk result (self.new ≡ self.old ++ pair.now ∷ []) }
+    pub fn append(&mut self, key: &Key, value: &Value) -> Result<(), Memory>
+        ensures ok { OnOk result (self.new ≡ self.old ++ record { key = key.now; value = value.now } ∷ []) }
         ensures err { OnErr result (self.new ≡ self.old) }
         ensures full { OnErr result (length self.old % UNIT ≡ 0) }
     {
         make_room(&mut self.units, self.len)?;
         let unit = &mut self.units[self.len / UNIT];
-        unit.put(self.len % UNIT, pair);
+        unit.put(self.len % UNIT, key, value);
         self.len += 1;
         Ok(())
     }
@@ -138,29 +150,46 @@ impl RecordList {
         Ok(())
     }
 
-    /// Puts a value in the place of the one under a record's key, which is handed out.
+    /// Puts a value in the place of the one under a record's key.
     #[inline]
-    pub fn replace(&mut self, place: usize, value: &Value) -> Value
+    pub fn set_value(&mut self, place: usize, value: &Value)
         requires { place < length self.old }
-        ensures replaced { result ≡ value_at self.old place }
-        ensures changed { self.new ≡ with_value self.old place value.now }
+        ensures { self.new ≡ with_value self.old place value.now }
     {
         let unit = &mut self.units[place / UNIT];
-        unit.replace(place % UNIT, value)
+        unit.put_value(place % UNIT, value);
     }
 
-    /// Takes the record at a place out, and moves the last record into the hole.
-    pub fn swap_remove(&mut self, place: usize) -> Pair
+    /// Drops the record at a place, and moves the last record into the hole.
+    #[inline]
+    pub fn discard(&mut self, place: usize)
         requires { place < length self.old }
-        ensures removed { slice_get self.old place ≡ Some result }
-        ensures left { self.new ≡ swap_remove self.old place result }
+        ensures { self.new ≡ swap_remove self.old place (slice_index_or self.old place no_pair) }
     {
-        let removed = self.pair_at(place);
-        let last = self.pair_at(self.len - 1);
-        let unit = &mut self.units[place / UNIT];
-        unit.put(place % UNIT, &last);
-        self.len -= 1;
-        removed
+        let last = self.len - 1;
+        copy_record(&mut self.units, place, last);
+        self.len = last;
+    }
+}
+
+/// Copies a record over one that stands before it, or over itself.
+#[inline]
+fn copy_record(units: &mut Vec<Unit>, place: usize, from: usize)
+    requires units { AreUnits units.old.items }
+    requires order { place ≤ from }
+    requires within { from < UNIT * length units.old.items }
+    ensures units { AreUnits units.new.items }
+    ensures room { length units.new.items ≡ length units.old.items }
+    ensures copied { joined units.new.items
+        ≡ slice_set (joined units.old.items) place (slice_index_or (joined units.old.items) from no_pair) }
+{
+    if place / UNIT == from / UNIT {
+        let unit = &mut units[place / UNIT];
+        unit.move_row(place % UNIT, from % UNIT);
+    } else {
+        let (front, back) = units.split_at_mut(from / UNIT);
+        let unit = &mut front[place / UNIT];
+        unit.copy_row(place % UNIT, &back[0], from % UNIT);
     }
 }
 

@@ -1,6 +1,7 @@
 //! Units of four records.
 ghost use Rattle.std.specs.Prelude.{◌≡◌, ◌<◌, length, slice_set, slice_index_or};
 ghost use Rattle.std.specs.Str.{bytes_eq};
+ghost use Rattle.lh_page.specs.Limits.{IsValue};
 ghost use Rattle.lh_page.specs.Records.{key_at, value_at, with_value, no_pair};
 
 use crate::key::Key;
@@ -75,6 +76,16 @@ impl Unit {
         self.hot[row].value(&self.cold[row])
     }
 
+    /// The bytes of the value of the record in a row.
+    #[inline]
+    pub fn value_bytes(&self, row: usize) -> &[u8]
+        requires { row < UNIT }
+        ensures value { result.now ≡ value_at self.now row }
+        ensures kept { IsValue result.now }
+    {
+        self.hot[row].value_bytes(&self.cold[row])
+    }
+
     /// Whether the record in a row has a key.
     #[inline]
     pub fn has_key(&self, row: usize, key: &Key) -> bool
@@ -86,21 +97,20 @@ impl Unit {
 
     /// Writes a record into a row.
     #[inline]
-    pub fn put(&mut self, row: usize, pair: &Pair)
+    pub fn put(&mut self, row: usize, key: &Key, value: &Value)
         requires { row < UNIT }
-        ensures { self.new ≡ slice_set self.old row pair.now }
+        ensures { self.new ≡ slice_set self.old row (record { key = key.now; value = value.now }) }
     {
-        self.hot[row].put(&mut self.cold[row], pair);
+        self.hot[row].put(&mut self.cold[row], key, value);
     }
 
-    /// Puts a value in the place of the one in a row, which is handed out.
+    /// Puts a value in the place of the one in a row.
     #[inline]
-    pub fn replace(&mut self, row: usize, value: &Value) -> Value
+    pub fn put_value(&mut self, row: usize, value: &Value)
         requires { row < UNIT }
-        ensures replaced { result ≡ value_at self.old row }
-        ensures changed { self.new ≡ with_value self.old row value.now }
+        ensures { self.new ≡ with_value self.old row value.now }
     {
-        self.hot[row].replace(&mut self.cold[row], value)
+        self.hot[row].put_value(&mut self.cold[row], value);
     }
 
     /// Copies a row of another unit over one of this. Its cold row is copied only where it is in use.
@@ -114,6 +124,21 @@ impl Unit {
         self.hot[row] = line;
         if !line.fits() {
             self.cold[row] = other.cold[from];
+        }
+    }
+
+    /// Copies a row over another one of the same unit.
+    #[inline]
+    pub fn move_row(&mut self, row: usize, from: usize)
+        requires row { row < UNIT }
+        requires from { from < UNIT }
+        ensures { self.new ≡ slice_set self.old row (slice_index_or self.old from no_pair) }
+    {
+        let line = self.hot[from];
+        self.hot[row] = line;
+        if !line.fits() {
+            let cold = self.cold[from];
+            self.cold[row] = cold;
         }
     }
 }

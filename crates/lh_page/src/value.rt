@@ -75,13 +75,25 @@ impl Value {
     }
 
     /// The value without bytes.
-    pub(crate) fn empty() -> Self
+    pub fn empty() -> Self
         ensures { result ≡ [] }
     {
         Value {
             bytes: [0; VALUE_ROOM],
             len: 0,
         }
+    }
+
+    /// Puts other bytes in the place of the value's, of which there are as many as values have.
+    #[inline]
+    pub fn set(&mut self, bytes: &[u8])
+        requires { IsValue bytes.now }
+        ensures { self.new ≡ bytes.now }
+    {
+        let len = bytes.len();
+        self.bytes[..len].copy_from_slice(bytes);
+        self.bytes[len..].fill(0);
+        self.len = len;
     }
 
     /// The value, with zeros behind it.

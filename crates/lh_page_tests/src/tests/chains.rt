@@ -309,3 +309,45 @@ fn an_empty_chain_is_made_and_divided(rt: HostRuntime) -> Result<(), Fail> {
     assert_eq!(rt; (gone.pages(), chain.pages()), (1, 1));
     Ok(())
 }
+
+/// Appends the records of letters by their parts, each once more where memory was refused.
+fn append_records(rt: &impl Abort, chain: &mut Chain, letters: &[u8]) -> Result<(), Fail> {
+    for letter in letters {
+        let Pair { key, value } = record_of(*letter)?;
+        assert_eq!(rt; chain.find(&key), None);
+        if chain.append(&key, &value).is_err() {
+            assert_eq!(rt; chain.find(&key), None);
+            chain.append(&key, &value)?;
+        }
+    }
+    Ok(())
+}
+
+fn discard_at(rt: &impl Abort, chain: &mut Chain, place: usize) {
+    assert!(rt; place < chain.len());
+    chain.discard(place);
+}
+
+fn set_value_at(rt: &impl Abort, chain: &mut Chain, place: usize, value: &Value) {
+    assert!(rt; place < chain.len());
+    chain.set_value(place, value);
+}
+
+fn expect_value(rt: &impl Abort, chain: &Chain, place: usize, bytes: &[u8]) {
+    assert!(rt; place < chain.len());
+    assert_eq!(rt; chain.value_bytes(place), bytes);
+}
+
+#[test]
+fn a_chain_is_changed_by_parts(rt: HostRuntime) -> Result<(), Fail> {
+    let mut chain = Chain::new(rt.alloc(), 2)?;
+    append_records(&rt, &mut chain, b"abcdefg")?;
+    discard_at(&rt, &mut chain, 1);
+    expect_records(&rt, &chain, b"agcdef")?;
+    discard_at(&rt, &mut chain, 5);
+    expect_records(&rt, &chain, b"agcde")?;
+    set_value_at(&rt, &mut chain, 1, &value_of(7, 112)?);
+    expect_value(&rt, &chain, 1, &[7; 112]);
+    expect_value(&rt, &chain, 4, record_of(b'e')?.value.bytes());
+    Ok(())
+}

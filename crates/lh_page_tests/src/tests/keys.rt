@@ -36,3 +36,16 @@ fn orders_by_bytes(rt: HostRuntime) -> Result<(), Fail> {
     assert!(rt; pair_of(b"a", b"2")? < pair_of(b"b", b"1")?);
     Ok(())
 }
+
+#[test]
+fn a_value_takes_other_bytes(rt: HostRuntime) -> Result<(), Fail> {
+    let mut value = Value::empty();
+    assert_eq!(rt; value, Value::new(b"")?);
+    value.set(&[b'a'; 112]);
+    assert_eq!(rt; value, Value::new(&[b'a'; 112])?);
+    value.set(b"b");
+    assert_eq!(rt; value, Value::new(b"b")?);
+    value.set(b"");
+    assert_eq!(rt; value, Value::empty());
+    Ok(())
+}

@@ -28,3 +28,21 @@ fn refused_growth_leaves_a_chain_as_it_was(rt: HostRuntime) -> Result<(), Fail> 
     expect_records(&rt, &gone, b"abcdef")?;
     expect_records(&rt, &chain, b"ghijklmnopqrstuvwxyz")
 }
+
+/// So does an append by key and value.
+#[test]
+fn refused_appends_leave_a_chain_as_it_was(rt: HostRuntime) -> Result<(), Fail> {
+    let letters = b"abcdefghi";
+    let mut chain = Chain::new(rt.alloc(), 3)?;
+    for (place, letter) in letters.iter().enumerate() {
+        let pair = record_of(*letter)?;
+        assert_eq!(rt; chain.find(&pair.key), None);
+        if chain.append(&pair.key, &pair.value).is_err() {
+            expect_records(&rt, &chain, &letters[..place])?;
+            assert_eq!(rt; chain.find(&pair.key), None);
+            chain.append(&pair.key, &pair.value)?;
+        }
+        expect_records(&rt, &chain, &letters[..place + 1])?;
+    }
+    Ok(())
+}

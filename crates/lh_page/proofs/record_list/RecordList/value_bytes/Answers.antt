@@ -1,0 +1,13 @@
+use Rattle.std.proofs.Common.{ap, ◌∙◌}
+use Rattle.lh_page.specs.declared.pair.Pair.{Pair}
+use Rattle.lh_page.specs.Records.{no_pair}
+use Rattle.lh_page.proofs.Units.{within-first, get_or-first}
+use Rattle.lh_page.proofs.record_list.RecordList.value_bytes.Goals as goal
+
+pub returns-clause-value : goal.returns-clause-value
+returns-clause-value c =
+    let r = c.self.inside in
+    let h = c.self.invariant in
+    let below = within-first r.len r.units.items c.args.place c.args.self.now h.0 h.1 c.self.view_is c.requires in
+    let same = get_or-first r.len r.units.items c.args.place c.index-unit.result.now no_pair h.0 h.1 below c.index-unit.ensures in
+    c.value_bytes.ensures.value ∙ ap (λ (p : Pair). p.value) (rw c.self.view_is at same)

@@ -1,0 +1,11 @@
+use Rattle.std.proofs.Common.{sym, ap, ◌∙◌, arith}
+use Rattle.lh_page.specs.declared.pair.Pair.{Pair}
+use Rattle.lh_page.specs.Records.{no_pair}
+use Rattle.lh_page.proofs.Lines.{get_or-records_in}
+use Rattle.lh_page.proofs.unit.Unit.value_bytes.Goals as goal
+
+pub returns-clause-value : goal.returns-clause-value
+returns-clause-value c =
+    let u = c.self.inside in
+    let h = c.self.invariant in
+    rw (← c.self.view_is) (c.value_bytes.ensures.value ∙ ap (λ (p : Pair). p.value) (sym (get_or-records_in u.hot u.cold c.args.row _ _ no_pair (omega (arith, h.lines)) (omega (arith, h.rows)))))
