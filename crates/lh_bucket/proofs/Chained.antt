@@ -5,9 +5,9 @@ use Rattle.lh_page.specs.declared.pair.Pair.{Pair}
 use Rattle.lh_page.specs.Records.{place_of, no_pair}
 use Rattle.lh_bucket.specs.declared.call.Call.{Call}
 use Rattle.lh_bucket.specs.declared.call.Call.TheVariants.{Search, Insert, Delete, Replace}
-use Rattle.lh_bucket.specs.PlainMap.{after}
+use Rattle.lh_bucket.specs.PlainMap.{found, after}
 use Rattle.lh_bucket.specs.Records.{map_of}
-use Rattle.lh_bucket.specs.PagedBucket.{removed_at, replaced_at, served}
+use Rattle.lh_bucket.specs.PagedBucket.{found_at, removed_at, replaced_at, served}
 use Rattle.lh_bucket.proofs.MapOf.{Distinct, StandsAt, stands, get_or-any, map_of-push, map_of-swap_remove, map_of-with_value}
 
 -- the record at the place of a key
@@ -17,6 +17,11 @@ stands_there ps key place is = subst (StandsAt ps key) (sym is) (stands ps key)
 -- no record has a key that has no place
 pub stands_nowhere : (ps : List Pair) (key : List ℕ) → None ≡ place_of ps key → get (map_of ps) key ≡ None
 stands_nowhere ps key is = subst (StandsAt ps key) (sym is) (stands ps key)
+
+-- what a search finds at the place of its key
+pub found_at-is : (ps : List Pair) (key : List ℕ) (o : Option ℕ) → o ≡ place_of ps key → found_at ps o ≡ found (get (map_of ps) key)
+found_at-is ps key (Some place) is = sym (ap found (stands_there ps key place is).2)
+found_at-is ps key None is = sym (ap found (stands_nowhere ps key is))
 
 pushed : (ps : List Pair) (key value : List ℕ) (o : Option ℕ) → StandsAt ps key o → map_of (cond (is_some o) ps (ps ++ record { key = key; value = value } ∷ [])) ≡ cond (is_some (get (map_of ps) key)) (map_of ps) (insert (map_of ps) key value)
 pushed ps key value None h = map_of-push ps (record { key = key; value = value }) h ∙ ap (λ (r : Option (List ℕ)). cond (is_some r) (map_of ps) (insert (map_of ps) key value)) (sym h)

@@ -1,6 +1,8 @@
 pub mod Answer
 pub mod Bucket
 pub mod Call
+pub mod Change
+pub mod Home
 pub mod Laws
 pub mod Leaving
 pub mod Listing
@@ -9,4 +11,5 @@ pub mod PagedBucket
 pub mod PlainBucket
 pub mod PlainMap
 pub mod Records
+pub mod Tags
 pub mod Verdict

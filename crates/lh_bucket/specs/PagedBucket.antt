@@ -2,9 +2,16 @@
 use Rattle.std.specs.Prelude.{ℕ, List, [], ◌∷◌, ◌++◌, Option, Some, None, is_some, slice_index_or, if◌then◌else◌}
 use Rattle.std.specs.List.{swap_remove}
 use Rattle.lh_page.specs.declared.pair.Pair.{Pair}
-use Rattle.lh_page.specs.Records.{place_of, no_pair, with_value}
+use Rattle.lh_page.specs.Records.{place_of, no_pair, value_at, with_value}
 use Rattle.lh_bucket.specs.declared.call.Call.{Call}
 use Rattle.lh_bucket.specs.declared.call.Call.TheVariants.{Search, Insert, Delete, Replace}
+use Rattle.lh_bucket.specs.declared.call.Reply.{Reply}
+use Rattle.lh_bucket.specs.declared.call.Reply.TheVariants.{Found, Absent}
+
+-- the reply to a search that met the record at a place, or none
+abbrev pub found_at : List Pair → Option ℕ → Reply
+found_at pairs (Some place) = Found (value_at pairs place)
+found_at pairs None = Absent
 
 -- the records without the one at a place, into which the last one moves
 abbrev pub removed_at : List Pair → Option ℕ → List Pair

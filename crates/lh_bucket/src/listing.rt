@@ -1,5 +1,8 @@
 //! Listings: whole files as lists of records.
-ghost use Rattle.std.specs.Prelude.{◌≡◌, ◌^◌, ◌<◌, ◌-◌, [], length, map, min, replicate, slice_get, Some, IfOk, IfErr};
+ghost use Rattle.std.specs.Prelude.{◌≡◌, ℕ, ◌^◌, ◌<◌, ◌-◌, [], length, map, min, replicate, slice_get, Some, IfOk, IfErr};
+ghost use Rattle.std.specs.List.{All};
+ghost use Rattle.lh_page.specs.Records.{IsRecord};
+ghost use Rattle.lh_bucket.specs.Listing.{list_at};
 
 use crate::listing_faults::first_fault;
 use lh_addr::{Config, Root};
@@ -47,9 +50,32 @@ impl Model for Listing {
     ghost invariant = { λ l. IsListing (record { config = l.config; lists = map (λ v. v.items) l.lists.items }) };
 }
 
+/// Keys and values have the lengths that they may have. That is known by their types, so nothing is looked at.
+fn have_lengths(pairs: &[Pair])
+    ensures { All IsRecord pairs.now }
+{
+    for place in 0..pairs.len() {
+        let pair = &pairs[place];
+        let _ = pair.key.bytes();
+        let _ = pair.value.bytes();
+    }
+}
+
+/// The same of each list.
+fn lists_have_lengths(lists: &[Vec<Pair>])
+    ensures { (bucket : ℕ) → All IsRecord (list_at (map (λ v. v.items) lists.now) bucket) }
+{
+    for place in 0..lists.len() {
+        have_lengths(&lists[place]);
+    }
+}
+
 impl Listing {
+    ghost use Rattle.std.specs.List.{IsDistinct};
+    ghost use Rattle.std.specs.Str.{bytes_eq};
     ghost use Rattle.lh_addr.specs.Extent.{IsExtent};
-    ghost use Rattle.lh_bucket.specs.Listing.{IsListing, IsShape, list_at, size, count_of};
+    ghost use Rattle.lh_page.specs.Records.{keys_of};
+    ghost use Rattle.lh_bucket.specs.Listing.{IsListing, IsShape, IsHome, EachPlace, size, count_of};
     ghost use Rattle.lh_bucket.specs.ListingFault.{IsFaultOf};
 
     /// The listing of an empty file, which has its initial number of buckets.
@@ -85,6 +111,21 @@ impl Listing {
             Some(fault) => Err(fault),
             None => Ok(Listing { config, lists }),
         }
+    }
+
+    /// A listing of lists that are known to be one, as those of a snapshot are. No key is looked at and no memory taken.
+    pub fn of_known(config: Config, lists: Vec<Vec<Pair>>) -> Listing
+        requires shape { IsShape config (length lists.items) (map (λ v. v.items) lists.items) }
+        requires home { EachPlace (IsHome config.initial (length lists.items)) (map (λ v. v.items) lists.items) }
+        requires distinct { (bucket : ℕ) →
+            IsDistinct bytes_eq (keys_of (list_at (map (λ v. v.items) lists.items) bucket)) }
+        ensures value { result ≡ record { config = config; lists = map (λ v. v.items) lists.items } }
+        ensures kept { IsListing result }
+    {
+        // What these ensure is known of a configuration and of records by their types.
+        let _initial = config.initial();
+        lists_have_lengths(&lists);
+        Listing { config, lists }
     }
 
     /// The configuration of the file.

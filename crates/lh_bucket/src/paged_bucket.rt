@@ -1,19 +1,22 @@
 //! A bucket that is a packed chain of pages.
-ghost use Rattle.std.specs.Prelude.{not, ◌≡◌, ◌≤◌, if◌then◌else◌, IsOk, IfOk, OnOk, OnErr};
+ghost use Rattle.std.specs.Prelude.{not, ◌≡◌, ◌≤◌, IsOk, IfOk, OnOk, OnErr};
 ghost use Rattle.std.specs.List.{filter};
 ghost use Rattle.std.specs.FinMap.{get, retain_keys};
 ghost use Rattle.lh_addr.specs.Fnv.{code_of};
-ghost use Rattle.lh_bucket.specs.declared.call.Call.TheVariants.{Insert, Delete, Replace};
-ghost use Rattle.lh_bucket.specs.declared.call.Reply.TheVariants.{Absent, Inserted, Exists, Deleted, Replaced};
+ghost use Rattle.lh_bucket.specs.declared.call.Call.TheVariants.{Search, Insert, Delete, Replace};
+ghost use Rattle.lh_bucket.specs.declared.call.Reply.TheVariants.{Inserted};
 ghost use Rattle.lh_bucket.specs.declared.verdict.Verdict.TheVariants.{Here};
 ghost use Rattle.lh_bucket.specs.Call.{key_of, IsInsert};
-ghost use Rattle.lh_bucket.specs.PlainMap.{found, reply, after};
+ghost use Rattle.lh_bucket.specs.Change.{call_of, reply_of};
+ghost use Rattle.lh_bucket.specs.PlainMap.{reply, after};
 ghost use Rattle.lh_bucket.specs.Records.{map_of};
-ghost use Rattle.lh_bucket.specs.PagedBucket.{served};
+ghost use Rattle.lh_bucket.specs.PagedBucket.{found_at, served};
 
 use crate::answer::Answer;
 use crate::bucket::Bucket;
-use crate::call::{Call, Reply};
+use crate::call::Call;
+use crate::change::{Change, ChangeReply};
+use crate::home::Home;
 use crate::leaving::Leaving;
 use crate::verdict::{Verdict, verdict_of};
 use lh_addr::laws::hashes_are_nested;
@@ -90,102 +93,139 @@ impl PagedBucket {
     }
 }
 
-/// Answers a search at a chain.
-fn search_in(chain: &Chain, key: &Key) -> Reply
-    ensures { result ≡ found (get (map_of chain.now.pairs) key.now) }
-{
-    match chain.find(key) {
-        Some(place) => Reply::Found(chain.value_at(place)),
-        None => Reply::Absent,
+impl PagedBucket {
+    ghost use Rattle.std.specs.Prelude.{IfSome, ◌<◌, length};
+    ghost use Rattle.lh_page.specs.Limits.{IsValue};
+    ghost use Rattle.lh_page.specs.Records.{value_at};
+    ghost use Rattle.lh_bucket.specs.Bucket.{content, verdict};
+    ghost use Rattle.lh_bucket.specs.Home.{HomeOf};
+
+    /// The home of a code that met the verdict `Here` at level `k`.
+    #[inline]
+    pub fn home(&self, code: u64, k: u8) -> Home
+        requires low { k ≤ 16 }
+        requires here { verdict self.now.head code k ≡ Here }
+        ensures { result ≡ record {
+          code = code;
+          bucket = self.now.head.number;
+          level = k;
+          initial = self.now.head.initial;
+        } }
+    {
+        Home::new(code, self.number, k, self.initial)
+    }
+
+    /// The place of the record with a key.
+    #[inline]
+    pub fn find(&self, key: &Key) -> Option<usize>
+        ensures found { found_at self.now.pairs result ≡ reply (content self.now) (Search key.now) }
+        ensures within { IfSome result (λ place. place < length self.now.pairs) }
+    {
+        self.chain.find(key)
+    }
+
+    /// The bytes of the value of the record at a place, which are not copied.
+    #[inline]
+    pub fn value_bytes(&self, place: usize) -> &[u8]
+        requires { place < length self.now.pairs }
+        ensures value { result.now ≡ value_at self.now.pairs place }
+        ensures kept { IsValue result.now }
+    {
+        self.chain.value_bytes(place)
+    }
+
+    /// Serves a change that met the verdict `Here` at level `k`. What it is about is lent, and only its kind of reply
+    /// is handed out.
+    // Inlined with what it calls, so that nothing is done for the other changes.
+    #[inline(always)]
+    pub fn change(&mut self, change: Change<'_>, k: u8) -> Result<ChangeReply, Memory>
+        requires low { k ≤ 16 }
+        requires here { verdict self.old.head (code_of (key_of (call_of change))) k ≡ Here }
+        ensures reply { IfOk result (λ r. reply_of r ≡ reply (content self.old) (call_of change.entry)) }
+        ensures head { self.new.head ≡ self.old.head }
+        ensures content { OnOk result (content self.new ≡ after (content self.old) (call_of change.entry)) }
+        ensures order { OnOk result (self.new.pairs ≡ served self.old.pairs (call_of change.entry)) }
+
+        // Only an insert of a new key takes memory, and without memory nothing changes.
+        ensures no_memory { ¬ (IsInsert (call_of change.entry)) → IsOk result }
+        ensures new_key { OnErr result (reply (content self.old) (call_of change.entry) ≡ Inserted) }
+        ensures err { OnErr result (self.new ≡ self.old) }
+    {
+        let reply = change_at(&mut self.chain, change)?;
+        // In a chain no key stands twice.
+        let _ = self.chain.len();
+        Ok(reply)
     }
 }
 
-/// Puts a record last in a chain, unless its key is there: whether it was put.
-fn insert_into(chain: &mut Chain, key: &Key, value: &Value) -> Result<bool, Memory>
-    ensures reply { IfOk result (λ is_new. (if is_new then Inserted else Exists)
-        ≡ reply (map_of chain.old.pairs) (Insert key.now value.now)) }
+/// The value under a key in a chain.
+fn value_in(chain: &Chain, key: &Key) -> Option<Value>
+    ensures { result ≡ get (map_of chain.now.pairs) key.now }
+{
+    match chain.find(key) {
+        Some(place) => Some(chain.value_at(place)),
+        None => None,
+    }
+}
+
+/// Puts a record last in a chain, unless its key is there.
+fn insert_into(chain: &mut Chain, key: &Key, value: &Value) -> Result<ChangeReply, Memory>
+    ensures reply { IfOk result (λ r. reply_of r ≡ reply (map_of chain.old.pairs) (Insert key.now value.now)) }
     ensures list { OnOk result (
         chain.new ≡ record chain.old { pairs = served chain.old.pairs (Insert key.now value.now) }) }
     ensures new_key { OnErr result (reply (map_of chain.old.pairs) (Insert key.now value.now) ≡ Inserted) }
     ensures err { OnErr result (chain.new ≡ chain.old) }
 {
     match chain.find(key) {
-        Some(_) => Ok(false),
+        Some(_) => Ok(ChangeReply::Exists),
         None => {
-            let pair = Pair {
-                key: *key,
-                value: *value,
-            };
-            chain.push(pair)?;
-            Ok(true)
+            chain.append(key, value)?;
+            Ok(ChangeReply::Inserted)
         }
     }
 }
 
-/// Takes the record with a key out of a chain: whether it was there.
-fn delete_from(chain: &mut Chain, key: &Key) -> bool
-    ensures reply { (if result then Deleted else Absent) ≡ reply (map_of chain.old.pairs) (Delete key.now) }
+/// Takes the record with a key out of a chain, if it is there.
+fn delete_from(chain: &mut Chain, key: &Key) -> ChangeReply
+    ensures reply { reply_of result ≡ reply (map_of chain.old.pairs) (Delete key.now) }
     ensures list { chain.new ≡ record chain.old { pairs = served chain.old.pairs (Delete key.now) } }
 {
     match chain.find(key) {
         Some(place) => {
-            chain.remove(place);
-            true
+            chain.discard(place);
+            ChangeReply::Deleted
         }
-        None => false,
+        None => ChangeReply::Absent,
     }
 }
 
-/// Gives the record with a key another value, in its place: whether it was there.
-fn replace_in(chain: &mut Chain, key: &Key, value: &Value) -> bool
-    ensures reply { (if result then Replaced else Absent)
-        ≡ reply (map_of chain.old.pairs) (Replace key.now value.now) }
+/// Gives the record with a key another value, in its place, if it is there.
+fn replace_in(chain: &mut Chain, key: &Key, value: &Value) -> ChangeReply
+    ensures reply { reply_of result ≡ reply (map_of chain.old.pairs) (Replace key.now value.now) }
     ensures list { chain.new ≡ record chain.old { pairs = served chain.old.pairs (Replace key.now value.now) } }
 {
     match chain.find(key) {
         Some(place) => {
-            chain.replace_at(place, *value);
-            true
+            chain.set_value(place, value);
+            ChangeReply::Replaced
         }
-        None => false,
+        None => ChangeReply::Absent,
     }
 }
 
-/// Serves a call at a chain.
+/// Serves a change at a chain.
 #[inline(always)]
-fn serve_at(chain: &mut Chain, call: &Call) -> Result<Reply, Memory>
-    ensures reply { IfOk result (λ r. r ≡ reply (map_of chain.old.pairs) call.now) }
-    ensures list { OnOk result (chain.new ≡ record chain.old { pairs = served chain.old.pairs call.now }) }
-    ensures no_memory { ¬ (IsInsert call.now) → IsOk result }
-    ensures new_key { OnErr result (reply (map_of chain.old.pairs) call.now ≡ Inserted) }
+fn change_at(chain: &mut Chain, change: Change<'_>) -> Result<ChangeReply, Memory>
+    ensures reply { IfOk result (λ r. reply_of r ≡ reply (map_of chain.old.pairs) (call_of change.entry)) }
+    ensures list { OnOk result (chain.new ≡ record chain.old { pairs = served chain.old.pairs (call_of change.entry) }) }
+    ensures no_memory { ¬ (IsInsert (call_of change.entry)) → IsOk result }
+    ensures new_key { OnErr result (reply (map_of chain.old.pairs) (call_of change.entry) ≡ Inserted) }
     ensures err { OnErr result (chain.new ≡ chain.old) }
 {
-    match call {
-        Call::Search(key) => Ok(search_in(chain, key)),
-        Call::Insert(key, value) => {
-            let is_new = insert_into(chain, key, value)?;
-            Ok(if is_new {
-                Reply::Inserted
-            } else {
-                Reply::Exists
-            })
-        }
-        Call::Delete(key) => {
-            let was_there = delete_from(chain, key);
-            Ok(if was_there {
-                Reply::Deleted
-            } else {
-                Reply::Absent
-            })
-        }
-        Call::Replace(key, value) => {
-            let was_there = replace_in(chain, key, value);
-            Ok(if was_there {
-                Reply::Replaced
-            } else {
-                Reply::Absent
-            })
-        }
+    match change {
+        Change::Insert(key, value) => insert_into(chain, key, value),
+        Change::Delete(key) => Ok(delete_from(chain, key)),
+        Change::Replace(key, value) => Ok(replace_in(chain, key, value)),
     }
 }
 
@@ -239,8 +279,8 @@ impl Bucket for PagedBucket {
     }
 
     fn look(&self, call: &Call, k: u8) -> Answer {
-        let reply = search_in(&self.chain, call.key());
-        Answer::new(*call, reply, self.number, k, self.initial)
+        let value = value_in(&self.chain, call.key());
+        Answer::searched(call.key(), value.as_ref(), self.number, k, self.initial)
     }
 
     // Inlined with what it calls, so that an answer is made where its caller has room for it.
@@ -256,10 +296,11 @@ impl Bucket for PagedBucket {
         ensures new_key { OnErr result (reply (content self.old) call.now ≡ Inserted) }
         ensures err { OnErr result (self.new ≡ self.old) }
     {
-        let reply = serve_at(&mut self.chain, call)?;
-        // In a chain no key stands twice.
-        let _ = self.chain.len();
-        Ok(Answer::new(*call, reply, self.number, k, self.initial))
+        let Some(change) = Change::of_call(call) else {
+            return Ok(self.look(call, k));
+        };
+        let reply = self.change(change, k)?;
+        Ok(Answer::changed(change, reply, self.number, k, self.initial))
     }
 
     fn split_into(&mut self, new: &mut Self) -> Result<(), Memory>

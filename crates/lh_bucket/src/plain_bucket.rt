@@ -7,13 +7,15 @@ ghost use Rattle.std.specs.FinMap.{get, insert, remove, retain_keys, contains_ke
 ghost use Rattle.lh_bucket.specs.declared.call.Reply.TheVariants.{Inserted};
 ghost use Rattle.lh_bucket.specs.Leaving.{leads_to};
 ghost use Rattle.lh_bucket.specs.Call.{IsInsert};
+ghost use Rattle.lh_bucket.specs.Change.{call_of, reply_of};
 ghost use Rattle.lh_bucket.specs.PlainMap.{reply, after};
 ghost use Rattle.lh_bucket.specs.Records.{map_of};
 ghost use Rattle.lh_bucket.specs.PlainBucket.{pairs_of_entries};
 
 use crate::answer::Answer;
 use crate::bucket::Bucket;
-use crate::call::{Call, Reply};
+use crate::call::Call;
+use crate::change::{Change, ChangeReply};
 use crate::leaving::Leaving;
 use crate::verdict::{Verdict, verdict_of};
 use lh_addr::laws::hashes_are_nested;
@@ -81,7 +83,7 @@ fn take(records: &mut BTreeMap<Key, Value>, key: &Key) -> bool
 }
 
 /// Gives a key another value, and says whether it was there.
-fn change(records: &mut BTreeMap<Key, Value>, key: &Key, value: Value) -> bool
+fn replace(records: &mut BTreeMap<Key, Value>, key: &Key, value: Value) -> bool
     ensures found { result ≡ contains_key (map_of (pairs_of_entries records.old.entries)) key.now }
     ensures changed { map_of (pairs_of_entries records.new.entries)
         ≡ (if result then insert (map_of (pairs_of_entries records.old.entries)) key.now value
@@ -97,41 +99,38 @@ fn change(records: &mut BTreeMap<Key, Value>, key: &Key, value: Value) -> bool
     }
 }
 
-/// Serves a call at a map.
-fn serve_at(records: &mut BTreeMap<Key, Value>, call: &Call) -> Result<Reply, Memory>
+/// Serves a change at a map.
+fn change_at(records: &mut BTreeMap<Key, Value>, change: Change<'_>) -> Result<ChangeReply, Memory>
     requires { IsOrdered (slice_cmp nat_cmp) records.old }
-    ensures reply { IfOk result (λ r. r ≡ reply (map_of (pairs_of_entries records.old.entries)) call.now) }
-    ensures after { OnOk result (map_of (pairs_of_entries records.new.entries)
-        ≡ after (map_of (pairs_of_entries records.old.entries)) call.now) }
+    ensures reply { IfOk result (λ r.
+        reply_of r ≡ reply (map_of (pairs_of_entries records.old.entries)) (call_of change.entry)) }
+    ensures content { OnOk result (map_of (pairs_of_entries records.new.entries)
+        ≡ after (map_of (pairs_of_entries records.old.entries)) (call_of change.entry)) }
     ensures ordered { IsOrdered (slice_cmp nat_cmp) records.new }
-    ensures no_memory { ¬ (IsInsert call.now) → IsOk result }
-    ensures new_key { OnErr result (reply (map_of (pairs_of_entries records.old.entries)) call.now ≡ Inserted) }
+    ensures no_memory { ¬ (IsInsert (call_of change.entry)) → IsOk result }
+    ensures new_key { OnErr result (reply (map_of (pairs_of_entries records.old.entries)) (call_of change.entry) ≡ Inserted) }
     ensures err { OnErr result (records.new.entries ≡ records.old.entries) }
 {
-    match call {
-        Call::Search(key) => match value_at(records, key) {
-            Some(value) => Ok(Reply::Found(value)),
-            None => Ok(Reply::Absent),
-        },
-        Call::Insert(key, value) => match value_at(records, key) {
-            Some(_) => Ok(Reply::Exists),
+    match change {
+        Change::Insert(key, value) => match value_at(records, key) {
+            Some(_) => Ok(ChangeReply::Exists),
             None => {
                 add(records, *key, *value)?;
-                Ok(Reply::Inserted)
+                Ok(ChangeReply::Inserted)
             }
         },
-        Call::Delete(key) => {
+        Change::Delete(key) => {
             if take(records, key) {
-                Ok(Reply::Deleted)
+                Ok(ChangeReply::Deleted)
             } else {
-                Ok(Reply::Absent)
+                Ok(ChangeReply::Absent)
             }
         }
-        Call::Replace(key, value) => {
-            if change(records, key, *value) {
-                Ok(Reply::Replaced)
+        Change::Replace(key, value) => {
+            if replace(records, key, *value) {
+                Ok(ChangeReply::Replaced)
             } else {
-                Ok(Reply::Absent)
+                Ok(ChangeReply::Absent)
             }
         }
     }
@@ -198,16 +197,16 @@ impl Bucket for PlainBucket {
     }
 
     fn look(&self, call: &Call, k: u8) -> Answer {
-        let reply = match value_at(&self.records, call.key()) {
-            Some(value) => Reply::Found(value),
-            None => Reply::Absent,
-        };
-        Answer::new(*call, reply, self.number, k, self.initial)
+        let value = value_at(&self.records, call.key());
+        Answer::searched(call.key(), value.as_ref(), self.number, k, self.initial)
     }
 
     fn serve(&mut self, call: &Call, k: u8) -> Result<Answer, Memory> {
-        let reply = serve_at(&mut self.records, call)?;
-        Ok(Answer::new(*call, reply, self.number, k, self.initial))
+        let Some(change) = Change::of_call(call) else {
+            return Ok(self.look(call, k));
+        };
+        let reply = change_at(&mut self.records, change)?;
+        Ok(Answer::changed(change, reply, self.number, k, self.initial))
     }
 
     fn split_into(&mut self, new: &mut Self) -> Result<(), Memory> {

@@ -1,6 +1,7 @@
 //! Both buckets through their trait, and listings.
 
 mod calls;
+mod changes;
 mod equality;
 mod listings;
 mod memory;

@@ -1,6 +1,6 @@
 use Rattle.std.proofs.Common.{rules, ◌∙◌, sym, ap, is_some}
 use Rattle.lh_bucket.proofs.PlainBuckets.{get-pairs_of_entries, inserted}
-use Rattle.lh_bucket.proofs.plain_bucket.change.Goals as goal
+use Rattle.lh_bucket.proofs.plain_bucket.replace.Goals as goal
 
 pub returns-in-Some-clause-found : goal.returns-in-Some-clause-found
 returns-in-Some-clause-found c = ap is_some (c.in-Some.ensures.value ∙ sym (get-pairs_of_entries c.args.records.now.entries c.args.key.now))
