@@ -8,10 +8,15 @@ use Rattle.lh_addr.specs.Settings.{Settings}
 use Rattle.lh_page.specs.declared.pair.Pair.{Pair}
 use Rattle.lh_page.specs.Records.{keys_of}
 use Rattle.lh_bucket.specs.Bucket.{Seen}
-use Rattle.lh_bucket.specs.Listing.{list_at}
+use Rattle.lh_bucket.specs.Listing.{Lists, list_at}
 use Rattle.lh_file.specs.Acts.{stamps_of}
+use Rattle.lh_file.specs.declared.act.ActLine.{ActLine}
 use Rattle.lh_file.specs.FileState.{FileState}
 use Rattle.lh_file.specs.History.History.{History}
+use Rattle.lh_file.specs.History.Log.{lines_of}
+use Rattle.lh_file.specs.Settling.ClosedFile.{ClosedFile}
+use Rattle.lh_file.specs.Settling.Settled.{IsSettled}
+use Rattle.lh_file.specs.Snapshots.Moments.{IsSnapshot}
 use Rattle.lh_file.specs.Words.HandState.{HandState}
 use Rattle.lh_file.specs.Words.Rule.{Each, IsRule}
 use Rattle.lh_file.specs.Words.Sums.{times, once_below}
@@ -55,3 +60,12 @@ pub record AreGathered (buckets : List Seen) (lists : List (List Pair)) (whole :
 -- none of these acts was made on a bucket that isn't the file's
 abbrev pub NoneLent : List Entry → Type 0
 NoneLent entries = Each entries (λ e. e.lent ≡ false)
+
+-- A traced file was closed with all its buckets and no split under way: the hand that closed it was told of a log, of all
+-- that was done with the file, and the closed file holds just what that leaves. Where each call came home to this hand
+-- and none was lent, these acts are the log's, of which none is lent, and the file is settled.
+abbrev pub HasHistory : Lists → ClosedFile → List ActLine → HandState → Type 0
+HasHistory opening closed acts hand =
+    (log : List Entry) × IsSnapshot opening closed hand.entries hand.logs log
+    × (hand.view.left + length hand.acts ≡ 2 ^ 63 → NoneLent hand.entries →
+    IsSettled opening closed acts (lines_of log) × NoneLent log)

@@ -42,4 +42,5 @@ pub record IsOpened (config : Settings) (buckets : ℕ) (recording : Bool) (reco
   pub is_of : IsOf file hand
   pub view : hand.view ≡ first_view (record { initial = config.initial; opened = buckets; max = config.max })
   pub entries : hand.entries ≡ []
+  pub logs : hand.logs ≡ []
   pub acts : hand.acts ≡ []

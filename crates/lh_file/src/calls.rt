@@ -1,7 +1,10 @@
-//! Searches, inserts, deletes and splits.
+//! Searches, inserts, deletes, replaces and splits.
 pub(crate) mod aim;
+mod answered;
+pub(crate) mod coded;
 mod hold;
+mod lean;
 pub mod parts;
 mod serve;
-mod split;
+pub(crate) mod split;
 mod walk;

@@ -1,9 +1,8 @@
 //! How a file is closed.
 ghost use Rattle.std.specs.Prelude.{◌≡◌, ℕ, ◌+◌, ◌-◌, ◌%◌, ◌^◌, ◌<◌, ◌≤◌, true, [], length, map, IfOk, OnOk};
-ghost use Rattle.lh_file.specs.Closing.{NoneIsLost, AreGathered, NoneLent};
+ghost use Rattle.lh_file.specs.Closing.{NoneIsLost, AreGathered, HasHistory};
 ghost use Rattle.lh_file.specs.FileState.{IsOf};
 ghost use Rattle.lh_file.specs.HashFile.{IsClosing};
-ghost use Rattle.lh_file.specs.Settling.Settled.{Settled};
 
 use crate::act::Acts;
 use crate::buckets::room::Room;
@@ -105,8 +104,10 @@ impl<G: Gate, M: Mode, J: Room> HashFile<G, M, J> {
     /// for the records, the file and the hand are gone.
     ///
     /// What was done with a traced file is one legal history, and the closed file holds just what that leaves: where
-    /// all buckets were met with their seats ([`Closed::gathered`]), no split was under way, no call was left with a
-    /// hand that wasn't joined, and no act was made on a bucket of the caller's own.
+    /// all buckets were met with their seats ([`Closed::gathered`]) and no split was under way, whatever hands were
+    /// lost and whether the file records or not. That history goes on from all that the hand was told of. Where no call
+    /// was left with a hand that wasn't joined, and no act was made on a bucket of the caller's own, the hand's acts
+    /// are that history.
     ///
     /// No call can be under way, since the file is owned; the locks are taken nevertheless.
     pub fn close<R: Wait>(self, rt: &R, hand: Hand) -> Result<(Closed, Acts), Memory>
@@ -117,7 +118,7 @@ impl<G: Gate, M: Mode, J: Room> HashFile<G, M, J> {
         ensures acts { IfOk result (λ r. r.1 ≡ hand.acts) }
         ensures none_is_lost { IfOk result (λ r. NoneIsLost hand r.0.stamps) }
         ensures history { IfOk result (λ r. M.traced ≡ true → r.0.gathered ≡ true → r.0.root % 2 ≡ 0 →
-            hand.view.left + length hand.acts ≡ 2 ^ 63 → NoneLent hand.entries → Settled self.state.listing r.0 r.1) }
+            HasHistory self.state.listing r.0 r.1 hand) }
     {
         // Its law: a code has one address.
         address_is_only_bucket();

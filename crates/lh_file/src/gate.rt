@@ -3,7 +3,7 @@
 /// Where a call of a file stands. Buckets go by their numbers.
 #[derive(Clone, Copy, Debug, PartialEq, Eq)]
 pub enum Point {
-    /// A call has read the size of the file: a search, an insert, a delete or a replace.
+    /// A call has read the size of the file: a search, an insert, a delete, a replace or a snapshot.
     Read,
     /// It has got the lock of a bucket, and hasn't looked at it yet.
     Holding { bucket: u32 },
@@ -11,6 +11,8 @@ pub enum Point {
     Acted { bucket: u32 },
     /// It has dropped the lock of the bucket, served or not.
     Released { bucket: u32 },
+    /// A snapshot has the locks of all buckets, this many or more, and has copied none yet.
+    Surveyed { buckets: u32 },
     /// The right to split was got.
     RightGot,
     /// A split has moved its records and dropped both locks. The file's size is the old one yet.

@@ -1,11 +1,14 @@
 //! A linear hash file that many threads use at once. Of a traced one the history is proved: whatever the schedule, its
 //! calls are those of one plain map. Of any other, recorded acts can be settled after the run.
 //!
+//! While it works a file can be copied, all of it at one moment ([`HashFile::snapshot`]) or bucket by bucket ([`Scan`]).
+//!
 //! Each thread takes part with a [`Hand`] of its own. What all of them change stands in four words: the
 //! root with the right to split, the next stamp, and the counts of inserts and of deletes. They change
 //! in single atomic steps of a few kinds, under one rule about the words and about what each hand knows,
 //! has and did; the rule holds between any two steps. Each bucket has a reader-writer lock of its own.
-//! A call holds one bucket at a time, a split the two that it divides, the lower number first.
+//! A call holds one bucket at a time, a split the two that it divides, the lower number first, and a snapshot all of them,
+//! in the same order.
 //!
 //! The steps that calls and splits take are those of the stepping core, and a comment names each where it
 //! is taken: `Call`, `Read`, `Lock`, `Rehash`, `Act` and `Release` of a call, `SplitBegin`, `SplitLock`,
@@ -33,11 +36,13 @@ mod gate;
 pub mod laws;
 mod opening;
 mod settling;
+mod snapshots;
 mod words;
 
 pub use act::{ActLine, Acts};
 pub use buckets::room::{Loose, Room};
 pub use buckets::segment::Segment;
+pub use calls::coded::{Coded, CodedKey};
 pub use calls::parts;
 pub use fault::{FileFault, JoinFault};
 pub use file::HashFile;
@@ -48,6 +53,9 @@ pub use settling::closed_file::Closed;
 pub use settling::history::History;
 pub use settling::settle_fault::SettleFault;
 pub use settling::{settle, settle_laws};
+pub use snapshots::bucket_copy::BucketCopy;
+pub use snapshots::scan::Scan;
+pub use snapshots::settled::settle_snapshot;
 pub use words::Words;
 pub use words::hand::Hand;
 pub use words::load::Load;

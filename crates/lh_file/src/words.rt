@@ -3,6 +3,7 @@ ghost use Rattle.std.specs.Prelude.{◌≡◌, ◌≤◌, IfOk};
 ghost use Rattle.lh_bucket.specs.Listing.{size};
 
 mod begin;
+mod borrowed;
 mod counts;
 mod end;
 mod halves;

@@ -4,7 +4,6 @@
 ghost use Rattle.lh_file.specs.FileState.{IsOf};
 
 use lh_addr::Config;
-use lh_bucket::Reply;
 use lh_file::{Hand, HashFile, NoGate};
 use lh_page::{Key, Value};
 use std::str;
@@ -26,7 +25,7 @@ fn fill<R: Print + Wait>(rt: &R, file: &HashFile<NoGate>, hand: &mut Hand) -> an
 {
     for (name, number) in BOOK {
         let (key, value) = (Key::new(name.as_bytes())?, Value::new(number.as_bytes())?);
-        if file.insert(rt, hand, key, value)?.reply() == Reply::Exists {
+        if !file.put(rt, hand, &key, &value)? {
             println!(rt; "{name} is there already")?;
         }
     }
@@ -43,9 +42,9 @@ fn print_number<R: Print + Wait>(
     requires { IsOf file.now.state hand.old }
     ensures { IsOf file.now.state hand.new }
 {
-    match file.search(rt, hand, Key::new(name.as_bytes())?)?.reply() {
-        Reply::Found(value) => println!(rt; "{name}: {}", str::from_utf8(value.bytes())?)?,
-        _ => println!(rt; "{name} is not in the book")?,
+    match file.get(rt, hand, &Key::new(name.as_bytes())?)? {
+        Some(value) => println!(rt; "{name}: {}", str::from_utf8(value.bytes())?)?,
+        None => println!(rt; "{name} is not in the book")?,
     }
     Ok(())
 }
@@ -57,9 +56,9 @@ fn main(rt: HostRuntime) -> anyhow::Result<()> {
     fill(&rt, &file, &mut hand)?;
 
     print_number(&rt, &file, &mut hand, "Ada")?;
-    file.replace(&rt, &mut hand, Key::new(b"Ada")?, Value::new(b"0172")?)?;
+    file.set(&rt, &mut hand, &Key::new(b"Ada")?, &Value::new(b"0172")?)?;
     print_number(&rt, &file, &mut hand, "Ada")?;
-    file.delete(&rt, &mut hand, Key::new(b"Ada")?)?;
+    file.remove(&rt, &mut hand, &Key::new(b"Ada")?)?;
     print_number(&rt, &file, &mut hand, "Ada")?;
 
     println!(rt; "{} buckets", file.buckets(&mut hand))?;

@@ -19,23 +19,23 @@ use Rattle.lh_file.specs.History.Log.{entry}
 use Rattle.lh_file.specs.History.Told.{HasEntered}
 use Rattle.lh_file.specs.Words.HandState.{HandState, IsSame, knowing, with_right}
 use Rattle.lh_file.specs.Words.Recording.{Acted, inserts_of, deletes_of, kept_of}
-use Rattle.lh_file.specs.Calls.Served.{HasLooked, HasServed, IsNotSpent, Serves}
+use Rattle.lh_file.specs.Calls.Served.{HasLooked, HasServed, IsNotSpent, Makes, Serves}
 use Rattle.lh_file.specs.Words.Views.{rooted, stamped_with}
 use Rattle.lh_file.specs.declared.fault.FileFault.{FileFault}
 use Rattle.lh_file.specs.declared.words.view.View.{View}
 
 -- a hand that nothing happened to
 pub looked_same : (h : HandState) → HasLooked h h
-looked_same h = record { known = h.view.known; rises = omega arith; view = refl; entries = refl; acts = refl; table = refl; recording = refl }
+looked_same h = record { known = h.view.known; rises = omega arith; view = refl; entries = refl; logs = refl; acts = refl; table = refl; recording = refl }
 
 pub looked_equal : (a b : HandState) → b ≡ a → HasLooked a b
 looked_equal a b e = subst (HasLooked a) (sym e) (looked_same a)
 
 pub looked_room : (a b : HandState) → IsSame a b → HasLooked a b
-looked_room a b same = record { known = a.view.known; rises = omega arith; view = same.view; entries = same.entries; acts = same.acts; table = same.table; recording = same.recording }
+looked_room a b same = record { known = a.view.known; rises = omega arith; view = same.view; entries = same.entries; logs = same.logs; acts = same.acts; table = same.table; recording = same.recording }
 
 pub looked_knowing : (h : HandState) (n : ℕ) → h.view.known ≤ n → HasLooked h (knowing h n)
-looked_knowing h n rises = record { known = n; rises = rises; view = refl; entries = refl; acts = refl; table = refl; recording = refl }
+looked_knowing h n rises = record { known = n; rises = rises; view = refl; entries = refl; logs = refl; acts = refl; table = refl; recording = refl }
 
 -- two looks are one
 pub looked_twice : (a b c : HandState) → HasLooked a b → HasLooked b c → HasLooked a c
@@ -44,6 +44,7 @@ looked_twice a b c first second = record {
   rises = let k = ap (λ (v : View). v.known) first.view in omega (arith, first.rises, second.rises, k);
   view = second.view ∙ ap (λ (v : View). rooted v second.known v.has_right) first.view;
   entries = second.entries ∙ first.entries;
+  logs = second.logs ∙ first.logs;
   acts = second.acts ∙ first.acts;
   table = second.table ∙ first.table;
   recording = second.recording ∙ first.recording;
@@ -56,6 +57,7 @@ looked_right a b n m none rises more is = record {
   rises = omega (arith, rises, more);
   view = ap (λ (h : HandState). h.view) is ∙ ap (λ r. rooted a.view m r) (sym none);
   entries = ap (λ (h : HandState). h.entries) is;
+  logs = ap (λ (h : HandState). h.logs) is;
   acts = ap (λ (h : HandState). h.acts) is;
   table = ap (λ (h : HandState). h.table) is;
   recording = ap (λ (h : HandState). h.recording) is;
@@ -70,6 +72,7 @@ looked_then_acted a b c call reply enough looked (stamp, act) = record {
   enough = enough;
   rises = looked.rises;
   view = act.view ∙ ap (λ (v : View). record v { stamps = v.stamps ++ stamp ∷ []; left = v.left - 1; inserted = v.inserted + inserts_of reply; deleted = v.deleted + deletes_of reply }) looked.view;
+  logs = act.logs ∙ looked.logs;
   acts = act.acts ∙ ap (λ xs. xs ++ kept_of b.recording (record { stamp = stamp; call = call; reply = reply })) looked.acts ∙ ap (λ r. a.acts ++ kept_of r (record { stamp = stamp; call = call; reply = reply })) looked.recording;
   table = act.table ∙ looked.table;
   recording = act.recording ∙ looked.recording;
@@ -96,6 +99,7 @@ served_then_looked a b c call reply served looked = record {
   enough = served.enough;
   rises = let k = ap (λ (v : View). v.known) served.view in omega (arith, served.rises, looked.rises, k);
   view = looked.view ∙ ap (λ (v : View). rooted v looked.known v.has_right) served.view;
+  logs = looked.logs ∙ served.logs;
   acts = looked.acts ∙ served.acts;
   table = looked.table ∙ served.table;
   recording = looked.recording ∙ served.recording;
@@ -110,6 +114,7 @@ looked_then_served a b c call reply looked served = record {
   enough = let l = ap (λ (v : View). v.left) looked.view in omega (arith, served.enough, l);
   rises = let k = ap (λ (v : View). v.known) looked.view in omega (arith, looked.rises, served.rises, k);
   view = served.view ∙ ap (λ (v : View). record v { known = served.known; stamps = v.stamps ++ served.stamp ∷ []; left = v.left - 1; inserted = v.inserted + inserts_of reply; deleted = v.deleted + deletes_of reply }) looked.view;
+  logs = served.logs ∙ looked.logs;
   acts = served.acts ∙ ap (λ xs. xs ++ kept_of b.recording (record { stamp = served.stamp; call = call; reply = reply })) looked.acts ∙ ap (λ r. a.acts ++ kept_of r (record { stamp = served.stamp; call = call; reply = reply })) looked.recording;
   table = served.table ∙ looked.table;
   recording = served.recording ∙ looked.recording;
@@ -138,6 +143,52 @@ looked_then_serves file a b c asked (Err f) looked left call served of same faul
   err = subst (HasLooked a) (sym same) looked;
   of = of;
 }
+
+module _ {T : Type 0} where
+  -- a look, and then a result or a fault that left the hand as it was, are what a call without an answer promises
+  pub looked_then_makes : (file : FileState) (a b c : HandState) (call : Call) (r : Result T FileFault) (reply_in : T → Reply) → HasLooked a b → 1 ≤ b.view.left →
+      IfOk r (λ t. HasServed b call (reply_in t) c) → IsOf file c → OnErr r (c ≡ b) → IfErr r IsNotSpent → Makes file a call r reply_in c
+  looked_then_makes file a b c call (Ok t) reply_in looked left served of same fault = record {
+    served = looked_then_served a b c call (reply_in t) looked served;
+    spent = ((λ is. absurd (subst (λ (r : Result T FileFault). OnErr r ⊥) is tt)), (λ none. let may = may_call a b looked left in absurd (omega (arith, may, none))));
+    not_spent = λ may. tt;
+    err = tt;
+    of = of;
+  }
+  looked_then_makes file a b c call (Err f) reply_in looked left served of same fault = record {
+    served = tt;
+    spent = ((λ is. absurd (subst (λ (r : Result T FileFault). IfErr r IsNotSpent) is fault)), (λ none. let may = may_call a b looked left in absurd (omega (arith, may, none))));
+    not_spent = λ may. fault;
+    err = subst (HasLooked a) (sym same) looked;
+    of = of;
+  }
+
+-- the fault of a result, or else this one
+abbrev pub fault_in : {T : Type 0} → FileFault → Result T FileFault → FileFault
+fault_in f (Ok t) = f
+fault_in f (Err g) = g
+
+-- a call that was made and then given another result for the same reply
+module _ {T U : Type 0} where
+  pub made_as : (file : FileState) (old new : HandState) (call : Call) (reply_in : T → Reply) (other : U → Reply) (t : T) (u : U) → reply_in t ≡ other u →
+      Makes file old call (Ok t) reply_in new → Makes file old call (Ok u) other new
+  made_as file old new call reply_in other t u same made = record {
+    served = subst (λ r. HasServed old call r new) same made.served;
+    spent = ((λ is. absurd (subst (λ (r : Result U FileFault). OnErr r ⊥) is tt)), (λ none. absurd (let e = made.served.enough in omega (arith, e, none))));
+    not_spent = λ may. tt;
+    err = tt;
+    of = made.of;
+  }
+
+  pub failed_as : (file : FileState) (old new : HandState) (call : Call) (reply_in : T → Reply) (other : U → Reply) (f : FileFault) →
+      Makes file old call (Err f) reply_in new → Makes file old call (Err f) other new
+  failed_as file old new call reply_in other f made = record {
+    served = tt;
+    spent = ((λ is. made.spent.0 (ap (λ (r : Result U FileFault). Err (fault_in f r)) is)), (λ none. ap (λ (r : Result T FileFault). Err (fault_in f r)) (made.spent.1 none)));
+    not_spent = made.not_spent;
+    err = made.err;
+    of = made.of;
+  }
 
 -- an act that was entered between two looks is entered
 pub looked_then_entered : (lent : Bool) (a b c : HandState) (call : Call) (reply : Reply) → HasLooked a b → HasEntered lent b call reply c → HasEntered lent a call reply c

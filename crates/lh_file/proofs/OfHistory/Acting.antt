@@ -1,5 +1,5 @@
 -- An act enters the log in the step that draws its stamp
-use Rattle.std.proofs.Common.{◌≡◌, ◌≢◌, ℕ, ◌+◌, ◌<◌, ◌≤◌, Bool, true, false, Some, List, [], ◌∷◌, ◌++◌, set, refl, sym, ap, ◌∙◌, subst, arith, length-append}
+use Rattle.std.proofs.Common.{◌≡◌, ◌≢◌, ℕ, ◌+◌, ◌<◌, ◌≤◌, Bool, true, false, Some, List, [], ◌∷◌, ◌++◌, set, refl, sym, ap, ◌∙◌, subst, arith, length-append, append_assoc}
 use Rattle.std.specs.FinMap.{retain_keys}
 use Rattle.std.proofs.lemmas.Bool.{false≢true}
 use mathlib.Core.Option.{some}
@@ -15,7 +15,7 @@ use Rattle.lh_bucket.specs.declared.call.Call.{Call}
 use Rattle.lh_bucket.specs.declared.call.Reply.{Reply}
 use Rattle.lh_file.specs.History.Buckets.{bit, owns, belongs, owners_in, Mirrors, HasServedCall, IsPlacedIn}
 use Rattle.lh_file.specs.History.History.{owners, moves_in, History}
-use Rattle.lh_file.specs.History.Log.{entry, left_after, stamps_in, StandsIn}
+use Rattle.lh_file.specs.History.Log.{entry, left_after, stamps_in, StandsIn, Begins}
 use Rattle.lh_file.specs.Settling.Settled.{map_in}
 use Rattle.lh_file.specs.Words.Rule.{Each, rights_of}
 use Rattle.lh_file.specs.Words.Seats.{with_act}
@@ -27,6 +27,9 @@ use Rattle.lh_bucket.proofs.PlainMaps.{reply_here, after_here, after_elsewhere, 
 use Rattle.lh_file.proofs.OfHistory.Logs.{left_after-snoc, legal-snoc, stamps_in-append}
 use Rattle.lh_file.proofs.OfHistory.Rows.{each_other, each_set, each_snoc, each_one}
 use Rattle.lh_file.proofs.OfWords.Lists.{total-set, term_le, terms_le}
+
+begins_longer : (log more start : List Entry) → Begins log start → Begins (log ++ more) start
+begins_longer log more start (rest, is) = (rest ++ more, sym (append_assoc start rest more) ∙ ap (λ l. l ++ more) is)
 
 -- a code of a bucket counts
 pub owned : (c : ℕ) (d : SeatView) (i : ℕ) (p : Seen) → get_elem? d.parts i ≡ some p → owns c p ≡ true → 1 ≤ owners c d
@@ -56,6 +59,7 @@ module _ (k : Lists) (old new : FileWords) (seats : List SeatView) (id : ℕ) (d
         stamped = each_set (λ (u : SeatView). u.view.stamps ≡ stamps_in u.entries) seats id w o.stamped (ap (λ (l : List ℕ). l ++ old.stamps ∷ []) (o.stamped id d me) ∙ sym (stamps_in-append d.entries (e ∷ [])));
         stand = each_other (λ (u : SeatView). Each u.entries (StandsIn log)) seats id w (λ j u _ at i a here. at_longer o.log (e ∷ []) a.line.stamp a (o.stand j u at i a here))
             (each_snoc (StandsIn log) d.entries e (λ i a here. at_longer o.log (e ∷ []) a.line.stamp a (o.stand id d me i a here)) (at_last o.log e old.stamps o.size_is));
+        logs = each_other (λ (u : SeatView). Each u.logs (Begins log)) seats id w (λ j u _ at i s here. begins_longer o.log (e ∷ []) s (o.logs j u at i s here)) (λ i s here. begins_longer o.log (e ∷ []) s (o.logs id d me i s here));
         mirror = each_other (λ (u : SeatView). Each u.parts (Mirrors (left_after (map_in k) log))) seats id w others mine;
         one = λ c. let a = total-set (owners c) seats id d w me in let b = counts c in let g = o.one c in omega arith;
         placed = subst (λ (x : ℕ). Each (set seats id w) (λ u. Each u.parts (IsPlacedIn k.config.initial x))) sum

@@ -25,12 +25,13 @@ use Rattle.lh_bucket.specs.PlainMap.{Records, after, replies, outcome}
 use Rattle.lh_bucket.specs.Records.{map_of}
 use Rattle.lh_bucket.proofs.PlainMaps.{kept_alike}
 use Rattle.lh_file.specs.Acts.{stamps_of, calls_of, replies_of, IsInOrder}
-use Rattle.lh_file.specs.Closing.{IsEnd, AreGathered, NoneLent}
+use Rattle.lh_file.specs.Closing.{IsEnd, AreGathered, NoneLent, HasHistory}
 use Rattle.lh_file.specs.FileState.{FileState}
 use Rattle.lh_file.specs.History.Buckets.{belongs, Mirrors, IsPlacedIn}
 use Rattle.lh_file.specs.History.History.{moves_in}
 use Rattle.lh_file.specs.History.Log.{passed, left_after, IsLegalLog, lines_of, stamps_in, StandsIn}
-use Rattle.lh_file.specs.Settling.Settled.{map_in, Settled}
+use Rattle.lh_file.specs.Settling.Settled.{map_in, HoldsMap, IsSettled}
+use Rattle.lh_file.specs.Snapshots.Moments.{IsSnapshot}
 use Rattle.lh_file.specs.Words.Hand.{hand_state_of, IsHand}
 use Rattle.lh_file.specs.Words.HandState.{HandState}
 use Rattle.lh_file.specs.Words.Rule.{Each, rights_of}
@@ -69,7 +70,7 @@ module _ {A : Type 0} where
   index_past (x ∷ xs) d zero past = absurd (omega arith)
   index_past (x ∷ xs) d (suc i) past = index_past xs d i (omega arith)
 
-  below_end : (i : ℕ) (l : List A) (a : A) → get_elem? l i ≡ some a → suc i ≤ length l
+  pub below_end : (i : ℕ) (l : List A) (a : A) → get_elem? l i ≡ some a → suc i ≤ length l
   below_end i [] a at = absurd (some-ne-none a (sym at))
   below_end zero (x ∷ l) a at = omega arith
   below_end (suc i) (x ∷ l) a at = let h = below_end i l a at in omega arith
@@ -118,7 +119,7 @@ module _ (parts : List Seen) (lists : List (List Pair)) (whole : ℕ) (clean : B
   }
 
 -- no act is lent: the log is a history of plain calls, and leaves their outcome
-plain : (m : Records) (log : List Entry) → NoneLent log → IsLegalLog m log
+pub plain : (m : Records) (log : List Entry) → NoneLent log → IsLegalLog m log
     → (replies_of (lines_of log) ≡ replies m (calls_of (lines_of log))) × (left_after m log ≡ outcome m (calls_of (lines_of log)))
 plain m [] none legal = (refl, refl)
 plain m (e ∷ log) none legal =
@@ -130,26 +131,26 @@ plain m (e ∷ log) none legal =
     )
 
 module _ {A : Type 0} where
-  same_rows : (xs ys : List A) → length xs ≡ length ys → ((i : ℕ) (a : A) → get_elem? xs i ≡ some a → get_elem? ys i ≡ some a) → xs ≡ ys
+  pub same_rows : (xs ys : List A) → length xs ≡ length ys → ((i : ℕ) (a : A) → get_elem? xs i ≡ some a → get_elem? ys i ≡ some a) → xs ≡ ys
   same_rows [] [] len h = refl
   same_rows [] (y ∷ ys) len h = absurd (omega arith)
   same_rows (x ∷ xs) [] len h = absurd (omega arith)
   same_rows (x ∷ xs) (y ∷ ys) len h = let e : y ≡ x = some-injective y x (h 0 x refl) in let r = same_rows xs ys (omega arith) (λ i a at. h (suc i) a at) in λ i. sym e i ∷ r i
 
-  read_at : (l : List A) (i : ℕ) (a d : A) → get_elem? l i ≡ some a → get_or l i d ≡ a
+  pub read_at : (l : List A) (i : ℕ) (a d : A) → get_elem? l i ≡ some a → get_or l i d ≡ a
   read_at [] i a d e = absurd (some-ne-none a (sym e))
   read_at (x ∷ l) zero a d e = some-injective x a e
   read_at (x ∷ l) (suc i) a d e = read_at l i a d e
 
-  there_at : (l : List A) (i : ℕ) (d : A) → i < length l → get_elem? l i ≡ some (get_or l i d)
+  pub there_at : (l : List A) (i : ℕ) (d : A) → i < length l → get_elem? l i ≡ some (get_or l i d)
   there_at l i d below = at_index l i (get_or l i d) below (get_or_default l i d (get_or l i d) below)
 
-  some_at : (l : List A) (i : ℕ) → i < length l → (a : A) × (get_elem? l i ≡ some a)
+  pub some_at : (l : List A) (i : ℕ) → i < length l → (a : A) × (get_elem? l i ≡ some a)
   some_at [] i below = absurd (omega arith)
   some_at (x ∷ l) zero below = (x, refl)
   some_at (x ∷ l) (suc i) below = some_at l i (omega arith)
 
-stamp_read : (history : List ActLine) (i d : ℕ) (z : ActLine) → i < length history → get_or (stamps_of history) i d ≡ (get_or history i z).stamp
+pub stamp_read : (history : List ActLine) (i d : ℕ) (z : ActLine) → i < length history → get_or (stamps_of history) i d ≡ (get_or history i z).stamp
 stamp_read history i d z below = get_or_default (stamps_of history) i d z.stamp (omega (arith, length-map history (λ (a : ActLine). a.stamp))) ∙ get_or-map (λ (a : ActLine). a.stamp) history i z
 
 -- a line that stands in a log at its stamp, of an act that isn't lent
@@ -185,7 +186,7 @@ module _ (log entries : List Entry) (q : ℕ) (len : length log ≡ q) (stand : 
       )
 
 -- a bucket in its place holds what the log leaves of its address
-home : AddressLaw → (N S : ℕ) (m : Records) (p : Seen) (i : ℕ) → 1 ≤ N → N ≤ S → IsPlacedIn N S p → p.head.number ≡ i → Mirrors m p → map_of p.pairs ≡ retain_keys m (λ key. eqb (address N S (code_of key)) i)
+pub home : AddressLaw → (N S : ℕ) (m : Records) (p : Seen) (i : ℕ) → 1 ≤ N → N ≤ S → IsPlacedIn N S p → p.head.number ≡ i → Mirrors m p → map_of p.pairs ≡ retain_keys m (λ key. eqb (address N S (code_of key)) i)
 home law N S m p i pos least at number held = held ∙ kept_alike m (belongs p) (λ key. eqb (address N S (code_of key)) i) (λ key.
     (λ j. eqb (hash_at (at.initial_is j) ((ap (λ x. unwrap_or x 0) at.level_is) j) (code_of key)) p.head.number)
     ∙ addressed law N S (code_of key) p.head.number pos least at.below
@@ -196,29 +197,41 @@ nobody : (file : FileState) (last : FileWords) (d : SeatView) (e : IsEnd true fi
 nobody file last d e whole = let h = e.history refl in let g = total-le moves_in (λ (u : SeatView). rights_of u.view) e.seats h.movers in
     let t = total-map rights_of shown e.seats in let r = e.rule.right in omega arith
 
--- a traced file that was closed with all buckets gathered and all calls at home, where no act was lent, is settled
-pub settles : AddressLaw → (file : FileState) (last : FileWords) (d : SeatView) (lists : List (List Pair)) (whole : ℕ) (clean gathered : Bool) → 1 ≤ file.config.initial → IsEnd true file last d → last.root % 2 ≡ 0
-    → NoneLent d.entries → d.view.left + length d.view.stamps ≡ 2 ^ 63 → AreGathered d.parts lists whole clean → clean ≡ true → whole ≡ buckets_of last.root
-    → Settled file.listing (record { config = file.config; root = last.root; stamps = last.stamps; lists = lists; gathered = gathered }) (lines_of d.entries)
-settles law file last d lists whole clean gathered pos e even none full g tidy all =
+-- a traced file that was closed with all buckets gathered holds what its log leaves, whoever made the acts
+leaves : AddressLaw → (file : FileState) (last : FileWords) (d : SeatView) (lists : List (List Pair)) (whole : ℕ) (clean gathered : Bool) → 1 ≤ file.config.initial → (e : IsEnd true file last d) → last.root % 2 ≡ 0
+    → AreGathered d.parts lists whole clean → clean ≡ true → whole ≡ buckets_of last.root
+    → IsSnapshot file.listing (record { config = file.config; root = last.root; stamps = last.stamps; lists = lists; gathered = gathered }) d.entries d.logs (e.history refl).log
+leaves law file last d lists whole clean gathered pos e even g tidy all =
     let h = e.history refl in let N : ℕ = file.config.initial in let S : ℕ = buckets_of last.root in let m : Records = map_in file.listing in
     let least : N ≤ S = e.rule.least in
     let same : file.listing.config.initial ≡ N = ap (λ (s : Settings). s.initial) e.config in
+    let at : (p : Seen) (i : ℕ) → get_elem? d.parts i ≡ some p → IsPlacedIn N S p = λ p i here.
+    subst (λ x. IsPlacedIn x S p) same (subst (λ x. IsPlacedIn file.listing.config.initial x p) (let z = nobody file last d e even in omega arith) (h.placed e.id d e.here i p here)) in
+    let each : (b : ℕ) → b < S → map_of (list_at lists b) ≡ retain_keys (left_after m h.log) (λ key. eqb (address N S (code_of key)) b) = λ b below.
+    (let t = some_at d.parts b (let c = g.count in omega arith) in let r = g.each b t.0 t.1 in
+    ap map_of r.1 ∙ home law N S (left_after m h.log) t.0 b pos least (at t.0 b t.1) r.0 (h.mirror e.id d e.here b t.0 t.1)) in (
+      (h.size_is, h.legal, h.stand e.id d e.here, h.logs e.id d e.here),
+      filled_placed N S (left_after m h.log) lists (λ code. ((law N S code (address N S code) pos least).0 refl).0) each (λ b past. g.beyond tidy b (let c = all in omega arith)) g.distinct,
+    )
+
+-- where all its calls are at home and no act was lent, it is settled
+settles : (file : FileState) (last : FileWords) (d : SeatView) (lists : List (List Pair)) (gathered : Bool) → (e : IsEnd true file last d) → last.root % 2 ≡ 0
+    → NoneLent d.entries → d.view.left + length d.view.stamps ≡ 2 ^ 63
+    → IsSnapshot file.listing (record { config = file.config; root = last.root; stamps = last.stamps; lists = lists; gathered = gathered }) d.entries d.logs (e.history refl).log
+    → IsSettled file.listing (record { config = file.config; root = last.root; stamps = last.stamps; lists = lists; gathered = gathered }) (lines_of d.entries) (lines_of (e.history refl).log)
+    × NoneLent (e.history refl).log
+settles file last d lists gathered e even none full held =
+    let h = e.history refl in let m : Records = map_in file.listing in
     let once : (x : ℕ) → times x (stamps_in d.entries) ≡ once_below x last.stamps = λ x.
     ap (times x) (sym (h.stamped e.id d e.here)) ∙ none-lost file.config last d.view (rule_of true file last d d.view e refl) full x in
     let ord = ordered h.log d.entries last.stamps h.size_is (h.stand e.id d e.here) none once in
-    let simple = plain m h.log ord.2 h.legal in
-    let at : (p : Seen) (i : ℕ) → get_elem? d.parts i ≡ some p → IsPlacedIn N S p = λ p i here.
-    subst (λ x. IsPlacedIn x S p) same (subst (λ x. IsPlacedIn file.listing.config.initial x p) (let z = nobody file last d e even in omega arith) (h.placed e.id d e.here i p here)) in
-    let each : (b : ℕ) → b < S → map_of (list_at lists b) ≡ retain_keys (outcome m (calls_of (lines_of h.log))) (λ key. eqb (address N S (code_of key)) b) = λ b below.
-    (let t = some_at d.parts b (let c = g.count in omega arith) in let r = g.each b t.0 t.1 in
-    ap map_of r.1 ∙ home law N S (left_after m h.log) t.0 b pos least (at t.0 b t.1) r.0 (h.mirror e.id d e.here b t.0 t.1) ∙ ap (λ z. retain_keys z (λ key. eqb (address N S (code_of key)) b)) simple.1) in (
-      lines_of h.log,
+    let simple = plain m h.log ord.2 h.legal in (
       record {
         stamped = record { whole = even; order = ord.0; stamps = ord.1 };
         legal = simple.0;
-        placed = filled_placed N S (outcome m (calls_of (lines_of h.log))) lists (λ code. ((law N S code (address N S code) pos least).0 refl).0) each (λ b past. g.beyond tidy b (let c = all in omega arith)) g.distinct;
+        placed = subst (HoldsMap (record { config = file.config; root = last.root; stamps = last.stamps; lists = lists; gathered = gathered })) simple.1 held.1;
       },
+      ord.2,
     )
 
 -- the acts that a hand keeps are its entries, also where the file doesn't record and no stamp was drawn
@@ -245,7 +258,7 @@ gathered_as p q l m w v a b ps ls ws cs o = subst (λ x. AreGathered x m v b) ps
 no_list : (i : ℕ) → list_at [] i ≡ []
 no_list i = index_past [] [] i (omega arith)
 
-no_key : IsDistinct bytes_eq (keys_of [])
+pub no_key : IsDistinct bytes_eq (keys_of [])
 unfolding IsDistinct
 no_key = tt
 
@@ -258,20 +271,29 @@ none_gathered = record {
   beyond = λ on i past. no_list i;
 }
 
--- what was done with a traced file is settled, by the fields of the hand that closes it
+-- what was done with a traced file is its history, by the fields of the hand that closes it
 pub closes : AddressLaw → (traced : Bool) (file : FileState) (last : FileWords) (h : hand.Inside) (H : HandState) (d : SeatView) (lists : List (List Pair)) (whole : ℕ) (clean gathered : Bool) → hand_state_of h ≡ H → IsHand h → d ≡ record (h.seat.me.0) { parts = d.parts }
     → 1 ≤ file.config.initial → IsEnd traced file last d → AreGathered d.parts lists whole clean → clean ≡ true → whole ≡ buckets_of last.root
-    → traced ≡ true → last.root % 2 ≡ 0 → H.view.left + length H.acts ≡ 2 ^ 63 → NoneLent H.entries
-    → Settled file.listing (record { config = file.config; root = last.root; stamps = last.stamps; lists = lists; gathered = gathered }) h.acts.items
-closes law traced file last h H d lists whole clean gathered seen is kept pos e g tidy all on even full none =
+    → traced ≡ true → last.root % 2 ≡ 0
+    → HasHistory file.listing (record { config = file.config; root = last.root; stamps = last.stamps; lists = lists; gathered = gathered }) h.acts.items H
+closes law traced file last h H d lists whole clean gathered seen is kept pos e g tidy all on even =
     let own = h.seat.me.0 in
-    let left : own.view.left + length h.acts.items ≡ 2 ^ 63 = subst (λ (x : HandState). x.view.left + length x.acts ≡ 2 ^ 63) (sym seen) full in
+    let ends : IsEnd true file last d = subst (λ (b : Bool). IsEnd b file last d) on e in
+    let log : List Entry = (ends.history refl).log in
     let view : d.view ≡ own.view = ap (λ (x : SeatView). x.view) kept in
     let entries : d.entries ≡ own.entries = ap (λ (x : SeatView). x.entries) kept in
-    let lines : h.acts.items ≡ lines_of own.entries = kept_lines traced file last h is h.recording refl left d e view in
-    let apart : NoneLent d.entries = subst NoneLent (ap (λ (x : HandState). x.entries) (sym seen) ∙ sym entries) none in
-    let home : d.view.left + length d.view.stamps ≡ 2 ^ 63 = (
-    let a = ap length lines in let b = length-map own.entries (λ (x : Entry). x.line) in let c = length-map own.entries (λ (x : Entry). x.line.stamp) in let s = ap length is.entered in
-    let v = ap (λ (u : View). u.left) view in let w = ap (λ (u : View). length u.stamps) view in omega arith) in
-    subst (Settled file.listing (record { config = file.config; root = last.root; stamps = last.stamps; lists = lists; gathered = gathered })) (ap lines_of entries ∙ sym lines)
-    (settles law file last d lists whole clean gathered pos (subst (λ (b : Bool). IsEnd b file last d) on e) even apart home g tidy all)
+    let told : d.logs ≡ H.logs = ap (λ (x : SeatView). x.logs) kept ∙ ap (λ (x : HandState). x.logs) seen in
+    let held : IsSnapshot file.listing (record { config = file.config; root = last.root; stamps = last.stamps; lists = lists; gathered = gathered }) d.entries d.logs log = leaves law file last d lists whole clean gathered pos ends even g tidy all in (
+      log,
+      subst (λ es. IsSnapshot file.listing (record { config = file.config; root = last.root; stamps = last.stamps; lists = lists; gathered = gathered }) es H.logs log) (entries ∙ ap (λ (x : HandState). x.entries) seen)
+          (subst (λ ls. IsSnapshot file.listing (record { config = file.config; root = last.root; stamps = last.stamps; lists = lists; gathered = gathered }) d.entries ls log) told held),
+      λ full none.
+          let left : own.view.left + length h.acts.items ≡ 2 ^ 63 = subst (λ (x : HandState). x.view.left + length x.acts ≡ 2 ^ 63) (sym seen) full in
+          let lines : h.acts.items ≡ lines_of own.entries = kept_lines traced file last h is h.recording refl left d e view in
+          let apart : NoneLent d.entries = subst NoneLent (ap (λ (x : HandState). x.entries) (sym seen) ∙ sym entries) none in
+          let home : d.view.left + length d.view.stamps ≡ 2 ^ 63 = (
+          let a = ap length lines in let b = length-map own.entries (λ (x : Entry). x.line) in let c = length-map own.entries (λ (x : Entry). x.line.stamp) in let s = ap length is.entered in
+          let v = ap (λ (u : View). u.left) view in let w = ap (λ (u : View). length u.stamps) view in omega arith) in
+          subst (λ ls. IsSettled file.listing (record { config = file.config; root = last.root; stamps = last.stamps; lists = lists; gathered = gathered }) ls (lines_of log) × NoneLent log) (ap lines_of entries ∙ sym lines)
+          (settles file last d lists gathered ends even apart home held),
+    )

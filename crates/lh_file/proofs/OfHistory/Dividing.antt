@@ -7,7 +7,7 @@ use Rattle.lh_bucket.specs.Bucket.{Seen}
 use Rattle.lh_bucket.specs.Listing.{Lists}
 use Rattle.lh_file.specs.History.Buckets.{bit, owns, owners_in, Mirrors, IsPlacedIn}
 use Rattle.lh_file.specs.History.History.{owners, moves_in, History}
-use Rattle.lh_file.specs.History.Log.{left_after, stamps_in, StandsIn}
+use Rattle.lh_file.specs.History.Log.{left_after, stamps_in, StandsIn, Begins}
 use Rattle.lh_file.specs.Settling.Settled.{map_in}
 use Rattle.lh_file.specs.Words.Rule.{Each, rights_of}
 use Rattle.lh_file.specs.Words.Seats.{holder, lessened_seat, branch_seat, joined_seats}
@@ -32,6 +32,7 @@ module _ (k : Lists) (words : FileWords) (seats : List SeatView) (id : ℕ) (d :
         legal = o.legal;
         stamped = every (λ u. u.view.stamps ≡ stamps_in u.entries) o.stamped (o.stamped id d me) refl;
         stand = every (λ u. Each u.entries (StandsIn o.log)) o.stand (o.stand id d me) (each_none (StandsIn o.log));
+        logs = every (λ u. Each u.logs (Begins o.log)) o.logs (o.logs id d me) (each_none (Begins o.log));
         mirror = every (λ u. Each u.parts (Mirrors (left_after (map_in k) o.log))) o.mirror (o.mirror id d me) (each_none (Mirrors (left_after (map_in k) o.log)));
         one = λ c. omega (arith, total-cut (owners c) seats id d a b me, o.one c);
         placed = subst (λ (x : ℕ). Each (set seats id a ++ b ∷ []) (λ u. Each u.parts (IsPlacedIn k.config.initial x))) moves
@@ -51,6 +52,7 @@ module _ (k : Lists) (words : FileWords) (seats : List SeatView) (id : ℕ) (d :
         legal = o.legal;
         stamped = every (λ u. u.view.stamps ≡ stamps_in u.entries) o.stamped ((λ i. o.stamped id d me i ++ o.stamped other e itself i) ∙ sym (stamps_in-append d.entries e.entries)) refl;
         stand = every (λ u. Each u.entries (StandsIn o.log)) o.stand (each_append (StandsIn o.log) d.entries e.entries (o.stand id d me) (o.stand other e itself)) (each_none (StandsIn o.log));
+        logs = every (λ u. Each u.logs (Begins o.log)) o.logs (each_append (Begins o.log) d.logs e.logs (o.logs id d me) (o.logs other e itself)) (each_none (Begins o.log));
         mirror = every (λ u. Each u.parts (Mirrors (left_after (map_in k) o.log))) o.mirror (each_append (Mirrors (left_after (map_in k) o.log)) d.parts e.parts (o.mirror id d me) (o.mirror other e itself)) (each_none (Mirrors (left_after (map_in k) o.log)));
         one = λ c. omega (arith, total-glue (owners c) seats id other d e a b me it, owners_in-append c d.parts e.parts, o.one c);
         placed = subst (λ (x : ℕ). Each (set (set seats id a) other b) (λ u. Each u.parts (IsPlacedIn k.config.initial x))) moves

@@ -13,7 +13,7 @@ use Rattle.lh_bucket.specs.Bucket.{Seen}
 use Rattle.lh_bucket.specs.Listing.{Lists}
 use Rattle.lh_file.specs.History.Buckets.{bit, owns, owners_in, Mirrors, HasDivided, IsPlacedIn, IsNextSplit}
 use Rattle.lh_file.specs.History.History.{owners, moves_in, History}
-use Rattle.lh_file.specs.History.Log.{left_after, stamps_in, StandsIn}
+use Rattle.lh_file.specs.History.Log.{left_after, stamps_in, StandsIn, Begins}
 use Rattle.lh_file.specs.Settling.Settled.{map_in}
 use Rattle.lh_file.specs.Words.Rule.{Each, rights_of, words_of}
 use Rattle.lh_file.specs.Words.Seats.{mover, upper_half}
@@ -98,6 +98,7 @@ module _ (k : Lists) (words : FileWords) (seats : List SeatView) (id : ℕ) (d :
         legal = o.legal;
         stamped = every (λ u. u.view.stamps ≡ stamps_in u.entries) (λ j u ne at. o.stamped j u at) (o.stamped id d me) refl;
         stand = every (λ u. Each u.entries (StandsIn o.log)) (λ j u ne at. o.stand j u at) (o.stand id d me) (each_none (StandsIn o.log));
+        logs = every (λ u. Each u.logs (Begins o.log)) (λ j u ne at. o.logs j u at) (o.logs id d me) (each_none (Begins o.log));
         mirror = every (λ u. Each u.parts (Mirrors (left_after (map_in k) o.log))) (λ j u ne at. o.mirror j u at)
             (each_one (Mirrors (left_after (map_in k) o.log)) low (low_mirrors rises p low high divided pos' below (left_after (map_in k) o.log) held))
             (each_one (Mirrors (left_after (map_in k) o.log)) high (high_mirrors rises p low high divided pos' below (left_after (map_in k) o.log) held));

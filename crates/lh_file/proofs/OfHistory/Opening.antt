@@ -17,7 +17,7 @@ use Rattle.lh_bucket.proofs.PlainMaps.{kept_alike}
 use Rattle.lh_file.specs.Buckets.Segments.{start_of, end_of}
 use Rattle.lh_file.specs.History.Buckets.{bit, owns, belongs, owners_in, Mirrors, IsPlacedIn}
 use Rattle.lh_file.specs.History.History.{owners, moves_in, History}
-use Rattle.lh_file.specs.History.Log.{stamps_in, StandsIn}
+use Rattle.lh_file.specs.History.Log.{stamps_in, StandsIn, Begins}
 use Rattle.lh_file.specs.Settling.Settled.{map_in}
 use Rattle.lh_file.specs.Words.Dealing.{first_bucket_of, other_buckets_of, dealt_seat, dealt_token, buckets_from, undealt}
 use Rattle.lh_file.specs.Words.Plays.{Seated}
@@ -87,6 +87,7 @@ module _ (law : AddressLaw) (placed : PlacedLaw) (k : Lists) (kept : IsListing k
         legal = tt;
         stamped = each_one (λ (d : SeatView). d.view.stamps ≡ stamps_in d.entries) (first_seat true k) refl;
         stand = each_one (λ (d : SeatView). Each d.entries (StandsIn [])) (first_seat true k) (each_none (StandsIn []));
+        logs = each_one (λ (d : SeatView). Each d.logs (Begins [])) (first_seat true k) (each_none (Begins []));
         mirror = each_one (λ (d : SeatView). Each d.parts (Mirrors (map_in k))) (first_seat true k)
             (each_bucket (Mirrors (map_in k)) (λ i below. placed k i kept below ∙ kept_alike (map_in k) (λ key. eqb (address k.config.initial (size k) (code_of key)) i) (belongs (opened_at k i))
             (λ key. sym (addressed law k.config.initial (size k) (code_of key) i some_first least below))));

@@ -11,7 +11,7 @@ use Rattle.lh_bucket.specs.Bucket.{Seen}
 use Rattle.lh_bucket.specs.Listing.{Lists}
 use Rattle.lh_file.specs.History.Buckets.{owners_in, Mirrors, IsPlacedIn}
 use Rattle.lh_file.specs.History.History.{owners, moves_in, History}
-use Rattle.lh_file.specs.History.Log.{left_after, stamps_in, StandsIn}
+use Rattle.lh_file.specs.History.Log.{left_after, stamps_in, StandsIn, Begins}
 use Rattle.lh_file.specs.Settling.Settled.{map_in}
 use Rattle.lh_file.specs.Words.Rule.{Each, rights_of, HasLimits, IsRule, words_of}
 use Rattle.lh_file.specs.Words.Seats.{holder, with_token, partless, token_of}
@@ -65,6 +65,7 @@ module _ (k : Lists) (words : FileWords) (seats : List SeatView) (id : ℕ) (d :
         legal = o.legal;
         stamped = every (λ u. u.view.stamps ≡ stamps_in u.entries) o.stamped (o.stamped id d me) refl;
         stand = every (λ u. Each u.entries (StandsIn o.log)) o.stand (o.stand id d me) (each_none (StandsIn o.log));
+        logs = every (λ u. Each u.logs (Begins o.log)) o.logs (o.logs id d me) (each_none (Begins o.log));
         mirror = let both = each (Mirrors (left_after (map_in k) o.log)) (o.mirror id d me) in every (λ u. Each u.parts (Mirrors (left_after (map_in k) o.log))) o.mirror both.0 both.1;
         one = λ c. omega (arith, total-cut (owners c) seats id d a b me, counts c, o.one c);
         placed = subst (λ (x : ℕ). Each (set seats id a ++ b ∷ []) (λ u. Each u.parts (IsPlacedIn k.config.initial x))) moves
@@ -84,6 +85,7 @@ module _ (k : Lists) (words : FileWords) (seats : List SeatView) (id : ℕ) (d :
         legal = o.legal;
         stamped = every (λ u. u.view.stamps ≡ stamps_in u.entries) o.stamped (o.stamped id d me) refl;
         stand = every (λ u. Each u.entries (StandsIn o.log)) o.stand (o.stand id d me) (each_none (StandsIn o.log));
+        logs = every (λ u. Each u.logs (Begins o.log)) o.logs (o.logs id d me) (each_none (Begins o.log));
         mirror = every (λ u. Each u.parts (Mirrors (left_after (map_in k) o.log))) o.mirror (each_append (Mirrors (left_after (map_in k) o.log)) d.parts ps (o.mirror id d me) (o.mirror other t itself)) (each_none (Mirrors (left_after (map_in k) o.log)));
         one = λ c. omega (arith, total-glue (owners c) seats id other d t a b me it, owners_in-append c d.parts ps, o.one c);
         placed = subst (λ (x : ℕ). Each (set (set seats id a) other b) (λ u. Each u.parts (IsPlacedIn k.config.initial x))) moves

@@ -14,17 +14,20 @@ use Rattle.lh_bucket.specs.declared.call.Call.{Call}
 use Rattle.lh_bucket.specs.declared.call.Reply.{Reply}
 use Rattle.lh_file.specs.History.Buckets.{owns, HasServedCall}
 use Rattle.lh_file.specs.History.History.{History}
+use Rattle.lh_file.specs.History.Told.{IsSurveyed}
 use Rattle.lh_file.specs.Words.Sums.{times, once_below}
 use Rattle.lh_file.specs.Words.Rule.{rights_of, IsRule, words_of}
-use Rattle.lh_file.specs.Words.Seats.{with_view, with_act}
+use Rattle.lh_file.specs.Words.Seats.{with_view, with_act, told_seat}
 use Rattle.lh_file.specs.Words.Table.{shown, IsFileTable}
 use Rattle.lh_file.specs.Words.Plays.{Seated, loaded_inserts, loaded_deletes, lent_out, drawn, told, counted_insert, counted_delete}
 use Rattle.lh_file.specs.Words.Views.{stamped_with, floored}
 use Rattle.lh_file.specs.declared.words.numbers.FileWords.{FileWords}
 use Rattle.lh_file.specs.declared.words.offsets.TheConstants.{STAMPS, INSERTS, DELETES}
+use Rattle.lh_file.specs.declared.words.seat_view.Entry.{Entry}
 use Rattle.lh_file.specs.declared.words.view.View.{View}
+use Rattle.std.proofs.lemmas.Bool.{false≢true}
 use Rattle.lh_file.proofs.OfHistory.Acting.{lends, acts}
-use Rattle.lh_file.proofs.OfHistory.Quiet.{quiet}
+use Rattle.lh_file.proofs.OfHistory.Quiet.{quiet, hears}
 use Rattle.lh_file.proofs.OfWords.Lists.{term_le, total-le, total-sum, times-append, once-more, all-below}
 use Rattle.lh_file.proofs.OfWords.Changes.{Words, Change, limits_of, stamps_stored, inserts_stored, deletes_stored, after_step}
 use Rattle.lh_file.proofs.OfWords.RootSteps.{seen}
@@ -168,17 +171,31 @@ module _ (traced : Bool) (k : Lists) where
         (did.1, did.2, did.3, refl),
       )
 
-  -- a load of the stamp word tells of the history
+  -- a load of the stamp word tells of the history, and of the buckets that lie with the hand
   pub tells : (slots id : ℕ) (m : Seated) → 0 < m.0.view.initial → Allows (IsFileTable traced k) slots id m STAMPS (λ n. n) (told traced k (step slots STAMPS 0 0 none) m)
   tells slots id m live s o _ me _ = let q : ℕ = get_or s.words STAMPS 0 in let rule = o.rule in let v : View = m.0.view in let w : View = floored v q in
-      let vs : List View = map shown s.views in let there = at_map shown s.views id m.0 me in (
-        with_view m.0 w,
+      let vs : List View = map shown s.views in let there = at_map shown s.views id m.0 me in
+      let log : Bool → Type 0 = λ b. (log : List Entry) × IsFileTable b k (stepped s STAMPS q id m.1 (told_seat q log m.0) keeps) × (b ≡ true → IsSurveyed k q m.0.entries m.0.logs m.0.parts log) in
+      let change = floor_told k.config.initial k.config.max (words_of s.words) vs rule id v q there live (omega arith) in
+      let found = elim traced as (λ b. IsFileTable b k s → log b) [
+        | true ↦ λ (o : IsFileTable true k s). let h = o.history refl in (
+          h.log,
+          after_step true k s o STAMPS id q m (told_seat q h.log m.0) (words_of s.words) me (ap words_of (set-get_or s.words STAMPS 0)) change
+              (λ _ _. hears k (words_of s.words) (words_of s.words) s.views id m.0 me refl w refl refl (λ le. le) h),
+          λ _. ((h.size_is, h.legal, h.stand id m.0 me, h.logs id m.0 me), h.mirror id m.0 me),
+        )
+        | false ↦ λ (o : IsFileTable false k s). (
+          [],
+          after_step false k s o STAMPS id q m (told_seat q [] m.0) (words_of s.words) me (ap words_of (set-get_or s.words STAMPS 0)) change
+              (λ no. absurd (false≢true no)),
+          λ no. absurd (false≢true no),
+        )
+      ] o in (
+        told_seat q found.0 m.0,
         keeps,
         tt,
-        after_step traced k s o STAMPS id q m (with_view m.0 w) (words_of s.words) me (ap words_of (set-get_or s.words STAMPS 0))
-            (floor_told k.config.initial k.config.max (words_of s.words) vs rule id v q there live (omega arith))
-            (λ _. quiet k (words_of s.words) (words_of s.words) s.views id m.0 me refl w refl refl (λ le. le)),
-        (refl, rule.floors id v there, λ on. let h = o.history on in (h.log, h.size_is, h.legal, h.stand id m.0 me)),
+        found.1,
+        (rule.floors id v there, found.0, refl, found.2),
       )
 
   pub counts_insert : (slots id : ℕ) (m : Seated) → 0 < m.0.view.initial → m.0.view.inserted + m.0.view.deleted < length m.0.view.stamps

@@ -1,6 +1,7 @@
 -- What the calls of a running file answer, and leave of the hand that makes them
 use Rattle.std.specs.Prelude.{◌≡◌, ℕ, ◌+◌, ◌-◌, ◌<◌, ◌≤◌, ◌↔◌, [], ◌∷◌, ◌++◌, All, Result, Err, IfOk, IfErr, OnErr}
 use Rattle.lh_bucket.specs.Answer.{Answered}
+use Rattle.lh_bucket.specs.PlainMap.{Records, reply}
 use Rattle.lh_bucket.specs.declared.call.Call.{Call}
 use Rattle.lh_bucket.specs.declared.call.Reply.{Reply}
 use Rattle.lh_file.specs.FileState.{FileState, IsOf}
@@ -17,6 +18,7 @@ pub record HasLooked (old new : HandState) : Type 0 where
   pub rises : old.view.known ≤ known
   pub view : new.view ≡ rooted old.view known old.view.has_right
   pub entries : new.entries ≡ old.entries
+  pub logs : new.logs ≡ old.logs
   pub acts : new.acts ≡ old.acts
   pub table : new.table ≡ old.table
   pub recording : new.recording ≡ old.recording
@@ -37,6 +39,7 @@ pub record HasServed (old : HandState) (call : Call) (reply : Reply) (new : Hand
     inserted = old.view.inserted + inserts_of reply;
     deleted = old.view.deleted + deletes_of reply;
   }
+  pub logs : new.logs ≡ old.logs
   pub acts : new.acts ≡ old.acts ++ kept_of old.recording (record { stamp = stamp; call = call; reply = reply })
   pub table : new.table ≡ old.table
   pub recording : new.recording ≡ old.recording
@@ -47,7 +50,26 @@ IsNotSpent (Spent left) = ⊥
 IsNotSpent Memory = Unit {0}
 IsNotSpent (Defect wanted_bucket wanted_level found_bucket found_level) = Unit {0}
 
--- What every call promises: of the file, of its hand before, of the call that was
+-- the reply is one that some map gives to the call
+abbrev pub FitsCall : Call → Reply → Type 0
+FitsCall call given = (m : Records) × (given ≡ reply m call)
+
+-- What every call promises: of the file, of its hand before, of the call that it makes, of its result, of the reply that
+-- this stands for, and of its hand after
+pub record Makes {T : Type 0} (file : FileState) (old : HandState) (call : Call) (result : Result T FileFault)
+    (reply_in : T → Reply) (new : HandState) : Type 0 where
+  -- The hand has made this very call, with this reply.
+  pub served : IfOk result (λ t. HasServed old call (reply_in t) new)
+  -- The hand is refused as spent exactly where it may make no call,
+  pub spent : (result ≡ Err (Spent 0)) ↔ (old.view.left ≡ 0)
+  -- and no other fault says so.
+  pub not_spent : 1 ≤ old.view.left → IfErr result IsNotSpent
+  -- After a fault the hand is as it was, but for what it knows of the root.
+  pub err : OnErr result (HasLooked old new)
+  -- The hand stays one of this file.
+  pub of : IsOf file new
+
+-- What every call that gives an answer promises: of the file, of its hand before, of the call that was
 -- asked for, of its result, and of its hand after
 pub record Serves (file : FileState) (old : HandState) (asked : Call)
     (result : Result Answered FileFault) (new : HandState) : Type 0 where

@@ -3,7 +3,7 @@ use Rattle.std.specs.Prelude.{◌≡◌, ℕ, ◌+◌, ◌≤◌, List, length}
 use Rattle.lh_addr.specs.RootWord.{buckets_of}
 use Rattle.lh_bucket.specs.Listing.{Lists}
 use Rattle.lh_file.specs.History.Buckets.{bit, owners_in, Mirrors, IsPlacedIn}
-use Rattle.lh_file.specs.History.Log.{left_after, IsLegalLog, stamps_in, StandsIn}
+use Rattle.lh_file.specs.History.Log.{left_after, IsLegalLog, stamps_in, StandsIn, Begins}
 use Rattle.lh_file.specs.Settling.Settled.{map_in}
 use Rattle.lh_file.specs.Words.Rule.{Each, rights_of}
 use Rattle.lh_file.specs.Words.Sums.{total}
@@ -31,6 +31,8 @@ pub record History (opening : Lists) (words : FileWords) (seats : List SeatView)
   pub stamped : Each seats (λ seat. seat.view.stamps ≡ stamps_in seat.entries)
   -- each of which stands in the log at its stamp
   pub stand : Each seats (λ seat. Each seat.entries (StandsIn log))
+  -- The logs that a seat was told of are its beginnings
+  pub logs : Each seats (λ seat. Each seat.logs (Begins log))
   -- Each bucket holds just what the log leaves of its keys
   pub mirror : Each seats (λ seat. Each seat.parts (Mirrors (left_after (map_in opening) log)))
   -- Each code belongs to exactly one bucket of all

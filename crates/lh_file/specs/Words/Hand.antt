@@ -12,6 +12,7 @@ hand_state_of hand = record {
   view = hand.seat.me.0.view;
   recording = hand.recording;
   entries = hand.seat.me.0.entries;
+  logs = hand.seat.me.0.logs;
   acts = hand.acts.items;
   room = vec_capacity hand.acts - vec_len hand.acts;
 }

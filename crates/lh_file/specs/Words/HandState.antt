@@ -1,18 +1,19 @@
 -- What contracts see of a hand
-use Rattle.std.specs.Prelude.{◌≡◌, ℕ, Bool, List, [], ◌++◌}
+use Rattle.std.specs.Prelude.{◌≡◌, ℕ, Bool, List, [], ◌∷◌, ◌++◌}
 use Rattle.atomic_table.specs.Seated.{TableId}
-use Rattle.lh_file.specs.Words.Views.{rooted, branch, joined_views}
+use Rattle.lh_file.specs.Words.Views.{rooted, floored, branch, joined_views}
 use Rattle.lh_file.specs.declared.act.ActLine.{ActLine}
 use Rattle.lh_file.specs.declared.words.seat_view.Entry.{Entry}
 use Rattle.lh_file.specs.declared.words.view.View.{View}
 
 -- the table that a hand belongs to, what the rule knows of it, whether its file records, what the rule knows of its
--- acts, those that it keeps, and for how many more it has room
+-- acts, the logs that it was told of, the acts that it keeps, and for how many more it has room
 pub record HandState : Type 0 where
   pub table : TableId
   pub view : View
   pub recording : Bool
   pub entries : List Entry
+  pub logs : List (List Entry)
   pub acts : List ActLine
   pub room : ℕ
 
@@ -28,12 +29,17 @@ knowing hand buckets = seeing hand (rooted hand.view buckets hand.view.has_right
 abbrev pub with_right : HandState → Bool → HandState
 with_right hand has_right = seeing hand (rooted hand.view hand.view.known has_right)
 
+-- the same hand, which was told of a log of this many acts
+abbrev pub told_of : HandState → ℕ → List Entry → HandState
+told_of hand floor log = record hand { view = floored hand.view floor; logs = hand.logs ++ log ∷ [] }
+
 -- the same hand, with whatever room for acts
 pub record IsSame (old new : HandState) : Type 0 where
   pub table : new.table ≡ old.table
   pub recording : new.recording ≡ old.recording
   pub view : new.view ≡ old.view
   pub entries : new.entries ≡ old.entries
+  pub logs : new.logs ≡ old.logs
   pub acts : new.acts ≡ old.acts
 
 -- a hand that got this many calls of another: it knows the root that the other knows,
@@ -43,6 +49,7 @@ pub record IsBranch (calls : ℕ) (old new : HandState) : Type 0 where
   pub recording : new.recording ≡ old.recording
   pub view : new.view ≡ branch calls old.view
   pub entries : new.entries ≡ []
+  pub logs : new.logs ≡ []
   pub acts : new.acts ≡ []
 
 -- two hands in one
@@ -51,4 +58,5 @@ pub record IsJoined (first second new : HandState) : Type 0 where
   pub recording : new.recording ≡ first.recording
   pub view : new.view ≡ joined_views first.view second.view
   pub entries : new.entries ≡ first.entries ++ second.entries
+  pub logs : new.logs ≡ first.logs ++ second.logs
   pub acts : new.acts ≡ first.acts ++ second.acts

@@ -1,16 +1,17 @@
 -- What each kind of atomic step does to the hand that takes it, and tells: of the step, the seat before
 -- it, the number that it found, and the seat after
-use Rattle.std.specs.Prelude.{◌≡◌, ◌≢◌, ℕ, ◌+◌, ◌*◌, ◌%◌, ◌<◌, ◌≤◌, ◌^◌, Bool, true, false, [], ◌∷◌, length, All}
+use Rattle.std.specs.Prelude.{◌≡◌, ◌≢◌, ℕ, ◌+◌, ◌*◌, ◌%◌, ◌<◌, ◌≤◌, ◌^◌, Bool, true, false, List, [], ◌∷◌, length, All}
 use Rattle.atomic_table.specs.Table.{Me, Step}
 use Rattle.lh_addr.specs.RootWord.{buckets_of}
 use Rattle.lh_bucket.specs.Bucket.{Seen}
 use Rattle.lh_bucket.specs.Listing.{Lists}
 use Rattle.lh_bucket.specs.declared.call.Call.{Call}
 use Rattle.lh_bucket.specs.declared.call.Reply.{Reply}
-use Rattle.lh_file.specs.History.Told.{IsTold}
+use Rattle.lh_file.specs.History.Told.{IsSurveyed}
 use Rattle.lh_file.specs.Words.Rule.{rights_of}
-use Rattle.lh_file.specs.Words.Seats.{with_view, with_act, pointed_seat}
-use Rattle.lh_file.specs.Words.Views.{rooted, floored}
+use Rattle.lh_file.specs.Words.Seats.{with_view, with_act, pointed_seat, told_seat}
+use Rattle.lh_file.specs.Words.Views.{rooted}
+use Rattle.lh_file.specs.declared.words.seat_view.Entry.{Entry}
 use Rattle.lh_file.specs.declared.words.seat_view.SeatView.{SeatView}
 use Rattle.lh_file.specs.declared.words.view.View.{View}
 
@@ -87,14 +88,14 @@ drawn call given bucket step before stamp after =
     × (before.0.view.inserted + before.0.view.deleted ≤ length before.0.view.stamps)
     × (after ≡ (with_act false call given (bucket ∷ []) stamp before.0, before.1))
 
--- a load of the stamp word: the hand was told that there are this many acts, which are no fewer
--- than it was told before; and in a traced file that was opened from this listing, there is a legal
--- log of this many, in which the hand's acts stand
+-- a load of the stamp word: the hand was told of a log of this many acts, which are no fewer than it was told before;
+-- and in a traced file that was opened from this listing, the log leaves just what the buckets hold that lie with the
+-- hand
 abbrev pub told : Bool → Lists → Telling
 told traced opening step before word after =
-    (after ≡ (with_view before.0 (floored before.0.view word), before.1))
-    × (before.0.view.floor ≤ word)
-    × (traced ≡ true → IsTold opening word before.0.entries)
+    (before.0.view.floor ≤ word)
+    × (log : List Entry) × (after ≡ (told_seat word log before.0, before.1))
+    × (traced ≡ true → IsSurveyed opening word before.0.entries before.0.logs before.0.parts log)
 
 -- an addition of 1 to the count of inserts
 abbrev pub counted_insert : Telling

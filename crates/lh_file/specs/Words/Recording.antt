@@ -48,6 +48,7 @@ pub record IsAct (old : HandState) (stamp : ℕ) (call : Call) (reply : Reply) (
     inserted = old.view.inserted + inserts_of reply;
     deleted = old.view.deleted + deletes_of reply;
   }
+  pub logs : new.logs ≡ old.logs
   pub acts : new.acts ≡ old.acts ++ kept_of old.recording (record { stamp = stamp; call = call; reply = reply })
   pub room : new.room + length (kept_of old.recording (record { stamp = stamp; call = call; reply = reply })) ≡ old.room
   pub table : new.table ≡ old.table

@@ -7,7 +7,8 @@ use Rattle.lh_bucket.specs.declared.call.Call.{Call}
 use Rattle.lh_bucket.specs.declared.call.Reply.{Reply}
 use Rattle.lh_file.specs.Buckets.Segments.{listed_head}
 use Rattle.lh_file.specs.History.Log.{entry}
-use Rattle.lh_file.specs.Words.Views.{Sizes, first_view, spent, rooted, stamped_with, lessened, branch, joined_views}
+use Rattle.lh_file.specs.Words.Views.{Sizes, first_view, spent, rooted, stamped_with, floored, lessened, branch, joined_views}
+use Rattle.lh_file.specs.declared.words.seat_view.Entry.{Entry}
 use Rattle.lh_file.specs.declared.words.seat_view.SeatView.{SeatView}
 use Rattle.lh_file.specs.declared.words.view.View.{View}
 
@@ -28,13 +29,14 @@ abbrev pub first_seat : Bool → Lists → SeatView
 first_seat traced opening = record {
   view = first_view (sizes_of opening);
   entries = [];
+  logs = [];
   parts = if traced then buckets_in opening else [];
   moved = false;
 }
 
 -- a seat that is no hand's, with these buckets
 abbrev pub holder : List Seen → SeatView
-holder parts = record { view = spent; entries = []; parts = parts; moved = false }
+holder parts = record { view = spent; entries = []; logs = []; parts = parts; moved = false }
 
 -- the same seat, which as a hand knows, has and did this
 abbrev pub with_view : SeatView → View → SeatView
@@ -45,6 +47,7 @@ abbrev pub with_act : Bool → Call → Reply → List Seen → ℕ → SeatView
 with_act lent call given parts stamp seat = record {
   view = stamped_with seat.view stamp;
   entries = seat.entries ++ entry lent stamp call given ∷ [];
+  logs = seat.logs;
   parts = parts;
   moved = seat.moved;
 }
@@ -77,6 +80,10 @@ pointed_seat seat = record seat { view = rooted seat.view (seat.view.known + 1) 
 abbrev pub moved_by : Bool → SeatView → SeatView
 moved_by traced seat = record seat { moved = traced }
 
+-- the seat was told of a log of this many acts
+abbrev pub told_seat : ℕ → List Entry → SeatView → SeatView
+told_seat floor log seat = record seat { view = floored seat.view floor; logs = seat.logs ++ log ∷ [] }
+
 -- a bucket that is no file's
 abbrev pub unowned_bucket : Seen
 unowned_bucket = record { head = record { number = 0; initial = 1; capacity = 1; level = None }; pairs = [] }
@@ -91,13 +98,20 @@ lessened_seat calls seat = with_view seat (lessened calls seat.view)
 
 -- the seat of the hand that got them
 abbrev pub branch_seat : ℕ → SeatView → SeatView
-branch_seat calls seat = record { view = branch calls seat.view; entries = []; parts = []; moved = false }
+branch_seat calls seat = record {
+  view = branch calls seat.view;
+  entries = [];
+  logs = [];
+  parts = [];
+  moved = false;
+}
 
 -- the seats of two hands in one
 abbrev pub joined_seats : SeatView → SeatView → SeatView
 joined_seats first second = record {
   view = joined_views first.view second.view;
   entries = first.entries ++ second.entries;
+  logs = first.logs ++ second.logs;
   parts = first.parts ++ second.parts;
   moved = first.moved;
 }

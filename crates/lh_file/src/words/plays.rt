@@ -169,7 +169,7 @@ impl Opened for Brand {
     ghost listing = { no_listing };
 }
 
-/// A load of the stamp word, which tells of the history of a traced file.
+/// A load of the stamp word, which tells of the history of a traced file, and of the buckets that lie with the hand.
 pub struct Tell<M, O> {
     of: PhantomData<(M, O)>,
 }

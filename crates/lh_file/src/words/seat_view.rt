@@ -19,6 +19,8 @@ pub struct SeatView {
     pub view: View,
     /// The acts that a hand made.
     pub entries: LinkedList<Entry>,
+    /// The logs that a hand was told of.
+    pub logs: LinkedList<LinkedList<Entry>>,
     /// The buckets that are known by this seat.
     pub parts: LinkedList<PagedBucket>,
     /// Whether a hand has moved the records of a split, and not the pointer yet.

@@ -33,38 +33,6 @@ fn a_held_call_holds_up_nobody_but_its_bucket(rt: HostRuntime) -> Result<(), Fai
     perform(&rt, rt.alloc(), scene)
 }
 
-const BOTH_HELD: [Hold; 2] = [
-    Hold {
-        from: 0,
-        point: Point::Holding { bucket: 0 },
-        to: 1,
-        until: 2,
-    },
-    Hold {
-        from: 1,
-        point: Point::Holding { bucket: 0 },
-        to: 2,
-        until: 2,
-    },
-];
-
-#[test]
-fn two_searches_hold_one_bucket(rt: HostRuntime) -> Result<(), Fail> {
-    let scene = Scene {
-        capacity: 14,
-        holds: &BOTH_HELD,
-        first: &[(Task::Search(b'a'), Told::Absent)],
-        second: &[
-            (Task::Wait(1), Told::Done),
-            (Task::Search(b'b'), Told::Absent),
-        ],
-        buckets: 1,
-        acts: 2,
-        points: &[],
-    };
-    perform(&rt, rt.alloc(), scene)
-}
-
 /// The replace has the lock of its bucket, and is held until the search is about to take it.
 const HELD_WITH_THE_LOCK: [Hold; 2] = [
     Hold {

@@ -3,7 +3,7 @@ ghost use Rattle.std.specs.Prelude.{◌≡◌, ◌≤◌, true, false, IfOk, OnO
 ghost use Rattle.lh_file.specs.FileState.{IsOf};
 
 use lh_addr::Config;
-use lh_bucket::{Call, Reply};
+use lh_bucket::{Call, Change, ChangeReply, Reply};
 use lh_file::{ActLine, FileFault, FileWords, Hand, JoinFault, Load, Memory, Right, Words};
 use lh_page::{Key, Value};
 use std::alloc::Global;
@@ -53,7 +53,7 @@ fn note(
     file: &Words,
     hand: &mut Hand,
     call: Call,
-    reply: Reply,
+    reply: ChangeReply,
 ) -> Result<u64, Fail>
     requires { IsOf file.now hand.old }
     ensures { IsOf file.now hand.new }
@@ -61,7 +61,8 @@ fn note(
     make_room(rt, file, hand)?;
     let left = hand.left();
     assert!(rt; left >= 1);
-    let stamp = file.record_act(hand, &call, reply);
+    let change = Change::of_call(&call).ok_or("a search")?;
+    let stamp = file.record_act(hand, change, reply);
     assert_eq!(rt; hand.left(), left - 1);
     Ok(stamp)
 }
@@ -195,7 +196,7 @@ fn seen_by_second(
         file.point(first);
     }
     let size = file.buckets(second);
-    note(rt, file, first, insert(b"a")?, Reply::Inserted)?;
+    note(rt, file, first, insert(b"a")?, ChangeReply::Inserted)?;
     Ok((size, file.load(second)))
 }
 
@@ -246,11 +247,11 @@ fn five_acts(
     ensures second { IsOf file.now second.new }
 {
     let (a, gone) = (insert(b"a")?, delete(b"a")?);
-    let missed = note(rt, file, second, gone, Reply::Absent)?;
-    let inserted = note(rt, file, first, a, Reply::Inserted)?;
-    let met = note(rt, file, second, a, Reply::Exists)?;
-    let replaced = note(rt, file, first, replace(b"a")?, Reply::Replaced)?;
-    let deleted = note(rt, file, second, gone, Reply::Deleted)?;
+    let missed = note(rt, file, second, gone, ChangeReply::Absent)?;
+    let inserted = note(rt, file, first, a, ChangeReply::Inserted)?;
+    let met = note(rt, file, second, a, ChangeReply::Exists)?;
+    let replaced = note(rt, file, first, replace(b"a")?, ChangeReply::Replaced)?;
+    let deleted = note(rt, file, second, gone, ChangeReply::Deleted)?;
     Ok([missed, inserted, met, replaced, deleted])
 }
 
@@ -296,7 +297,7 @@ fn acts_are_counted_and_kept(rt: HostRuntime) -> Result<(), Fail> {
 fn acts_of_a_file_that_does_not_record_are_counted(rt: HostRuntime) -> Result<(), Fail> {
     let (file, mut hand) = file_of(rt.alloc(), 8, false)?;
     assert_eq!(rt;
-        note(&rt, &file, &mut hand, insert(b"a")?, Reply::Inserted)?,
+        note(&rt, &file, &mut hand, insert(b"a")?, ChangeReply::Inserted)?,
         0
     );
     let (words, acts) = file.close(hand);

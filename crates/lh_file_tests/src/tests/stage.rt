@@ -74,6 +74,7 @@ fn number_of(point: Point) -> u64 {
         Point::RightGot => 4,
         Point::Moved { old, new: _ } => 5 + 8 * u64::from(old),
         Point::Pointed { buckets } => 6 + 8 * u64::from(buckets),
+        Point::Surveyed { buckets } => 7 + 8 * u64::from(buckets),
     }
 }
 

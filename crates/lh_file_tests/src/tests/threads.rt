@@ -3,7 +3,7 @@ ghost use Rattle.std.specs.Prelude.{◌≡◌, [], false, All, IfSome, IfOk, IfE
 ghost use Rattle.lh_file.specs.FileState.{IsOf};
 
 use super::hands::file_of;
-use lh_bucket::{Call, Reply};
+use lh_bucket::{Change, ChangeReply, Reply};
 use lh_file::{ActLine, Hand, JoinFault, Right, Words};
 use lh_page::Key;
 use std::alloc::{AllocError, Global};
@@ -23,14 +23,14 @@ impl<'a> Promise<Hand> for OfFile<'a> {
 
 /// Notes an act, and asks for the right to split: where it is got, the pointer moves or the right is
 /// dropped.
-fn take_turn(file: &Words, hand: &mut Hand, call: &Call, reply: Reply)
+fn take_turn(file: &Words, hand: &mut Hand, change: Change<'_>, reply: ChangeReply)
     requires { IsOf file.now hand.old }
     ensures { IsOf file.now hand.new }
 {
     if hand.left() == 0 || file.make_room(hand).is_err() {
         return;
     }
-    let stamp = file.record_act(hand, call, reply);
+    let stamp = file.record_act(hand, change, reply);
     if hand.has_right() {
         return;
     }
@@ -58,14 +58,14 @@ fn join_again(file: &Words, first: Hand, second: Hand) -> Result<Hand, JoinFault
 }
 
 /// Takes a turn with a hand of its own, and joins that hand in.
-fn take_turn_apart(file: &Words, mut hand: Hand, call: &Call, reply: Reply) -> Hand
+fn take_turn_apart(file: &Words, mut hand: Hand, change: Change<'_>, reply: ChangeReply) -> Hand
     requires { IsOf file.now hand }
     ensures { IsOf file.now result }
 {
     let Ok(mut part) = file.split_hand(&mut hand, 1) else {
         return hand;
     };
-    take_turn(file, &mut part, call, reply);
+    take_turn(file, &mut part, change, reply);
     if part.has_right() {
         return hand;
     }
@@ -80,8 +80,8 @@ fn work(file: &Words, mut hand: Hand, key: Key, turns: u64) -> Hand
     ensures { IsOf file.now result }
 {
     for _ in 0..turns {
-        take_turn(file, &mut hand, &Call::Delete(key), Reply::Deleted);
-        hand = take_turn_apart(file, hand, &Call::Search(key), Reply::Absent);
+        take_turn(file, &mut hand, Change::Delete(&key), ChangeReply::Deleted);
+        hand = take_turn_apart(file, hand, Change::Delete(&key), ChangeReply::Absent);
     }
     hand
 }

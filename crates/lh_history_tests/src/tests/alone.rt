@@ -147,3 +147,13 @@ fn an_untraced_file_is_not_gathered(rt: HostRuntime) -> Result<(), Fail> {
     assert!(rt; !closed.gathered());
     Ok(())
 }
+
+/// A caller may leave before it opens the file: what was made for it is let go.
+#[test]
+fn an_opening_may_be_left(rt: HostRuntime) -> Result<(), Fail> {
+    let alloc = rt.alloc();
+    let listing = empty(alloc)?;
+    let opening = Opening::of(alloc, &listing, true, NoGate)?;
+    drop(opening);
+    Ok(())
+}

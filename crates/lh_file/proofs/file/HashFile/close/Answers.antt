@@ -3,11 +3,10 @@ use Rattle.std.proofs.lemmas.Bool.{false≢true}
 use Rattle.std.proofs.lemmas.Map.Views.{exact_unsigned_eq}
 use Rattle.lh_addr.specs.RootWord.{buckets_of}
 use Rattle.lh_addr.specs.Settings.{Settings}
-use Rattle.lh_file.specs.Closing.{NoneIsLost, RuleHolds}
+use Rattle.lh_file.specs.Closing.{NoneIsLost, RuleHolds, HasHistory}
 use Rattle.lh_file.specs.FileState.{FileState}
 use Rattle.lh_file.specs.HashFile.{Shared}
 use Rattle.lh_file.specs.Settling.ClosedFile.{ClosedFile}
-use Rattle.lh_file.specs.Settling.Settled.{Settled}
 use Rattle.lh_file.specs.Words.HandState.{HandState}
 use Rattle.lh_file.specs.Words.Plays.{Seated}
 use Rattle.lh_file.proofs.OfHistory.Closing.{closes}
@@ -31,7 +30,7 @@ returns-clause-none_is_lost g c = subst (NoneIsLost c.args.hand) (sym (ap (λ (f
     (none-lost-of g.M.Mode.traced c.self.inside.words c.end-last.result c.hand.inside c.copied.new.seat.me.0 c.hand.invariant (ap (λ (m : Seated). m.0.view) c.copied.ensures.kept) c.end-last.ensures))
 
 pub returns-clause-history : goal.returns-clause-history
-returns-clause-history g c on all even full none =
+returns-clause-history g c on all even =
     let is : c.if-clean.gathered ≡ true = sym (ap (λ (f : ClosedFile). f.gathered) c.ended-closed.ensures) ∙ all in
     let whole : (c.in_ok-lists.field-0.clean ≡ true) × (c.in_ok-lists.field-0.whole ≡ buckets_of c.end-last.result.root) = elim c.if-clean.branch [
       | then-clean w ↦ (w.if-clean.true, exact_unsigned_eq c.in_ok-lists.field-0.whole w.buckets_of.result (sym w.gathered-is ∙ is) ∙ w.buckets_of.ensures)
@@ -39,10 +38,10 @@ returns-clause-history g c on all even full none =
     ] in
     let config : c.words.inside.config ≡ c.self.inside.words.config = ap (λ (f : FileState). f.config) c.words.view_is in
     let root : c.ended-closed.result.root ≡ c.end-last.result.root = ap (λ (f : ClosedFile). f.root) c.ended-closed.ensures in
-    subst (λ (s : Shared). Settled s.state.listing c.ended-closed.result c.new.result) c.self.view_is
-    (subst (Settled c.self.inside.words.listing c.ended-closed.result) (sym c.new.ensures)
-    (subst (λ (f : ClosedFile). Settled c.self.inside.words.listing f c.hand.inside.acts.items) (sym (c.ended-closed.ensures ∙ ap (λ (s : Settings). record { config = s; root = c.end-last.result.root; stamps = c.end-last.result.stamps; lists = map (λ v. v.items) c.in_ok-lists.field-0.lists.items; gathered = c.if-clean.gathered }) config))
+    subst (λ (s : Shared). HasHistory s.state.listing c.ended-closed.result c.new.result c.args.hand) c.self.view_is
+    (subst (λ ls. HasHistory c.self.inside.words.listing c.ended-closed.result ls c.args.hand) (sym c.new.ensures)
+    (subst (λ (f : ClosedFile). HasHistory c.self.inside.words.listing f c.hand.inside.acts.items c.args.hand) (sym (c.ended-closed.ensures ∙ ap (λ (s : Settings). record { config = s; root = c.end-last.result.root; stamps = c.end-last.result.stamps; lists = map (λ v. v.items) c.in_ok-lists.field-0.lists.items; gathered = c.if-clean.gathered }) config))
     (closes c.address_is_only_bucket.ensures g.M.Mode.traced c.self.inside.words c.end-last.result c.hand.inside c.args.hand c.copied.new.seat.me.0 (map (λ v. v.items) c.in_ok-lists.field-0.lists.items) c.in_ok-lists.field-0.whole c.in_ok-lists.field-0.clean c.if-clean.gathered
     c.hand.view_is c.hand.invariant (ap (λ (m : Seated). m.0) c.copied.ensures.kept)
     (subst (λ (s : Settings). 1 ≤ s.initial) c.self.invariant.config c.self.invariant.in_range.initial.0)
-    c.end-last.ensures c.in_ok-lists.ensures.gathered whole.0 whole.1 on (sym (ap (λ n. n % 2) root) ∙ even) full none)))
+    c.end-last.ensures c.in_ok-lists.ensures.gathered whole.0 whole.1 on (sym (ap (λ n. n % 2) root) ∙ even))))

@@ -1,6 +1,7 @@
-use Rattle.std.proofs.Common.{rules, ◌<◌, ◌+◌, ◌-◌, ◌++◌, [], ◌∷◌, All, ap, ◌∙◌, subst}
-use Rattle.lh_bucket.specs.Answer.{Answered}
+use Rattle.std.proofs.Common.{rules, refl, ◌<◌, ◌+◌, ◌-◌, ◌++◌, [], ◌∷◌, All, ap, ◌∙◌, subst}
 use Rattle.lh_bucket.specs.Bucket.{content}
+use Rattle.lh_bucket.specs.PagedBucket.{found_at}
+use Rattle.lh_bucket.specs.declared.call.Call.TheVariants.{Search}
 use Rattle.lh_file.specs.Words.HandState.{HandState}
 use Rattle.lh_file.specs.Words.Plays.{Seated}
 use Rattle.lh_file.specs.Words.Recording.{inserts_of, deletes_of}
@@ -9,15 +10,16 @@ use Rattle.lh_file.proofs.words.Words.enter_look.Goals as goal
 
 pub returns-then-self-clause-acted : goal.returns-then-self-clause-acted
 returns-then-self-clause-acted g c =
-    let stamp = c.deal_look-stamp.result in let given = c.look-answer.result.reply in
-    let is = ap (λ (a : Answered). a.reply) c.look-answer.ensures in
-    let none = uncounted (content c.args.bucket.now) c.args.call.now c.requires.search in (
+    let stamp = c.deal_look-stamp.result in let given = found_at c.args.bucket.now.pairs c.find-place.result in
+    let is = c.find-place.ensures.found in
+    let none = uncounted (content c.args.bucket.now) (Search c.args.key.now) refl in (
       stamp,
       record {
         newest = subst (All (λ x. x < stamp)) (ap (λ (h : HandState). h.view.stamps) c.hand.view_is) c.deal_look-stamp.ensures.newest;
         view = ap (λ (m : Seated). m.0.view) c.deal_look-stamp.ensures.acted
             ∙ stamped_same c.hand.inside.seat.me.0.view stamp (inserts_of given) (deletes_of given) (ap inserts_of is ∙ none.0) (ap deletes_of is ∙ none.1)
             ∙ ap (λ (h : HandState). record (h.view) { stamps = h.view.stamps ++ stamp ∷ []; left = h.view.left - 1; inserted = h.view.inserted + inserts_of given; deleted = h.view.deleted + deletes_of given }) c.hand.view_is;
+        logs = ap (λ (m : Seated). m.0.logs) c.deal_look-stamp.ensures.acted ∙ ap (λ (h : HandState). h.logs) c.hand.view_is;
         acts = search rules;
         room = search rules;
         table = search rules;
@@ -27,15 +29,16 @@ returns-then-self-clause-acted g c =
 
 pub returns-else-self-clause-acted : goal.returns-else-self-clause-acted
 returns-else-self-clause-acted g c =
-    let stamp = c.deal_look-stamp.result in let given = c.look-answer.result.reply in
-    let is = ap (λ (a : Answered). a.reply) c.look-answer.ensures in
-    let none = uncounted (content c.args.bucket.now) c.args.call.now c.requires.search in (
+    let stamp = c.deal_look-stamp.result in let given = found_at c.args.bucket.now.pairs c.find-place.result in
+    let is = c.find-place.ensures.found in
+    let none = uncounted (content c.args.bucket.now) (Search c.args.key.now) refl in (
       stamp,
       record {
         newest = subst (All (λ x. x < stamp)) (ap (λ (h : HandState). h.view.stamps) c.hand.view_is) c.deal_look-stamp.ensures.newest;
         view = ap (λ (m : Seated). m.0.view) c.deal_look-stamp.ensures.acted
             ∙ stamped_same c.hand.inside.seat.me.0.view stamp (inserts_of given) (deletes_of given) (ap inserts_of is ∙ none.0) (ap deletes_of is ∙ none.1)
             ∙ ap (λ (h : HandState). record (h.view) { stamps = h.view.stamps ++ stamp ∷ []; left = h.view.left - 1; inserted = h.view.inserted + inserts_of given; deleted = h.view.deleted + deletes_of given }) c.hand.view_is;
+        logs = ap (λ (m : Seated). m.0.logs) c.deal_look-stamp.ensures.acted ∙ ap (λ (h : HandState). h.logs) c.hand.view_is;
         acts = search rules;
         room = search rules;
         table = search rules;

@@ -1,0 +1,5 @@
+-- Buckets that are held, snapshots and scans
+pub mod Aims
+pub mod Moments
+pub mod Held
+pub mod Settled

@@ -1,0 +1,8 @@
+use Rattle.lh_file.proofs.OfSnapshots.Settled.{before_law, snapshot_law}
+use Rattle.lh_file.proofs.laws.snapshots_are_settled.Goals as goal
+
+pub returns-clause-before : goal.returns-clause-before
+returns-clause-before c = before_law
+
+pub returns-clause-settled : goal.returns-clause-settled
+returns-clause-settled c = snapshot_law
