@@ -1,15 +1,15 @@
 -- Words in which clap finds no fault name a subcommand, whose rows have the numbers of all its options
 use Rattle.std.proofs.Common.{◌≡◌, ◌∙◌, ◌⊎◌, ◌||◌, ℕ, zero, suc, inl, inr, Bool, true, false, refl, sym, ap, List, [], ◌∷◌, Option, Some, None, codes, arith}
-use Rattle.std.specs.Prelude.{find, option_and_then, slice_get}
+use Rattle.std.specs.Prelude.{find, option_and_then}
 use Rattle.std.specs.Str.{bytes_eq}
 use Rattle.std.proofs.lemmas.Bool.{false≢true}
 use Rattle.std.proofs.lemmas.Slice.Eq.{bytes_eq-Decides}
-use Rattle.clap.specs.Walk.{Row, Text, nothing_held, rows_after}
+use Rattle.clap.specs.Walk.{Row, Text, nothing_held, row_text, rows_after}
 use Rattle.clap.specs.Simple.{Shape, argument_words, built, subcommand_of}
-use Rattle.clap.specs.Faults.{level_fault}
+use Rattle.clap.specs.Faults.{fault_of, level_fault}
 use Rattle.lh_addr.specs.Limits.{most_initial, most_capacity, least_load, most_load, most_buckets}
-use Rattle.lh_options.specs.Options.{Accepts, commands_app, number_in, numeral_value, program_app, settings_from}
-use Rattle.lh_options.specs.OptionSteps.{HasImage, HasSettings, HasThreads, IsFileCommand, IsImageCommand, settings_in}
+use Rattle.lh_options.specs.Options.{commands_app, most_snapshots, number_in, numeral_value, program_app, settings_from}
+use Rattle.lh_options.specs.OptionSteps.{HasDriveNumbers, HasImage, HasSettings, IsFileCommand, IsImageCommand, settings_in}
 use Rattle.lh_options.proofs.Levels.{entered-some, find-passes}
 use Rattle.lh_options.proofs.RowLemmas.{Every, FitsHere, HasTarget, IsTarget, find-every, level-every, level-row}
 use Rattle.lh_options.proofs.NumberLemmas.{number-fits}
@@ -29,10 +29,10 @@ settings-after s h words e =
     let load = level-row (codes "load") (codes "100") least_load most_load s h.load.0 h.load.1 [] words false [] e in
     let max = level-row (codes "max") (codes "65536") 1 most_buckets s h.max.0 h.max.1 [] words false [] e in
     record {
-      initial = number-fits (codes "initial") (codes "1") 1 most_initial (omega arith) _ initial.0 initial.1 initial.2;
-      capacity = number-fits (codes "capacity") (codes "14") 1 most_capacity (omega arith) _ capacity.0 capacity.1 capacity.2;
-      load = number-fits (codes "load") (codes "100") least_load most_load (omega arith) _ load.0 load.1 load.2;
-      max = number-fits (codes "max") (codes "65536") 1 most_buckets (omega arith) _ max.0 max.1 max.2;
+      initial = number-fits (codes "initial") (codes "1") 1 most_initial _ initial.0 initial.1 initial.2;
+      capacity = number-fits (codes "capacity") (codes "14") 1 most_capacity _ capacity.0 capacity.1 capacity.2;
+      load = number-fits (codes "load") (codes "100") least_load most_load _ load.0 load.1 load.2;
+      max = number-fits (codes "max") (codes "65536") 1 most_buckets _ max.0 max.1 max.2;
     }
 
 -- an option that is none of the rules has no row, and so no number
@@ -41,11 +41,11 @@ no-number : (name : Text) (s : Shape) → Every (IsTarget name (codes "1") 1 0) 
 no-number name s none words e = go (find (λ r. bytes_eq r.id name) (rows_after s.rules [] words)) refl
   where
     go : (o : Option Row) → find (λ r. bytes_eq r.id name) (rows_after s.rules [] words) ≡ o → number_in (rows_after s.rules [] words) name ≡ None
-    go None is = ap (λ (found : Option Row). option_and_then numeral_value (option_and_then (λ (x : Row). slice_get x.values 0) found)) is
+    go None is = ap (λ (found : Option Row). option_and_then numeral_value (option_and_then row_text found)) is
     go (Some r) is =
         let every = level-every name (codes "1") 1 0 s none [] words false [] e in
         let fits = find-every (FitsHere name (codes "1") 1 0) (λ r. bytes_eq r.id name) _ r every is (find-passes (λ r. bytes_eq r.id name) (rows_after s.rules [] words) r is) in
-        let number = number-fits name (codes "1") 1 0 (omega arith) _ r is fits in
+        let number = number-fits name (codes "1") 1 0 _ r is fits in
         absurd (omega (arith, number.low, number.high))
 
 -- a subcommand without options gives no settings
@@ -127,20 +127,23 @@ drive_built = shape_at 6 (built program_app).subs
 
 drive-options : HasOptions drive_built
 drive-options = record {
-  initial = (((λ _. refl), (unequal, (unequal, (unequal, (unequal, (unequal, tt)))))), inl refl);
-  capacity = ((unequal, ((λ _. refl), (unequal, (unequal, (unequal, (unequal, tt)))))), inr (inl refl));
-  load = ((unequal, (unequal, ((λ _. refl), (unequal, (unequal, (unequal, tt)))))), inr (inr (inl refl)));
-  max = ((unequal, (unequal, (unequal, ((λ _. refl), (unequal, (unequal, tt)))))), inr (inr (inr (inl refl))));
+  initial = (((λ _. refl), (unequal, (unequal, (unequal, (unequal, (unequal, (unequal, tt))))))), inl refl);
+  capacity = ((unequal, ((λ _. refl), (unequal, (unequal, (unequal, (unequal, (unequal, tt))))))), inr (inl refl));
+  load = ((unequal, (unequal, ((λ _. refl), (unequal, (unequal, (unequal, (unequal, tt))))))), inr (inr (inl refl)));
+  max = ((unequal, (unequal, (unequal, ((λ _. refl), (unequal, (unequal, (unequal, tt))))))), inr (inr (inr (inl refl))));
 }
 
--- the number of threads
-threads-after : (words : List Text) → level_fault drive_built [] nothing_held words false [] ≡ [] → HasThreads (rows_after drive_built.rules [] words)
-threads-after words e =
-    let own : Every (IsTarget (codes "threads") (codes "4") 1 64) drive_built.rules =
-    (unequal, (unequal, (unequal, (unequal, ((λ _. refl), (unequal, tt)))))) in
-    let has : HasTarget (codes "threads") (codes "4") 1 64 drive_built.rules = inr (inr (inr (inr (inl refl)))) in
-    let row = level-row (codes "threads") (codes "4") 1 64 drive_built own has [] words false [] e in
-    number-fits (codes "threads") (codes "4") 1 64 (omega arith) _ row.0 row.1 row.2
+-- the numbers of threads and of snapshots
+drive-after : (words : List Text) → level_fault drive_built [] nothing_held words false [] ≡ [] → HasDriveNumbers (rows_after drive_built.rules [] words)
+drive-after words e =
+    let threads = level-row (codes "threads") (codes "4") 1 64 drive_built
+    (unequal, (unequal, (unequal, (unequal, ((λ _. refl), (unequal, (unequal, tt))))))) (inr (inr (inr (inr (inl refl))))) [] words false [] e in
+    let snapshots = level-row (codes "snapshots") (codes "0") 0 most_snapshots drive_built
+    (unequal, (unequal, (unequal, (unequal, (unequal, ((λ _. refl), (unequal, tt))))))) (inr (inr (inr (inr (inr (inl refl)))))) [] words false [] e in
+    record {
+      threads = number-fits (codes "threads") (codes "4") 1 64 _ threads.0 threads.1 threads.2;
+      snapshots = number-fits (codes "snapshots") (codes "0") 0 most_snapshots _ snapshots.0 snapshots.1 snapshots.2;
+    }
 
 -- the version of the image
 image-after : (words : List Text) → level_fault build_built [] nothing_held words false [] ≡ [] → HasImage (rows_after build_built.rules [] words)
@@ -149,7 +152,7 @@ image-after words e =
     (unequal, (unequal, (unequal, (unequal, ((λ _. refl), (unequal, tt)))))) in
     let has : HasTarget (codes "image") (codes "2") 1 2 build_built.rules = inr (inr (inr (inr (inl refl)))) in
     let row = level-row (codes "image") (codes "2") 1 2 build_built own has [] words false [] e in
-    number-fits (codes "image") (codes "2") 1 2 (omega arith) _ row.0 row.1 row.2
+    number-fits (codes "image") (codes "2") 1 2 _ row.0 row.1 row.2
 
 is_help : (t : Text) → (bytes_eq (codes "help") t || false) ≡ true → bytes_eq t (codes "help") ≡ true
 is_help t e = (bytes_eq-Decides t (codes "help")).1 (sym ((bytes_eq-Decides (codes "help") t).0 (go (bytes_eq (codes "help") t) e)))
@@ -161,7 +164,7 @@ is_help t e = (bytes_eq-Decides t (codes "help")).1 (sym ((bytes_eq-Decides (cod
 -- the subcommands that the words may name, and what holds of their rows
 abbrev pub IsEntered : Text → List Row → Type 0
 IsEntered name rows =
-    (IsFileCommand name × HasSettings rows × (name ≡ codes "drive" → HasThreads rows) × (name ≡ codes "build" → HasImage rows))
+    (IsFileCommand name × HasSettings rows × (name ≡ codes "drive" → HasDriveNumbers rows) × (name ≡ codes "build" → HasImage rows))
     ⊎ (IsImageCommand name × (settings_in rows ≡ None))
 
 -- of a subcommand of another name nothing is said
@@ -169,8 +172,7 @@ other-name : {P : Type 0} (name given : Text) → bytes_eq name given ≡ false 
 other-name name given other is = absurd (unlike name given other is)
 
 -- accepted words name such a subcommand
-pub accepted-rows : (words : List Text) → Accepts words → (e : Text × List Row) × (subcommand_of program_app words ≡ Some e) × IsEntered e.0 e.1
-unfolding Accepts
+pub accepted-rows : (words : List Text) → fault_of program_app words ≡ [] → (e : Text × List Row) × (subcommand_of program_app words ≡ Some e) × IsEntered e.0 e.1
 accepted-rows words e = entered-some (built program_app) IsEntered (
   (λ t is other ws f. inl (inl refl, settings-after commands_built commands-options ws f, other-name (codes "commands") _ refl, other-name (codes "commands") _ refl)),
   (
@@ -184,7 +186,7 @@ accepted-rows words e = entered-some (built program_app) IsEntered (
           (
             (λ t is other ws f. inr (inr (inl refl), no-settings dump_built (unequal, tt) ws f)),
             (
-              (λ t is other ws f. inl (inr (inr (inr (inl refl))), settings-after drive_built drive-options ws f, (λ _. threads-after ws f), other-name (codes "drive") _ refl)),
+              (λ t is other ws f. inl (inr (inr (inr (inl refl))), settings-after drive_built drive-options ws f, (λ _. drive-after ws f), other-name (codes "drive") _ refl)),
               (
                 (λ t is other ws f. inr (inr (inr (inl refl)), no-settings draw_built (unequal, tt) ws f)),
                 (
@@ -231,9 +233,9 @@ pub entered-settings : (name : Text) (rows : List Row) → IsEntered name rows �
 entered-settings name rows (inl h) is = h.1
 entered-settings name rows (inr h) is = absurd (apart name is h.0)
 
-pub entered-threads : (name : Text) (rows : List Row) → IsEntered name rows → name ≡ codes "drive" → HasThreads rows
-entered-threads name rows (inl h) is = h.2 is
-entered-threads name rows (inr h) is = absurd (apart name (inr (inr (inr (inl is)))) h.0)
+pub entered-drive : (name : Text) (rows : List Row) → IsEntered name rows → name ≡ codes "drive" → HasDriveNumbers rows
+entered-drive name rows (inl h) is = h.2 is
+entered-drive name rows (inr h) is = absurd (apart name (inr (inr (inr (inl is)))) h.0)
 
 pub entered-image : (name : Text) (rows : List Row) → IsEntered name rows → name ≡ codes "build" → HasImage rows
 entered-image name rows (inl h) is = h.3 is

@@ -5,7 +5,7 @@ use Rattle.std.specs.Str.{bytes_eq}
 use Rattle.std.proofs.lemmas.Bool.{le-ltb, lt-ltb}
 use Rattle.clap.specs.Walk.{Text}
 use Rattle.lh_addr.specs.Settings.{Settings}
-use Rattle.lh_options.specs.Options.{Answers, Asks, IsMaxBelowInitial, asked_by, in_order, number_given, settings_given, version_numbered}
+use Rattle.lh_options.specs.Options.{Answers, Asks, IsMaxBelowInitial, asked_by, drive_asked, in_order, number_given, settings_given, version_numbered}
 use Rattle.lh_options.specs.declared.options.ImageVersion.{ImageVersion}
 use Rattle.lh_options.specs.OptionSteps.{IsFileCommand}
 use Rattle.lh_options.specs.declared.options.Request.{Request}
@@ -15,78 +15,84 @@ use Rattle.lh_options.specs.declared.options.Request.TheVariants as request
 passed_on : (s : Settings) (ask : Settings → Option Request) → s.initial ≤ s.max → in_order (Some s) ask ≡ ask s
 passed_on s ask within = ap (λ b. if b then Some request.MaxBelowInitial else ask s) (le-ltb s.max s.initial within)
 
-pub commands : (name : Text) (settings : Option Settings) (threads image : Option ℕ) (s : Settings) →
-    name ≡ codes "commands" → settings ≡ Some s → s.initial ≤ s.max → asked_by name settings threads image ≡ Some (request.Commands s)
+pub commands : (name : Text) (settings : Option Settings) (numbers : Text → Option ℕ) (s : Settings) →
+    name ≡ codes "commands" → settings ≡ Some s → s.initial ≤ s.max → asked_by name settings numbers ≡ Some (request.Commands s)
 unfolding asked_by
-commands name settings threads image s n e within = (λ i. asked_by (n i) (e i) threads image) ∙ passed_on s (λ x. Some (request.Commands x)) within
+commands name settings numbers s n e within = (λ i. asked_by (n i) (e i) numbers) ∙ passed_on s (λ x. Some (request.Commands x)) within
 
-pub steps : (name : Text) (settings : Option Settings) (threads image : Option ℕ) (s : Settings) →
-    name ≡ codes "steps" → settings ≡ Some s → s.initial ≤ s.max → asked_by name settings threads image ≡ Some (request.Steps s)
+pub steps : (name : Text) (settings : Option Settings) (numbers : Text → Option ℕ) (s : Settings) →
+    name ≡ codes "steps" → settings ≡ Some s → s.initial ≤ s.max → asked_by name settings numbers ≡ Some (request.Steps s)
 unfolding asked_by
-steps name settings threads image s n e within = (λ i. asked_by (n i) (e i) threads image) ∙ passed_on s (λ x. Some (request.Steps x)) within
+steps name settings numbers s n e within = (λ i. asked_by (n i) (e i) numbers) ∙ passed_on s (λ x. Some (request.Steps x)) within
 
-pub replay : (name : Text) (settings : Option Settings) (threads image : Option ℕ) (s : Settings) →
-    name ≡ codes "replay" → settings ≡ Some s → s.initial ≤ s.max → asked_by name settings threads image ≡ Some (request.Replay s)
+pub replay : (name : Text) (settings : Option Settings) (numbers : Text → Option ℕ) (s : Settings) →
+    name ≡ codes "replay" → settings ≡ Some s → s.initial ≤ s.max → asked_by name settings numbers ≡ Some (request.Replay s)
 unfolding asked_by
-replay name settings threads image s n e within = (λ i. asked_by (n i) (e i) threads image) ∙ passed_on s (λ x. Some (request.Replay x)) within
+replay name settings numbers s n e within = (λ i. asked_by (n i) (e i) numbers) ∙ passed_on s (λ x. Some (request.Replay x)) within
 
-pub build : (name : Text) (settings : Option Settings) (threads image : Option ℕ) (s : Settings) (version : ImageVersion) →
-    name ≡ codes "build" → settings ≡ Some s → option_map version_numbered image ≡ Some version → s.initial ≤ s.max →
-    asked_by name settings threads image ≡ Some (request.Build s version)
-unfolding asked_by
-build name settings threads None s version named e f within = absurd cc
-build name settings threads (Some n) s version named e f within =
-    (λ i. asked_by (named i) (e i) threads (Some n)) ∙ passed_on s (λ x. Some (request.Build x (version_numbered n))) within
-    ∙ ap (option_map (λ v. request.Build s v)) f
+built : (s : Settings) (version : ImageVersion) (image : Option ℕ) → option_map version_numbered image ≡ Some version →
+    option_map (λ n. request.Build s (version_numbered n)) image ≡ Some (request.Build s version)
+built s version None f = absurd cc
+built s version (Some n) f = ap (option_map (λ v. request.Build s v)) f
 
-pub drive : (name : Text) (settings : Option Settings) (threads image : Option ℕ) (s : Settings) (n : ℕ) →
-    name ≡ codes "drive" → settings ≡ Some s → threads ≡ Some n → s.initial ≤ s.max →
-    asked_by name settings threads image ≡ Some (request.Drive s n)
+pub build : (name : Text) (settings : Option Settings) (numbers : Text → Option ℕ) (s : Settings) (version : ImageVersion) →
+    name ≡ codes "build" → settings ≡ Some s → option_map version_numbered (numbers (codes "image")) ≡ Some version → s.initial ≤ s.max →
+    asked_by name settings numbers ≡ Some (request.Build s version)
 unfolding asked_by
-drive name settings threads image s n named e f within =
-    (λ i. asked_by (named i) (e i) (f i) image) ∙ passed_on s (λ x. Some (request.Drive x n)) within
+build name settings numbers s version named e f within =
+    (λ i. asked_by (named i) (e i) numbers) ∙ passed_on s (λ x. option_map (λ n. request.Build x (version_numbered n)) (numbers (codes "image"))) within
+    ∙ built s version (numbers (codes "image")) f
 
-pub check : (name : Text) (settings : Option Settings) (threads image : Option ℕ) →
-    name ≡ codes "check" → settings ≡ None → asked_by name settings threads image ≡ Some request.Check
+pub drive : (name : Text) (settings : Option Settings) (numbers : Text → Option ℕ) (s : Settings) (n k : ℕ) →
+    name ≡ codes "drive" → settings ≡ Some s → numbers (codes "threads") ≡ Some n → numbers (codes "snapshots") ≡ Some k → s.initial ≤ s.max →
+    asked_by name settings numbers ≡ Some (request.Drive s n k)
 unfolding asked_by
-check name settings threads image n e = λ i. asked_by (n i) (e i) threads image
+drive name settings numbers s n k named e f g within =
+    (λ i. asked_by (named i) (e i) numbers) ∙ passed_on s (drive_asked numbers) within
+    ∙ (λ i. option_and_then (λ threads. option_map (λ snapshots. request.Drive s threads snapshots) (g i)) (f i))
 
-pub dump : (name : Text) (settings : Option Settings) (threads image : Option ℕ) →
-    name ≡ codes "dump" → settings ≡ None → asked_by name settings threads image ≡ Some request.Dump
+pub check : (name : Text) (settings : Option Settings) (numbers : Text → Option ℕ) →
+    name ≡ codes "check" → settings ≡ None → asked_by name settings numbers ≡ Some request.Check
 unfolding asked_by
-dump name settings threads image n e = λ i. asked_by (n i) (e i) threads image
+check name settings numbers n e = λ i. asked_by (n i) (e i) numbers
 
-pub draw : (name : Text) (settings : Option Settings) (threads image : Option ℕ) →
-    name ≡ codes "draw" → settings ≡ None → asked_by name settings threads image ≡ Some request.Draw
+pub dump : (name : Text) (settings : Option Settings) (numbers : Text → Option ℕ) →
+    name ≡ codes "dump" → settings ≡ None → asked_by name settings numbers ≡ Some request.Dump
 unfolding asked_by
-draw name settings threads image n e = λ i. asked_by (n i) (e i) threads image
+dump name settings numbers n e = λ i. asked_by (n i) (e i) numbers
 
-pub migrate : (name : Text) (settings : Option Settings) (threads image : Option ℕ) →
-    name ≡ codes "migrate" → settings ≡ None → asked_by name settings threads image ≡ Some request.Migrate
+pub draw : (name : Text) (settings : Option Settings) (numbers : Text → Option ℕ) →
+    name ≡ codes "draw" → settings ≡ None → asked_by name settings numbers ≡ Some request.Draw
 unfolding asked_by
-migrate name settings threads image n e = λ i. asked_by (n i) (e i) threads image
+draw name settings numbers n e = λ i. asked_by (n i) (e i) numbers
+
+pub migrate : (name : Text) (settings : Option Settings) (numbers : Text → Option ℕ) →
+    name ≡ codes "migrate" → settings ≡ None → asked_by name settings numbers ≡ Some request.Migrate
+unfolding asked_by
+migrate name settings numbers n e = λ i. asked_by (n i) (e i) numbers
 
 -- no number of threads, and nothing is asked for
-pub undriven : (name : Text) (settings : Option Settings) (threads image : Option ℕ) (s : Settings) →
-    name ≡ codes "drive" → settings ≡ Some s → threads ≡ None → s.initial ≤ s.max → asked_by name settings threads image ≡ None
+pub undriven : (name : Text) (settings : Option Settings) (numbers : Text → Option ℕ) (s : Settings) →
+    name ≡ codes "drive" → settings ≡ Some s → numbers (codes "threads") ≡ None → s.initial ≤ s.max → asked_by name settings numbers ≡ None
 unfolding asked_by
-undriven name settings threads image s named e f within =
-    (λ i. asked_by (named i) (e i) (f i) image) ∙ passed_on s (λ x. option_map (λ n. request.Drive x n) None) within
+undriven name settings numbers s named e f within =
+    (λ i. asked_by (named i) (e i) numbers) ∙ passed_on s (drive_asked numbers) within
+    ∙ (λ i. option_and_then (λ threads. option_map (λ snapshots. request.Drive s threads snapshots) (numbers (codes "snapshots"))) (f i))
 
 -- settings out of order are refused
 refused : (s : Settings) (ask : Settings → Option Request) → s.max < s.initial → in_order (Some s) ask ≡ Some request.MaxBelowInitial
 refused s ask below = ap (λ b. if b then Some request.MaxBelowInitial else ask s) (lt-ltb s.max s.initial below)
 
-pub out_of_order : (name : Text) (settings : Option Settings) (threads image : Option ℕ) →
-    IsFileCommand name → IsMaxBelowInitial settings → asked_by name settings threads image ≡ Some request.MaxBelowInitial
+pub out_of_order : (name : Text) (settings : Option Settings) (numbers : Text → Option ℕ) →
+    IsFileCommand name → IsMaxBelowInitial settings → asked_by name settings numbers ≡ Some request.MaxBelowInitial
 unfolding asked_by
-out_of_order name None threads image is below = absurd below
-out_of_order name (Some s) threads image (inl n) below = (λ i. asked_by (n i) (Some s) threads image) ∙ refused s (λ x. Some (request.Commands x)) below
-out_of_order name (Some s) threads image (inr (inl n)) below = (λ i. asked_by (n i) (Some s) threads image) ∙ refused s (λ x. Some (request.Steps x)) below
-out_of_order name (Some s) threads image (inr (inr (inl n))) below = (λ i. asked_by (n i) (Some s) threads image) ∙ refused s (λ x. option_map (λ n. request.Build x (version_numbered n)) image) below
-out_of_order name (Some s) threads image (inr (inr (inr (inl n)))) below =
-    (λ i. asked_by (n i) (Some s) threads image) ∙ refused s (λ x. option_map (λ m. request.Drive x m) threads) below
-out_of_order name (Some s) threads image (inr (inr (inr (inr n)))) below = (λ i. asked_by (n i) (Some s) threads image) ∙ refused s (λ x. Some (request.Replay x)) below
+out_of_order name None numbers is below = absurd below
+out_of_order name (Some s) numbers (inl n) below = (λ i. asked_by (n i) (Some s) numbers) ∙ refused s (λ x. Some (request.Commands x)) below
+out_of_order name (Some s) numbers (inr (inl n)) below = (λ i. asked_by (n i) (Some s) numbers) ∙ refused s (λ x. Some (request.Steps x)) below
+out_of_order name (Some s) numbers (inr (inr (inl n))) below = (λ i. asked_by (n i) (Some s) numbers) ∙ refused s (λ x. option_map (λ n. request.Build x (version_numbered n)) (numbers (codes "image"))) below
+out_of_order name (Some s) numbers (inr (inr (inr (inl n)))) below =
+    (λ i. asked_by (n i) (Some s) numbers) ∙ refused s (drive_asked numbers) below
+out_of_order name (Some s) numbers (inr (inr (inr (inr n)))) below = (λ i. asked_by (n i) (Some s) numbers) ∙ refused s (λ x. Some (request.Replay x)) below
 
 -- one of five requests, each the same one, or none
 one_of : (a b c d e f g h k : Bool) (first second third fourth fifth : Option Request) (m r : Request) →
@@ -105,22 +111,21 @@ one_of false false false false false false false false true first second third f
 one_of false false false false false false false false false first second third fourth fifth m r p q s t u is = absurd cc
 
 -- whatever is asked for with settings out of order is refused
-pub refused_alone : (name : Text) (threads image : Option ℕ) (s : Settings) (r : Request) →
-    s.max < s.initial → asked_by name (Some s) threads image ≡ Some r → r ≡ request.MaxBelowInitial
+pub refused_alone : (name : Text) (numbers : Text → Option ℕ) (s : Settings) (r : Request) →
+    s.max < s.initial → asked_by name (Some s) numbers ≡ Some r → r ≡ request.MaxBelowInitial
 unfolding asked_by
-refused_alone name threads image s r below is =
-    let build : Settings → Option Request = λ x. option_map (λ n. request.Build x (version_numbered n)) image in
-    let drive : Settings → Option Request = λ x. option_map (λ n. request.Drive x n) threads in
+refused_alone name numbers s r below is =
+    let build : Settings → Option Request = λ x. option_map (λ n. request.Build x (version_numbered n)) (numbers (codes "image")) in
     one_of _ _ _ _ _ (bytes_eq name (codes "check")) (bytes_eq name (codes "dump")) (bytes_eq name (codes "draw")) (bytes_eq name (codes "migrate"))
     (in_order (Some s) (λ x. Some (request.Commands x))) (in_order (Some s) (λ x. Some (request.Steps x)))
-    (in_order (Some s) (λ x. Some (request.Replay x))) (in_order (Some s) build) (in_order (Some s) drive) request.MaxBelowInitial r
+    (in_order (Some s) (λ x. Some (request.Replay x))) (in_order (Some s) build) (in_order (Some s) (drive_asked numbers)) request.MaxBelowInitial r
     (refused s (λ x. Some (request.Commands x)) below) (refused s (λ x. Some (request.Steps x)) below)
-    (refused s (λ x. Some (request.Replay x)) below) (refused s build below) (refused s drive below) is
+    (refused s (λ x. Some (request.Replay x)) below) (refused s build below) (refused s (drive_asked numbers) below) is
 
 -- what accepted words ask for that name a subcommand
 pub asked_named : (words : List Text) (name : Text) (r : Request) → Asks words name → Answers words r →
-    asked_by name (settings_given words) (number_given words (codes "threads")) (number_given words (codes "image")) ≡ Some r
+    asked_by name (settings_given words) (number_given words) ≡ Some r
 asked_named words name r asks (inl answers) =
-    ap (option_and_then (λ n. asked_by n (settings_given words) (number_given words (codes "threads")) (number_given words (codes "image")))) (sym asks.1)
+    ap (option_and_then (λ n. asked_by n (settings_given words) (number_given words))) (sym asks.1)
     ∙ answers.1
 asked_named words name r asks (inr answers) = absurd (answers.0 asks.0)

@@ -6,5 +6,6 @@ pub mod Levels
 pub mod NumberLemmas
 pub mod Requests
 pub mod RowLemmas
+pub mod Shown
 pub mod StopLemmas
 pub mod Unlike

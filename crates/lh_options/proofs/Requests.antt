@@ -1,7 +1,8 @@
 -- From what the functions give to what a request says of the words
-use Rattle.std.proofs.Common.{◌≡◌, ◌∙◌, ◌<◌, ◌≤◌, ℕ, inl, inr, refl, sym, ap, subst, List, [], ◌∷◌, length, nat_lt, Option, Some, None, codes, true, if◌then◌else◌}
+use Rattle.std.proofs.Common.{◌≡◌, ◌∙◌, ◌<◌, ◌≤◌, ℕ, inl, inr, refl, sym, ap, subst, List, [], ◌∷◌, length, nat_lt, Option, Some, None, codes, false, true, if◌then◌else◌}
 use Rattle.std.specs.Prelude.{option_map, option_and_then}
-use Rattle.std.proofs.lemmas.Bool.{cases_lt, ltb-true}
+use Rattle.std.specs.Option.{option_map_or}
+use Rattle.std.proofs.lemmas.Bool.{cases_lt, false≢true, ltb-true}
 use Rattle.std.specs.List.{list_all}
 use Rattle.std.specs.Char.{digit_value}
 use Rattle.clap.proofs.WalkLemmas.{both}
@@ -22,8 +23,8 @@ use Rattle.lh_addr.specs.Settings.{Settings}
 use Rattle.lh_addr.specs.Config.{IsFirstOutOfRange}
 use Rattle.lh_addr.specs.declared.config.Range.{Range}
 use Rattle.lh_addr.specs.declared.config.Range.TheVariants.{Max}
-use Rattle.lh_options.specs.Options.{Accepts, Answers, AsksForHelp, IsRefused, IsServable, asked_by, asked_for, number_given, number_in, numeral_value, program_app, settings_from, settings_given, subcommand_named}
-use Rattle.lh_options.specs.OptionSteps.{HasNumber, IsRefusal, asked_in, settings_in}
+use Rattle.lh_options.specs.Options.{Accepts, Answers, AsksForHelp, IsRefused, IsServable, all_in_digits, asked_by, asked_for, number_in, numeral_value, program_app, settings_from, settings_given, subcommand_named, write_digits}
+use Rattle.lh_options.specs.OptionSteps.{HasNumber, IsRefusal, IsRefusedText, asked_in, settings_in}
 use Rattle.lh_options.specs.declared.options.Request.{Request}
 use Rattle.lh_options.specs.declared.options.Request.TheVariants as request
 use Rattle.lh_options.proofs.Accepted.{IsEntered, accepted-rows}
@@ -53,7 +54,7 @@ numeral_value-numeral text e = ap (λ b. if b then Some (digits_value 10 (withou
 
 pub number-is : (rows : List Row) (name : Text) (least most : ℕ) (given : HasNumber rows name least most)
     → number_in rows name ≡ Some (digits_value 10 (without_leading_plus given.text))
-number-is rows name least most given = ap (option_and_then numeral_value) given.first ∙ numeral_value-numeral given.text given.numeral
+number-is rows name least most given = ap (option_and_then numeral_value) given.as_read ∙ numeral_value-numeral given.text given.numeral
 
 pub number-at-most : (rows : List Row) (name : Text) (least most n : ℕ) → HasNumber rows name least most → number_in rows name ≡ Some n → n ≤ most
 number-at-most rows name least most n given is =
@@ -80,10 +81,10 @@ name-of-rows m = option_map-twice _ _ (out-ArgMatches m).subcommand
 
 -- the subcommand that a parse of accepted words entered
 entered-is : (m : ArgMatches) (words : List Text) (name : Text) (rows : List Row) → subcommand_rows_of m ≡ subcommand_of program_app words
-    → Some name ≡ subcommand_name_of m → Some rows ≡ option_map (λ p. p.1) (subcommand_rows_of m) → Accepts words
+    → Some name ≡ subcommand_name_of m → Some rows ≡ option_map (λ p. p.1) (subcommand_rows_of m) → fault_of program_app words ≡ []
     → (subcommand_of program_app words ≡ Some (name, rows)) × IsEntered name rows
-entered-is m words name rows same named with_rows accepts =
-    let got = accepted-rows words accepts in
+entered-is m words name rows same named with_rows no_fault =
+    let got = accepted-rows words no_fault in
     let is : subcommand_rows_of m ≡ Some got.0 = same ∙ got.1 in
     let same_name : Some name ≡ Some got.0.0 = named ∙ (sym (name-of-rows m) ∙ ap (option_map (λ p. p.0)) is) in
     let same_rows : Some rows ≡ Some got.0.1 = with_rows ∙ ap (option_map (λ p. p.1)) is in
@@ -103,9 +104,7 @@ asked-is : (words : List Text) (name : Text) (rows : List Row) → subcommand_of
 unfolding subcommand_named
 asked-is words name rows is =
     let named : subcommand_named words ≡ Some name = ap (option_map (λ s. s.0)) is in
-    let threads : number_given words (codes "threads") ≡ number_in rows (codes "threads") = ap (option_and_then (λ s. number_in s.1 (codes "threads"))) is in
-    let image : number_given words (codes "image") ≡ number_in rows (codes "image") = ap (option_and_then (λ s. number_in s.1 (codes "image"))) is in
-    λ i. option_and_then (λ n. asked_by n (settings-at words name rows is i) (threads i) (image i)) (named i)
+    λ i. option_and_then (λ n. asked_by n (settings-at words name rows is i) (λ o. option_and_then (λ s. number_in s.1 o) (is i))) (named i)
 
 -- one of some kinds, where there is none
 none-among : (k : ErrorKind) (kinds : Kinds) → IsAmong k kinds → kinds ≡ [] → ⊥
@@ -116,14 +115,14 @@ pub refusal-answers : (words : List Text) (e : Error) (r : Request) → HasKind 
 unfolding Accepts AsksForHelp IsRefused
 refusal-answers words e (request.Help text) (inl memory) (inl h) = cc
 refusal-answers words e (request.Help text) (inl memory) (inr h) = cc
-refusal-answers words e (request.Help text) (inr among) h = inr (none-among (kind_of e) _ among, (kind_of e, among, h))
+refusal-answers words e (request.Help text) (inr among) h = inr (λ a. none-among (kind_of e) _ among a.0, (kind_of e, among, h))
 refusal-answers words e (request.Refused text) (inl memory) h = absurd (h.1 memory)
-refusal-answers words e (request.Refused text) (inr among) h = inr (none-among (kind_of e) _ among, (kind_of e, among, h.0))
+refusal-answers words e (request.Refused text) (inr among) h = inr (λ a. none-among (kind_of e) _ among a.0, (inl (kind_of e, among, h.0), h.2))
 refusal-answers words e (request.Commands config) among h = absurd h
 refusal-answers words e (request.Steps config) among h = absurd h
 refusal-answers words e (request.Replay config) among h = absurd h
 refusal-answers words e (request.Build config version) among h = absurd h
-refusal-answers words e (request.Drive config threads) among h = absurd h
+refusal-answers words e (request.Drive config threads snapshots) among h = absurd h
 refusal-answers words e request.Check among h = absurd h
 refusal-answers words e request.Dump among h = absurd h
 refusal-answers words e request.Draw among h = absurd h
@@ -132,29 +131,48 @@ refusal-answers words e request.MaxBelowInitial among h = absurd h
 
 -- a request that turns words away runs nothing
 pub refusal-servable : (k : ErrorKind) (r : Request) → IsRefusal k r → IsServable r
-refusal-servable k (request.Drive config threads) h = absurd h
+refusal-servable k (request.Drive config threads snapshots) h = absurd h
 refusal-servable k _ h = tt
 
 -- what a parse that succeeds says of the words, and of the subcommand that it entered
 pub record HasEntered (words : List Text) (name : Text) (rows : List Row) : Type 0 where
-  pub accepts : Accepts words
+  pub no_fault : fault_of program_app words ≡ []
   pub is : subcommand_of program_app words ≡ Some (name, rows)
   pub asked : IsEntered name rows
 
 pub entered-from : (a : App) (m : ArgMatches) (words : List Text) (name : Text) (rows : List Row) → a ≡ program_app
     → (is_simple_and_free a ≡ true → fault_of a words ≡ []) → HasMatchesOf a words m
     → Some name ≡ subcommand_name_of m → Some rows ≡ option_map (λ p. p.1) (subcommand_rows_of m) → HasEntered words name rows
-unfolding Accepts
 entered-from a m words name rows is none matches named with_rows =
-    let no_fault : is_simple_and_free program_app ≡ true → fault_of program_app words ≡ [] =
+    let found : is_simple_and_free program_app ≡ true → fault_of program_app words ≡ [] =
     subst (λ (x : App). is_simple_and_free x ≡ true → fault_of x words ≡ []) is none in
     let same : HasMatchesOf program_app words m = subst (λ (x : App). HasMatchesOf x words m) is matches in
-    let entered = entered-is m words name rows (same refl).1 named with_rows (no_fault refl) in
-    record { accepts = no_fault refl; is = entered.0; asked = entered.1 }
+    let entered = entered-is m words name rows (same refl).1 named with_rows (found refl) in
+    record { no_fault = found refl; is = entered.0; asked = entered.1 }
 
 pub failed-from : (a : App) (words : List Text) (e : Error) → a ≡ program_app → (is_simple_and_free a ≡ true → HasKind (fault_of a words) e)
     → HasKind (fault_of program_app words) e
 failed-from a words e is failed = (subst (λ (x : App). is_simple_and_free x ≡ true → HasKind (fault_of x words) e) is failed) refl
 
-pub asked-answers : (words : List Text) (name : Text) (rows : List Row) (r : Request) → HasEntered words name rows → asked_in name rows ≡ Some r → Answers words r
-asked-answers words name rows r entered h = inl (entered.accepts, asked-is words name rows entered.is ∙ h)
+-- whether the words write each number in digits alone, by the rows of the subcommand
+write-is : (words : List Text) (name : Text) (rows : List Row) → subcommand_of program_app words ≡ Some (name, rows) → write_digits words ≡ all_in_digits rows
+write-is words name rows is = ap (λ (o : Option (Text × List Row)). option_map_or (λ s. all_in_digits s.1) o true) is
+
+pub asked-answers : (words : List Text) (name : Text) (rows : List Row) (r : Request) → HasEntered words name rows → all_in_digits rows ≡ true
+    → asked_in name rows ≡ Some r → Answers words r
+unfolding Accepts
+asked-answers words name rows r entered digits h =
+    inl ((entered.no_fault, write-is words name rows entered.is ∙ digits), asked-is words name rows entered.is ∙ h)
+
+-- a number with a sign turns the words away
+pub signed-answers : (words : List Text) (name : Text) (rows : List Row) (r : Request) → HasEntered words name rows → all_in_digits rows ≡ false
+    → IsRefusedText r → Answers words r
+unfolding Accepts IsRefused
+signed-answers words name rows (request.Refused text) entered digits h =
+    let signed = write-is words name rows entered.is ∙ digits in
+    inr (λ a. false≢true (sym signed ∙ a.1), (inr (entered.no_fault, signed), h))
+signed-answers words name rows _ entered digits h = absurd h
+
+pub signed-servable : (r : Request) → IsRefusedText r → IsServable r
+signed-servable (request.Drive config threads snapshots) h = absurd h
+signed-servable _ h = tt

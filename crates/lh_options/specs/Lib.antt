@@ -1,3 +1,4 @@
+pub mod Escapes
 pub mod OptionLaws
 pub mod OptionSteps
 pub mod Options

@@ -27,7 +27,16 @@ abbrev pub max_over_limit : List Text
 max_over_limit = codes "lhash" ∷ codes "commands" ∷ codes "--max=65537" ∷ []
 
 abbrev pub max_below_initial : List Text
-max_below_initial = codes "lhash" ∷ codes "commands" ∷ codes "--max" ∷ codes "7" ∷ codes "--initial" ∷ codes "+8" ∷ []
+max_below_initial = codes "lhash" ∷ codes "commands" ∷ codes "--max" ∷ codes "7" ∷ codes "--initial" ∷ codes "8" ∷ []
+
+abbrev pub max_with_plus : List Text
+max_with_plus = codes "lhash" ∷ codes "commands" ∷ codes "--max" ∷ codes "+7" ∷ []
+
+abbrev pub snapshots_with_minus : List Text
+snapshots_with_minus = codes "lhash" ∷ codes "drive" ∷ codes "--snapshots=-0" ∷ []
+
+abbrev pub image_with_plus : List Text
+image_with_plus = codes "lhash" ∷ codes "build" ∷ codes "--image=+1" ∷ []
 
 abbrev pub initial_twice : List Text
 initial_twice = codes "lhash" ∷ codes "commands" ∷ codes "--initial=3" ∷ codes "--initial=3" ∷ []
@@ -77,6 +86,12 @@ threads_zero = codes "lhash" ∷ codes "drive" ∷ codes "--threads=0" ∷ []
 abbrev pub threads_over_limit : List Text
 threads_over_limit = codes "lhash" ∷ codes "drive" ∷ codes "--threads" ∷ codes "65" ∷ []
 
+abbrev pub snapshots_given : List Text
+snapshots_given = codes "lhash" ∷ codes "drive" ∷ codes "--snapshots" ∷ codes "1000" ∷ []
+
+abbrev pub snapshots_over_limit : List Text
+snapshots_over_limit = codes "lhash" ∷ codes "drive" ∷ codes "--snapshots=1001" ∷ []
+
 -- the words are accepted, name `commands`, and give these settings
 abbrev pub GivesCommands : List Text → Settings → Type 0
 GivesCommands words s = Asks words (codes "commands") × (settings_given words ≡ Some s)
@@ -95,11 +110,11 @@ GivesBuild words s version =
     Asks words (codes "build") × (settings_given words ≡ Some s)
     × (option_map version_numbered (number_given words (codes "image")) ≡ Some version)
 
--- the words are accepted, name `drive`, and give these settings and this number of threads
-abbrev pub GivesDrive : List Text → Settings → ℕ → Type 0
-GivesDrive words s threads =
+-- the words are accepted, name `drive`, and give these settings and these numbers of threads and of snapshots
+abbrev pub GivesDrive : List Text → Settings → ℕ → ℕ → Type 0
+GivesDrive words s threads snapshots =
     Asks words (codes "drive") × (settings_given words ≡ Some s)
-    × (number_given words (codes "threads") ≡ Some threads)
+    × (number_given words (codes "threads") ≡ Some threads) × (number_given words (codes "snapshots") ≡ Some snapshots)
 
 -- the words are not accepted
 abbrev pub Refuses : List Text → Type 0

@@ -1,15 +1,17 @@
 -- What the functions on the way from the words to a request say of commands, rows and errors
 use Rattle.std.specs.Prelude.{◌≡◌, ◌≤◌, ◌⊎◌, ℕ, List, Option, Some, codes, true, false}
 use Rattle.std.specs.Str.Parse.{digits_value, without_leading_plus}
+use Rattle.std.specs.String.{string_bytes}
 use Rattle.clap.specs.ValueTests.{is_numeral}
-use Rattle.clap.specs.Words.{App, Row, Text, app_of, first_of, one_of}
+use Rattle.clap.specs.Words.{App, Row, Text, app_of, one_of}
 use Rattle.clap.specs.declared.builder.command.Command.{Command}
 use Rattle.clap.specs.declared.builder.command.Command.TheViews.{out-Command}
 use Rattle.clap.specs.declared.error.kind.ErrorKind.{ErrorKind}
 use Rattle.clap.specs.declared.error.kind.ErrorKind.TheVariants as kind
 use Rattle.lh_addr.specs.Limits.{most_initial, most_capacity, least_load, most_load, most_buckets}
 use Rattle.lh_addr.specs.Settings.{Settings}
-use Rattle.lh_options.specs.Options.{IsShown, asked_by, number_in, settings_from}
+use Rattle.lh_options.specs.Escapes.{has_no_control}
+use Rattle.lh_options.specs.Options.{IsShown, asked_by, most_snapshots, number_in, settings_from}
 use Rattle.lh_options.specs.declared.options.Request.{Request}
 use Rattle.lh_options.specs.declared.options.Request.TheVariants as request
 
@@ -17,10 +19,9 @@ use Rattle.lh_options.specs.declared.options.Request.TheVariants as request
 abbrev pub Reads : App → Command → Type 0
 Reads app c = (app_of c ≡ app) × ((out-Command c).has_globals ≡ false)
 
--- the first value of an option, from the words or by default, is a decimal number from least to most
+-- the first value of an option, from the words or by default, is read as a decimal number from least to most
 pub record HasNumber (rows : List Row) (name : Text) (least most : ℕ) : Type 0 where
   pub text : Text
-  pub first : first_of name rows ≡ Some text
   pub as_read : one_of name rows ≡ Some text
   pub numeral : is_numeral (without_leading_plus text) ≡ true
   pub low : least ≤ digits_value 10 (without_leading_plus text)
@@ -33,9 +34,10 @@ pub record HasSettings (rows : List Row) : Type 0 where
   pub load : HasNumber rows (codes "load") least_load most_load
   pub max : HasNumber rows (codes "max") 1 most_buckets
 
--- the number of threads is in its range
-abbrev pub HasThreads : List Row → Type 0
-HasThreads rows = HasNumber rows (codes "threads") 1 64
+-- the numbers of threads and of snapshots are in their ranges
+pub record HasDriveNumbers (rows : List Row) : Type 0 where
+  pub threads : HasNumber rows (codes "threads") 1 64
+  pub snapshots : HasNumber rows (codes "snapshots") 0 most_snapshots
 
 -- the version of the image is one of the two
 abbrev pub HasImage : List Row → Type 0
@@ -60,11 +62,16 @@ IsImageCommand name =
 
 -- what a subcommand asks for by its rows
 abbrev pub asked_in : Text → List Row → Option Request
-asked_in name rows =
-    asked_by name (settings_in rows) (number_in rows (codes "threads")) (number_in rows (codes "image"))
+asked_in name rows = asked_by name (settings_in rows) (number_in rows)
 
 -- what a request says of the kind of clap's error
 abbrev pub IsRefusal : ErrorKind → Request → Type 0
 IsRefusal k (request.Help text) = IsShown k
-IsRefusal k (request.Refused text) = (IsShown k → ⊥) × (k ≡ kind.OutOfMemory → ⊥)
+IsRefusal k (request.Refused text) =
+    (IsShown k → ⊥) × (k ≡ kind.OutOfMemory → ⊥) × (has_no_control (string_bytes text) ≡ true)
 IsRefusal k _ = ⊥
+
+-- a request that refuses words, for a reason without a control byte
+abbrev pub IsRefusedText : Request → Type 0
+IsRefusedText (request.Refused text) = has_no_control (string_bytes text) ≡ true
+IsRefusedText _ = ⊥

@@ -1,11 +1,15 @@
 -- The command line: the program's command, the numbers that the words give its options,
 -- and what a request says of the words
-use Rattle.std.specs.Prelude.{◌≡◌, ◌⊎◌, ◌<◌, ◌≤◌, ℕ, List, [], ◌∷◌, Option, Some, None, codes, pos, true, nat_lt, ◌==◌, option_map, option_and_then, if◌then◌else◌}
+use Rattle.std.specs.Prelude.{◌≡◌, ◌⊎◌, ◌<◌, ◌≤◌, ℕ, List, [], ◌∷◌, Option, Some, None, codes, pos, false, true, nat_lt, Bool, ◌&&◌, ◌==◌, option_map, option_and_then, if◌then◌else◌}
+use Rattle.std.specs.Char.{is_ascii_digit}
+use Rattle.std.specs.List.{list_all}
+use Rattle.std.specs.Option.{option_map_or}
 use Rattle.std.specs.Str.{bytes_eq}
+use Rattle.std.specs.String.{string_bytes}
 use Rattle.std.specs.Str.Parse.{digits_value, without_leading_plus}
 use Rattle.clap.specs.ValueTests.{is_numeral}
 pub use Rattle.clap.specs.Walk.{Text}
-use Rattle.clap.specs.Words.{App, Row, Rule, fault_of, first_of, new_app, new_rule, subcommand_of, with_rule, with_subcommand}
+use Rattle.clap.specs.Words.{App, Row, Rule, fault_of, first_of, new_app, new_rule, one_of, subcommand_of, with_rule, with_subcommand}
 use Rattle.clap.specs.Kinds.{IsAmong}
 use Rattle.clap.specs.declared.builder.action.ArgAction.TheVariants.{Set}
 use Rattle.clap.specs.declared.builder.value_parser.ValueParser.TheVariants as parser
@@ -13,6 +17,7 @@ use Rattle.clap.specs.declared.error.kind.ErrorKind.{ErrorKind}
 use Rattle.clap.specs.declared.error.kind.ErrorKind.TheVariants as kind
 use Rattle.lh_addr.specs.Limits.{most_initial, most_capacity, least_load, most_load, most_buckets}
 use Rattle.lh_addr.specs.Settings.{Settings}
+use Rattle.lh_options.specs.Escapes.{has_no_control}
 use Rattle.lh_options.specs.declared.options.ImageVersion.{ImageVersion}
 use Rattle.lh_options.specs.declared.options.ImageVersion.TheVariants.{First, Second}
 use Rattle.lh_options.specs.declared.options.Request.{Request}
@@ -70,9 +75,17 @@ migrate_app = new_app (codes "migrate")
 abbrev pub with_threads : App → App
 with_threads app = with_rule app (option_rule (codes "threads") (codes "4") 1 64)
 
+-- the most snapshots that are taken while a script is run in threads
+abbrev pub most_snapshots : ℕ
+most_snapshots = 1000
+
+-- a command with an option for a number of snapshots
+abbrev pub with_snapshots : App → App
+with_snapshots app = with_rule app (option_rule (codes "snapshots") (codes "0") 0 most_snapshots)
+
 -- the subcommand that runs a script in threads
 abbrev pub drive_app : App
-drive_app = with_threads (with_settings (new_app (codes "drive")))
+drive_app = with_snapshots (with_threads (with_settings (new_app (codes "drive"))))
 
 -- a command that asks for a subcommand
 abbrev pub with_subcommand_required : App → App
@@ -98,15 +111,16 @@ program_app =
     with_subcommand (with_subcommand (with_subcommand (with_subcommand (with_subcommand scripts_app
     check_app.top) dump_app.top) drive_app.top) draw_app.top) migrate_app.top
 
--- the whole number that a text writes in decimal digits, where it is such a text; a plus may stand first
+-- the whole number that a text writes in decimal digits, where it is such a text; a plus may stand first, as clap has it,
+-- though not in words that are accepted
 abbrev pub numeral_value : Text → Option ℕ
 numeral_value text =
     let digits = without_leading_plus text in
     if is_numeral digits then Some (digits_value 10 digits) else None
 
--- the number of an option: that of the first value in its row
+-- the number of an option: that of the first value in its row, as clap reads it, so that `-0` is 0
 abbrev pub number_in : List Row → Text → Option ℕ
-number_in rows name = option_and_then numeral_value (first_of name rows)
+number_in rows name = option_and_then numeral_value (one_of name rows)
 
 -- the four settings, where each is there
 abbrev pub settings_from : Option ℕ → Option ℕ → Option ℕ → Option ℕ → Option Settings
@@ -114,9 +128,24 @@ settings_from (Some initial) (Some capacity) (Some load) (Some max) =
     Some (record { initial = initial; capacity = capacity; load = load; max = max })
 settings_from _ _ _ _ = None
 
--- clap finds no fault in the words
+-- whether the number that rows give an option, where they give one, is written in digits alone
+abbrev pub in_digits : List Row → Text → Bool
+in_digits rows name = option_map_or (λ text. list_all is_ascii_digit text) (first_of name rows) true
+
+-- whether each number that rows give is
+abbrev pub all_in_digits : List Row → Bool
+all_in_digits rows =
+    in_digits rows (codes "initial") && (in_digits rows (codes "capacity") && (in_digits rows (codes "load") && (
+    in_digits rows (codes "max") && (in_digits rows (codes "threads") && (in_digits rows (codes "snapshots")
+    && in_digits rows (codes "image"))))))
+
+-- whether the words write each number in digits alone, without a sign
+abbrev pub write_digits : List Text → Bool
+write_digits words = option_map_or (λ s. all_in_digits s.1) (subcommand_of program_app words) true
+
+-- clap finds no fault in the words, and each number is written in digits alone
 unfoldable pub Accepts : List Text → Type 0
-Accepts words = fault_of program_app words ≡ []
+Accepts words = (fault_of program_app words ≡ []) × (write_digits words ≡ true)
 
 -- the subcommand that the words name
 unfoldable pub subcommand_named : List Text → Option Text
@@ -149,10 +178,12 @@ IsShown k = (k ≡ kind.DisplayHelp) ⊎ (k ≡ kind.DisplayVersion)
 unfoldable pub AsksForHelp : List Text → Type 0
 AsksForHelp words = (k : ErrorKind) × IsAmong k (fault_of program_app words) × IsShown k
 
--- clap finds a fault in the words, other than a call for help or for the version
+-- clap finds a fault in the words, other than a call for help or for the version; or it finds none, and a number has a
+-- sign
 unfoldable pub IsRefused : List Text → Type 0
 IsRefused words =
-    (k : ErrorKind) × IsAmong k (fault_of program_app words) × (IsShown k → ⊥)
+    ((k : ErrorKind) × IsAmong k (fault_of program_app words) × (IsShown k → ⊥))
+    ⊎ ((fault_of program_app words ≡ []) × (write_digits words ≡ false))
 
 -- what is asked for with settings, which are refused where `--max` is less than `--initial`
 abbrev pub in_order : Option Settings → (Settings → Option Request) → Option Request
@@ -168,15 +199,22 @@ asked_without_settings (Some s) r = None
 abbrev pub version_numbered : ℕ → ImageVersion
 version_numbered n = if n == 1 then First else Second
 
--- what a subcommand asks for, with the settings, the number of threads and the version of an image that the words give
-unfoldable pub asked_by : Text → Option Settings → Option ℕ → Option ℕ → Option Request
-asked_by name settings threads image =
+-- a run in threads with settings in order, by the numbers of threads and of snapshots
+abbrev pub drive_asked : (Text → Option ℕ) → Settings → Option Request
+drive_asked numbers s =
+    option_and_then
+    (λ threads. option_map (λ snapshots. request.Drive s threads snapshots) (numbers (codes "snapshots")))
+    (numbers (codes "threads"))
+
+-- what a subcommand asks for, with the settings and the numbers of other options that the words give
+unfoldable pub asked_by : Text → Option Settings → (Text → Option ℕ) → Option Request
+asked_by name settings numbers =
     if bytes_eq name (codes "commands") then in_order settings (λ s. Some (request.Commands s))
     else if bytes_eq name (codes "steps") then in_order settings (λ s. Some (request.Steps s))
     else if bytes_eq name (codes "replay") then in_order settings (λ s. Some (request.Replay s))
     else if bytes_eq name (codes "build")
-    then in_order settings (λ s. option_map (λ n. request.Build s (version_numbered n)) image)
-    else if bytes_eq name (codes "drive") then in_order settings (λ s. option_map (λ n. request.Drive s n) threads)
+    then in_order settings (λ s. option_map (λ n. request.Build s (version_numbered n)) (numbers (codes "image")))
+    else if bytes_eq name (codes "drive") then in_order settings (drive_asked numbers)
     else if bytes_eq name (codes "check") then asked_without_settings settings request.Check
     else if bytes_eq name (codes "dump") then asked_without_settings settings request.Dump
     else if bytes_eq name (codes "draw") then asked_without_settings settings request.Draw
@@ -186,15 +224,13 @@ asked_by name settings threads image =
 -- what words ask for that are accepted
 abbrev pub asked_for : List Text → Option Request
 asked_for words =
-    option_and_then
-    (λ name.
-    asked_by name (settings_given words) (number_given words (codes "threads")) (number_given words (codes "image")))
-    (subcommand_named words)
+    option_and_then (λ name. asked_by name (settings_given words) (number_given words)) (subcommand_named words)
 
--- why words that are not accepted are turned away: they ask for a text that is shown, or are refused
+-- why words that are not accepted are turned away: they ask for a text that is shown, or are refused, for a reason in
+-- which no word brings a control byte
 abbrev pub IsTurned : List Text → Request → Type 0
 IsTurned words (request.Help text) = AsksForHelp words
-IsTurned words (request.Refused text) = IsRefused words
+IsTurned words (request.Refused text) = IsRefused words × (has_no_control (string_bytes text) ≡ true)
 IsTurned words _ = ⊥
 
 -- what a request says of the words: accepted words ask for it, or other words are turned away by it
@@ -203,5 +239,5 @@ Answers words r = (Accepts words × (asked_for words ≡ Some r)) ⊎ (¬ Accept
 
 -- what is asked for can be done: a script is run in 1 to 64 threads
 abbrev pub IsServable : Request → Type 0
-IsServable (request.Drive config threads) = (1 ≤ threads) × (threads ≤ 64)
+IsServable (request.Drive config threads snapshots) = (1 ≤ threads) × (threads ≤ 64)
 IsServable _ = Unit {0}

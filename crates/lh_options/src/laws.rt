@@ -16,16 +16,21 @@ ghost use Rattle.lh_options.specs.OptionLaws.{
   first_image_given,
   help_asked,
   initial_twice,
+  image_with_plus,
   initial_zero,
   max_below_initial,
   max_given,
   max_over_limit,
+  max_with_plus,
   migrate_alone,
   no_options,
   no_subcommand,
   program_version_asked,
   replay_given,
   Refuses,
+  snapshots_given,
+  snapshots_over_limit,
+  snapshots_with_minus,
   steps_given,
   third_image,
   threads_over_limit,
@@ -36,7 +41,7 @@ ghost use Rattle.lh_options.specs.Options.{Asks, AsksForHelp};
 ghost use Rattle.lh_options.specs.declared.options.ImageVersion.TheVariants.{First, Second};
 
 /// The words give the options the numbers that stand in them, and an option that is left out its
-/// default. A number out of its range, an option given twice and an unknown one are refused, and so is
+/// default. A number out of its range or with a sign, an option given twice and an unknown one are refused, and so is
 /// each option of a subcommand that reads an image.
 pub fn words_give_options()
     ensures left_out { GivesCommands no_options (record { initial = 1; capacity = 14; load = 100; max = 65536 }) }
@@ -48,8 +53,10 @@ pub fn words_give_options()
     ensures first { GivesBuild first_image_given
         (record { initial = 1; capacity = 14; load = 100; max = 65536 }) First }
     ensures migrate { Asks migrate_alone (codes "migrate") }
-    ensures drive { GivesDrive drive_given (record { initial = 3; capacity = 14; load = 100; max = 65536 }) 64 }
-    ensures drive_left_out { GivesDrive drive_alone (record { initial = 1; capacity = 14; load = 100; max = 65536 }) 4 }
+    ensures drive { GivesDrive drive_given (record { initial = 3; capacity = 14; load = 100; max = 65536 }) 64 0 }
+    ensures drive_left_out { GivesDrive drive_alone (record { initial = 1; capacity = 14; load = 100; max = 65536 }) 4 0 }
+    ensures snapshots { GivesDrive snapshots_given
+        (record { initial = 1; capacity = 14; load = 100; max = 65536 }) 4 1000 }
     ensures check { Asks check_alone (codes "check") }
     ensures dump { Asks dump_alone (codes "dump") }
     ensures draw { Asks draw_alone (codes "draw") }
@@ -58,8 +65,12 @@ pub fn words_give_options()
     ensures too_small { Refuses initial_zero }
     ensures no_thread { Refuses threads_zero }
     ensures too_many_threads { Refuses threads_over_limit }
+    ensures too_many_snapshots { Refuses snapshots_over_limit }
     ensures too_great { Refuses max_over_limit }
     ensures no_third { Refuses third_image }
+    ensures no_plus { Refuses max_with_plus }
+    ensures no_minus { Refuses snapshots_with_minus }
+    ensures no_plus_of_image { Refuses image_with_plus }
     ensures twice { Refuses initial_twice }
     ensures unknown { Refuses unknown_option }
     ensures help { AsksForHelp help_asked }

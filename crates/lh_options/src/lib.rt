@@ -5,6 +5,7 @@
 //! ```
 #![tactic(auto)]
 
+mod escapes;
 mod help;
 pub mod laws;
 mod options;

@@ -1,10 +1,15 @@
 //! The command line.
-ghost use Rattle.std.specs.Prelude.{◌≡◌, ◌⊎◌, IfOk, IfSome, IfNone, None, Some, codes, false, map, option_map};
+ghost use Rattle.std.specs.Prelude.{◌≡◌, ◌⊎◌, IfOk, IfSome, IfNone, None, Some, codes, false, map, option_map, true};
+ghost use Rattle.std.specs.Char.{is_ascii_digit};
+ghost use Rattle.std.specs.List.{list_all};
+ghost use Rattle.std.specs.String.{string_bytes};
 ghost use Rattle.lh_addr.specs.Settings.{IsInRange};
 ghost use Rattle.clap.specs.Words.{found_of, kind_of, new_app, rows_of, rule_of};
-ghost use Rattle.lh_options.specs.Options.{Answers, IsMaxBelowInitial, IsServable, number_in, build_app, drive_app, option_rule, version_numbered, root_app, scripts_app, program_app, with_settings};
-ghost use Rattle.lh_options.specs.OptionSteps.{HasNumber, HasSettings, HasImage, HasThreads, IsFileCommand, IsImageCommand, IsRefusal, Reads, asked_in, settings_in};
+ghost use Rattle.lh_options.specs.Escapes.{has_no_control};
+ghost use Rattle.lh_options.specs.Options.{Answers, IsMaxBelowInitial, IsServable, all_in_digits, in_digits, number_in, build_app, drive_app, option_rule, version_numbered, root_app, scripts_app, program_app, with_settings};
+ghost use Rattle.lh_options.specs.OptionSteps.{HasNumber, HasSettings, HasDriveNumbers, HasImage, IsFileCommand, IsImageCommand, IsRefusal, IsRefusedText, Reads, asked_in, settings_in};
 
+use crate::escapes::escaped;
 use crate::help::{BUILD, CHECK, COMMANDS, DRAW, DRIVE, DUMP, Help, MIGRATE, REPLAY, STEPS};
 use clap::error::ErrorKind;
 use clap::{Arg, ArgAction, ArgMatches, Command, Error};
@@ -19,6 +24,9 @@ const MIN_THREADS: u32 = 1;
 
 /// The greatest number of threads that a script is run in.
 const MAX_THREADS: u32 = 64;
+
+/// The greatest number of snapshots that are taken meanwhile.
+const MAX_SNAPSHOTS: u32 = 1_000;
 
 /// The number of the first version of an image.
 const FIRST_IMAGE: u32 = 1;
@@ -54,8 +62,12 @@ pub enum Request {
     Draw,
     /// The subcommand `migrate`.
     Migrate,
-    /// The subcommand `drive`, with the configuration and the number of threads that its options give.
-    Drive(Config, u32),
+    /// The subcommand `drive`, with the configuration and the numbers of threads and of snapshots that its options give.
+    Drive {
+        config: Config,
+        threads: u32,
+        snapshots: u32,
+    },
     /// Help or the version, and its text.
     Help(String),
     /// Words that are refused, and why, in one line.
@@ -134,18 +146,27 @@ fn image_command<'a>(alloc: Global, name: &'a str, help: Help) -> Command<'a>
         .after_help(help.example)
 }
 
-/// The subcommand that runs a script in threads: a file's options, and one for the threads.
+/// The subcommand that runs a script in threads: a file's options, and one each for the threads and the snapshots.
 fn drive_command<'a>(alloc: Global) -> Result<Command<'a>, AllocError>
     ensures { IfOk result (Reads drive_app) }
 {
-    file_command(alloc, "drive", DRIVE)?.arg(option(
-        alloc,
-        "threads",
-        "Number of threads, 1 to 64",
-        "4",
-        MIN_THREADS,
-        MAX_THREADS,
-    ))
+    file_command(alloc, "drive", DRIVE)?
+        .arg(option(
+            alloc,
+            "threads",
+            "Number of threads, 1 to 64",
+            "4",
+            MIN_THREADS,
+            MAX_THREADS,
+        ))?
+        .arg(option(
+            alloc,
+            "snapshots",
+            "Snapshots to take meanwhile, 0 to 1000",
+            "0",
+            0,
+            MAX_SNAPSHOTS,
+        ))
 }
 
 /// The subcommand that writes an image: a file's options, and one for the version of the image.
@@ -208,6 +229,43 @@ fn number(matches: &ArgMatches<'_>, name: &str) -> u32
     }
 }
 
+/// Whether each byte of a text is a decimal digit.
+fn is_digits(text: &str) -> bool
+    ensures { result ≡ list_all is_ascii_digit text.now }
+{
+    text.as_bytes().iter().all(|byte| byte.is_ascii_digit())
+}
+
+/// Whether the number of an option, where it has one, is written in digits alone: clap takes a sign before them.
+fn is_in_digits(matches: &ArgMatches<'_>, name: &str) -> bool
+    ensures { result ≡ in_digits (rows_of (found_of matches.now)) name.now }
+{
+    match matches.get_str(name) {
+        Some(text) => is_digits(text),
+        None => true,
+    }
+}
+
+/// Whether each number is written in digits alone.
+fn are_in_digits(matches: &ArgMatches<'_>) -> bool
+    ensures { result ≡ all_in_digits (rows_of (found_of matches.now)) }
+{
+    is_in_digits(matches, "initial")
+        && is_in_digits(matches, "capacity")
+        && is_in_digits(matches, "load")
+        && is_in_digits(matches, "max")
+        && is_in_digits(matches, "threads")
+        && is_in_digits(matches, "snapshots")
+        && is_in_digits(matches, "image")
+}
+
+/// What is asked for by words that give a number with a sign: they are refused.
+fn signed(alloc: Global) -> Result<Request, AllocError>
+    ensures { IfOk result IsRefusedText }
+{
+    Ok(Request::Refused(String::from_str(alloc, "a number may have no sign")?))
+}
+
 /// The configuration that the options give, or `None` where `--max` is less than `--initial`.
 fn config_of(matches: &ArgMatches<'_>) -> Option<Config>
     requires { HasSettings (rows_of (found_of matches.now)) }
@@ -241,7 +299,7 @@ fn version_in(matches: &ArgMatches<'_>) -> ImageVersion
 fn asked(name: &str, matches: &ArgMatches<'_>) -> Request
     requires named { IsFileCommand name.now ⊎ IsImageCommand name.now }
     requires settings { IsFileCommand name.now → HasSettings (rows_of (found_of matches.now)) }
-    requires threads { name.now ≡ codes "drive" → HasThreads (rows_of (found_of matches.now)) }
+    requires drive { name.now ≡ codes "drive" → HasDriveNumbers (rows_of (found_of matches.now)) }
     requires image { name.now ≡ codes "build" → HasImage (rows_of (found_of matches.now)) }
     requires none { IsImageCommand name.now → settings_in (rows_of (found_of matches.now)) ≡ None }
     ensures value { asked_in name.now (rows_of (found_of matches.now)) ≡ Some result }
@@ -265,7 +323,11 @@ fn asked(name: &str, matches: &ArgMatches<'_>) -> Request
         "draw" => Request::Draw,
         "migrate" => Request::Migrate,
         "drive" => match config_of(matches) {
-            Some(config) => Request::Drive(config, number(matches, "threads")),
+            Some(config) => Request::Drive {
+                config,
+                threads: number(matches, "threads"),
+                snapshots: number(matches, "snapshots"),
+            },
             None => Request::MaxBelowInitial,
         },
         "replay" => match config_of(matches) {
@@ -276,15 +338,29 @@ fn asked(name: &str, matches: &ArgMatches<'_>) -> Request
     }
 }
 
-/// What clap says is wrong: the first line of the error's text; and how to ask for help, where no subcommand is named.
-fn first_line(alloc: Global, error: &Error) -> Result<String, AllocError> {
+/// What clap says is wrong: the first line of the error's text, with the control characters of its words escaped; and how
+/// to ask for help, where no subcommand is named.
+fn first_line(alloc: Global, error: &Error) -> Result<String, AllocError>
+    ensures { IfOk result (λ line. has_no_control (string_bytes line) ≡ true) }
+{
     let text = error.to_string(alloc)?;
     let line = text.as_str().lines().next().unwrap_or("");
-    let mut reason = String::from_str(alloc, line.strip_prefix("error: ").unwrap_or(line))?;
+    let mut reason = escaped(alloc, line.strip_prefix("error: ").unwrap_or(line))?;
     if error.kind() == ErrorKind::MissingSubcommand {
         reason.push_str("; for more information, try '--help'")?;
     }
     Ok(reason)
+}
+
+/// Clap's text of help, or of the version; it names the program by its first word, so its lines are escaped, too.
+fn help_text(alloc: Global, error: &Error) -> Result<String, AllocError> {
+    let text = error.to_string(alloc)?;
+    let mut shown = String::new(alloc);
+    for line in text.as_str().lines() {
+        shown.push_str(escaped(alloc, line)?.as_str())?;
+        shown.push('\n')?;
+    }
+    Ok(shown)
 }
 
 /// What words ask for that clap doesn't accept: help or the version; otherwise they are refused.
@@ -293,8 +369,8 @@ fn refusal(alloc: Global, error: &Error) -> Result<Request, AllocError>
 {
     match error.kind() {
         ErrorKind::OutOfMemory => Err(AllocError),
-        ErrorKind::DisplayHelp => Ok(Request::Help(error.to_string(alloc)?)),
-        ErrorKind::DisplayVersion => Ok(Request::Help(error.to_string(alloc)?)),
+        ErrorKind::DisplayHelp => Ok(Request::Help(help_text(alloc, error)?)),
+        ErrorKind::DisplayVersion => Ok(Request::Help(help_text(alloc, error)?)),
         _ => Ok(Request::Refused(first_line(alloc, error)?)),
     }
 }
@@ -307,7 +383,12 @@ pub fn request_of<'a>(alloc: Global, words: &'a [&'a str]) -> Result<Request, Al
     match program(alloc)?.try_get_matches_from(words) {
         Err(error) => refusal(alloc, &error),
         Ok(matches) => match matches.subcommand() {
-            Some((name, matches)) => Ok(asked(name, matches)),
+            Some((name, matches)) => {
+                if !are_in_digits(matches) {
+                    return signed(alloc);
+                }
+                Ok(asked(name, matches))
+            },
             None => unreachable!(),
         },
     }

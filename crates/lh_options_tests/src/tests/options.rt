@@ -20,9 +20,13 @@ fn answer(rt: &(impl Abort + AllocGlobal), words: &[&str]) -> Result<String, All
             };
             format!(in alloc; "{settings}, {version}")
         }
-        Request::Drive(config, threads) => {
+        Request::Drive {
+            config,
+            threads,
+            snapshots,
+        } => {
             let settings = settings(rt, &config)?;
-            format!(in alloc; "{settings}, {threads} threads")
+            format!(in alloc; "{settings}, {threads} threads, {snapshots} snapshots")
         }
         Request::Check => String::from_str(alloc, "check"),
         Request::Dump => String::from_str(alloc, "dump"),
@@ -95,7 +99,11 @@ fn each_option_apart_and_attached(rt: HostRuntime) -> Result<(), AllocError> {
 fn ends_of_the_ranges(rt: HostRuntime) -> Result<(), AllocError> {
     expect(&rt, ["--load=10"].as_slice(), "1 14 10 65536")?;
     expect(&rt, ["--max=1"].as_slice(), "1 14 100 1")?;
-    expect(&rt, ["--initial", "+3"].as_slice(), "3 14 100 65536")?;
+    expect(
+        &rt,
+        ["--initial", "+3"].as_slice(),
+        "refused: a number may have no sign",
+    )?;
     expect(&rt, ["--initial", "007"].as_slice(), "7 14 100 65536")?;
     expect(
         &rt,
@@ -181,9 +189,13 @@ fn drive_expect(
 
 #[test]
 fn threads_are_1_to_64(rt: HostRuntime) -> Result<(), AllocError> {
-    drive_expect(&rt, "--max=7", "1 14 80 7, 4 threads")?;
-    drive_expect(&rt, "--threads=1", "1 14 80 65536, 1 threads")?;
-    drive_expect(&rt, "--threads=64", "1 14 80 65536, 64 threads")?;
+    drive_expect(&rt, "--max=7", "1 14 80 7, 4 threads, 0 snapshots")?;
+    drive_expect(&rt, "--threads=1", "1 14 80 65536, 1 threads, 0 snapshots")?;
+    drive_expect(
+        &rt,
+        "--threads=64",
+        "1 14 80 65536, 64 threads, 0 snapshots",
+    )?;
     drive_expect(
         &rt,
         "--threads=0",
@@ -193,6 +205,35 @@ fn threads_are_1_to_64(rt: HostRuntime) -> Result<(), AllocError> {
         &rt,
         "--threads=65",
         "refused: invalid value '65' for '--threads <threads>': 65 is not in 1..=64",
+    )
+}
+
+#[test]
+fn snapshots_are_0_to_1000(rt: HostRuntime) -> Result<(), AllocError> {
+    drive_expect(
+        &rt,
+        "--snapshots=0",
+        "1 14 80 65536, 4 threads, 0 snapshots",
+    )?;
+    drive_expect(
+        &rt,
+        "--snapshots=1000",
+        "1 14 80 65536, 4 threads, 1000 snapshots",
+    )?;
+    drive_expect(
+        &rt,
+        "--snapshots=-0",
+        "refused: a number may have no sign",
+    )?;
+    drive_expect(
+        &rt,
+        "--snapshots=1001",
+        "refused: invalid value '1001' for '--snapshots <snapshots>': 1001 is not in 0..=1000",
+    )?;
+    drive_expect(
+        &rt,
+        "--snapshots=-1",
+        "refused: invalid value '-1' for '--snapshots <snapshots>': -1 is not in 0..=1000",
     )
 }
 
@@ -208,7 +249,7 @@ fn gives(
 }
 
 #[test]
-fn drive_takes_five_options(rt: HostRuntime) -> Result<(), AllocError> {
+fn drive_takes_six_options(rt: HostRuntime) -> Result<(), AllocError> {
     let words = [
         "lhash",
         "drive",
@@ -222,8 +263,10 @@ fn drive_takes_five_options(rt: HostRuntime) -> Result<(), AllocError> {
         "7",
         "--threads",
         "64",
+        "--snapshots",
+        "5",
     ];
-    gives(&rt, words.as_slice(), "3 2 80 7, 64 threads")
+    gives(&rt, words.as_slice(), "3 2 80 7, 64 threads, 5 snapshots")
 }
 
 #[test]

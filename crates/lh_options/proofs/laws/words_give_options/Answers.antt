@@ -4,98 +4,118 @@ use Rattle.std.proofs.lemmas.Bool.{false≢true}
 use Rattle.clap.proofs.OnLiterals.{clap_on_literals}
 use Rattle.clap.specs.Walk.{is_empty}
 use Rattle.clap.specs.declared.error.kind.ErrorKind.TheVariants as kind
-use Rattle.lh_options.specs.OptionLaws.{GivesBuild, GivesCommands, GivesDrive, GivesReplay, GivesSteps, Refuses, build_given, check_alone, check_with_option, draw_alone, drive_alone, drive_given, dump_alone, first_image_given, help_asked, initial_twice, initial_zero, max_below_initial, max_given, max_over_limit, migrate_alone, no_options, no_subcommand, program_version_asked, replay_given, steps_given, third_image, threads_over_limit, threads_zero, unknown_option}
+use Rattle.lh_options.specs.OptionLaws.{GivesBuild, GivesCommands, GivesDrive, GivesReplay, GivesSteps, Refuses, build_given, check_alone, check_with_option, draw_alone, drive_alone, drive_given, dump_alone, first_image_given, help_asked, image_with_plus, initial_twice, initial_zero, max_below_initial, max_given, max_over_limit, max_with_plus, migrate_alone, no_options, no_subcommand, program_version_asked, replay_given, snapshots_given, snapshots_over_limit, snapshots_with_minus, steps_given, third_image, threads_over_limit, threads_zero, unknown_option}
 use Rattle.lh_options.specs.declared.options.ImageVersion.TheVariants.{First, Second}
 use Rattle.lh_options.specs.Options.{Accepts, Asks, AsksForHelp, settings_given, subcommand_named}
 use Rattle.lh_options.proofs.laws.words_give_options.Goals as goal
 
 left_out : GivesCommands no_options (record { initial = 1; capacity = 14; load = 100; max = 65536 })
 unfolding clap_on_literals Accepts settings_given subcommand_named
-left_out = ((refl, refl), refl)
+left_out = (((refl, refl), refl), refl)
 
 given : GivesCommands max_given (record { initial = 3; capacity = 14; load = 100; max = 7 })
 unfolding clap_on_literals Accepts settings_given subcommand_named
-given = ((refl, refl), refl)
+given = (((refl, refl), refl), refl)
 
 below : GivesCommands max_below_initial (record { initial = 8; capacity = 14; load = 100; max = 7 })
 unfolding clap_on_literals Accepts settings_given subcommand_named
-below = ((refl, refl), refl)
+below = (((refl, refl), refl), refl)
 
 steps : GivesSteps steps_given (record { initial = 1; capacity = 2; load = 200; max = 65536 })
 unfolding clap_on_literals Accepts settings_given subcommand_named
-steps = ((refl, refl), refl)
+steps = (((refl, refl), refl), refl)
 
 replay : GivesReplay replay_given (record { initial = 9; capacity = 14; load = 100; max = 9 })
 unfolding clap_on_literals Accepts settings_given subcommand_named
-replay = ((refl, refl), refl)
+replay = (((refl, refl), refl), refl)
 
 build : GivesBuild build_given (record { initial = 1; capacity = 14; load = 100; max = 1 }) Second
 unfolding clap_on_literals Accepts settings_given subcommand_named
-build = ((refl, refl), refl, refl)
+build = (((refl, refl), refl), refl, refl)
 
 first : GivesBuild first_image_given (record { initial = 1; capacity = 14; load = 100; max = 65536 }) First
 unfolding clap_on_literals Accepts settings_given subcommand_named
-first = ((refl, refl), refl, refl)
+first = (((refl, refl), refl), refl, refl)
 
 migrate : Asks migrate_alone (codes "migrate")
 unfolding clap_on_literals Accepts subcommand_named
-migrate = (refl, refl)
+migrate = ((refl, refl), refl)
 
-drive : GivesDrive drive_given (record { initial = 3; capacity = 14; load = 100; max = 65536 }) 64
+drive : GivesDrive drive_given (record { initial = 3; capacity = 14; load = 100; max = 65536 }) 64 0
 unfolding clap_on_literals Accepts settings_given subcommand_named
-drive = ((refl, refl), refl, refl)
+drive = (((refl, refl), refl), refl, refl, refl)
 
-drive_left_out : GivesDrive drive_alone (record { initial = 1; capacity = 14; load = 100; max = 65536 }) 4
+drive_left_out : GivesDrive drive_alone (record { initial = 1; capacity = 14; load = 100; max = 65536 }) 4 0
 unfolding clap_on_literals Accepts settings_given subcommand_named
-drive_left_out = ((refl, refl), refl, refl)
+drive_left_out = (((refl, refl), refl), refl, refl, refl)
+
+snapshots : GivesDrive snapshots_given (record { initial = 1; capacity = 14; load = 100; max = 65536 }) 4 1000
+unfolding clap_on_literals Accepts settings_given subcommand_named
+snapshots = (((refl, refl), refl), refl, refl, refl)
 
 check : Asks check_alone (codes "check")
 unfolding clap_on_literals Accepts subcommand_named
-check = (refl, refl)
+check = ((refl, refl), refl)
 
 dump : Asks dump_alone (codes "dump")
 unfolding clap_on_literals Accepts subcommand_named
-dump = (refl, refl)
+dump = ((refl, refl), refl)
 
 draw : Asks draw_alone (codes "draw")
 unfolding clap_on_literals Accepts subcommand_named
-draw = (refl, refl)
+draw = ((refl, refl), refl)
 
 without_options : Refuses check_with_option
 unfolding clap_on_literals Accepts
-without_options = λ e. false≢true (ap is_empty e)
+without_options = λ e. false≢true (ap is_empty e.0)
 
 none : Refuses no_subcommand
 unfolding clap_on_literals Accepts
-none = λ e. false≢true (ap is_empty e)
+none = λ e. false≢true (ap is_empty e.0)
 
 too_small : Refuses initial_zero
 unfolding clap_on_literals Accepts
-too_small = λ e. false≢true (ap is_empty e)
+too_small = λ e. false≢true (ap is_empty e.0)
 
 no_thread : Refuses threads_zero
 unfolding clap_on_literals Accepts
-no_thread = λ e. false≢true (ap is_empty e)
+no_thread = λ e. false≢true (ap is_empty e.0)
 
 too_many_threads : Refuses threads_over_limit
 unfolding clap_on_literals Accepts
-too_many_threads = λ e. false≢true (ap is_empty e)
+too_many_threads = λ e. false≢true (ap is_empty e.0)
+
+too_many_snapshots : Refuses snapshots_over_limit
+unfolding clap_on_literals Accepts
+too_many_snapshots = λ e. false≢true (ap is_empty e.0)
 
 too_great : Refuses max_over_limit
 unfolding clap_on_literals Accepts
-too_great = λ e. false≢true (ap is_empty e)
+too_great = λ e. false≢true (ap is_empty e.0)
 
 no_third : Refuses third_image
 unfolding clap_on_literals Accepts
-no_third = λ e. false≢true (ap is_empty e)
+no_third = λ e. false≢true (ap is_empty e.0)
+
+no_plus : Refuses max_with_plus
+unfolding clap_on_literals Accepts
+no_plus = λ e. false≢true e.1
+
+no_minus : Refuses snapshots_with_minus
+unfolding clap_on_literals Accepts
+no_minus = λ e. false≢true e.1
+
+no_plus_of_image : Refuses image_with_plus
+unfolding clap_on_literals Accepts
+no_plus_of_image = λ e. false≢true e.1
 
 twice : Refuses initial_twice
 unfolding clap_on_literals Accepts
-twice = λ e. false≢true (ap is_empty e)
+twice = λ e. false≢true (ap is_empty e.0)
 
 unknown : Refuses unknown_option
 unfolding clap_on_literals Accepts
-unknown = λ e. false≢true (ap is_empty e)
+unknown = λ e. false≢true (ap is_empty e.0)
 
 help : AsksForHelp help_asked
 unfolding clap_on_literals AsksForHelp
@@ -117,6 +137,7 @@ returns c = record {
   migrate = migrate;
   drive = drive;
   drive_left_out = drive_left_out;
+  snapshots = snapshots;
   check = check;
   dump = dump;
   draw = draw;
@@ -125,8 +146,12 @@ returns c = record {
   too_small = too_small;
   no_thread = no_thread;
   too_many_threads = too_many_threads;
+  too_many_snapshots = too_many_snapshots;
   too_great = too_great;
   no_third = no_third;
+  no_plus = no_plus;
+  no_minus = no_minus;
+  no_plus_of_image = no_plus_of_image;
   twice = twice;
   unknown = unknown;
   help = help;

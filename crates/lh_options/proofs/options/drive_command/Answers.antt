@@ -1,10 +1,11 @@
 use Rattle.std.proofs.Common.{codes}
 use Rattle.std.proofs.lemmas.Result.{IfOk-weaker}
-use Rattle.lh_options.specs.Options.{option_rule}
+use Rattle.lh_options.specs.Options.{most_snapshots, option_rule}
 use Rattle.lh_options.proofs.CommandShapes.{option-reads}
 use Rattle.lh_options.proofs.options.drive_command.Goals as goal
 
 pub returns : goal.returns
 returns c =
-    IfOk-weaker c.arg.result _ _
-    (λ m h. option-reads _ m c.option.result _ (option_rule (codes "threads") (codes "4") 1 64) h c.option.ensures.local c.option.ensures.rule c.in_ok-file_command.ensures) c.arg.ensures
+    let first = option-reads _ _ c.option.result _ _ c.in_ok-arg.ensures c.option.ensures.local c.option.ensures.rule c.in_ok-file_command.ensures in
+    IfOk-weaker c.arg-2.result _ _
+    (λ m h. option-reads _ m c.option-2.result _ (option_rule (codes "snapshots") (codes "0") 0 most_snapshots) h c.option-2.ensures.local c.option-2.ensures.rule first) c.arg-2.ensures

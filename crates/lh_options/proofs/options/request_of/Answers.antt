@@ -1,9 +1,17 @@
-use Rattle.std.proofs.Common.{map}
+use Rattle.std.proofs.Common.{◌≡◌, ◌∙◌, Bool, true, false, not, map, refl, sym, rules}
 use Rattle.std.proofs.lemmas.Result.{IfOk-weaker}
 use Rattle.clap.specs.Words.{found_of, rows_of}
-use Rattle.lh_options.proofs.Accepted.{entered-image, entered-named, entered-none, entered-settings, entered-threads}
-use Rattle.lh_options.proofs.Requests.{asked-answers, entered-from, failed-from, refusal-answers, refusal-servable}
+use Rattle.lh_options.proofs.Accepted.{entered-drive, entered-image, entered-named, entered-none, entered-settings}
+use Rattle.lh_options.proofs.Requests.{asked-answers, entered-from, failed-from, refusal-answers, refusal-servable, signed-answers, signed-servable}
 use Rattle.lh_options.proofs.options.request_of.Goals as goal
+
+is-false : (b : Bool) → not b ≡ true → b ≡ false
+is-false true e = sym e
+is-false false e = refl
+
+is-true : (b : Bool) → not b ≡ false → b ≡ true
+is-true true e = refl
+is-true false e = sym e
 
 pub asked-requires-clause-named : goal.asked-requires-clause-named
 asked-requires-clause-named c =
@@ -19,12 +27,12 @@ asked-requires-clause-settings c =
     c.in_ok-program.ensures.0 c.in-Ok.ensures.kinds c.in-Ok.ensures.matches c.in-Some.ensures.name c.in-Some.ensures.rows in
     entered-settings _ _ entered.asked
 
-pub asked-requires-clause-threads : goal.asked-requires-clause-threads
-asked-requires-clause-threads c =
+pub asked-requires-clause-drive : goal.asked-requires-clause-drive
+asked-requires-clause-drive c =
     let words = map (λ s. s.now) c.args.words.now in
     let entered = entered-from _ c.in-Ok.matches words c.in-Some.name.now (rows_of (found_of c.in-Some.matches.now))
     c.in_ok-program.ensures.0 c.in-Ok.ensures.kinds c.in-Ok.ensures.matches c.in-Some.ensures.name c.in-Some.ensures.rows in
-    entered-threads _ _ entered.asked
+    entered-drive _ _ entered.asked
 
 pub asked-requires-clause-image : goal.asked-requires-clause-image
 asked-requires-clause-image c =
@@ -49,11 +57,25 @@ returns-in-Err-clause-answers c =
 pub returns-in-Err-clause-servable : goal.returns-in-Err-clause-servable
 returns-in-Err-clause-servable c = IfOk-weaker c.refusal.result _ _ (refusal-servable _) c.refusal.ensures
 
-pub returns-in-Some-clause-answers : goal.returns-in-Some-clause-answers
-returns-in-Some-clause-answers c =
+pub returns-then-not-are_in_digits-clause-answers : goal.returns-then-not-are_in_digits-clause-answers
+returns-then-not-are_in_digits-clause-answers c =
     let words = map (λ s. s.now) c.args.words.now in
     let name = c.in-Some.name.now in
     let rows = rows_of (found_of c.in-Some.matches.now) in
     let entered = entered-from _ c.in-Ok.matches words name rows
     c.in_ok-program.ensures.0 c.in-Ok.ensures.kinds c.in-Ok.ensures.matches c.in-Some.ensures.name c.in-Some.ensures.rows in
-    asked-answers words name rows c.asked.result entered c.asked.ensures.value
+    let digits : c.are_in_digits.result ≡ false = search (rules, is-false) in
+    IfOk-weaker c.signed.result _ _ (λ r h. signed-answers words name rows r entered (sym c.are_in_digits.ensures ∙ digits) h) c.signed.ensures
+
+pub returns-else-not-are_in_digits-clause-answers : goal.returns-else-not-are_in_digits-clause-answers
+returns-else-not-are_in_digits-clause-answers c =
+    let words = map (λ s. s.now) c.args.words.now in
+    let name = c.in-Some.name.now in
+    let rows = rows_of (found_of c.in-Some.matches.now) in
+    let entered = entered-from _ c.in-Ok.matches words name rows
+    c.in_ok-program.ensures.0 c.in-Ok.ensures.kinds c.in-Ok.ensures.matches c.in-Some.ensures.name c.in-Some.ensures.rows in
+    let digits : c.are_in_digits.result ≡ true = search (rules, is-true) in
+    asked-answers words name rows c.asked.result entered (sym c.are_in_digits.ensures ∙ digits) c.asked.ensures.value
+
+pub returns-then-not-are_in_digits-clause-servable : goal.returns-then-not-are_in_digits-clause-servable
+returns-then-not-are_in_digits-clause-servable c = IfOk-weaker c.signed.result _ _ signed-servable c.signed.ensures
