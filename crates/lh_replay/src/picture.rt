@@ -1,5 +1,5 @@
 //! The parts of a picture, made of events and what was told of them.
-ghost use Rattle.std.specs.Prelude.{◌≡◌, ◌+◌, ◌<◌, ◌≤◌, drop, false, length, true};
+ghost use Rattle.std.specs.Prelude.{◌≡◌, ◌+◌, ◌*◌, ◌<◌, ◌≤◌, drop, false, length, true};
 ghost use Rattle.lh_replay.specs.Lanes.{lane_of, rows_until};
 ghost use Rattle.lh_replay.specs.Picture.{caption_of, event_at, heading_of, picture_canvas_of, shape_of, step_of, told_at};
 
@@ -43,7 +43,17 @@ pub fn heading_of(events: &[Event], lane: u32) -> Heading
     }
 }
 
-/// What is drawn of a step beside its words.
+/// How high a box is that begins in a row of a lane: it reaches down to the step that lets its bucket go.
+fn box_height(lane: u32, events: &[Event], entries: &[Result<Effect, Refusal>], row: usize) -> u128
+    requires same { length entries.now ≡ length events.now }
+    requires row { row < length events.now }
+    ensures { result ≡ 20 + 24 * rows_until false lane (drop (row + 1) events.now) (drop (row + 1) entries.now) }
+{
+    20 + 24 * rows_until(false, lane, events, entries, row + 1) as u128
+}
+
+/// What is drawn of a step beside its words. The rows below are looked through only for a box or an arrow, down to its
+/// end; a lane has one box and one arrow at a time.
 fn shape_at(events: &[Event], entries: &[Result<Effect, Refusal>], row: usize) -> Shape
     requires same { length entries.now ≡ length events.now }
     requires row { row < length events.now }
@@ -53,16 +63,15 @@ fn shape_at(events: &[Event], entries: &[Result<Effect, Refusal>], row: usize) -
 {
     let event = events[row];
     let lane = lane_of(&event);
-    let held = rows_until(false, lane, events, entries, row + 1) as u128;
     match entries[row] {
         Ok(Effect::Locked { bucket, .. }) => Shape::Held {
             bucket,
-            height: 20 + 24 * held,
+            height: box_height(lane, events, entries, row),
         },
         Ok(Effect::Both { old, new }) => Shape::BothHeld {
             old,
             new,
-            height: 20 + 24 * held,
+            height: box_height(lane, events, entries, row),
         },
         Ok(Effect::Aim { .. }) if rehashes(&event) => Shape::Way {
             down: 24 * rows_until(true, lane, events, entries, row + 1) as u128,

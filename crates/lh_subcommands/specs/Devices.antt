@@ -2,7 +2,6 @@
 use Rattle.std.specs.Prelude.{◌≡◌, ◌⊎◌, ℕ, ◌<◌, ◌≤◌, ◌+◌, length, List, ◌++◌, Option, Result, OnOk, OnErr, String}
 use Rattle.std.specs.Io.KnownBytes.{Appends, Consumes}
 use Rattle.std.specs.String.{string_capacity}
-use Rattle.lh_subcommands.specs.declared.output.TheConstants.{CHUNK, LONGEST_LINE}
 -- the writer took a beginning of a text
 pub use Rattle.lh_image.specs.Writing.{TakesBeginning}
 
@@ -14,9 +13,17 @@ ReadsOnto before now old new = (more : List ℕ) × Consumes before now more × 
 abbrev pub IsReadOf : ℕ → List ℕ → List ℕ → Type 0
 IsReadOf most input read = (read ≡ input) ⊎ ((most < length input) × (most < length read))
 
+-- how many bytes are written at once
+abbrev pub written_at_once : ℕ
+written_at_once = 65536
+
+-- no line has more bytes: key and value, of 56 and 112 bytes at most, take two digits a byte, and all else less than 256
+abbrev pub longest_line : ℕ
+longest_line = 592
+
 -- what waits has room for as many bytes as are written at once, and a line more
 abbrev pub IsReserved : {Z : Type 0} → String Z → Type 0
-IsReserved waiting = CHUNK + LONGEST_LINE ≤ string_capacity waiting
+IsReserved waiting = written_at_once + longest_line ≤ string_capacity waiting
 
 -- the writer took all of a text but its end, which waits
 pub record Sends (before now : Option (List ℕ)) (waiting text : List ℕ) : Type 0 where

@@ -3,7 +3,7 @@ ghost use Rattle.std.specs.Prelude.{◌≡◌, ◌<◌, ◌++◌, ℕ, List, Opt
 ghost use Rattle.std.specs.String.{string_bytes};
 ghost use Rattle.std.specs.Io.KnownBytes.{Appends};
 ghost use Rattle.lh_bucket.specs.Listing.{list_at, size};
-ghost use Rattle.lh_subcommands.specs.Devices.{Adds, Breaks, IsReserved, Sends, TakesBeginning};
+ghost use Rattle.lh_subcommands.specs.Devices.{Adds, Breaks, IsReserved, Sends, TakesBeginning, written_at_once};
 ghost use Rattle.lh_subcommands.specs.ImageTexts.{bucket_text, dump_text};
 ghost use Rattle.lh_script.specs.StepTexts.{steps_text};
 ghost use Rattle.lh_script.specs.Texts.{commands_text, line, reply_text, size_text};
@@ -43,7 +43,7 @@ fn send_enough<W: Write>(writer: &mut W, waiting: &mut String) -> Result<(), Wri
     ensures err { (before : Option (List ℕ)) (text : List ℕ) →
         Sends before (W.contents writer.old) (string_bytes waiting.old) text →
         OnErr result (TakesBeginning before (W.contents writer.new) text) }
-    ensures few { OnOk result (length (string_bytes waiting.new) < CHUNK) }
+    ensures few { OnOk result (length (string_bytes waiting.new) < written_at_once) }
 {
     if waiting.len() >= CHUNK {
         write_all(writer, waiting.as_bytes())?;
@@ -67,7 +67,7 @@ fn put_line<W: Write, D: Display + Drop>(
         Sends before (W.contents writer.old) (string_bytes waiting.old) sent →
         OnErr result (IfSome (D.output text) (λ bytes.
         TakesBeginning before (W.contents writer.new) (sent ++ line bytes))) }
-    ensures few { OnOk result (length (string_bytes waiting.new) < CHUNK) }
+    ensures few { OnOk result (length (string_bytes waiting.new) < written_at_once) }
 {
     if waiting.writeln(text).is_err() {
         return Err(WriteFailed);
@@ -90,7 +90,7 @@ pub fn put<W: Write, D: Display + Drop>(
         Sends before (W.contents writer.old) (string_bytes waiting.old) sent →
         OnErr result (IfSome (D.output text) (λ bytes.
         TakesBeginning before (W.contents writer.new) (sent ++ bytes))) }
-    ensures few { OnOk result (length (string_bytes waiting.new) < CHUNK) }
+    ensures few { OnOk result (length (string_bytes waiting.new) < written_at_once) }
 {
     if waiting.write(text).is_err() {
         return Err(WriteFailed);

@@ -1,4 +1,5 @@
 pub mod Counting
 pub mod Driving
+pub mod Looking
 pub mod Places
 pub mod Serving

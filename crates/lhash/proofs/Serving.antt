@@ -11,7 +11,7 @@ use Rattle.lh_options.specs.declared.options.Request.TheVariants as request
 use Rattle.lhash.specs.Driving.{EndsDriving}
 use Rattle.lh_subcommands.specs.Images.{EndsBuilding, check_due, draw_due, dump_due, migrate_due}
 use Rattle.lh_subcommands.specs.Run.{EndsReplay, EndsSteps}
-use Rattle.lhash.specs.Serving.{Ending, EndsCommands, EndsTold, IsHelped, IsRun, IsTurnedAway, IsWordsOf, RefusesBelow, Serves, ServesBuild, ServesFile, ServesImage, TurnsAway, below_initial, wanted_version}
+use Rattle.lhash.specs.Serving.{Ending, EndsCommands, EndsTold, IsHelped, IsRun, IsTurnedAway, IsWordsOf, RefusesBelow, Serves, ServesBuild, ServesDrive, ServesFile, ServesImage, TurnsAway, below_initial, wanted_version}
 use Rattle.lh_subcommands.specs.declared.status.DeviceFault.TheVariants.{Read, Write}
 use Rattle.lh_subcommands.specs.declared.status.Status.{Status}
 use Rattle.lh_subcommands.specs.declared.status.Status.TheVariants.{Done, Input, Words, Device, Memory, NotSettled}
@@ -32,20 +32,20 @@ unwritten EndsWith status (Some input) before now allows is keeps = subst (λ (s
 below_asked : (words : List Text) (name : Option Text) → subcommand_named words ≡ name → (settings : Settings) → settings_given words ≡ Some settings →
     settings.max < settings.initial → (r : Request) → asked_for words ≡ Some r → r ≡ request.MaxBelowInitial
 below_asked words None named settings given below r is =
-    let none : asked_for words ≡ None = ap (option_and_then (λ n. asked_by n (settings_given words) (number_given words (codes "threads")) (number_given words (codes "image")))) named in
+    let none : asked_for words ≡ None = ap (option_and_then (λ n. asked_by n (settings_given words) (number_given words))) named in
     absurd cc
 below_asked words (Some name) named settings given below r is =
-    let one : asked_for words ≡ asked_by name (settings_given words) (number_given words (codes "threads")) (number_given words (codes "image")) =
-    ap (option_and_then (λ n. asked_by n (settings_given words) (number_given words (codes "threads")) (number_given words (codes "image")))) named in
-    let by : asked_by name (settings_given words) (number_given words (codes "threads")) (number_given words (codes "image")) ≡ asked_by name (Some settings) (number_given words (codes "threads")) (number_given words (codes "image")) =
-    ap (λ s. asked_by name s (number_given words (codes "threads")) (number_given words (codes "image"))) given in
-    refused_alone name (number_given words (codes "threads")) (number_given words (codes "image")) settings r below (sym (one ∙ by) ∙ is)
+    let one : asked_for words ≡ asked_by name (settings_given words) (number_given words) =
+    ap (option_and_then (λ n. asked_by n (settings_given words) (number_given words))) named in
+    let by : asked_by name (settings_given words) (number_given words) ≡ asked_by name (Some settings) (number_given words) =
+    ap (λ s. asked_by name s (number_given words)) given in
+    refused_alone name (number_given words) settings r below (sym (one ∙ by) ∙ is)
 
 -- a run for words that ask for one thing served it, or ran out of memory
 served : (words : List Text) (status : Status) (left rest before now : Option (List ℕ)) (name : Text) (r : Request) (EndsWith : Ending) →
     (Serves r status left rest before now → IfSome left (λ input. EndsWith input status before now)) →
     ((input : List ℕ) → Keeps before now → EndsWith input Memory before now) →
-    Asks words name → asked_by name (settings_given words) (number_given words (codes "threads")) (number_given words (codes "image")) ≡ Some r →
+    Asks words name → asked_by name (settings_given words) (number_given words) ≡ Some r →
     IsRun words status left rest before now → IfSome left (λ input. EndsWith input status before now)
 served words status left rest before now name r EndsWith ends allows asks is (inl run) =
     let same : Some run.0 ≡ Some r = sym (asked_named words name run.0 asks run.1) ∙ is in
@@ -57,63 +57,64 @@ served words status left rest before now name r EndsWith ends allows asks is (in
 pub serves_commands : ServesFile (codes "commands") EndsCommands
 serves_commands words status left rest before now settings asks given within run =
     served words status left rest before now (codes "commands") (request.Commands settings) (EndsCommands settings)
-    (λ h. h) (λ input keeps. keeps) asks (commands (codes "commands") _ _ _ settings refl given within) run
+    (λ h. h) (λ input keeps. keeps) asks (commands (codes "commands") _ _ settings refl given within) run
 
 pub serves_steps : ServesFile (codes "steps") EndsSteps
 unfolding EndsSteps
 serves_steps words status left rest before now settings asks given within run =
     served words status left rest before now (codes "steps") (request.Steps settings) (EndsSteps settings)
-    (λ h. h) (λ input keeps. keeps) asks (steps (codes "steps") _ _ _ settings refl given within) run
+    (λ h. h) (λ input keeps. keeps) asks (steps (codes "steps") _ _ settings refl given within) run
 
 pub serves_replay : ServesFile (codes "replay") EndsReplay
 unfolding EndsReplay
 serves_replay words status left rest before now settings asks given within run =
     served words status left rest before now (codes "replay") (request.Replay settings) (EndsReplay settings)
-    (λ h. h) (λ input keeps. keeps) asks (replay (codes "replay") _ _ _ settings refl given within) run
+    (λ h. h) (λ input keeps. keeps) asks (replay (codes "replay") _ _ settings refl given within) run
 
 pub serves_build : ServesBuild
 unfolding EndsBuilding
 serves_build words status left rest before now settings n asks given image within run =
     served words status left rest before now (codes "build") (request.Build settings (version_numbered n)) (EndsBuilding (wanted_version (version_numbered n)) settings)
     (λ h. h) (λ input keeps. keeps) asks
-    (build (codes "build") _ _ _ settings (version_numbered n) refl given (ap (option_map version_numbered) image) within) run
+    (build (codes "build") _ _ settings (version_numbered n) refl given (ap (option_map version_numbered) image) within) run
 
 -- words that ask for a run in threads give their number, or ask for nothing
-driven : (words : List Text) (status : Status) (left rest before now : Option (List ℕ)) (settings : Settings) (threads : Option ℕ) →
-    number_given words (codes "threads") ≡ threads → Asks words (codes "drive") → settings_given words ≡ Some settings → settings.initial ≤ settings.max →
-    IsRun words status left rest before now → IfSome left (λ input. EndsDriving settings input status before now)
+driven : (words : List Text) (status : Status) (left rest before now : Option (List ℕ)) (settings : Settings) (snapshots : ℕ) (threads : Option ℕ) →
+    number_given words (codes "threads") ≡ threads → Asks words (codes "drive") → settings_given words ≡ Some settings →
+    number_given words (codes "snapshots") ≡ Some snapshots → settings.initial ≤ settings.max →
+    IsRun words status left rest before now → IfSome left (λ input. EndsDriving settings snapshots input status before now)
 unfolding EndsDriving
-driven words status left rest before now settings (Some n) counted asks given within run =
-    served words status left rest before now (codes "drive") (request.Drive settings n) (EndsDriving settings)
-    (λ h. h) (λ input keeps. keeps) asks (drive (codes "drive") _ _ _ settings n refl given counted within) run
-driven words status left rest before now settings None counted asks given within (inl run) =
-    let none : asked_by (codes "drive") (settings_given words) (number_given words (codes "threads")) (number_given words (codes "image")) ≡ None =
-    undriven (codes "drive") _ _ _ settings refl given counted within in
+driven words status left rest before now settings k (Some n) counted asks given taken within run =
+    served words status left rest before now (codes "drive") (request.Drive settings n k) (EndsDriving settings k)
+    (λ h. h) (λ input keeps. keeps) asks (drive (codes "drive") _ _ settings n k refl given counted taken within) run
+driven words status left rest before now settings k None counted asks given taken within (inl run) =
+    let none : asked_by (codes "drive") (settings_given words) (number_given words) ≡ None =
+    undriven (codes "drive") _ _ settings refl given counted within in
     let some = asked_named words (codes "drive") run.0 asks run.1 in
     let apart : Some run.0 ≡ None = sym some ∙ none in
     absurd cc
-driven words status left rest before now settings None counted asks given within (inr run) =
-    unwritten (EndsDriving settings) status left before now (λ input keeps. keeps) run.0 run.2
+driven words status left rest before now settings k None counted asks given taken within (inr run) =
+    unwritten (EndsDriving settings k) status left before now (λ input keeps. keeps) run.0 run.2
 
-pub serves_drive : ServesFile (codes "drive") EndsDriving
-serves_drive words status left rest before now settings asks given within run =
-    driven words status left rest before now settings (number_given words (codes "threads")) refl asks given within run
+pub serves_drive : ServesDrive
+serves_drive words status left rest before now settings snapshots asks given taken within run =
+    driven words status left rest before now settings snapshots (number_given words (codes "threads")) refl asks given taken within run
 
 -- a run for words that ask for a subcommand which takes no settings served it, or ran out of memory
 serves_alone : (words : List Text) (status : Status) (left rest before now : Option (List ℕ)) (name : Text) (r : Request) (EndsWith : Ending)
     (settings : Option Settings) → settings_given words ≡ settings →
     (Serves r status left rest before now → IfSome left (λ input. EndsWith input status before now)) →
     ((input : List ℕ) → Keeps before now → EndsWith input Memory before now) → Asks words name →
-    ((threads image : Option ℕ) → asked_by name None threads image ≡ Some r) →
-    ((s : Settings) (threads image : Option ℕ) → asked_by name (Some s) threads image ≡ None) →
+    ((numbers : Text → Option ℕ) → asked_by name None numbers ≡ Some r) →
+    ((s : Settings) (numbers : Text → Option ℕ) → asked_by name (Some s) numbers ≡ None) →
     IsRun words status left rest before now → IfSome left (λ input. EndsWith input status before now)
 serves_alone words status left rest before now name r EndsWith None given ends allows asks alone none run =
     served words status left rest before now name r EndsWith ends allows asks
-    (ap (λ s. asked_by name s (number_given words (codes "threads")) (number_given words (codes "image"))) given ∙ alone (number_given words (codes "threads")) (number_given words (codes "image"))) run
+    (ap (λ s. asked_by name s (number_given words)) given ∙ alone (number_given words)) run
 serves_alone words status left rest before now name r EndsWith (Some s) given ends allows asks alone none (inl run) =
     let some = asked_named words name run.0 asks run.1 in
-    let same : asked_by name (settings_given words) (number_given words (codes "threads")) (number_given words (codes "image")) ≡ None =
-    ap (λ x. asked_by name x (number_given words (codes "threads")) (number_given words (codes "image"))) given ∙ none s (number_given words (codes "threads")) (number_given words (codes "image")) in
+    let same : asked_by name (settings_given words) (number_given words) ≡ None =
+    ap (λ x. asked_by name x (number_given words)) given ∙ none s (number_given words) in
     absurd cc
 serves_alone words status left rest before now name r EndsWith (Some s) given ends allows asks alone none (inr run) =
     unwritten EndsWith status left before now allows run.0 run.2
@@ -122,25 +123,25 @@ pub serves_check : ServesImage (codes "check") (EndsTold check_due)
 unfolding asked_by
 serves_check words status left rest before now asks run =
     serves_alone words status left rest before now (codes "check") request.Check (EndsTold check_due) (settings_given words) refl
-    (λ h. h) (λ input keeps. keeps) asks (λ threads image. refl) (λ s threads image. refl) run
+    (λ h. h) (λ input keeps. keeps) asks (λ numbers. refl) (λ s numbers. refl) run
 
 pub serves_dump : ServesImage (codes "dump") (EndsTold dump_due)
 unfolding asked_by
 serves_dump words status left rest before now asks run =
     serves_alone words status left rest before now (codes "dump") request.Dump (EndsTold dump_due) (settings_given words) refl
-    (λ h. h) (λ input keeps. keeps) asks (λ threads image. refl) (λ s threads image. refl) run
+    (λ h. h) (λ input keeps. keeps) asks (λ numbers. refl) (λ s numbers. refl) run
 
 pub serves_draw : ServesImage (codes "draw") (EndsTold draw_due)
 unfolding asked_by
 serves_draw words status left rest before now asks run =
     serves_alone words status left rest before now (codes "draw") request.Draw (EndsTold draw_due) (settings_given words) refl
-    (λ h. h) (λ input keeps. keeps) asks (λ threads image. refl) (λ s threads image. refl) run
+    (λ h. h) (λ input keeps. keeps) asks (λ numbers. refl) (λ s numbers. refl) run
 
 pub serves_migrate : ServesImage (codes "migrate") (EndsTold migrate_due)
 unfolding asked_by
 serves_migrate words status left rest before now asks run =
     serves_alone words status left rest before now (codes "migrate") request.Migrate (EndsTold migrate_due) (settings_given words) refl
-    (λ h. h) (λ input keeps. keeps) asks (λ threads image. refl) (λ s threads image. refl) run
+    (λ h. h) (λ input keeps. keeps) asks (λ numbers. refl) (λ s numbers. refl) run
 
 -- what is refused for its settings
 pub refuses_below : RefusesBelow
@@ -164,12 +165,12 @@ turned : (words : List Text) (r : Request) (status : Status) (left rest before n
     IsTurned words r → Serves r status left rest before now → IsTurnedAway words status before now × Keeps left rest
 turned words (request.Help text) status left rest before now is serves = (helped words (string_bytes text) status before now is serves.0, serves.1)
 turned words (request.Refused text) status left rest before now is serves =
-    (subst (λ (s : Status). IsTurnedAway words s before now) (sym serves.0) (is, serves.2), serves.1)
+    (subst (λ (s : Status). IsTurnedAway words s before now) (sym serves.0) (is.0, is.1, serves.2), serves.1)
 turned words (request.Commands config) status left rest before now is serves = absurd is
 turned words (request.Steps config) status left rest before now is serves = absurd is
 turned words (request.Replay config) status left rest before now is serves = absurd is
 turned words (request.Build config image) status left rest before now is serves = absurd is
-turned words (request.Drive config threads) status left rest before now is serves = absurd is
+turned words (request.Drive config threads snapshots) status left rest before now is serves = absurd is
 turned words request.Check status left rest before now is serves = absurd is
 turned words request.Dump status left rest before now is serves = absurd is
 turned words request.Draw status left rest before now is serves = absurd is

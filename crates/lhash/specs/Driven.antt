@@ -1,5 +1,5 @@
 -- The totals of a settled run: what they count, and how they read
-use Rattle.std.specs.Prelude.{◌≡◌, ℕ, Bool, true, false, List, ◌++◌, length, count_by, codes}
+use Rattle.std.specs.Prelude.{◌≡◌, ◌==◌, ℕ, Bool, true, false, List, [], ◌++◌, if◌then◌else◌, length, count_by, codes}
 use Rattle.lh_bucket.specs.declared.call.Reply.{Reply}
 use Rattle.lh_bucket.specs.declared.call.Reply.TheVariants.{Found, Absent, Inserted, Exists, Deleted, Replaced}
 use Rattle.lh_subcommands.specs.ImageTexts.{number_line}
@@ -56,7 +56,11 @@ replies_text d =
     ++ number_line (codes "deleted ") d.deleted
     ++ number_line (codes "replaced ") d.replaced
 
--- what `drive` writes: a line with a word alone, and the totals
+-- a line with the number of snapshots, where any were asked for
+unfoldable pub snapshots_text : ℕ → List ℕ
+snapshots_text snapshots = if snapshots == 0 then [] else number_line (codes "snapshots ") snapshots
+
+-- what `drive` writes without snapshots: a line with a word alone, and the totals
 abbrev pub driven_text : Driven → List ℕ
 driven_text d =
     line (codes "settled")

@@ -1,5 +1,5 @@
 -- What a run of calls in threads may tell: the totals of a settled history, or why there are none
-use Rattle.std.specs.Prelude.{◌≡◌, ◌≢◌, ℕ, ◌-◌, ◌%◌, ◌^◌, true, min, List, [], Option, Ok, length, replicate}
+use Rattle.std.specs.Prelude.{◌≡◌, ◌≢◌, ◌⊎◌, ◌≤◌, ℕ, ◌-◌, ◌%◌, ◌^◌, true, min, List, [], ◌++◌, All, Contains, Option, Ok, length, replicate}
 use Rattle.std.specs.Io.KnownBytes.{Keeps}
 use Rattle.lh_addr.specs.Settings.{Settings}
 use Rattle.lh_bucket.specs.declared.call.Call.{Call as CallOf}
@@ -7,14 +7,16 @@ use Rattle.lh_bucket.specs.Listing.{Lists, count_of}
 use Rattle.lh_file.specs.Acts.{replies_of}
 use Rattle.lh_file.specs.Settling.ClosedFile.{ClosedFile}
 use Rattle.lh_file.specs.Settling.SettleFault.{IsDue}
-use Rattle.lh_file.specs.Settling.Settled.{IsSettled}
+use Rattle.lh_file.specs.Settling.Settled.{IsSettled, Settled}
+use Rattle.lh_file.specs.Snapshots.Acts.{acts_before}
+use Rattle.lh_file.specs.Snapshots.Settled.{IsSettledFirst}
 use Rattle.lh_file.specs.declared.act.ActLine.{ActLine}
 use Rattle.lh_file.specs.declared.fault.FileFault.{FileFault}
 use Rattle.lh_file.specs.declared.fault.FileFault.TheVariants as file
 use Rattle.lh_file.specs.declared.settling.settle_fault.SettleFault.{SettleFault}
 use Rattle.lh_file.specs.declared.settling.settle_fault.SettleFault.TheVariants as settle
 use Rattle.lh_script.specs.Commands.{command}
-use Rattle.lhash.specs.Driven.{Counts, driven_text}
+use Rattle.lhash.specs.Driven.{Counts, driven_text, snapshots_text}
 use Rattle.lh_subcommands.specs.Run.{EndsTelling}
 use Rattle.lh_script.specs.Scripts.{script}
 use Rattle.lhash.specs.declared.drive.DriveFault.{DriveFault}
@@ -42,6 +44,28 @@ pub record IsDriven (settings : Settings) (calls : List CallOf) (d : Driven) : T
   pub made : d.calls ≡ length calls
   pub records : d.records ≡ min (count_of closed.lists) (2 ^ 64 - 1)
 
+-- a snapshot is one of a file of the settings, and is settled, from an empty file on, with those of these acts that have
+-- lesser stamps than it says
+abbrev pub IsSettledBefore : Settings → List ActLine → ClosedFile → Type 0
+IsSettledBefore settings acts snapshot =
+    (snapshot.config ≡ settings) × Settled (empty_file settings) snapshot (acts_before snapshot.stamps acts)
+
+-- a file is settled with some history, and each of these snapshots with the acts that came before it, whose history is the
+-- first part of that
+abbrev pub AreSettled : Lists → ClosedFile → List ActLine → List ClosedFile → Type 0
+AreSettled opening closed acts taken =
+    (history : List ActLine) × IsSettled opening closed acts history
+    × All (λ snapshot. IsSettledFirst opening snapshot acts history) taken
+
+-- The totals are those of a legal history, and there are as many snapshots of a file of the settings. Each is settled with
+-- the acts that came before it, and their history is the first part of that one.
+pub record IsDrivenWith (settings : Settings) (calls : List CallOf) (snapshots : ℕ) (d : Driven) : Type 0 where
+  pub driven : IsDriven settings calls d
+  pub taken : List ClosedFile
+  pub count : length taken ≡ snapshots
+  pub configs : All (λ snapshot. snapshot.config ≡ settings) taken
+  pub each : All (λ snapshot. IsSettledFirst (empty_file settings) snapshot driven.acts driven.history) taken
+
 -- the bucket of a call isn't what it has to be
 abbrev pub IsDefect : FileFault → Type 0
 IsDefect (file.Spent left) = ⊥
@@ -65,6 +89,31 @@ IsDriveFault settings (Settle fault) =
     × IsDue (empty_file settings) closed acts fault × (fault ≢ settle.Memory)
     × (closed.gathered ≡ true → closed.root % 2 ≡ 0 → ⊥)
 IsDriveFault settings fault = IsWorkersFault fault
+
+-- a fault of settling, other than out of memory, is due for one of these snapshots, which is not settled, and those acts
+-- that have lesser stamps than it says, from an empty file on; or memory ran out
+abbrev pub IsFaultOfOne : Settings → List ActLine → List ClosedFile → DriveFault → Type 0
+IsFaultOfOne settings acts taken (Settle fault) =
+    (snapshot : ClosedFile) × Contains taken snapshot
+    × IsDue (empty_file settings) snapshot (acts_before snapshot.stamps acts) fault × (fault ≢ settle.Memory)
+    × (Settled (empty_file settings) snapshot (acts_before snapshot.stamps acts) → ⊥)
+IsFaultOfOne settings acts taken Memory = Unit {0}
+IsFaultOfOne settings acts taken fault = ⊥
+
+-- a fault of settling, other than out of memory, is due for a snapshot of a file of the settings and those acts that have
+-- lesser stamps than it says, from an empty file on, where a bucket was not gathered of the closed file, which is settled
+abbrev pub IsSnapshotFault : Settings → DriveFault → Type 0
+IsSnapshotFault settings (Settle fault) =
+    (closed snapshot : ClosedFile) × (acts : List ActLine) × (closed.config ≡ settings) × (snapshot.config ≡ settings)
+    × Settled (empty_file settings) closed acts
+    × IsDue (empty_file settings) snapshot (acts_before snapshot.stamps acts) fault × (fault ≢ settle.Memory)
+    × (closed.gathered ≡ true → ⊥)
+IsSnapshotFault settings fault = ⊥
+
+-- why there are no totals of a run with so many snapshots: for a reason that one without has, or for one of them
+abbrev pub IsDriveFaultWith : Settings → ℕ → DriveFault → Type 0
+IsDriveFaultWith settings snapshots fault =
+    IsDriveFault settings fault ⊎ ((1 ≤ snapshots) × IsSnapshotFault settings fault)
 
 -- the fault of a call that was not answered
 abbrev pub drive_fault_of : FileFault → DriveFault
@@ -92,17 +141,20 @@ ended_by (Call fault) = NotSettled unsettled.Call
 ended_by Thread = NoMemory
 ended_by Memory = NoMemory
 
--- what `drive` may write for the calls of a script: the totals of a legal history
-abbrev pub IsTotals : Settings → List CallOf → List ℕ → Type 0
-IsTotals settings calls output = (d : Driven) × IsDriven settings calls d × (output ≡ driven_text d)
+-- what `drive` may write for the calls of a script and so many snapshots: the totals of a legal history
+abbrev pub IsTotals : Settings → ℕ → List CallOf → List ℕ → Type 0
+IsTotals settings snapshots calls output =
+    (d : Driven) × IsDrivenWith settings calls snapshots d × (output ≡ driven_text d ++ snapshots_text snapshots)
 
 -- what threads did is not settled, for this reason
-abbrev pub IsUnsettled : Settings → Unsettled → Type 0
-IsUnsettled settings reason = (fault : DriveFault) × IsDriveFault settings fault × (ended_by fault ≡ NotSettled reason)
+abbrev pub IsUnsettled : Settings → ℕ → Unsettled → Type 0
+IsUnsettled settings snapshots reason =
+    (fault : DriveFault) × IsDriveFaultWith settings snapshots fault × (ended_by fault ≡ NotSettled reason)
 
--- how `drive` ends on an input: not settled, and the writer took nothing; otherwise with the totals of a legal history,
--- or with the script's first fault
-unfoldable pub EndsDriving : Settings → List ℕ → Status → Option (List ℕ) → Option (List ℕ) → Type 0
-EndsDriving settings input (NotSettled reason) before now =
-    (calls : List CallOf) × (script command input ≡ Ok calls) × IsUnsettled settings reason × Keeps before now
-EndsDriving settings input status before now = EndsTelling (IsTotals settings) status (script command input) before now
+-- how `drive` ends on an input with so many snapshots: not settled, and the writer took nothing; otherwise with the
+-- totals of a legal history, or with the script's first fault
+unfoldable pub EndsDriving : Settings → ℕ → List ℕ → Status → Option (List ℕ) → Option (List ℕ) → Type 0
+EndsDriving settings snapshots input (NotSettled reason) before now =
+    (calls : List CallOf) × (script command input ≡ Ok calls) × IsUnsettled settings snapshots reason × Keeps before now
+EndsDriving settings snapshots input status before now =
+    EndsTelling (IsTotals settings snapshots) status (script command input) before now

@@ -1,5 +1,5 @@
 -- How a run answers its words
-use Rattle.std.specs.Prelude.{◌≡◌, ◌⊎◌, ℕ, ◌<◌, ◌≤◌, List, Option, Some, IfSome, Result, codes}
+use Rattle.std.specs.Prelude.{◌≡◌, ◌⊎◌, ℕ, ◌<◌, ◌≤◌, Bool, false, true, List, Option, Some, IfSome, Result, codes}
 use Rattle.std.specs.String.{string_bytes}
 use Rattle.std.specs.Io.KnownBytes.{Appends, Keeps}
 use Rattle.lh_subcommands.specs.Devices.{TakesBeginning}
@@ -8,6 +8,7 @@ use Rattle.lh_image.specs.declared.version.Version.TheVariants.{One, Two}
 use Rattle.lhash.specs.Driving.{EndsDriving}
 use Rattle.lh_subcommands.specs.Images.{EndsBuilding, check_due, draw_due, dump_due, migrate_due}
 use Rattle.lh_addr.specs.Settings.{Settings}
+use Rattle.lh_options.specs.Escapes.{has_no_control}
 use Rattle.lh_options.specs.Options.{Accepts, Answers, Asks, AsksForHelp, IsRefused, Text, number_given, settings_given, version_numbered}
 use Rattle.lh_subcommands.specs.Run.{Ends, EndsReplay, EndsSteps, commands_due}
 use Rattle.lh_options.specs.declared.options.ImageVersion.{ImageVersion}
@@ -18,6 +19,10 @@ use Rattle.lh_subcommands.specs.declared.status.DeviceFault.TheVariants.{Write}
 use Rattle.lh_subcommands.specs.declared.status.InputFault.{InputFault}
 use Rattle.lh_subcommands.specs.declared.status.Status.{Status}
 use Rattle.lh_subcommands.specs.declared.status.Status.TheVariants.{Done, Words, Device, Memory}
+
+-- all was done
+abbrev pub IsDone : Status → Type 0
+IsDone status = status ≡ Done
 
 -- the words are refused for this reason, unless memory ran out
 abbrev pub IsWordsOf : List ℕ → Status → Type 0
@@ -52,15 +57,27 @@ Serves Check status left rest before now = IfSome left (λ input. Ends status (c
 Serves Dump status left rest before now = IfSome left (λ input. Ends status (dump_due input) before now)
 Serves Draw status left rest before now = IfSome left (λ input. Ends status (draw_due input) before now)
 Serves Migrate status left rest before now = IfSome left (λ input. Ends status (migrate_due input) before now)
-Serves (Drive config threads) status left rest before now =
-    IfSome left (λ input. EndsDriving config input status before now)
+Serves (Drive config threads snapshots) status left rest before now =
+    IfSome left (λ input. EndsDriving config snapshots input status before now)
 Serves (Help text) status left rest before now = IsHelped (string_bytes text) status before now × Keeps left rest
 Serves (Refused text) status left rest before now = (status ≡ Words text) × Keeps left rest × Keeps before now
 Serves MaxBelowInitial status left rest before now = IsWordsOf below_initial status × Keeps left rest × Keeps before now
 
--- how a run answers words that clap does not accept: they are refused and nothing was written, or they ask for help
+-- whether a request has an image written
+abbrev pub is_image_written : Request → Bool
+is_image_written (Build config image) = true
+is_image_written Migrate = true
+is_image_written _ = false
+
+-- whether what the words ask for has an image written
+abbrev pub IsWhetherImageAsked : List Text → Bool → Type 0
+IsWhetherImageAsked words asked = (request : Request) × Answers words request × (asked ≡ is_image_written request)
+
+-- how a run answers words that are not accepted: they are refused, for a reason in which no word brings a control byte, and
+-- nothing was written; or they ask for help
 abbrev pub IsTurnedAway : List Text → Status → Option (List ℕ) → Option (List ℕ) → Type 0
-IsTurnedAway words (Words text) before now = IsRefused words × Keeps before now
+IsTurnedAway words (Words text) before now =
+    IsRefused words × (has_no_control (string_bytes text) ≡ true) × Keeps before now
 IsTurnedAway words Memory before now = Keeps before now
 IsTurnedAway words Done before now = AsksForHelp words
 IsTurnedAway words (Device Write) before now = AsksForHelp words
@@ -101,6 +118,14 @@ ServesBuild =
     Asks words (codes "build") → settings_given words ≡ Some settings → number_given words (codes "image") ≡ Some n →
     settings.initial ≤ settings.max → IsRun words status left rest before now →
     IfSome left (λ input. EndsBuilding (wanted_version (version_numbered n)) settings input status before now)
+
+-- a run for words that ask for `drive`, and give settings in order and a number of snapshots, ends by them
+abbrev pub ServesDrive : Type 0
+ServesDrive =
+    (words : List Text) (status : Status) (left rest before now : Option (List ℕ)) (settings : Settings) (n : ℕ) →
+    Asks words (codes "drive") → settings_given words ≡ Some settings →
+    number_given words (codes "snapshots") ≡ Some n → settings.initial ≤ settings.max →
+    IsRun words status left rest before now → IfSome left (λ input. EndsDriving settings n input status before now)
 
 -- a run for words that ask for this subcommand, which reads an image, ends so
 abbrev pub ServesImage : Text → Ending → Type 0

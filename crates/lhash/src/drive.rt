@@ -1,15 +1,17 @@
 //! The subcommand `drive`: a command script in threads, settled, from its bytes to its totals.
-ghost use Rattle.std.specs.Prelude.{◌≡◌, ◌%◌, ◌≤◌, true, IfOk, IfErr, IfSome};
+ghost use Rattle.std.specs.Prelude.{◌≡◌, ◌%◌, ◌≤◌, true, All, IfOk, IfErr, IfSome, OnOk, length};
 ghost use Rattle.lh_file.specs.Acts.{calls_of};
 ghost use Rattle.lh_file.specs.Buckets.Rooms.{IsRoomOf};
-ghost use Rattle.lh_file.specs.Settling.Settled.{Settled};
-ghost use Rattle.lhash.specs.Driving.{EndsDriving, IsDriven, IsDriveFault, empty_file, ended_by, unsettled_as};
+ghost use Rattle.lhash.specs.Driving.{AreSettled, EndsDriving, IsDriven, IsDrivenWith, IsDriveFault, IsDriveFaultWith, IsFaultOfOne, IsSettledBefore, empty_file, ended_by, unsettled_as};
 
-use crate::driven::Driven;
+use crate::driven::{Driven, SnapshotsText};
 use crate::workers::work_in_threads;
 use lh_addr::Config;
 use lh_bucket::{Call, Listing, Memory};
-use lh_file::{Acts, Closed, FileFault, Gate, NoGate, Opening, Room, SettleFault, settle};
+use lh_file::laws::snapshots_are_settled;
+use lh_file::{
+    Acts, Closed, FileFault, Gate, NoGate, Opening, Room, SettleFault, settle, settle_snapshot,
+};
 use lh_subcommands::{DeviceFault, Status, Unsettled, read_script, write_all};
 use std::alloc::Global;
 use std::io::{Read, Write};
@@ -20,9 +22,9 @@ use std::thread::Threads;
 /// Why a run in threads has no totals. Out of memory is always [`DriveFault::Memory`].
 #[derive(Clone, Copy, Debug, PartialEq, Eq)]
 pub enum DriveFault {
-    /// What the threads did is not settled, by the first fault of the closed file.
+    /// What the threads did is not settled, by the first fault of the closed file, or of the first snapshot that has one.
     Settle(SettleFault),
-    /// A call was not answered: of the first thread that has such a call, the first one.
+    /// A call was not answered: of the first thread that has such a call, the first one. Or a snapshot was not.
     Call(FileFault),
     /// A thread could not be started.
     Thread,
@@ -66,24 +68,48 @@ impl From<SettleFault> for DriveFault {
     }
 }
 
-/// Counts what was done with a file that was empty when it was opened. That it is settled is known; settling says so
-/// again, on its own.
+/// Settles snapshots of a file that was empty when it was opened, each with those acts that came before it.
+fn settle_each(
+    alloc: Global,
+    empty: &Listing,
+    taken: &[Closed],
+    acts: &Acts,
+) -> Result<(), DriveFault>
+    requires empty { empty.now ≡ empty_file empty.now.config }
+    requires configs { All (λ snapshot. snapshot.config ≡ empty.now.config) taken.now }
+    ensures ok { OnOk result (All (IsSettledBefore empty.now.config acts.now) taken.now) }
+    ensures err { IfErr result (IsFaultOfOne empty.now.config acts.now taken.now) }
+{
+    for place in 0..taken.len() {
+        settle_snapshot(alloc, empty, &taken[place], acts)?;
+    }
+    Ok(())
+}
+
+/// Counts what was done with a file that was empty when it was opened, and settles the snapshots that were taken of it.
+/// That all of them are settled is known; settling says so again, on its own.
 fn settled(
     alloc: Global,
     empty: &Listing,
     closed: &Closed,
     acts: &Acts,
+    taken: &[Closed],
 ) -> Result<Driven, DriveFault>
     requires empty { empty.now ≡ empty_file closed.now.config }
-    requires known { closed.now.gathered ≡ true → closed.now.root % 2 ≡ 0 → Settled empty.now closed.now acts.now }
-    ensures ok { IfOk result (IsDriven closed.now.config (calls_of acts.now)) }
-    ensures err { IfErr result (IsDriveFault closed.now.config) }
+    requires known { closed.now.gathered ≡ true → closed.now.root % 2 ≡ 0 →
+        AreSettled empty.now closed.now acts.now taken.now }
+    requires configs { All (λ snapshot. snapshot.config ≡ closed.now.config) taken.now }
+    ensures ok { IfOk result (IsDrivenWith closed.now.config (calls_of acts.now) (length taken.now)) }
+    ensures err { IfErr result (IsDriveFaultWith closed.now.config (length taken.now)) }
 {
+    // Its law: the history of the acts before a snapshot is the first part of that of all.
+    snapshots_are_settled();
     let history = settle(alloc, empty, closed, acts)?;
+    settle_each(alloc, empty, taken, acts)?;
     Ok(Driven::of(&history, closed.records()))
 }
 
-/// Runs calls in threads on a file that is opened empty, and settles what they did.
+/// Runs calls in threads on a file that is opened empty, takes snapshots meanwhile, and settles what they did.
 fn driven_in<G: Gate + Sync, J: Room + Send + Sync, R: Threads + Wait + Sync>(
     rt: &R,
     alloc: Global,
@@ -91,19 +117,51 @@ fn driven_in<G: Gate + Sync, J: Room + Send + Sync, R: Threads + Wait + Sync>(
     empty: &Listing,
     calls: &[Call],
     threads: u32,
+    snapshots: u32,
 ) -> Result<Driven, DriveFault>
     requires room { IsRoomOf true J.named J.table opening.table }
     requires records { opening.recording ≡ true }
     requires from { opening.listing ≡ empty.now }
     requires empty { empty.now ≡ empty_file empty.now.config }
     requires threads { 1 ≤ threads }
-    ensures ok { IfOk result (IsDriven empty.now.config calls.now) }
-    ensures err { IfErr result (IsDriveFault empty.now.config) }
+    ensures ok { IfOk result (IsDrivenWith empty.now.config calls.now snapshots) }
+    ensures err { IfErr result (IsDriveFaultWith empty.now.config snapshots) }
 {
+    // Its law: where the file has its history, its snapshots are settled.
+    snapshots_are_settled();
     let (file, hand) = opening.file::<J>()?;
-    let hand = work_in_threads(rt, alloc, &file, hand, calls, threads as usize)?;
+    let (hand, taken) = work_in_threads(
+        rt,
+        alloc,
+        &file,
+        hand,
+        calls,
+        threads as usize,
+        snapshots,
+    )?;
     let (closed, acts) = file.close(rt, hand)?;
-    settled(alloc, empty, &closed, &acts)
+    settled(alloc, empty, &closed, &acts, &taken)
+}
+
+/// Like [`drive_with`], and takes so many snapshots meanwhile, spread over the calls as far as that can be. Each is kept
+/// until the file is closed, and then settled with those acts that came before it. A fault of one is answered like one of
+/// the closed file, and comes only where a bucket of that was not met when it was closed.
+pub fn drive_with_snapshots<G: Gate + Drop + Sync, R: Threads + Wait + Sync>(
+    rt: &R,
+    alloc: Global,
+    config: Config,
+    calls: &[Call],
+    threads: u32,
+    snapshots: u32,
+    gate: G,
+) -> Result<Driven, DriveFault>
+    requires { 1 ≤ threads }
+    ensures ok { IfOk result (IsDrivenWith config calls.now snapshots) }
+    ensures err { IfErr result (IsDriveFaultWith config snapshots) }
+{
+    let empty = Listing::empty(alloc, config)?;
+    let opening = Opening::of(alloc, &empty, true, &gate)?;
+    driven_in::<G, Brand, R>(rt, alloc, opening, &empty, calls, threads, snapshots)
 }
 
 /// Runs calls in threads on an empty file of this configuration, and settles what they did. The call
@@ -130,9 +188,7 @@ pub fn drive_with<G: Gate + Drop + Sync, R: Threads + Wait + Sync>(
     ensures ok { IfOk result (IsDriven config calls.now) }
     ensures err { IfErr result (IsDriveFault config) }
 {
-    let empty = Listing::empty(alloc, config)?;
-    let opening = Opening::of(alloc, &empty, true, &gate)?;
-    driven_in::<G, Brand, R>(rt, alloc, opening, &empty, calls, threads)
+    drive_with_snapshots(rt, alloc, config, calls, threads, 0, gate)
 }
 
 /// How a run ends that has no totals.
@@ -162,29 +218,31 @@ fn unsettled(fault: SettleFault) -> Status
     }
 }
 
-/// Reads a command script whole, makes its calls in threads, and writes the totals of the settled
-/// history.
+/// Reads a command script whole, makes its calls in threads, takes snapshots meanwhile, and writes the totals of the
+/// settled history.
 pub fn answer_drive<A: Threads + Wait + Sync, R: Read, W: Write>(
     rt: &A,
     alloc: Global,
     config: Config,
     threads: u32,
+    snapshots: u32,
     reader: &mut R,
     writer: &mut W,
 ) -> Status
     requires { 1 ≤ threads }
     ensures { IfSome (R.remaining reader.old) (λ input.
-        EndsDriving config input result (W.contents writer.old) (W.contents writer.new)) }
+        EndsDriving config snapshots input result (W.contents writer.old) (W.contents writer.new)) }
 {
     let calls: Vec<Call> = match read_script(alloc, reader) {
         Ok(calls) => calls,
         Err(status) => return status,
     };
-    let driven = match drive_with(rt, alloc, config, calls.as_slice(), threads, NoGate) {
+    let calls = calls.as_slice();
+    let driven = match drive_with_snapshots(rt, alloc, config, calls, threads, snapshots, NoGate) {
         Ok(driven) => driven,
         Err(fault) => return undriven(fault),
     };
-    let Ok(text) = driven.to_string(alloc) else {
+    let Ok(text) = format!(in alloc; "{driven}{}", SnapshotsText(snapshots)) else {
         return Status::Memory;
     };
     match write_all(writer, text.as_bytes()) {

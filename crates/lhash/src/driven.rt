@@ -2,7 +2,7 @@
 ghost use Rattle.std.specs.Prelude.{◌≡◌, ◌-◌, ◌<◌, ◌^◌, ◌++◌, ◌∷◌, [], List, Some, length};
 ghost use Rattle.lh_bucket.specs.declared.call.Reply.{Reply as ReplyOf};
 ghost use Rattle.lh_file.specs.Acts.{replies_of};
-ghost use Rattle.lhash.specs.Driven.{Counts, driven_text, replies_text};
+ghost use Rattle.lhash.specs.Driven.{Counts, driven_text, replies_text, snapshots_text};
 
 use lh_bucket::Reply;
 use lh_file::History;
@@ -92,6 +92,22 @@ impl fmt::Display for RepliesText<'_> {
             f,
             "found {found}\nabsent {absent}\ninserted {inserted}\nexists {exists}\ndeleted {deleted}\nreplaced {replaced}\n"
         )
+    }
+}
+
+/// The line of so many snapshots, where any were asked for.
+#[derive(Clone, Copy)]
+pub(crate) struct SnapshotsText(pub(crate) u32);
+
+impl fmt::Display for SnapshotsText {
+    ghost output = { λ text. Some (snapshots_text text.0) };
+
+    #[tactic(auto, unfolding(crate::specs::Driven::snapshots_text))]
+    fn fmt<W: fmt::Write>(&self, f: &mut fmt::Formatter<W>) -> fmt::Result {
+        match self.0 {
+            0 => Ok(()),
+            snapshots => write!(f, "snapshots {snapshots}\n"),
+        }
     }
 }
 

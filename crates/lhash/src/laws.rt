@@ -1,10 +1,9 @@
 //! What follows of a run for the words that it was given, by the subcommand that they name. Each law is the contract of
 //! a function that does nothing.
 ghost use Rattle.std.specs.Prelude.{codes};
-ghost use Rattle.lhash.specs.Driving.{EndsDriving};
 ghost use Rattle.lh_subcommands.specs.Images.{check_due, draw_due, dump_due, migrate_due};
 ghost use Rattle.lh_subcommands.specs.Run.{EndsReplay, EndsSteps};
-ghost use Rattle.lhash.specs.Serving.{EndsCommands, EndsTold, RefusesBelow, ServesBuild, ServesFile, ServesImage, TurnsAway};
+ghost use Rattle.lhash.specs.Serving.{EndsCommands, EndsTold, RefusesBelow, ServesBuild, ServesDrive, ServesFile, ServesImage, TurnsAway};
 
 /// Words that ask for `commands` have the replies of one plain map to the script's calls written, and the number of
 /// buckets that the split policy gives; or the run ends at the script's first fault, with nothing written.
@@ -28,9 +27,10 @@ pub fn build_is_served()
     ensures { ServesBuild }
 {}
 
-/// Words that ask for `drive` have the totals written of a settled, legal history.
+/// Words that ask for `drive` have the totals written of a settled, legal history; and, where they give a number of
+/// snapshots, that as many were taken, each of which is settled with the acts before it, the first part of that history.
 pub fn drive_is_served()
-    ensures { ServesFile (codes "drive") EndsDriving }
+    ensures { ServesDrive }
 {}
 
 /// Words that ask for `check` have the census written of the listing that the input is an image of.

@@ -10,7 +10,7 @@ pub mod laws;
 mod program;
 mod workers;
 
-pub use drive::{DriveFault, drive_with};
+pub use drive::{DriveFault, drive_with, drive_with_snapshots};
 pub use driven::Driven;
 pub use lh_subcommands::{DeviceFault, InputFault, Status, Unsettled};
-pub use program::run;
+pub use program::{asks_for_image, run};

@@ -1,7 +1,7 @@
 //! The program, from words and bytes to bytes and a status.
-ghost use Rattle.std.specs.Prelude.{◌≡◌, map};
+ghost use Rattle.std.specs.Prelude.{◌≡◌, Bool, IfOk, map};
 ghost use Rattle.lh_options.specs.Options.{IsServable};
-ghost use Rattle.lhash.specs.Serving.{IsHelped, IsRun, IsWordsOf, Serves, wanted_version};
+ghost use Rattle.lhash.specs.Serving.{IsHelped, IsRun, IsWhetherImageAsked, IsWordsOf, Serves, wanted_version};
 
 use crate::drive::answer_drive;
 use lh_image::Version;
@@ -10,7 +10,7 @@ use lh_subcommands::{
     DeviceFault, Status, answer_build, answer_check, answer_commands, answer_draw, answer_dump,
     answer_migrate, answer_replay, answer_steps, write_all,
 };
-use std::alloc::Global;
+use std::alloc::{AllocError, Global};
 use std::io::{Read, Write};
 use std::sync::Wait;
 use std::thread::Threads;
@@ -68,12 +68,27 @@ fn serve<A: Threads + Wait + Sync, R: Read, W: Write>(
         Request::Dump => answer_dump(alloc, reader, writer),
         Request::Draw => answer_draw(alloc, reader, writer),
         Request::Migrate => answer_migrate(alloc, reader, writer),
-        Request::Drive(config, threads) => {
-            answer_drive(rt, alloc, config, threads, reader, writer)
-        }
+        Request::Drive {
+            config,
+            threads,
+            snapshots,
+        } => answer_drive(rt, alloc, config, threads, snapshots, reader, writer),
         Request::Help(text) => write_help(writer, text.as_str()),
         Request::Refused(text) => Status::Words(text),
         Request::MaxBelowInitial => refuse(alloc, "max is less than initial"),
+    }
+}
+
+/// Whether the words, of which the first is the program's name, ask for an image to be written.
+pub fn asks_for_image<'a>(alloc: Global, words: &'a [&'a str]) -> Result<bool, AllocError>
+    ensures asked { IfOk result (IsWhetherImageAsked (map (λ s. s.now) words.now)) }
+    ensures only { (other : Bool) → IsWhetherImageAsked (map (λ s. s.now) words.now) other →
+        IfOk result (λ asked. asked ≡ other) }
+{
+    match request_of(alloc, words)? {
+        Request::Build(..) => Ok(true),
+        Request::Migrate => Ok(true),
+        _ => Ok(false),
     }
 }
 

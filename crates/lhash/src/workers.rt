@@ -1,16 +1,17 @@
-//! Threads that share a traced file, and do a script's calls between them.
-ghost use Rattle.std.specs.Prelude.{◌≡◌, ◌+◌, ◌<◌, ◌≤◌, true, false, [], All, IfOk, IfErr, OnOk, OnErr, length, sum_by};
+//! Threads that share a traced file, and do a script's calls between them, and snapshots that are taken meanwhile.
+ghost use Rattle.std.specs.Prelude.{◌≡◌, ◌+◌, ◌<◌, ◌≤◌, true, false, [], All, IfOk, IfErr, IfSome, None, OnOk, OnErr, length, sum_by};
 ghost use Rattle.lh_file.specs.Calls.Served.{IsNotSpent};
 ghost use Rattle.lh_file.specs.History.Own.{IsOwn, share_of};
 ghost use Rattle.lhash.specs.Driving.{IsWorkersFault};
-ghost use Rattle.lhash.specs.Workers.{IsPartOf, IsWorked, places_from};
+ghost use Rattle.lhash.specs.Workers.{HasLookedOn, HasTaken, HasTakenOne, IsPartOf, IsWorked, KnowsOf, places_from};
 
 use crate::drive::DriveFault;
 use lh_bucket::{Answer, Call};
 use lh_file::laws::hands_keep_their_shares;
-use lh_file::{FileFault, Gate, Hand, HashFile, Room, Traced};
+use lh_file::{Closed, FileFault, Gate, Hand, HashFile, Room, Traced};
 use std::alloc::Global;
 use std::sync::Wait;
+use std::sync::atomic::{AtomicU64, Ordering};
 use std::thread;
 use std::thread::{Promise, PromisedHandle, Threads};
 
@@ -140,6 +141,7 @@ fn unite<G: Gate, J: Room>(
     requires second { IsOwn file.now.state second }
     requires right { second.view.has_right ≡ false }
     ensures own { IfOk result (IsOwn file.now.state) }
+    ensures knows { IfOk result (λ all. KnowsOf first all × KnowsOf second all) }
     ensures share { IfOk result (λ all. share_of all ≡ share_of first + share_of second) }
     ensures acts { IfOk result (λ all. length all.acts ≡ length first.acts + length second.acts) }
     ensures err { IfErr result IsWorkersFault }
@@ -164,6 +166,7 @@ fn join<G: Gate, J: Room, R: Threads + Wait>(
     requires hand { IsOwn file.now.state hand }
     requires worker { worker.promise.file.now.state ≡ file.now.state }
     ensures own { IfOk result (IsOwn file.now.state) }
+    ensures knows { IfOk result (KnowsOf hand) }
     ensures share { IfOk result (λ all. share_of all ≡ share_of hand + worker.entry.promise.calls) }
     ensures made { IfOk result (λ all. length all.acts ≡ length hand.acts + worker.entry.promise.calls) }
     ensures err { IfErr result IsWorkersFault }
@@ -189,6 +192,7 @@ fn join_all<G: Gate, J: Room, R: Threads + Wait>(
     requires hand { IsOwn file.now.state hand }
     requires workers { All (λ worker. worker.promise.file.now.state ≡ file.now.state) workers.items }
     ensures own { IfOk result (IsOwn file.now.state) }
+    ensures knows { IfOk result (KnowsOf hand) }
     ensures share { IfOk result (λ all.
         share_of all ≡ share_of hand + sum_by (λ worker. worker.promise.calls) workers.entry.items) }
     ensures made { IfOk result (λ all.
@@ -203,8 +207,88 @@ fn join_all<G: Gate, J: Room, R: Threads + Wait>(
     Ok(hand)
 }
 
-/// Makes all calls in this number of threads, and joins the hands of all of them into one. Of several faults
-/// it is the one of the first thread that has one.
+/// How many calls a run has, and how many of its workers haven't ended.
+#[derive(Drop)]
+struct Progress {
+    calls: u64,
+    running: AtomicU64,
+}
+
+/// Waits until this many acts were made, or no worker is running.
+#[tactic(auto, using(crate::proofs::Looking::looked_told, crate::proofs::Looking::looked_first))]
+fn await_acts<G: Gate, J: Room, R: Wait>(
+    rt: &R,
+    file: &HashFile<G, Traced, J>,
+    hand: &mut Hand,
+    progress: &Progress,
+    acts: u64,
+)
+    requires { IsOwn file.now.state hand.old }
+    ensures { HasLookedOn file.now.state hand.old hand.new }
+{
+    for _turn in rt.forever() {
+        let made = file.told(hand);
+        if made >= acts || progress.running.load(Ordering::SeqCst) == 0 {
+            return;
+        }
+        thread::yield_now();
+    }
+}
+
+/// Takes the next snapshot when it is due.
+fn take_snapshot<G: Gate, J: Room, R: Wait>(
+    rt: &R,
+    file: &HashFile<G, Traced, J>,
+    hand: &mut Hand,
+    progress: &Progress,
+    due: u64,
+) -> Result<Closed, DriveFault>
+    requires { IsOwn file.now.state hand.old }
+    ensures hand { HasLookedOn file.now.state hand.old hand.new }
+    ensures taken { IfOk result (HasTakenOne file.now.state hand.new) }
+    ensures err { IfErr result IsWorkersFault }
+{
+    await_acts(rt, file, hand, progress, due);
+    Ok(file.snapshot(rt, hand)?)
+}
+
+/// Takes snapshots while the workers run, one each time that as many calls more were made, and those that are left when
+/// they have ended. A worker that is missing is the fault that is answered.
+#[tactic(auto, using(crate::proofs::Looking::looked_again, crate::proofs::Looking::looked_first))]
+fn take_snapshots<G: Gate, J: Room, R: Wait>(
+    rt: &R,
+    alloc: Global,
+    file: &HashFile<G, Traced, J>,
+    hand: &mut Hand,
+    progress: &Progress,
+    missing: Option<DriveFault>,
+    snapshots: u32,
+) -> Result<Vec<Closed>, DriveFault>
+    requires own { IsOwn file.now.state hand.old }
+    requires missing { IfSome missing IsWorkersFault }
+    ensures hand { HasLookedOn file.now.state hand.old hand.new }
+    ensures taken { IfOk result (λ taken. HasTaken file.now.state hand.new snapshots taken.items) }
+    ensures none_missing { OnOk result (missing ≡ None) }
+    ensures err { IfErr result IsWorkersFault }
+{
+    if let Some(fault) = missing {
+        return Err(fault);
+    }
+    let step = progress.calls / (u64::from(snapshots) + 1);
+    let mut taken = Vec::new(alloc);
+    let mut due = step;
+    for _number in 0..snapshots {
+        let snapshot = take_snapshot(rt, file, hand, progress, due)?;
+        if taken.push(snapshot).is_err() {
+            return Err(DriveFault::Memory);
+        }
+        due = due.saturating_add(step);
+    }
+    Ok(taken)
+}
+
+/// Makes all calls in this number of threads, takes snapshots meanwhile, and joins the hands of all of them into one. Of
+/// several faults it is the one of the first thread that has one.
 pub fn work_in_threads<G: Gate + Sync, J: Room + Send + Sync, R: Threads + Wait + Sync>(
     rt: &R,
     alloc: Global,
@@ -212,27 +296,35 @@ pub fn work_in_threads<G: Gate + Sync, J: Room + Send + Sync, R: Threads + Wait 
     hand: Hand,
     calls: &[Call],
     threads: usize,
-) -> Result<Hand, DriveFault>
+    snapshots: u32,
+) -> Result<(Hand, Vec<Closed>), DriveFault>
     requires hand { IsOwn file.now.state hand }
     requires records { file.now.state.recording ≡ true }
     requires threads { 0 < threads }
     requires enough { length calls.now ≤ hand.view.left }
-    ensures own { IfOk result (IsOwn file.now.state) }
-    ensures share { IfOk result (λ all. share_of all ≡ share_of hand) }
-    ensures made { IfOk result (λ all. length all.acts ≡ length hand.acts + length calls.now) }
+    ensures own { IfOk result (λ all. IsOwn file.now.state all.0) }
+    ensures share { IfOk result (λ all. share_of all.0 ≡ share_of hand) }
+    ensures made { IfOk result (λ all. length all.0.acts ≡ length hand.acts + length calls.now) }
+    ensures taken { IfOk result (λ all. HasTaken file.now.state all.0 snapshots all.1.items) }
     ensures err { IfErr result IsWorkersFault }
 {
+    let progress = Progress {
+        calls: calls.len() as u64,
+        running: AtomicU64::new(0),
+    };
+    let progress = &progress;
     thread::scope(
         thread::scope_env(),
         rt,
-        |scope| -> Result<Hand, DriveFault>
+        |scope| -> Result<(Hand, Vec<Closed>), DriveFault>
             requires hand { IsOwn file.now.state hand }
             requires records { file.now.state.recording ≡ true }
             requires threads { 0 < threads }
             requires enough { length calls.now ≤ hand.view.left }
-            ensures own { IfOk result (IsOwn file.entry.now.state) }
-            ensures share { IfOk result (λ all. share_of all ≡ share_of hand) }
-            ensures made { IfOk result (λ all. length all.acts ≡ length hand.acts + length calls.entry.now) }
+            ensures own { IfOk result (λ all. IsOwn file.entry.now.state all.0) }
+            ensures share { IfOk result (λ all. share_of all.0 ≡ share_of hand) }
+            ensures made { IfOk result (λ all. length all.0.acts ≡ length hand.acts + length calls.entry.now) }
+            ensures taken { IfOk result (λ all. HasTaken file.entry.now.state all.0 snapshots all.1.items) }
             ensures err { IfErr result IsWorkersFault }
         {
             let mut all = hand;
@@ -247,6 +339,7 @@ pub fn work_in_threads<G: Gate + Sync, J: Room + Send + Sync, R: Threads + Wait 
                         break;
                     }
                 };
+                progress.running.fetch_add(1, Ordering::SeqCst);
                 let Ok(worker) = scope.spawn_with(
                     Part { file, calls: share },
                     move || -> Worked
@@ -255,7 +348,11 @@ pub fn work_in_threads<G: Gate + Sync, J: Room + Send + Sync, R: Threads + Wait 
                         requires threads { 0 < threads }
                         requires enough { part.view.left ≡ places_from first threads (length calls.now) }
                         ensures { IsWorked file.entry.now.state (share_of part) result }
-                    { work(rt, file, part, calls, first, threads) },
+                    {
+                        let worked = work(rt, file, part, calls, first, threads);
+                        progress.running.fetch_sub(1, Ordering::SeqCst);
+                        worked
+                    },
                 ) else {
                     missing = Some(DriveFault::Thread);
                     break;
@@ -265,11 +362,9 @@ pub fn work_in_threads<G: Gate + Sync, J: Room + Send + Sync, R: Threads + Wait 
                     break;
                 }
             }
+            let taken = take_snapshots(rt, alloc, file, &mut all, progress, missing, snapshots);
             let all = join_all(rt, file, all, workers)?;
-            match missing {
-                Some(fault) => Err(fault),
-                None => Ok(all),
-            }
+            Ok((all, taken?))
         },
     )
 }

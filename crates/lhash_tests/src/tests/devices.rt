@@ -2,6 +2,7 @@
 use crate::tests::images::{FIVE, FIVE_CENSUS, FIVE_RECORDS, FIVE_WORDS, built, inserts};
 use crate::tests::support::{Sink, Source, ran};
 use lhash::run;
+use std::io::{self, Write};
 use std::process::Abort;
 use std::sync::Wait;
 use std::test::Fail;
@@ -297,5 +298,45 @@ fn many_lines_go_out_in_chunks(rt: HostRuntime) -> Result<(), Fail> {
     goes_out_in_chunks(&rt, &["lhash", "commands"], script.as_bytes(), 20_001);
     let image = built(&rt, &["lhash", "build"], script.as_str())?;
     goes_out_in_chunks(&rt, &["lhash", "dump"], &image, 20_000);
+    Ok(())
+}
+
+/// Counts the bytes that it takes, and those of them that came after the last flush.
+#[derive(Drop)]
+struct Unflushed {
+    bytes: usize,
+    whole: usize,
+}
+
+impl Write for Unflushed {
+    fn write(&mut self, buf: &[u8]) -> io::Result<usize> {
+        self.bytes = self.bytes.saturating_add(buf.len());
+        self.whole = self.whole.saturating_add(buf.len());
+        Ok(buf.len())
+    }
+
+    fn flush(&mut self) -> io::Result<()> {
+        self.bytes = 0;
+        Ok(())
+    }
+}
+
+/// However long the last chunk is, it is flushed: each search takes seven bytes, and the size ten.
+#[test]
+fn the_last_chunk_is_flushed(rt: HostRuntime) -> Result<(), Fail> {
+    for searches in [0, 1, 5_800, 8_800, 9_360, 20_000] {
+        let mut script = String::new(rt.alloc());
+        for _ in 0..searches {
+            script.push_str("search 61\n")?;
+        }
+        let mut input = script.as_bytes();
+        let mut output = Unflushed { bytes: 0, whole: 0 };
+        let status = run(&rt, &["lhash", "commands"], &mut input, &mut output);
+        assert!(rt; status.code() == 0 && output.bytes == 0);
+        assert_eq!(rt;
+            output.whole,
+            7_usize.saturating_mul(searches).saturating_add(10)
+        );
+    }
     Ok(())
 }

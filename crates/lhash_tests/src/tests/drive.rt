@@ -4,7 +4,7 @@ use lh_addr::Config;
 use lh_bucket::Call;
 use lh_file::{Gate, NoGate, Point};
 use lh_page::{Key, Value};
-use lhash::{Driven, Status, Unsettled, drive_with};
+use lhash::{Driven, Status, Unsettled, drive_with, drive_with_snapshots};
 use std::alloc::{AllocError, Global};
 use std::process::Abort;
 use std::sync::Wait;
@@ -34,6 +34,76 @@ fn four_threads_find_what_they_inserted(rt: HostRuntime) -> Result<(), Fail> {
     let totals =
         "settled\ncalls 800\nfound 400\nabsent 0\ninserted 400\nexists 0\ndeleted 0\nreplaced 0\nrecords 400\n";
     writes(&rt, words.as_slice(), script.as_str(), totals)
+}
+
+/// For each of this many keys the same four calls, the first one of all keys, then the second, and so on.
+fn lives_of(alloc: Global, keys: u32) -> Result<String, Fail> {
+    let mut script = String::new(alloc);
+    for number in 0..keys {
+        script.writeln(format_args!("insert {number:04x} 31"))?;
+    }
+    for number in 0..keys {
+        script.writeln(format_args!("replace {number:04x} 32"))?;
+    }
+    for number in 0..keys {
+        script.writeln(format_args!("search {number:04x}"))?;
+    }
+    for number in 0..keys {
+        script.writeln(format_args!("delete {number:04x}"))?;
+    }
+    Ok(script)
+}
+
+/// The number of keys is a multiple of each number of threads, so one thread makes all calls of a key; in another order
+/// than the script's they would have other replies.
+#[test]
+fn many_threads_make_their_calls_in_order(rt: HostRuntime) -> Result<(), Fail> {
+    let script = lives_of(rt.alloc(), 1_600)?;
+    let totals =
+        "settled\ncalls 6400\nfound 1600\nabsent 0\ninserted 1600\nexists 0\ndeleted 1600\nreplaced 1600\nrecords 0\n";
+    for threads in ["--threads=5", "--threads=50", "--threads=64"] {
+        let words = ["lhash", "drive", "--capacity=2", threads];
+        writes(&rt, words.as_slice(), script.as_str(), totals)?;
+    }
+    Ok(())
+}
+
+#[test]
+fn snapshots_have_a_line(rt: HostRuntime) -> Result<(), Fail> {
+    let script = inserts_and_searches(rt.alloc(), 400)?;
+    let totals =
+        "settled\ncalls 800\nfound 400\nabsent 0\ninserted 400\nexists 0\ndeleted 0\nreplaced 0\nrecords 400\n";
+    let one = format!(in rt.alloc(); "{totals}snapshots 1\n")?;
+    let five = format!(in rt.alloc(); "{totals}snapshots 5\n")?;
+    for threads in ["--threads=1", "--threads=4"] {
+        for (snapshots, lines) in [
+            ("--snapshots=0", totals),
+            ("--snapshots=1", one.as_str()),
+            ("--snapshots=5", five.as_str()),
+        ] {
+            let words = ["lhash", "drive", "--capacity=1", threads, snapshots];
+            writes(&rt, words.as_slice(), script.as_str(), lines)?;
+        }
+    }
+    Ok(())
+}
+
+#[test]
+fn an_empty_script_has_snapshots(rt: HostRuntime) -> Result<(), Fail> {
+    let words = ["lhash", "drive", "--snapshots", "2"];
+    let totals =
+        "settled\ncalls 0\nfound 0\nabsent 0\ninserted 0\nexists 0\ndeleted 0\nreplaced 0\nrecords 0\nsnapshots 2\n";
+    writes(&rt, words.as_slice(), "", totals)
+}
+
+#[test]
+fn too_many_snapshots_are_refused(rt: HostRuntime) -> Result<(), Fail> {
+    let words = ["lhash", "drive", "--snapshots", "1001"];
+    let reason = "invalid value '1001' for '--snapshots <snapshots>': 1001 is not in 0..=1000";
+    fails(&rt, words.as_slice(), "frob", 2, reason)?;
+    let words = ["lhash", "commands", "--snapshots", "1"];
+    let reason = "unexpected argument '--snapshots' found";
+    fails(&rt, words.as_slice(), "frob", 2, reason)
 }
 
 #[test]
@@ -237,5 +307,98 @@ fn eight_threads_settle_though_each_waits(rt: HostRuntime) -> Result<(), Fail> {
         records: 1000,
     };
     assert_eq!(rt; driven, Ok(totals));
+    Ok(())
+}
+
+/// Counts snapshots, and holds the thread that has made this many calls until there is one.
+#[derive(Drop)]
+struct HoldForSnapshot {
+    wanted: u64,
+    made: AtomicU64,
+    taken: AtomicU64,
+    late: AtomicU64,
+}
+
+impl HoldForSnapshot {
+    fn after(wanted: u64) -> HoldForSnapshot {
+        HoldForSnapshot {
+            wanted,
+            made: AtomicU64::new(0),
+            taken: AtomicU64::new(0),
+            late: AtomicU64::new(0),
+        }
+    }
+}
+
+impl Gate for HoldForSnapshot {
+    fn at(&self, point: Point) {
+        match point {
+            Point::Surveyed { .. } => {
+                self.taken.fetch_add(1, Ordering::SeqCst);
+            }
+            Point::Released { .. } => {
+                if self.made.fetch_add(1, Ordering::SeqCst).wrapping_add(1) != self.wanted {
+                    return;
+                }
+                for _turn in 0..TURNS {
+                    if self.taken.load(Ordering::SeqCst) > 0 {
+                        return;
+                    }
+                    thread::yield_now();
+                }
+                self.late.fetch_add(1, Ordering::SeqCst);
+            }
+            _ => {}
+        }
+    }
+}
+
+/// Of four calls in one thread and one snapshot, the snapshot comes after the second call, and the others wait for it.
+#[test]
+fn a_snapshot_is_taken_while_calls_are_made(rt: HostRuntime) -> Result<(), Fail> {
+    let calls = inserts_of(rt.alloc(), b"abcd")?;
+    let config = Config::new(1, 14, 100, 65536)?;
+    let gate = HoldForSnapshot::after(2);
+    let driven = drive_with_snapshots(&rt, rt.alloc(), config, calls.as_slice(), 1, 1, &gate);
+    assert_eq!(rt; driven, Ok(all_inserted(4)));
+    assert_eq!(rt; gate.taken.load(Ordering::SeqCst), 1);
+    assert_eq!(rt; gate.late.load(Ordering::SeqCst), 0);
+    Ok(())
+}
+
+/// The number of keys is a multiple of each number of threads, so one thread makes both calls of a key.
+#[test]
+fn as_many_snapshots_are_taken(rt: HostRuntime) -> Result<(), Fail> {
+    let calls = calls_of(rt.alloc(), 102)?;
+    let config = Config::new(1, 1, 100, 65536)?;
+    for (threads, snapshots) in [(1, 5), (3, 1), (3, 5), (3, 40), (3, 0)] {
+        assert!(rt; threads > 0);
+        let gate = HoldForSnapshot::after(0);
+        let driven = drive_with_snapshots(
+            &rt,
+            rt.alloc(),
+            config,
+            calls.as_slice(),
+            threads,
+            snapshots,
+            &gate,
+        );
+        let totals = Driven {
+            calls: 204,
+            found: 102,
+            absent: 0,
+            inserted: 102,
+            exists: 0,
+            deleted: 0,
+            replaced: 0,
+            records: 102,
+        };
+        assert_eq!(rt;
+            driven,
+            Ok(totals),
+            "{threads} threads, {snapshots} snapshots"
+        );
+        assert_eq!(rt; gate.taken.load(Ordering::SeqCst), u64::from(snapshots));
+    }
     Ok(())
 }

@@ -174,6 +174,43 @@ fn a_record_goes_into_the_hole(rt: HostRuntime) -> Result<(), Fail> {
     told(&rt, &["lhash", "dump"], &image, HOLE_RECORDS)
 }
 
+/// Eight keys in no order, a delete and a replace, in pages of three.
+const UNSORTED: &str =
+    "insert 67 31\ninsert 63 32\ninsert 61 33\ninsert 68 34\ninsert 62 35\ninsert 66 36\ninsert 64 37\ninsert 65 38\ndelete 61\nreplace 68 39\n";
+
+const UNSORTED_WORDS: &[&str] = &["lhash", "build", "--capacity=3", "--max=1", "--image=1"];
+
+const UNSORTED_PARTS: &[Part] = &[
+    (
+        0,
+        b"LHF1\x01\0\0\0\x03\0\0\0\x64\0\0\0\x01\0\0\0\x01\0\0\0\x04\0\0\0\x07",
+    ),
+    (1_024, b"\x01\x03\0\0\0\0\0\0\x02\0\0\0\0\0\0\0\x01\x01g"),
+    (1_072, b"1"),
+    (1_112, b"\x01\x01c"),
+    (1_144, b"2"),
+    (1_184, b"\x01\x01e"),
+    (1_216, b"8"),
+    (2_048, b"\x02\x03\0\0\0\0\0\0\x03\0\0\0\0\0\0\0\x01\x01h"),
+    (2_096, b"9"),
+    (2_136, b"\x01\x01b"),
+    (2_168, b"5"),
+    (2_208, b"\x01\x01f"),
+    (2_240, b"6"),
+    (3_072, b"\x02\x01\0\0\0\0\0\0\0\0\0\0\0\0\0\0\x01\x01d"),
+    (3_120, b"7"),
+];
+
+const UNSORTED_RECORDS: &str = "0 67 31\n0 63 32\n0 65 38\n0 68 39\n0 62 35\n0 66 36\n0 64 37\n";
+
+/// Records stand as they came, but for the last one, which goes into the hole of the delete.
+#[test]
+fn records_of_a_chain_have_an_order(rt: HostRuntime) -> Result<(), Fail> {
+    let image = builds(&rt, UNSORTED_WORDS, UNSORTED, 4_096, UNSORTED_PARTS)?;
+    let census = "buckets 1\nlevel 0\npointer 0\nrecords 7\npages 4\noverflow 2\nlongest 3\n";
+    accepted(&rt, &image, census, UNSORTED_RECORDS)
+}
+
 #[test]
 fn long_keys_and_empty_values(rt: HostRuntime) -> Result<(), Fail> {
     let key = "616263646566676869606162636465666768696061626364656667686960";
