@@ -1,8 +1,8 @@
 #!/usr/bin/env python3
 """Runs lh_bench and the peers in rounds and prints the tables. README.md says what the workloads are.
 
-In one round each workload is run by all peers one after the other, so that a ratio compares runs that stand
-close in time. The table gives the median over the rounds, of speeds and of ratios apart.
+In one round each workload is run at each size by all peers one after the other, so that a ratio compares runs that
+stand close in time. The tables of a size give the median over the rounds, of speeds and of ratios apart.
 """
 import argparse
 import json
@@ -15,9 +15,11 @@ import time
 
 HERE = os.path.dirname(os.path.abspath(__file__))
 # Those that keep a file come last; within a group the order is that of the table.
-PEERS = ["null", "lh_bench", "twin", "twin_nostamp", "twin_tags", "rust_shard", "rust_shard_sip", "dashmap_fnv", "dashmap", "absl_shard", "libcuckoo", "tbb", "urcu_sized", "urcu",
+PEERS = ["null", "lh_bench", "lh_lent", "lh_traced", "twin", "twin_nostamp", "twin_tags", "rust_shard", "rust_shard_sip", "dashmap_fnv", "dashmap", "absl_shard", "libcuckoo", "tbb", "urcu_sized", "urcu",
          "std_shard", "std_onelock", "kc_stash", "kc_hash", "tc_hash", "lmdb", "tdb", "gdbm", "bdb_hash"]
-PROGRAM = {"libcuckoo": "cuckoo", "bdb_hash": "bdb", "lh_bench": "../../crates/lh_bench/out/lh_bench"}
+FILE = "../../crates/lh_bench/out/lh_bench"
+PROGRAM = {"libcuckoo": "cuckoo", "bdb_hash": "bdb", "lh_bench": FILE, "lh_lent": FILE, "lh_traced": FILE}
+WORDS = {"lh_lent": ["--lent"], "lh_traced": ["--traced"]}
 UNRANKED = {"null"}
 REFERENCE = "std_onelock"  # its digests at one thread are those due
 # What the picture shows, and under which names.
@@ -26,13 +28,19 @@ SHOWN = {"lh_bench": "this file", "twin_tags": "the same in C++", "dashmap": "Da
 TITLES = {"W1": "W1 inserts", "W2": "W2 searches", "W3": "W3, 1 insert to 19 searches", "W4": "W4, half are writes",
           "W5": "W5, to a file and back", "W6": "W6 new values", "W7": "W7, skewed searches", "W8": "W8, searches that miss",
           "W9": "W9, as W4, long records"}
+# One thread looks at all records while the others call; these have a table of their own.
+LOOKS = {"W11": "W11, snapshots", "W12": "W12, scans"}
 # How many threads are tried, where --threads says nothing; the other workloads have one.
-THREADS = {"W3": "1,2,4", "W4": "1,2,4", "W7": "1,4", "W8": "1,4", "W9": "1,4"}
+THREADS = {"W3": "1,2,4", "W4": "1,2,4", "W7": "1,4", "W8": "1,4", "W9": "1,4", "W11": "1,3", "W12": "1,3"}
 
 
-def run(name, path, workload, threads, args):
-    words = [path, "--workload", workload, "--threads", str(threads), "--records", str(args.records),
-             "--seed", str(args.seed)]
+def numbers(text):
+    return [int(x) for x in text.split(",")]
+
+
+def run(name, path, workload, threads, records, args):
+    words = [path, "--workload", workload, "--threads", str(threads), "--records", str(records),
+             "--seed", str(args.seed), *WORDS.get(name, [])]
     with tempfile.TemporaryDirectory(dir=args.dir, prefix="bench-") as scratch:
         start = time.time()
         try:
@@ -54,28 +62,28 @@ def measure(args, contestants):
     if args.peers:
         paths = {p: f for p, f in paths.items() if p in args.peers.split(",")}
     paths.update(contestants)
-    shapes = [(w, t) for w in args.workloads.split(",")
-              for t in ([int(x) for x in (args.threads or THREADS[w]).split(",")] if w in THREADS else [1])]
+    shapes = [(n, w, t) for n in numbers(args.records) for w in args.workloads.split(",")
+              for t in (numbers(args.threads or THREADS[w]) if w in THREADS else [1])]
     rows, left_out, first = [], set(), 0
     if args.append and os.path.exists(args.out):
         first = 1 + max([json.loads(line)["round"] for line in open(args.out)], default=-1)
     with open(args.out, "a" if args.append else "w") as out:
-        for n in range(first, first + args.rounds):
-            for w, t in shapes:
+        for turn in range(first, first + args.rounds):
+            for n, w, t in shapes:
                 for name, path in paths.items():
-                    if (name, w, t) in left_out:
+                    if (name, n, w, t) in left_out:
                         continue
-                    row = run(name, path, w, t, args)
-                    row["round"] = n
+                    row = run(name, path, w, t, n, args)
+                    row.update(records=n, round=turn)
                     if row["check"] != "ok" or row["whole_s"] > args.long:
-                        left_out.add((name, w, t))
+                        left_out.add((name, n, w, t))
                     if row["check"] == "unsupported":
                         continue
                     rows.append(row)
                     out.write(json.dumps(row) + "\n")
                     out.flush()
-                    print("round %d %s x%d %-15s %-12s %12s ops/s" % (
-                        n, w, t, name, row["check"][:12], row.get("ops_per_s", "-")), file=sys.stderr)
+                    print("round %d %d records %s x%d %-15s %-12s %12s ops/s" % (
+                        turn, n, w, t, name, row["check"][:12], row.get("ops_per_s", "-")), file=sys.stderr)
     return rows
 
 
@@ -109,10 +117,12 @@ def title_of(workload, threads):
 
 
 def picture(rows, path):
-    """Bars in SVG: of each workload the speed of the tables in SHOWN, over that of the fastest of them in the same round."""
-    good = [r for r in rows if r["check"] == "ok" and r["peer"] in SHOWN]
+    """Bars in SVG: of each workload at the greatest size the speed of the tables in SHOWN, over that of the fastest of
+    them in the same round."""
+    most = max((r["records"] for r in rows), default=0)
+    good = [r for r in rows if r["check"] == "ok" and r["peer"] in SHOWN and r["records"] == most]
     best = fastest(good)
-    shapes = [s for s in sorted({(r["workload"], r["threads"]) for r in good}) if s[1] in (1, 4)]
+    shapes = [s for s in sorted({(r["workload"], r["threads"]) for r in good}) if s[0] in TITLES and s[1] in (1, 4)]
     wide, bar, head, room = 330, 15, 26, 96
     tall = head + bar * len(SHOWN) + 10
     out = []
@@ -139,10 +149,42 @@ def picture(rows, path):
                 % (2 * wide, (len(shapes) + 1) // 2 * tall, style, "\n".join(out)))
 
 
+def looks_table(workload, threads, rows, names):
+    """What looks of one kind beside so many threads took, and what those threads did meanwhile."""
+    columns = [("looks", "looks", 1, "%.0f"), ("shortest", "look_min_s", 1e3, "%.3f"), ("median", "look_median_s", 1e3, "%.3f"),
+               ("longest", "look_max_s", 1e3, "%.3f"), ("a write", "write_max_s", 1e3, "%.3f"),
+               ("a search", "search_max_s", 1e3, "%.3f"), ("Mop/s", "ops_per_s", 1e-6, "%.3f"),
+               ("peak MB", "peak_bytes", 1e-6, "%.1f")]
+    print("\n%s beside %d thread%s: milliseconds of a look and of the longest calls, medians of the rounds"
+          % (LOOKS[workload], threads, "s" * (threads > 1)))
+    print("%-15s" % "peer" + "".join("%10s" % head for head, *_ in columns) + "%10s" % "check")
+    for name in names:
+        own = [r for r in rows if (r["peer"], r["workload"], r["threads"]) == (name, workload, threads)]
+        good = [r for r in own if r["check"] == "ok"]
+        cells = [form % (statistics.median(r[field] for r in good) * scale) if good else "-" for _, field, scale, form in columns]
+        if own:
+            cells.append(next((r["check"][:8] for r in own if r["check"] != "ok"), "ok"))
+            print("%-15s" % name + "".join("%10s" % c for c in cells))
+
+
+def tables(rows, to):
+    """Those of each size."""
+    for n in sorted({r["records"] for r in rows}):
+        print("\n==== %s records ====" % format(n, ","))
+        table([r for r in rows if r["records"] == n], to)
+
+
 def table(rows, to):
-    good = [r for r in rows if r["check"] == "ok"]
+    """All rows are of one size."""
     names = [p for p in PEERS if any(r["peer"] == p for r in rows)]
     names += sorted({r["peer"] for r in rows} - set(names))
+    for workload, threads in sorted({(r["workload"], r["threads"]) for r in rows if r["workload"] in LOOKS}):
+        looks_table(workload, threads, rows, names)
+    rows = [r for r in rows if r["workload"] not in LOOKS]
+    if not rows:
+        return
+    good = [r for r in rows if r["check"] == "ok"]
+    names = [p for p in names if any(r["peer"] == p for r in rows)]
     shapes = sorted({(r["workload"], r["threads"]) for r in good})
     best = fastest(good, to)
     due = digests_due(good)
@@ -202,12 +244,12 @@ def main():
     a = argparse.ArgumentParser(description=__doc__, formatter_class=argparse.RawDescriptionHelpFormatter)
     a.add_argument("--contestant", action="append", default=[], metavar="NAME=PATH", help="one more program")
     a.add_argument("--peers", default="", help="only these, with commas between them")
-    a.add_argument("--workloads", default="W1,W2,W3,W4,W5,W7,W8,W9")
-    a.add_argument("--threads", help="of W3, W4, W7, W8 and W9; 1,2,4 or 1,4 if nothing is said")
-    a.add_argument("--records", type=int, default=1000000)
+    a.add_argument("--workloads", default="W1,W2,W3,W4,W5,W7,W8,W9,W11,W12")
+    a.add_argument("--threads", help="of W3, W4, W7 to W9, W11 and W12; 1,2,4, 1,4 or 1,3 if nothing is said")
+    a.add_argument("--records", default="3000,10000,1000000", help="the sizes, of which 3000 and 10000 lie in caches")
     a.add_argument("--seed", type=int, default=1)
     a.add_argument("--rounds", type=int, default=3)
-    a.add_argument("--quick", action="store_true", help="100,000 records, one round")
+    a.add_argument("--quick", action="store_true", help="3,000, 10,000 and 100,000 records, one round")
     a.add_argument("--long", type=float, default=30, help="a run that takes more seconds than this isn't repeated")
     a.add_argument("--limit", type=float, default=120, help="a run is given up after so many seconds")
     a.add_argument("--dir", default=os.environ.get("BENCH_DIR", "/dev/shm"))
@@ -222,13 +264,13 @@ def main():
         rows = [json.loads(line) for f in args.show for line in open(f)]
     else:
         if args.quick:
-            args.records, args.rounds = 100000, 1
+            args.records, args.rounds = "3000,10000,100000", 1
         contestants = {}
         for c in args.contestant:
             name, _, path = c.rpartition("=")
             contestants[name or os.path.basename(path)] = os.path.abspath(path)
         rows = measure(args, contestants)
-    table(rows, args.to)
+    tables(rows, args.to)
     if args.svg:
         picture(rows, args.svg)
     return 0 if all(r["check"] in ("ok", "unsupported") for r in rows) else 1

@@ -1,8 +1,8 @@
 #!/bin/bash
 # Builds lh_bench and every peer that this machine offers, runs all in turns, and prints the tables.
 #
-#   ./run_all.sh                                   everything, three rounds of 1,000,000 records (over an hour)
-#   ./run_all.sh --quick                           100,000 records, one round (a few minutes)
+#   ./run_all.sh                                   3,000, 10,000 and 1,000,000 records, three rounds (well over an hour)
+#   ./run_all.sh --quick                           3,000, 10,000 and 100,000 records, one round (some ten minutes)
 #   ./run_all.sh --peers lh_bench,tbb,dashmap --workloads W1,W2 --rounds 5
 #   ./run_all.sh --contestant before=/path/to/lh_bench      one more program
 #

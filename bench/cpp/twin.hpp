@@ -59,6 +59,9 @@ struct Twin {
     segments[0] = new Bucket[initial];
     bucket(0).level = 0;
   }
+  ~Twin() {
+    for (auto& segment : segments) delete[] segment.load();
+  }
   Bucket& bucket(uint32_t i) {
     if (i < initial) return segments[0].load()[i];
     uint32_t j = 64 - __builtin_clzll(i / initial);  // segment j has N * 2^(j-1) .. N * 2^j

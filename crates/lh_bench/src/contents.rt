@@ -8,9 +8,7 @@ fn bytes_of(seed: u64, number: u64) -> [u8; 16] {
     let first = number.wrapping_mul(2).wrapping_add(1).wrapping_mul(GAMMA);
     let low = mix(seed.wrapping_add(first));
     let high = mix(seed.wrapping_add(first).wrapping_add(GAMMA));
-    let [a, b, c, d, e, f, g, h] = low.to_le_bytes();
-    let [i, j, k, l, m, n, o, p] = high.to_le_bytes();
-    [a, b, c, d, e, f, g, h, i, j, k, l, m, n, o, p]
+    ((high as u128) << 64 | low as u128).to_le_bytes()
 }
 
 fn short_key(seed: u64, number: u64) -> Key {
@@ -20,6 +18,8 @@ fn short_key(seed: u64, number: u64) -> Key {
     }
 }
 
+// Long keys and values are made apart, so that calls with short ones have no room for them.
+#[inline(never)]
 fn long_key(seed: u64, number: u64) -> Key {
     let bytes = bytes_of(seed, number);
     let mut places = [0; 64];
@@ -39,6 +39,7 @@ fn short_value(seed: u64, number: u64) -> Value {
     }
 }
 
+#[inline(never)]
 fn long_value(seed: u64, number: u64) -> Value {
     let bytes = bytes_of(seed, number);
     let mut places = [0; 112];
@@ -51,8 +52,8 @@ fn long_value(seed: u64, number: u64) -> Value {
     }
 }
 
-fn is_short_value(value: &Value, seed: u64, number: u64) -> bool {
-    match <[u8; 16]>::try_from(value.bytes()) {
+fn are_short_bytes(bytes: &[u8], seed: u64, number: u64) -> bool {
+    match <[u8; 16]>::try_from(bytes) {
         Ok(bytes) => u128::from_le_bytes(bytes) == u128::from_le_bytes(bytes_of(seed, number)),
         Err(_) => false,
     }
@@ -87,13 +88,13 @@ impl Contents {
         }
     }
 
-    /// Whether a value is the one of a record.
+    /// Whether these are the bytes of a record's value.
     #[inline]
-    pub fn is_value(self, value: &Value, number: u64) -> bool {
+    pub fn are_bytes(self, bytes: &[u8], number: u64) -> bool {
         if self.are_long {
-            *value == long_value(self.seed ^ VALUES, number)
+            bytes == long_value(self.seed ^ VALUES, number).bytes()
         } else {
-            is_short_value(value, self.seed ^ VALUES, number)
+            are_short_bytes(bytes, self.seed ^ VALUES, number)
         }
     }
 

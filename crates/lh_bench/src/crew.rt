@@ -2,7 +2,8 @@
 ghost use Rattle.std.specs.Prelude.{◌≡◌, All, IfOk};
 ghost use Rattle.lh_file.specs.FileState.{IsOf};
 
-use crate::caller::{Caller, play};
+use crate::caller::{Caller, play, play_to_end};
+use crate::looks::{Looks, take_looks};
 use crate::meter::{Spent, Stopwatch};
 use crate::order::{Order, Workload};
 use crate::starter::Starter;
@@ -10,7 +11,7 @@ use crate::streams::{Misses, Mixed, MostlySearches, OneKey, Part, Skewed};
 use crate::tally::Tally;
 use anyhow::{Result, bail};
 use lh_file::{Hand, HashFile, Mode, NoGate, Room};
-use std::rt::Clock;
+use std::rt::{Clock, Files};
 use std::sync::Wait;
 use std::thread;
 use std::thread::{Promise, PromisedHandle, Threads};
@@ -33,18 +34,28 @@ pub struct Shift {
     pub tally: Tally,
     pub calls: u64,
     pub spent: Spent,
+    pub looks: Looks,
 }
 
-/// How many calls each thread makes.
-fn calls_of(order: Order) -> u64 {
-    match order.workload {
-        Workload::MostlySearches => MostlySearches::calls(&order),
-        _ => Mixed::calls(&order),
-    }
+/// The calls of one thread, which begins when all do.
+fn play_part<S: Part, M: Mode, J: Room, R: Wait>(
+    rt: &R,
+    starter: &Starter,
+    file: &HashFile<NoGate, M, J>,
+    caller: Caller,
+    order: Order,
+    thread: u64,
+) -> Caller
+    requires { IsOf file.now.state caller.hand }
+    ensures { IsOf file.now.state result.hand }
+{
+    let stream = S::of_thread(&order, thread);
+    starter.stand_by(rt);
+    play(rt, file, caller, stream, order.calls_of_thread())
 }
 
-/// The part of one thread, which begins when all do.
-fn work<M: Mode, J: Room, R: Wait>(
+/// The part of one thread.
+fn work<M: Mode, J: Room, R: Wait + Clock>(
     rt: &R,
     starter: &Starter,
     file: &HashFile<NoGate, M, J>,
@@ -55,30 +66,20 @@ fn work<M: Mode, J: Room, R: Wait>(
     requires { IsOf file.now.state hand }
     ensures { IsOf file.now.state result.hand }
 {
-    let caller = Caller::new(hand, order.contents());
-    let calls = calls_of(order);
-    starter.stand_by(rt);
+    let caller = Caller::new(hand, &order);
     match order.workload {
         Workload::MostlySearches => {
-            let stream = MostlySearches::of_thread(&order, thread);
-            play(rt, file, caller, stream, calls)
+            play_part::<MostlySearches, M, J, R>(rt, starter, file, caller, order, thread)
         }
-        Workload::Skewed => {
-            let stream = Skewed::of_thread(&order, thread);
-            play(rt, file, caller, stream, calls)
-        }
-        Workload::Misses => {
-            let stream = Misses::of_thread(&order, thread);
-            play(rt, file, caller, stream, calls)
-        }
-        Workload::OneKey => {
-            let stream = OneKey::of_thread(&order, thread);
-            play(rt, file, caller, stream, calls)
-        }
-        _ => {
+        Workload::Skewed => play_part::<Skewed, M, J, R>(rt, starter, file, caller, order, thread),
+        Workload::Misses => play_part::<Misses, M, J, R>(rt, starter, file, caller, order, thread),
+        Workload::OneKey => play_part::<OneKey, M, J, R>(rt, starter, file, caller, order, thread),
+        Workload::Snapshots | Workload::Scans => {
             let stream = Mixed::of_thread(&order, thread);
-            play(rt, file, caller, stream, calls)
+            starter.stand_by(rt);
+            play_to_end(rt, file, caller, stream, starter)
         }
+        _ => play_part::<Mixed, M, J, R>(rt, starter, file, caller, order, thread),
     }
 }
 
@@ -132,21 +133,45 @@ fn join_two<M: Mode, J: Room>(
         Ok(hand) => Ok(Caller {
             hand,
             contents: all.contents,
+            lends: all.lends,
             tally,
         }),
         Err(_) => bail!("no memory"),
     }
 }
 
-/// Lets all workers begin at once, and waits for them. It is a fault if there are fewer than the order has threads.
-fn shift_of<M: Mode, J: Room, R: Threads + Wait + Clock + CpuClock>(
+/// Looks while workers call, where the order has looks, and lets them end.
+fn look_beside<M: Mode, J: Room, R: Wait + Clock + Files + AllocGlobal>(
     rt: &R,
     starter: &Starter,
     file: &HashFile<NoGate, M, J>,
-    hand: Hand,
+    hand: &mut Hand,
+    order: Order,
+) -> Result<Looks>
+    requires { IsOf file.now.state hand.old }
+    ensures { IsOf file.now.state hand.new }
+{
+    if !order.workload.has_looks() {
+        return Ok(Looks::NONE);
+    }
+    let looks = take_looks(rt, file, hand, &order);
+    starter.end();
+    looks
+}
+
+/// Lets all workers begin at once, and waits for them. It is a fault if there are fewer than the order has threads.
+fn shift_of<M, J, R>(
+    rt: &R,
+    starter: &Starter,
+    file: &HashFile<NoGate, M, J>,
+    mut hand: Hand,
     order: Order,
     workers: Vec<Worker<'_, M, J>>,
 ) -> Result<Shift>
+where
+    M: Mode,
+    J: Room,
+    R: Threads + Wait + Clock + CpuClock + Files + AllocGlobal,
     requires first { IsOf file.now.state hand }
     requires others { All (λ worker. worker.promise.0.now.state ≡ file.now.state) workers.items }
     ensures { IfOk result (λ shift. IsOf file.now.state shift.hand) }
@@ -157,16 +182,23 @@ fn shift_of<M: Mode, J: Room, R: Threads + Wait + Clock + CpuClock>(
     }
     let watch = Stopwatch::start(rt);
     starter.start();
-    let all = join_all(rt, file, Caller::new(hand, order.contents()), workers)?;
+    let looks = look_beside(rt, starter, file, &mut hand, order);
+    let all = join_all(rt, file, Caller::new(hand, &order), workers)?;
     let spent = watch?.stop(rt)?;
     if started != order.threads {
         bail!("no memory for {started} threads and one more");
     }
+    let calls = if order.workload.has_looks() {
+        all.tally.replies()
+    } else {
+        order.calls_of_thread().wrapping_mul(started)
+    };
     Ok(Shift {
         hand: all.hand,
         tally: all.tally,
-        calls: calls_of(order).wrapping_mul(started),
+        calls,
         spent,
+        looks: looks?,
     })
 }
 
@@ -181,7 +213,7 @@ pub fn play_in_threads<M, J, R>(
 where
     M: Mode + Send + Sync,
     J: Room + Send + Sync,
-    R: Threads + Wait + Sync + Clock + CpuClock + AllocGlobal,
+    R: Threads + Wait + Sync + Clock + CpuClock + Files + AllocGlobal,
     requires { IsOf file.now.state hand }
     ensures { IfOk result (λ shift. IsOf file.now.state shift.hand) }
 {

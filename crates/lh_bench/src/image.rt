@@ -9,6 +9,7 @@ use crate::report::Outcome;
 use crate::streams::Searches;
 use crate::workloads::{empty_file, load};
 use anyhow::Result;
+use lh_bucket::Listing;
 use lh_file::{Hand, HashFile, NoGate};
 use lh_image::{read_image, write_image};
 use std::fs;
@@ -22,16 +23,28 @@ const PATH: &str = "lh_bench.lhf";
 
 const BUFFER: usize = 1 << 17;
 
-/// Inserts the records into an empty file, and writes it. Answers whether all were inserted.
-fn write<R: Wait + Files + AllocGlobal>(rt: &R, order: &Order) -> Result<bool> {
+/// Writes an image of a listing.
+fn write_listing<R: Files + AllocGlobal>(rt: &R, listing: &Listing) -> Result<()> {
+    let mut writer = BufWriter::with_capacity(rt.alloc(), BUFFER, fs::create(rt, PATH)?)?;
+    write_image(listing, &mut writer)?;
+    Ok(())
+}
+
+/// Inserts the records into an empty file, and writes it. Answers how long that took, and whether all were inserted.
+// The file is made, and the listing let go, off the clock.
+fn write<R>(rt: &R, order: &Order) -> Result<(Spent, bool)>
+where
+    R: Wait + Files + Clock + CpuClock + AllocGlobal,
+{
     let (file, hand) = empty_file(rt.alloc(), false)?;
+    let watch = Stopwatch::start(rt)?;
     let caller = load(rt, &file, hand, order, 1);
     let inserted = caller.tally.inserted;
     let (closed, _) = file.close(rt, caller.hand)?;
     let listing = closed.into_listing()?;
-    let mut writer = BufWriter::with_capacity(rt.alloc(), BUFFER, fs::create(rt, PATH)?)?;
-    write_image(&listing, &mut writer)?;
-    Ok(inserted == order.records)
+    write_listing(rt, &listing)?;
+    let spent = watch.stop(rt)?;
+    Ok((spent, inserted == order.records))
 }
 
 /// The file that was written.
@@ -48,9 +61,7 @@ pub fn write_and_read<R>(rt: &R, order: &Order) -> Result<Outcome>
 where
     R: Wait + Files + Clock + CpuClock + AllocGlobal,
 {
-    let watch = Stopwatch::start(rt)?;
-    let is_written = write(rt, order)?;
-    let writing = watch.stop(rt)?;
+    let (writing, is_written) = write(rt, order)?;
     let blocks = fs::metadata(rt, PATH)?.blocks();
     let watch = Stopwatch::start(rt)?;
     let (file, hand) = read(rt)?;
@@ -58,16 +69,15 @@ where
         record: 0,
         are_there: true,
     };
-    let caller = Caller::new(hand, order.contents());
+    let caller = Caller::new(hand, order);
     let caller = play(rt, &file, caller, stream, order.records);
     let reading = watch.stop(rt)?;
     fs::remove_file(rt, PATH)?;
     let is_due = is_written && caller.tally.found == order.records;
-    let calls = order.records.wrapping_mul(2);
     Ok(Outcome {
         write: writing.wall,
         read: reading.wall,
         file_bytes: blocks.saturating_mul(512),
-        ..Outcome::new(calls, writing.with(reading), caller.tally, is_due)
+        ..Outcome::new(order.calls(), writing.with(reading), caller.tally, is_due)
     })
 }

@@ -31,16 +31,18 @@ where
     R: Threads + Wait + Sync + Clock + CpuClock + Files + AllocGlobal,
     requires { IsOf file.now.state hand }
 {
-    match order.workload {
-        Workload::Inserts => inserts(rt, file, hand, order, before),
-        Workload::Searches => searches(rt, file, hand, order),
-        Workload::Replaces => replaces(rt, file, hand, order),
-        Workload::MostlySearches => shared(rt, file, hand, order, 0, 1),
+    let mut outcome = match order.workload {
+        Workload::Inserts => inserts(rt, file, hand, order, before)?,
+        Workload::Searches => searches(rt, file, hand, order)?,
+        Workload::Replaces => replaces(rt, file, hand, order)?,
+        Workload::MostlySearches => shared(rt, file, hand, order, 0, 1)?,
         Workload::OneKey | Workload::Skewed | Workload::Misses => {
-            shared(rt, file, hand, order, order.records, 1)
+            shared(rt, file, hand, order, order.records, 1)?
         }
-        _ => shared(rt, file, hand, order, order.records, 2),
-    }
+        _ => shared(rt, file, hand, order, order.records, 2)?,
+    };
+    outcome.looks.peak_bytes = outcome.looks.peak_bytes.saturating_sub(before);
+    Ok(outcome)
 }
 
 /// Runs a workload on an untraced file.

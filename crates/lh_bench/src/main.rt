@@ -5,7 +5,8 @@
 //! lh_bench --workload W3 --threads 4 --records 1000000 --seed 1
 //! ```
 //!
-//! With `--traced` the file is traced, and the line says so. `--workload all` runs on both kinds then.
+//! With `--traced` the file is traced, and the line says so. `--workload all` runs on both kinds then. With `--lent` the
+//! calls are those without an answer, and a value is compared where it is lent.
 #![tactic(auto)]
 
 mod caller;
@@ -13,6 +14,7 @@ mod contents;
 mod crew;
 mod image;
 mod kinds;
+mod looks;
 mod meter;
 mod numbers;
 mod order;
@@ -28,7 +30,7 @@ mod units;
 mod workloads;
 
 use crate::order::{Asked, Order, Workload, read_words};
-use crate::report::{Form, unsupported};
+use crate::report::{Form, Outcome, unsupported};
 use anyhow::{Result, bail};
 use std::env;
 use std::process::ExitCode;
@@ -37,7 +39,31 @@ use std::sync::Wait;
 use std::thread::Threads;
 use std::time::CpuClock;
 
-/// Runs one workload on a file of one kind, and prints its line.
+/// Runs one workload on one table.
+fn outcome_of_table<R>(rt: &R, order: &Order) -> Result<Outcome>
+where
+    R: Runtime + AllocGlobal + CpuClock + Threads + Wait + Sync,
+{
+    match order.workload {
+        Workload::Image => image::write_and_read(rt, order),
+        _ if order.traced => kinds::run_traced(rt, order),
+        _ => kinds::run_untraced(rt, order),
+    }
+}
+
+/// Runs one workload on as many tables as it needs.
+fn outcome_of<R>(rt: &R, order: &Order) -> Result<Outcome>
+where
+    R: Runtime + AllocGlobal + CpuClock + Threads + Wait + Sync,
+{
+    let mut outcome = outcome_of_table(rt, order)?;
+    for _ in 1..order.tables() {
+        outcome = outcome.with(outcome_of_table(rt, order)?);
+    }
+    Ok(outcome)
+}
+
+/// Runs one workload on files of one kind, and prints its line.
 fn run_one<R>(rt: &R, order: &Order, form: Form) -> Result<()>
 where
     R: Runtime + AllocGlobal + CpuClock + Threads + Wait + Sync,
@@ -46,17 +72,16 @@ where
     if !is_alone || order.traced && !order.workload.may_trace() {
         return Ok(unsupported(rt)?);
     }
-    let outcome = match order.workload {
-        Workload::Image => image::write_and_read(rt, order)?,
+    match order.workload {
         Workload::Steps => {
             steps::measure(rt, order)?;
             return splits::measure(rt);
         }
         Workload::Settling => return settling::measure(rt, order),
         Workload::All => return Ok(()),
-        _ if order.traced => kinds::run_traced(rt, order)?,
-        _ => kinds::run_untraced(rt, order)?,
-    };
+        _ => {}
+    }
+    let outcome = outcome_of(rt, order)?;
     outcome.print(rt, order, form)?;
     if !outcome.is_right() {
         bail!("a reply or a value is not the one due");

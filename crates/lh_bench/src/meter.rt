@@ -49,13 +49,48 @@ impl Stopwatch {
     }
 }
 
+/// The time of steps that follow one another.
+#[derive(Clone, Copy)]
+pub struct Laps {
+    began: Instant,
+    passed: u64,
+}
+
+impl Laps {
+    pub fn start(rt: &impl Clock) -> io::Result<Laps> {
+        Ok(Laps {
+            began: Instant::now(rt)?,
+            passed: 0,
+        })
+    }
+
+    /// Nanoseconds since the step before ended.
+    #[inline]
+    pub fn next(&mut self, rt: &impl Clock) -> io::Result<u64> {
+        let passed = nanoseconds(self.began.elapsed(rt)?);
+        let lap = passed.saturating_sub(self.passed);
+        self.passed = passed;
+        Ok(lap)
+    }
+}
+
 /// The bytes of memory that the process has, or 0 where the system doesn't tell.
 pub fn resident_bytes(rt: &(impl Files + AllocGlobal)) -> u64 {
+    status_bytes(rt, "VmRSS:")
+}
+
+/// The bytes of memory that the process had at most, or 0 where the system doesn't tell.
+pub fn peak_bytes(rt: &(impl Files + AllocGlobal)) -> u64 {
+    status_bytes(rt, "VmHWM:")
+}
+
+/// The bytes that the system tells of the process under a name.
+fn status_bytes(rt: &(impl Files + AllocGlobal), name: &str) -> u64 {
     let Ok(text) = fs::read_to_string(rt, "/proc/self/status") else {
         return 0;
     };
     for line in text.as_str().lines() {
-        if let Some(rest) = line.strip_prefix("VmRSS:") {
+        if let Some(rest) = line.strip_prefix(name) {
             let number = rest.split_whitespace().next().unwrap_or("");
             return number.parse::<u64>().unwrap_or(0).saturating_mul(1024);
         }

@@ -27,18 +27,22 @@ pub enum Workload {
     Misses,
     /// As mixed, with keys of 50 bytes and values of 100.
     LongRecords,
+    /// Snapshots, one after another, while other threads make mixed calls.
+    Snapshots,
+    /// Scans, one after another, while other threads make mixed calls.
+    Scans,
     /// Searches for one record, by all threads.
     OneKey,
     /// The single atomic steps of a file's words.
     Steps,
     /// The settling of a file's acts.
     Settling,
-    /// The first nine, one after another.
+    /// Those with numbers, one after another.
     All,
 }
 
 impl Workload {
-    pub const MEASURED: [Workload; 9] = [
+    pub const MEASURED: [Workload; 11] = [
         Workload::Inserts,
         Workload::Searches,
         Workload::MostlySearches,
@@ -48,6 +52,8 @@ impl Workload {
         Workload::Skewed,
         Workload::Misses,
         Workload::LongRecords,
+        Workload::Snapshots,
+        Workload::Scans,
     ];
 
     /// The word that asks for it.
@@ -62,6 +68,8 @@ impl Workload {
             Workload::Skewed => "W7",
             Workload::Misses => "W8",
             Workload::LongRecords => "W9",
+            Workload::Snapshots => "W11",
+            Workload::Scans => "W12",
             Workload::OneKey => "hot",
             Workload::Steps => "steps",
             Workload::Settling => "settle",
@@ -80,6 +88,8 @@ impl Workload {
             "W7" => Workload::Skewed,
             "W8" => Workload::Misses,
             "W9" => Workload::LongRecords,
+            "W11" => Workload::Snapshots,
+            "W12" => Workload::Scans,
             "hot" => Workload::OneKey,
             "steps" => Workload::Steps,
             "settle" => Workload::Settling,
@@ -109,10 +119,17 @@ impl Workload {
                 | Workload::Skewed
                 | Workload::Misses
                 | Workload::LongRecords
+                | Workload::Snapshots
+                | Workload::Scans
                 | Workload::OneKey
                 | Workload::Steps
                 | Workload::All
         )
+    }
+
+    /// Whether one thread more looks at all records while the others call.
+    pub fn has_looks(self) -> bool {
+        matches!(self, Workload::Snapshots | Workload::Scans)
     }
 
     /// Whether it may run on a traced file.
@@ -133,9 +150,39 @@ pub struct Order {
     pub seed: u64,
     /// Whether the file is traced. Where all workloads are asked for: whether they run on such a file too.
     pub traced: bool,
+    /// Whether its calls are those without an answer, which lend values.
+    pub lends: bool,
 }
 
+/// How many calls a workload times at least.
+const LEAST: u64 = 400_000;
+
 impl Order {
+    /// How many calls all threads together make on one table, where they aren't told when to end.
+    pub fn calls(&self) -> u64 {
+        match self.workload {
+            Workload::Inserts => self.records,
+            Workload::Image => self.records.wrapping_mul(2),
+            Workload::MostlySearches => self.records.wrapping_mul(20),
+            Workload::Searches | Workload::Replaces => self.records.max(LEAST),
+            _ => self.records.wrapping_mul(4).max(LEAST),
+        }
+    }
+
+    /// How many of them each thread makes.
+    pub fn calls_of_thread(&self) -> u64 {
+        self.calls() / self.threads.max(1)
+    }
+
+    /// On how many tables it is run, one after another: those whose calls say how large a table grows are run on as many
+    /// as there have to be for enough calls.
+    pub fn tables(&self) -> u64 {
+        match self.workload {
+            Workload::Inserts | Workload::Image => LEAST.div_ceil(self.calls().max(1)),
+            _ => 1,
+        }
+    }
+
     /// How its keys and values are made.
     pub fn contents(&self) -> Contents {
         Contents {
@@ -153,8 +200,9 @@ pub enum Asked {
     Told(Error),
 }
 
-const WORDS: [&str; 13] = [
-    "W1", "W2", "W3", "W4", "W5", "W6", "W7", "W8", "W9", "hot", "steps", "settle", "all",
+const WORDS: [&str; 15] = [
+    "W1", "W2", "W3", "W4", "W5", "W6", "W7", "W8", "W9", "W11", "W12", "hot", "steps", "settle",
+    "all",
 ];
 
 fn number<'a>(
@@ -187,6 +235,10 @@ fn command<'a>(alloc: Global) -> Result<Command<'a>, Error> {
         .long("traced")
         .help("Run on a traced file, and with all on both kinds")
         .action(ArgAction::SetTrue);
+    let lent = Arg::new(alloc, "lent")
+        .long("lent")
+        .help("Make the calls without an answer, which lend values")
+        .action(ArgAction::SetTrue);
     let threads = ValueParser::Unsigned(1, 64);
     let records = ValueParser::Unsigned(1, 1_000_000_000);
     let seed = ValueParser::Unsigned(0, u64::MAX);
@@ -198,6 +250,7 @@ fn command<'a>(alloc: Global) -> Result<Command<'a>, Error> {
             .arg(number(alloc, "records", "Records", "1000", records))?
             .arg(number(alloc, "seed", "Seed of the streams", "1", seed))?
             .arg(traced)?
+            .arg(lent)?
             .arg(counts)?,
     )
 }
@@ -209,6 +262,7 @@ fn order_of(matches: &ArgMatches<'_>) -> Order {
         records: matches.get_one("records").unwrap_or(1),
         seed: matches.get_one("seed").unwrap_or(1),
         traced: matches.get_flag("traced"),
+        lends: matches.get_flag("lent"),
     }
 }
 

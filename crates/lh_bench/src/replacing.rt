@@ -24,7 +24,7 @@ fn last_lengths(alloc: Global, order: &Order) -> Result<Vec<u8>> {
     let mut lengths = Vec::new(alloc);
     lengths.resize(order.records as usize, NEVER)?;
     let mut stream = Replaces::new(order);
-    for _ in 0..order.records {
+    for _ in 0..order.calls() {
         let (record, length) = stream.pick();
         if let Some(last) = lengths.get_mut(record as usize) {
             *last = length;
@@ -36,7 +36,7 @@ fn last_lengths(alloc: Global, order: &Order) -> Result<Vec<u8>> {
 /// Whether a search met the value that its record was last given.
 fn is_last_given(reply: &Reply, contents: Contents, record: u64, length: u8) -> bool {
     match reply {
-        Reply::Found(value) if length == NEVER => contents.is_value(value, record),
+        Reply::Found(value) if length == NEVER => contents.are_bytes(value.bytes(), record),
         Reply::Found(value) => value.bytes() == contents.other_value(record, length).bytes(),
         _ => false,
     }
@@ -76,12 +76,12 @@ pub fn replaces<M: Mode, J: Room, R: Wait + Clock + CpuClock + AllocGlobal>(
 {
     let lengths = last_lengths(rt.alloc(), order)?;
     let loaded = load(rt, file, hand, order, 1);
-    let caller = Caller::new(loaded.hand, order.contents());
+    let caller = Caller::new(loaded.hand, order);
     let watch = Stopwatch::start(rt)?;
-    let caller = play(rt, file, caller, Replaces::new(order), order.records);
+    let caller = play(rt, file, caller, Replaces::new(order), order.calls());
     let spent = watch.stop(rt)?;
     let tally = caller.tally;
-    let is_due = tally.replaced == order.records
+    let is_due = tally.replaced == order.calls()
         && are_last_given(rt, file, caller.hand, order.contents(), lengths.as_slice());
-    Ok(Outcome::new(order.records, spent, tally, is_due))
+    Ok(Outcome::new(order.calls(), spent, tally, is_due))
 }

@@ -1,5 +1,6 @@
 //! The line that a run prints.
 
+use crate::looks::Looks;
 use crate::meter::Spent;
 use crate::order::Order;
 use crate::tally::Tally;
@@ -28,6 +29,7 @@ pub struct Outcome {
     pub file_bytes: u64,
     /// The buckets of the file at the end, where they are told.
     pub buckets: u32,
+    pub looks: Looks,
     /// Whether there were as many replies of each kind as are due.
     pub is_due: bool,
 }
@@ -43,7 +45,23 @@ impl Outcome {
             resident_bytes: 0,
             file_bytes: 0,
             buckets: 0,
+            looks: Looks::NONE,
             is_due,
+        }
+    }
+
+    /// This run, and one more on another table. Memory and files are told as those of the first.
+    pub fn with(self, other: Outcome) -> Outcome {
+        let mut tally = self.tally;
+        tally.add(&other.tally);
+        Outcome {
+            calls: self.calls.wrapping_add(other.calls),
+            spent: self.spent.with(other.spent),
+            tally,
+            write: self.write.saturating_add(other.write),
+            read: self.read.saturating_add(other.read),
+            is_due: self.is_due && other.is_due,
+            ..self
         }
     }
 
@@ -60,14 +78,21 @@ impl Outcome {
         if order.traced {
             print!(rt; ",\"traced\":true")?;
         }
-        let calls = self.calls;
-        print!(rt; ",\"ops\":{calls}")?;
-        if let Form::Line = form {
-            self.print_times(rt)?;
+        if order.lends {
+            print!(rt; ",\"lent\":true")?;
         }
-        self.print_counts(rt)?;
+        let has_looks = order.workload.has_looks();
+        // How many looks there were, and calls beside them, differs from run to run.
+        match form {
+            Form::Counts if has_looks => {}
+            _ => self.print_calls(rt, form)?,
+        }
+        match form {
+            Form::Line if has_looks => self.print_looks(rt)?,
+            _ => {}
+        }
         let digest = self.tally.digest;
-        if threads == 1 {
+        if threads == 1 && !has_looks {
             print!(rt; ",\"digest\":\"{digest:016x}\"")?;
         } else {
             print!(rt; ",\"digest\":\"-\"")?;
@@ -78,6 +103,27 @@ impl Outcome {
             Form::Line => Ok(()),
             Form::Counts => self.print_times_apart(rt),
         }
+    }
+
+    fn print_calls(&self, rt: &impl Print, form: Form) -> io::Result<()> {
+        let calls = self.calls;
+        print!(rt; ",\"ops\":{calls}")?;
+        if let Form::Line = form {
+            self.print_times(rt)?;
+        }
+        self.print_counts(rt)
+    }
+
+    fn print_looks(&self, rt: &impl Print) -> io::Result<()> {
+        let (looks, tally) = (&self.looks, &self.tally);
+        let (taken, sum, memory) = (looks.taken, looks.sum, looks.peak_bytes);
+        let (shortest, median) = (Seconds(looks.shortest), Seconds(looks.median));
+        let longest = Seconds(looks.longest);
+        let write = Seconds(tally.longest_write);
+        let search = Seconds(tally.longest_search);
+        print!(rt; ",\"looks\":{taken},\"look_min_s\":{shortest},\"look_median_s\":{median}")?;
+        print!(rt; ",\"look_max_s\":{longest},\"write_max_s\":{write}")?;
+        print!(rt; ",\"search_max_s\":{search},\"sum\":{sum},\"peak_bytes\":{memory}")
     }
 
     fn print_counts(&self, rt: &impl Print) -> io::Result<()> {

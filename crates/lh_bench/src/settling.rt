@@ -19,7 +19,7 @@ pub fn measure<R: Wait + Clock + CpuClock + Print + AllocGlobal>(
     order: &Order,
 ) -> Result<()> {
     let (file, hand) = empty_file(rt.alloc(), true)?;
-    let caller = Caller::new(hand, order.contents());
+    let caller = Caller::new(hand, order);
     let stream = Mixed::of_thread(order, 0);
     let caller = play(rt, &file, caller, stream, order.records);
     let (closed, acts) = file.close(rt, caller.hand)?;

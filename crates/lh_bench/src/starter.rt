@@ -1,4 +1,4 @@
-//! A common start.
+//! A common start, and a common end.
 
 use std::sync::Wait;
 use std::sync::atomic::{AtomicU64, Ordering};
@@ -9,6 +9,7 @@ use std::thread::yield_now;
 pub struct Starter {
     ready: AtomicU64,
     gone: AtomicU64,
+    over: AtomicU64,
 }
 
 impl Starter {
@@ -16,6 +17,7 @@ impl Starter {
         Starter {
             ready: AtomicU64::new(0),
             gone: AtomicU64::new(0),
+            over: AtomicU64::new(0),
         }
     }
 
@@ -43,5 +45,16 @@ impl Starter {
     /// Lets all go that stand by, and those that come later.
     pub fn start(&self) {
         self.gone.store(1, Ordering::SeqCst);
+    }
+
+    /// Lets all end that go on until they are told.
+    pub fn end(&self) {
+        self.over.store(1, Ordering::SeqCst);
+    }
+
+    /// Whether those that go on are to end.
+    #[inline]
+    pub fn is_over(&self) -> bool {
+        self.over.load(Ordering::SeqCst) != 0
     }
 }

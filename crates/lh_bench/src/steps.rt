@@ -7,7 +7,7 @@ use crate::order::Order;
 use crate::units::Each;
 use anyhow::{Result, bail};
 use lh_addr::Config;
-use lh_bucket::{Call, Reply};
+use lh_bucket::{Change, ChangeReply};
 use lh_file::{Hand, Right, Words};
 use lh_page::Key;
 use std::rt::Clock;
@@ -18,7 +18,7 @@ use std::time::CpuClock;
 
 /// A kind of step, and whether it did what it was to do.
 trait Kind {
-    fn take(words: &Words, hand: &mut Hand, call: &Call) -> bool
+    fn take(words: &Words, hand: &mut Hand, key: &Key) -> bool
         requires { IsOf words.now hand.old }
         ensures { IsOf words.now hand.new };
 }
@@ -27,7 +27,7 @@ trait Kind {
 struct Look;
 
 impl Kind for Look {
-    fn take(words: &Words, hand: &mut Hand, _call: &Call) -> bool {
+    fn take(words: &Words, hand: &mut Hand, _key: &Key) -> bool {
         words.buckets(hand) != 0
     }
 }
@@ -36,7 +36,7 @@ impl Kind for Look {
 struct Claim;
 
 impl Kind for Claim {
-    fn take(words: &Words, hand: &mut Hand, _call: &Call) -> bool {
+    fn take(words: &Words, hand: &mut Hand, _key: &Key) -> bool {
         if hand.has_right() {
             return false;
         }
@@ -52,23 +52,23 @@ impl Kind for Claim {
 struct Stamp;
 
 impl Kind for Stamp {
-    fn take(words: &Words, hand: &mut Hand, call: &Call) -> bool {
+    fn take(words: &Words, hand: &mut Hand, key: &Key) -> bool {
         if hand.left() == 0 || words.make_room(hand).is_err() {
             return false;
         }
-        words.record_act(hand, call, Reply::Absent);
+        words.record_act(hand, Change::Delete(key), ChangeReply::Absent);
         true
     }
 }
 
 /// Takes this many steps, and answers how many did what they were to do.
 #[inline(never)]
-fn repeat<K: Kind>(words: &Words, mut hand: Hand, call: Call, steps: u64) -> u64
+fn repeat<K: Kind>(words: &Words, mut hand: Hand, key: Key, steps: u64) -> u64
     requires { IsOf words.now hand }
 {
     let mut done = 0u64;
     for _ in 0..steps {
-        if K::take(words, &mut hand, &call) {
+        if K::take(words, &mut hand, &key) {
             done = done.wrapping_add(1);
         }
     }
@@ -84,13 +84,13 @@ enum Name {
 }
 
 /// Takes this many steps of a kind.
-fn repeat_named(words: &Words, hand: Hand, call: Call, steps: u64, name: Name) -> u64
+fn repeat_named(words: &Words, hand: Hand, key: Key, steps: u64, name: Name) -> u64
     requires { IsOf words.now hand }
 {
     match name {
-        Name::Look => repeat::<Look>(words, hand, call, steps),
-        Name::Claim => repeat::<Claim>(words, hand, call, steps),
-        Name::Stamp => repeat::<Stamp>(words, hand, call, steps),
+        Name::Look => repeat::<Look>(words, hand, key, steps),
+        Name::Claim => repeat::<Claim>(words, hand, key, steps),
+        Name::Stamp => repeat::<Stamp>(words, hand, key, steps),
     }
 }
 
@@ -119,7 +119,7 @@ where
     let Ok(config) = Config::new(1, 14, 100, 65_536) else {
         bail!("no such configuration");
     };
-    let call = Call::Search(Key::new(b"a")?);
+    let key = Key::new(b"a")?;
     let (words, hand) = Words::create(rt.alloc(), config, false)?;
     let hands = hands_of(rt, &words, hand, order.threads)?;
     let (file, steps) = (&words, order.records);
@@ -129,7 +129,7 @@ where
         hands,
         &|hand: Hand| -> u64
             requires { IsOf file.now hand }
-        { repeat_named(file, hand, call, steps, name) },
+        { repeat_named(file, hand, key, steps, name) },
     )?;
     let spent = watch.stop(rt)?;
     let done = done.iter().fold(0u64, |sum, part| sum.wrapping_add(*part));

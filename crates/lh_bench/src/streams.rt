@@ -15,6 +15,12 @@ pub enum Step {
     Replace { record: u64, length: u8 },
 }
 
+impl Step {
+    pub fn is_search(&self) -> bool {
+        matches!(self, Step::Search { .. })
+    }
+}
+
 /// A row of calls without an end.
 pub trait Stream: Drop {
     fn next(&mut self) -> Step;
@@ -115,9 +121,6 @@ pub trait Part: Stream {
     fn of_thread(order: &Order, thread: u64) -> Self
     where
         Self: Sized;
-
-    /// How many calls each thread makes.
-    fn calls(order: &Order) -> u64;
 }
 
 /// One insert to nineteen searches. Each thread inserts every `threads`th record, and searches among as
@@ -163,10 +166,6 @@ impl Part for MostlySearches {
             inserted: 0,
         }
     }
-
-    fn calls(order: &Order) -> u64 {
-        order.records.wrapping_mul(20) / order.threads.max(1)
-    }
 }
 
 /// Two searches to one insert and one delete, among twice as many records as are there at first.
@@ -201,10 +200,6 @@ impl Part for Mixed {
             records: order.records.wrapping_mul(2),
         }
     }
-
-    fn calls(order: &Order) -> u64 {
-        order.records.wrapping_mul(4) / order.threads.max(1)
-    }
 }
 
 /// Searches for records that are there, a few of them mostly.
@@ -229,10 +224,6 @@ impl Part for Skewed {
             numbers: Numbers::of_thread(order, thread),
             skew: Skew::new(order.records),
         }
-    }
-
-    fn calls(order: &Order) -> u64 {
-        Mixed::calls(order)
     }
 }
 
@@ -260,10 +251,6 @@ impl Part for Misses {
             records: order.records,
         }
     }
-
-    fn calls(order: &Order) -> u64 {
-        Mixed::calls(order)
-    }
 }
 
 /// Searches for one record.
@@ -282,9 +269,5 @@ impl Stream for OneKey {
 impl Part for OneKey {
     fn of_thread(_order: &Order, _thread: u64) -> OneKey {
         OneKey
-    }
-
-    fn calls(order: &Order) -> u64 {
-        Mixed::calls(order)
     }
 }

@@ -17,6 +17,9 @@ pub struct Tally {
     pub replaced: u64,
     pub wrong: u64,
     pub digest: u64,
+    /// Nanoseconds that the longest search, and the longest other call, took, where calls are timed.
+    pub longest_search: u64,
+    pub longest_write: u64,
 }
 
 fn count(number: &mut u64) {
@@ -34,16 +37,25 @@ impl Tally {
             replaced: 0,
             wrong: 0,
             digest: OFFSET_BASIS,
+            longest_search: 0,
+            longest_write: 0,
         }
+    }
+
+    /// Notes that a value was found.
+    pub fn note_found(&mut self) {
+        count(&mut self.found);
+        self.note_code(1);
+    }
+
+    fn note_code(&mut self, code: u64) {
+        self.digest = (self.digest ^ code).wrapping_mul(PRIME);
     }
 
     /// Notes a reply.
     pub fn note(&mut self, reply: &Reply) {
         let code = match reply {
-            Reply::Found(_) => {
-                count(&mut self.found);
-                1
-            }
+            Reply::Found(_) => return self.note_found(),
             Reply::Absent => {
                 count(&mut self.absent);
                 2
@@ -65,12 +77,29 @@ impl Tally {
                 6
             }
         };
-        self.digest = (self.digest ^ code).wrapping_mul(PRIME);
+        self.note_code(code);
     }
 
     /// Notes a reply or a value that was not due.
     pub fn note_wrong(&mut self) {
         count(&mut self.wrong);
+    }
+
+    /// Notes how many nanoseconds a call took.
+    pub fn note_time(&mut self, is_search: bool, time: u64) {
+        if is_search {
+            self.longest_search = self.longest_search.max(time);
+        } else {
+            self.longest_write = self.longest_write.max(time);
+        }
+    }
+
+    /// How many replies there were.
+    pub fn replies(&self) -> u64 {
+        let reads = self.found.wrapping_add(self.absent);
+        let inserts = self.inserted.wrapping_add(self.exists);
+        let changes = self.deleted.wrapping_add(self.replaced);
+        reads.wrapping_add(inserts).wrapping_add(changes)
     }
 
     /// Adds what another thread was told; the digest is then that of the other.
@@ -83,5 +112,7 @@ impl Tally {
         self.replaced = self.replaced.wrapping_add(other.replaced);
         self.wrong = self.wrong.wrapping_add(other.wrong);
         self.digest = other.digest;
+        self.longest_search = self.longest_search.max(other.longest_search);
+        self.longest_write = self.longest_write.max(other.longest_write);
     }
 }

@@ -4,6 +4,7 @@ ghost use Rattle.lh_file.specs.FileState.{IsOf};
 
 use crate::caller::{Caller, play};
 use crate::crew::{Shift, play_in_threads};
+use crate::looks::sees_all;
 use crate::meter::{Stopwatch, resident_bytes};
 use crate::order::{Order, Workload};
 use crate::report::Outcome;
@@ -46,7 +47,7 @@ pub fn load<M: Mode, J: Room, R: Wait>(
     ensures { IsOf file.now.state result.hand }
 {
     let stream = Inserts { record: 0, stride };
-    let caller = Caller::new(hand, order.contents());
+    let caller = Caller::new(hand, order);
     play(rt, file, caller, stream, order.records)
 }
 
@@ -84,12 +85,12 @@ pub fn searches<M: Mode, J: Room, R: Wait + Clock + CpuClock>(
     requires { IsOf file.now.state hand }
 {
     let loaded = load(rt, file, hand, order, 1);
-    let caller = Caller::new(loaded.hand, order.contents());
+    let caller = Caller::new(loaded.hand, order);
     let watch = Stopwatch::start(rt)?;
-    let caller = play(rt, file, caller, Picks::new(order), order.records);
+    let caller = play(rt, file, caller, Picks::new(order), order.calls());
     let spent = watch.stop(rt)?;
-    let is_due = caller.tally.found == order.records;
-    Ok(Outcome::new(order.records, spent, caller.tally, is_due))
+    let is_due = caller.tally.found == order.calls();
+    Ok(Outcome::new(order.calls(), spent, caller.tally, is_due))
 }
 
 /// How many of the first `2 * records` records are there.
@@ -105,7 +106,7 @@ fn records_there<M: Mode, J: Room, R: Wait>(
         record: 0,
         are_there: false,
     };
-    let caller = Caller::new(hand, order.contents());
+    let caller = Caller::new(hand, order);
     play(rt, file, caller, stream, order.records.wrapping_mul(2)).tally
 }
 
@@ -119,7 +120,7 @@ fn are_met(workload: Workload, tally: &Tally, calls: u64) -> bool {
 }
 
 /// What came of threads that shared a file, which had this many records before.
-fn outcome_of<M: Mode, J: Room, R: Wait>(
+fn outcome_of<M: Mode, J: Room, R: Wait + AllocGlobal>(
     rt: &R,
     file: &HashFile<NoGate, M, J>,
     shift: Shift,
@@ -131,15 +132,20 @@ fn outcome_of<M: Mode, J: Room, R: Wait>(
     let tally = shift.tally;
     let mut hand = shift.hand;
     let buckets = file.buckets(&mut hand);
+    let are_seen = !order.workload.has_looks()
+        || matches!(sees_all(rt, file, &mut hand, order), Ok(true));
     let there = records_there(rt, file, hand, order);
     let due = before
         .wrapping_add(tally.inserted)
         .wrapping_sub(tally.deleted);
     let is_due = there.wrong == 0
         && there.found == due
+        && shift.looks.are_due
+        && are_seen
         && are_met(order.workload, &tally, shift.calls);
     Outcome {
         buckets,
+        looks: shift.looks,
         ..Outcome::new(shift.calls, shift.spent, tally, is_due)
     }
 }
@@ -156,7 +162,7 @@ pub fn shared<M, J, R>(
 where
     M: Mode + Send + Sync,
     J: Room + Send + Sync,
-    R: Threads + Wait + Sync + Clock + CpuClock + AllocGlobal,
+    R: Threads + Wait + Sync + Clock + CpuClock + Files + AllocGlobal,
     requires { IsOf file.now.state hand }
 {
     let first = Order { records, ..*order };

@@ -1,0 +1,212 @@
+//! Looks at all records of a file: snapshots, and scans.
+ghost use Rattle.lh_file.specs.FileState.{IsOf};
+
+use crate::meter::{Laps, peak_bytes};
+use crate::order::{Order, Workload};
+use anyhow::Result;
+use lh_bucket::Reply;
+use lh_file::{Hand, HashFile, Mode, NoGate, Room, Scan};
+use lh_page::{Pair, Value};
+use std::rt::{Clock, Files};
+use std::sync::Wait;
+
+/// How many looks are taken at least.
+const LEAST: usize = 10;
+
+/// How many nanoseconds they go on at least.
+const SECOND: u64 = 1_000_000_000;
+
+/// How many records were met, and the sum of the first bytes of their values.
+#[derive(Clone, Copy, PartialEq, Eq)]
+struct Met {
+    records: u64,
+    sum: u64,
+}
+
+impl Met {
+    const NONE: Met = Met { records: 0, sum: 0 };
+
+    fn note(&mut self, value: &Value) {
+        let first = value.bytes().first().copied().unwrap_or(0);
+        self.records = self.records.wrapping_add(1);
+        self.sum = self.sum.wrapping_add(first as u64);
+    }
+
+    fn note_all(&mut self, pairs: &[Pair]) {
+        for pair in pairs {
+            self.note(&pair.value);
+        }
+    }
+}
+
+/// How long looks took.
+#[derive(Clone, Copy)]
+pub struct Looks {
+    pub taken: u64,
+    /// Nanoseconds.
+    pub shortest: u64,
+    pub median: u64,
+    pub longest: u64,
+    /// The sum of the first bytes of all values that were read.
+    pub sum: u64,
+    /// The bytes of memory that the process had at most.
+    pub peak_bytes: u64,
+    /// Whether each look met about as many records as are due.
+    pub are_due: bool,
+}
+
+impl Looks {
+    pub const NONE: Looks = Looks {
+        taken: 0,
+        shortest: 0,
+        median: 0,
+        longest: 0,
+        sum: 0,
+        peak_bytes: 0,
+        are_due: true,
+    };
+
+    /// Notes what a look met where this many records are due, and when that can't be by chance.
+    // Each of twice as many keys is there with probability 1/2: a deviation is the root of half of the records.
+    fn note(&mut self, met: Met, due: u64) {
+        let far = met.records.max(due) - met.records.min(due);
+        let is_near = far.saturating_mul(far) <= due.saturating_mul(64);
+        self.sum = self.sum.wrapping_add(met.sum);
+        self.are_due = self.are_due && is_near;
+    }
+
+    /// The same looks, which took so long.
+    fn timed(self, mut times: Vec<u64>) -> Looks {
+        times.sort_unstable();
+        Looks {
+            taken: times.len() as u64,
+            shortest: times.first().copied().unwrap_or(0),
+            median: times.get(times.len() / 2).copied().unwrap_or(0),
+            longest: times.last().copied().unwrap_or(0),
+            ..self
+        }
+    }
+}
+
+/// What a scan meets.
+fn scan<M: Mode, J: Room, R: Wait + AllocGlobal>(
+    rt: &R,
+    file: &HashFile<NoGate, M, J>,
+    hand: &mut Hand,
+) -> Result<Met>
+    requires { IsOf file.now.state hand.old }
+    ensures { IsOf file.now.state hand.new }
+{
+    let mut met = Met::NONE;
+    let mut scan = Scan::new(rt.alloc(), file)?;
+    for _ in rt.forever() {
+        let Some(copy) = scan.next(rt, file, hand)? else {
+            break;
+        };
+        met.note_all(&copy.pairs);
+    }
+    Ok(met)
+}
+
+/// What a snapshot has.
+fn read_snapshot<M: Mode, J: Room, R: Wait>(
+    rt: &R,
+    file: &HashFile<NoGate, M, J>,
+    hand: &mut Hand,
+) -> Result<Met>
+    requires { IsOf file.now.state hand.old }
+    ensures { IsOf file.now.state hand.new }
+{
+    let listing = file.snapshot(rt, hand)?.into_listing()?;
+    let mut met = Met::NONE;
+    for bucket in 0..listing.buckets() {
+        met.note_all(listing.pairs_of(bucket));
+    }
+    Ok(met)
+}
+
+/// What searches for all records find.
+fn found<M: Mode, J: Room, R: Wait>(
+    rt: &R,
+    file: &HashFile<NoGate, M, J>,
+    hand: &mut Hand,
+    order: &Order,
+) -> Met
+    requires { IsOf file.now.state hand.old }
+    ensures { IsOf file.now.state hand.new }
+{
+    let mut met = Met::NONE;
+    for record in 0..order.records.wrapping_mul(2) {
+        if let Ok(answer) = file.search(rt, hand, order.contents().key(record)) {
+            if let Reply::Found(value) = answer.reply() {
+                met.note(&value);
+            }
+        }
+    }
+    met
+}
+
+/// Whether a look at a file that nobody changes meets just what searches find.
+pub fn sees_all<M: Mode, J: Room, R: Wait + AllocGlobal>(
+    rt: &R,
+    file: &HashFile<NoGate, M, J>,
+    hand: &mut Hand,
+    order: &Order,
+) -> Result<bool>
+    requires { IsOf file.now.state hand.old }
+    ensures { IsOf file.now.state hand.new }
+{
+    let met = match order.workload {
+        Workload::Snapshots => read_snapshot(rt, file, hand)?,
+        _ => scan(rt, file, hand)?,
+    };
+    Ok(met == found(rt, file, hand, order))
+}
+
+/// Looks once: what was met, and in how many nanoseconds. A snapshot's records are counted, and not read.
+fn look<M: Mode, J: Room, R: Wait + Clock + AllocGlobal>(
+    rt: &R,
+    file: &HashFile<NoGate, M, J>,
+    hand: &mut Hand,
+    workload: Workload,
+) -> Result<(Met, u64)>
+    requires { IsOf file.now.state hand.old }
+    ensures { IsOf file.now.state hand.new }
+{
+    let mut laps = Laps::start(rt)?;
+    if let Workload::Snapshots = workload {
+        let copy = file.snapshot(rt, hand)?;
+        let time = laps.next(rt)?;
+        let records = copy.records();
+        return Ok((Met { records, sum: 0 }, time));
+    }
+    let met = scan(rt, file, hand)?;
+    Ok((met, laps.next(rt)?))
+}
+
+/// Looks one after another, for a second at least.
+pub fn take_looks<M: Mode, J: Room, R: Wait + Clock + Files + AllocGlobal>(
+    rt: &R,
+    file: &HashFile<NoGate, M, J>,
+    hand: &mut Hand,
+    order: &Order,
+) -> Result<Looks>
+    requires { IsOf file.now.state hand.old }
+    ensures { IsOf file.now.state hand.new }
+{
+    let mut times = Vec::new(rt.alloc());
+    let mut looks = Looks::NONE;
+    let mut laps = Laps::start(rt)?;
+    let mut passed = 0_u64;
+    for _ in rt.forever() {
+        let (met, time) = look(rt, file, hand, order.workload)?;
+        looks.note(met, order.records);
+        times.push(time)?;
+        passed = passed.saturating_add(laps.next(rt)?);
+        if times.len() >= LEAST && passed >= SECOND {
+            break;
+        }
+    }
+    looks.peak_bytes = peak_bytes(rt);
+    Ok(looks.timed(times))
+}
