@@ -1,5 +1,5 @@
 -- The plain map that a file stands for: what a call answers, and what it leaves
-use Rattle.std.specs.Prelude.{ℕ, List, [], ◌∷◌, Option, Some, None, if◌then◌else◌}
+use Rattle.std.specs.Prelude.{◌≡◌, ℕ, List, [], ◌∷◌, Option, Some, None, if◌then◌else◌}
 use Rattle.std.specs.Ordering.{nat_cmp}
 use Rattle.std.specs.Cmp.Lexicographic.{slice_cmp}
 use Rattle.std.specs.FinMap.{FinMap, get, insert, remove, contains_key}
@@ -24,6 +24,10 @@ reply m (Search key) = found (get m key)
 reply m (Insert key value) = if contains_key m key then Exists else Inserted
 reply m (Delete key) = if contains_key m key then Deleted else Absent
 reply m (Replace key value) = if contains_key m key then Replaced else Absent
+
+-- the reply is one that some map gives to the call
+abbrev pub FitsCall : Call → Reply → Type 0
+FitsCall call given = (m : Records) × (given ≡ reply m call)
 
 -- the map that a call leaves
 abbrev pub after : Records → Call → Records

@@ -4,7 +4,7 @@ ghost use Rattle.lh_addr.specs.Fnv.{code_of};
 ghost use Rattle.lh_bucket.specs.declared.call.Call.TheVariants.{Search};
 ghost use Rattle.lh_bucket.specs.Call.{key_of};
 ghost use Rattle.lh_bucket.specs.Change.{call_of, reply_of};
-ghost use Rattle.lh_bucket.specs.PlainMap.{found};
+ghost use Rattle.lh_bucket.specs.PlainMap.{found, FitsCall};
 ghost use Rattle.lh_bucket.specs.Tags.{given_of};
 
 use crate::call::{Call, Reply};
@@ -37,7 +37,8 @@ enum Given {
 ///
 /// It is made of a [`Home`], which only a bucket makes, or by [`look`](crate::Bucket::look) and
 /// [`serve`](crate::Bucket::serve): at a bucket whose local level was the level that the call looked for. So the
-/// call's key belongs to that bucket: the code's hash at that level is the bucket's number.
+/// call's key belongs to that bucket: the code's hash at that level is the bucket's number. Whoever makes one of a `Home`
+/// answers for its reply, which some map has to give to the call.
 #[derive(Clone, Copy, Debug, PartialEq, Eq)]
 pub struct Answer {
     bucket: u32,
@@ -117,7 +118,8 @@ impl Answer {
     /// The answer to a change with this reply, at the home of the key's code.
     #[inline(always)]
     pub fn of_change(change: Change<'_>, reply: ChangeReply, home: Home) -> Answer
-        requires { code_of (key_of (call_of change)) ≡ home.code }
+        requires home { code_of (key_of (call_of change)) ≡ home.code }
+        requires fits { FitsCall (call_of change) (reply_of reply) }
         ensures { result ≡ record {
           call = call_of change.entry;
           reply = reply_of reply;

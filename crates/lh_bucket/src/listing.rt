@@ -50,7 +50,7 @@ impl Model for Listing {
     ghost invariant = { λ l. IsListing (record { config = l.config; lists = map (λ v. v.items) l.lists.items }) };
 }
 
-/// Keys and values have the lengths that they may have. That is known by their types, so nothing is looked at.
+/// Keys and values have the lengths that they may have. That is known by their types: the loop serves the proof alone.
 fn have_lengths(pairs: &[Pair])
     ensures { All IsRecord pairs.now }
 {
@@ -113,7 +113,7 @@ impl Listing {
         }
     }
 
-    /// A listing of lists that are known to be one, as those of a snapshot are. No key is looked at and no memory taken.
+    /// A listing of lists that are known to be one, as those of a snapshot are. No key is compared and no memory taken.
     pub fn of_known(config: Config, lists: Vec<Vec<Pair>>) -> Listing
         requires shape { IsShape config (length lists.items) (map (λ v. v.items) lists.items) }
         requires home { EachPlace (IsHome config.initial (length lists.items)) (map (λ v. v.items) lists.items) }

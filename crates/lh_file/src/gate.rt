@@ -5,13 +5,13 @@
 pub enum Point {
     /// A call has read the size of the file: a search, an insert, a delete, a replace or a snapshot.
     Read,
-    /// It has got the lock of a bucket, and hasn't looked at it yet.
+    /// It has got the lock of a bucket, and hasn't looked at it yet; a visit has, which reads no size.
     Holding { bucket: u32 },
     /// It has served its call at the bucket, whose lock it still has.
     Acted { bucket: u32 },
-    /// It has dropped the lock of the bucket, served or not.
+    /// It has dropped the lock of the bucket, served or not, or a visit has.
     Released { bucket: u32 },
-    /// A snapshot has the locks of all buckets, this many or more, and has copied none yet.
+    /// A snapshot has the locks of all buckets, which are this many, and has copied none yet.
     Surveyed { buckets: u32 },
     /// The right to split was got.
     RightGot,

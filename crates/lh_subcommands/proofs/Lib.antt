@@ -2,6 +2,7 @@ pub mod Building
 pub mod Devices
 pub mod Ending
 pub mod Inspecting
+pub mod LineLengths
 pub mod RecordLines
 pub mod ReplyLines
 pub mod Sending

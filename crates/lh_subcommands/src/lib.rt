@@ -12,6 +12,7 @@ mod device;
 mod draw;
 mod image_texts;
 mod images;
+pub mod laws;
 mod output;
 mod replay;
 mod status;

@@ -1,7 +1,6 @@
 -- What the calls of a running file answer, and leave of the hand that makes them
 use Rattle.std.specs.Prelude.{◌≡◌, ℕ, ◌+◌, ◌-◌, ◌<◌, ◌≤◌, ◌↔◌, [], ◌∷◌, ◌++◌, All, Result, Err, IfOk, IfErr, OnErr}
 use Rattle.lh_bucket.specs.Answer.{Answered}
-use Rattle.lh_bucket.specs.PlainMap.{Records, reply}
 use Rattle.lh_bucket.specs.declared.call.Call.{Call}
 use Rattle.lh_bucket.specs.declared.call.Reply.{Reply}
 use Rattle.lh_file.specs.FileState.{FileState, IsOf}
@@ -49,10 +48,6 @@ abbrev pub IsNotSpent : FileFault → Type 0
 IsNotSpent (Spent left) = ⊥
 IsNotSpent Memory = Unit {0}
 IsNotSpent (Defect wanted_bucket wanted_level found_bucket found_level) = Unit {0}
-
--- the reply is one that some map gives to the call
-abbrev pub FitsCall : Call → Reply → Type 0
-FitsCall call given = (m : Records) × (given ≡ reply m call)
 
 -- What every call promises: of the file, of its hand before, of the call that it makes, of its result, of the reply that
 -- this stands for, and of its hand after

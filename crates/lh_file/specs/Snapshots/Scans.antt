@@ -32,6 +32,7 @@ pub record Scanning : Type 0 where
   pub initial : ℕ
   pub aims : List Aim
 
+-- the numbers are those of a file, and each aim is one that some code has
 pub record IsScanning (scan : Scanning) : Type 0 where
   pub initial : IsInitial scan.initial
   pub within : Each scan.aims (IsWithin scan.initial)
@@ -58,7 +59,7 @@ pub record HasVisited (traced : Bool) (file : FileState) (old : HandState) (copy
   pub leaves : traced ≡ true →
       IsSurveyed file.listing copy.stamps old.entries old.logs (bucket_of file.config copy ∷ []) log
 
--- A scan met the codes of one aim, each of which is one of what it had still to visit, and has still to visit the others.
+-- A scan met the codes of one aim: all of them were still to be met, and every other one that was is so still.
 abbrev pub HasMet : Scanning → Aim → Scanning → Type 0
 HasMet old aim new =
     (new.initial ≡ old.initial)

@@ -139,7 +139,7 @@ impl<G: Gate, M: Mode, J: Room> HashFile<G, M, J> {
         Ok(matches!(reply, ChangeReply::Inserted))
     }
 
-    /// Gives a key this value in place of its own: whether the key is there. It takes no memory.
+    /// Gives a key this value in place of its own: whether the key is there. The value itself takes no memory.
     #[inline(always)]
     pub fn set<K: Coded, R: Wait>(
         &self,

@@ -53,7 +53,7 @@ fn is_outgrown<J: Room>(config: &Config, guards: &[RwLockReadGuard<'_, Slot<J>>]
 impl<J: Room> Segments<J> {
     /// Takes the locks of all buckets shared, in the order of their numbers, where there are this many or more. Buckets
     /// that splits fill meanwhile are taken too, until the bucket of the next split is among those that are held.
-    // No circle of waiting can close: a call holds one bucket, and whoever holds several took them in this order.
+    // There is no deadlock: a call holds one bucket, and whoever holds several took them in this order.
     pub(crate) fn hold_all<R: Wait>(
         &self,
         rt: &R,
@@ -76,7 +76,7 @@ impl<J: Room> Segments<J> {
                 }
                 size += 1;
             }
-            let lock = self.lock_of(number, 0)?;
+            let lock = self.there(number, 0)?;
             if guards.push(lock.read(rt)).is_err() {
                 return Err(FileFault::Memory);
             }
@@ -157,13 +157,13 @@ impl<M: Mode> Words<M> {
     }
 
     /// One load of the stamp word while the seats of these buckets, whose locks the caller has, lie with the hand's,
-    /// where the file is traced: how many acts there were, and whether each bucket had a seat.
+    /// where the file is traced: how many acts there were, and how many of the buckets, from the first on, had a seat.
     pub(crate) fn survey_held<J: Room, R: Wait>(
         &self,
         rt: &R,
         seat: &mut Seat<(), SeatView>,
         guards: &[RwLockReadGuard<'_, Slot<J>>],
-    ) -> (u64, bool)
+    ) -> (u64, usize)
         requires at { seat.old.table_id ≡ self.now.table }
         requires room { M.traced ≡ true → self.now.table ≡ J.table }
         requires live { 0 < seat.old.me.0.view.initial }
@@ -171,16 +171,16 @@ impl<M: Mode> Words<M> {
         ensures at { seat.new.table_id ≡ seat.old.table_id }
         ensures rises { seat.old.me.0.view.floor ≤ result.0 }
         ensures told { (log : List Entry) × (seat.new.me ≡ (told_seat result.0 log seat.old.me.0, seat.old.me.1))
-            × (M.traced ≡ true → result.1 ≡ true → IsSurveyed self.now.listing result.0
+            × (M.traced ≡ true → length guards.now ≤ result.1 → IsSurveyed self.now.listing result.0
             seat.old.me.0.entries seat.old.me.0.logs (map read_guard_value guards.now) log) }
     {
         if !M::keeps_history() {
-            return (self.survey(seat), true);
+            return (self.survey(seat), guards.len());
         }
         let count = self.borrow_seats(rt, seat, guards);
         let acts = self.survey(seat);
         self.return_seats(seat, &guards[..count]);
-        (acts, count == guards.len())
+        (acts, count)
     }
 }
 

@@ -37,7 +37,7 @@ use std::sync::Wait;
 #[derive(Debug, Drop)]
 pub struct Scan {
     initial: u32,
-    // Of one of these is each code that the scan hasn't met.
+    // Each code that the scan hasn't met belongs to just one of these.
     aims: Vec<Aim>,
 }
 

@@ -22,21 +22,23 @@ use lh_addr::laws::address_is_only_bucket;
 use std::sync::Wait;
 
 impl<G: Gate, M: Mode, J: Room> HashFile<G, M, J> {
-    /// The file at one moment, while calls go on: as it were, had it been closed then with no split under way. Its
+    /// The file at one moment, while calls go on: as it would be, had it been closed then with no split under way. Its
     /// [listing](Closed::into_known_listing) can be written as an image. In a traced file it holds just what the first
-    /// [`stamps`](Closed::stamps) acts of its one legal history leave; of any other, those of the recorded acts that have
-    /// lesser stamps can be [settled](crate::settle) with it after the run.
+    /// [`stamps`](Closed::stamps) acts of its one legal history leave; of any other, the recorded acts with stamps below
+    /// that number can be [settled](crate::settle_snapshot) with it after the run.
     ///
     /// The locks of all buckets are taken shared, in the order of their numbers. The moment is when the last one was got;
     /// then each bucket is let go as soon as it is copied. A write to a bucket that is held waits, and so do searches of
-    /// it behind that write. No right to split is wanted, and no stamp is drawn.
+    /// it behind that write; in a traced file a search also waits while its bucket's seat is taken. No right to split is
+    /// needed, and no stamp is drawn.
     ///
     /// Fails when out of memory, or at a bucket that isn't what it has to be. Then nothing is held.
     pub fn snapshot<R: Wait>(&self, rt: &R, hand: &mut Hand) -> Result<Closed, FileFault>
         requires { IsOf self.now.state hand.old }
         ensures config { IfOk result (λ snapshot. snapshot.config ≡ self.now.state.config) }
         ensures whole { IfOk result IsWhole }
-        ensures size { IfOk result (λ snapshot. hand.old.view.known ≤ buckets_of snapshot.root) }
+        ensures size { IfOk result (λ snapshot. hand.new.view.known ≤ buckets_of snapshot.root) }
+        ensures later { IfOk result (λ snapshot. hand.old.view.floor ≤ snapshot.stamps) }
         ensures told { IfOk result (λ snapshot. (known : ℕ) × (log : List Entry)
             × (hand.new ≡ told_of (knowing hand.old known) snapshot.stamps log)
             × (M.traced ≡ true →
@@ -53,10 +55,10 @@ impl<G: Gate, M: Mode, J: Room> HashFile<G, M, J> {
         let guards = self.segments.hold_all(rt, buckets)?;
         check_held(&words.config, &guards)?;
         let size = guards.len() as u32;
-        let (acts, whole) = words.survey_held(rt, &mut hand.seat, &guards);
+        let (acts, seats) = words.survey_held(rt, &mut hand.seat, &guards);
         self.gate.at(Point::Surveyed { buckets: size });
-        if !whole {
-            return Err(missing_bucket(size, 0));
+        if seats < guards.len() {
+            return Err(missing_bucket(seats as u32, 0));
         }
         let lists = copied_held(words.alloc, guards)?;
         let root = RootWord::new(size, false);

@@ -26,12 +26,13 @@ use std::sync::Wait;
 
 impl<G: Gate, M: Mode, J: Room> HashFile<G, M, J> {
     /// One load of the stamp word while the seat of a bucket, whose lock the caller has, lies with the hand's, where the
-    /// file is traced. A bucket without one is a defect of the file.
+    /// file is traced. A bucket that is wanted at this level and has no seat is a defect of the file.
     fn survey_slot<R: Wait>(
         &self,
         rt: &R,
         seat: &mut Seat<(), SeatView>,
         slot: &Slot<J>,
+        level: u8,
     ) -> Result<u64, FileFault>
         requires at { seat.old.table_id ≡ self.now.state.table }
         requires live { 0 < seat.old.me.0.view.initial }
@@ -51,7 +52,7 @@ impl<G: Gate, M: Mode, J: Room> HashFile<G, M, J> {
         }
         if !words.borrow_seat(rt, seat, slot) {
             let bucket = slot.bucket();
-            return Err(defect(bucket.number(), 0, bucket));
+            return Err(defect(bucket.number(), level, bucket));
         }
         let stamps = words.survey(seat);
         words.return_seat(seat, slot);
@@ -91,7 +92,7 @@ impl<G: Gate, M: Mode, J: Room> HashFile<G, M, J> {
             return Err(defect(aim.bucket, aim.level, bucket));
         }
         let pairs = copied_pairs(self.words.alloc, bucket)?;
-        let stamps = self.survey_slot(rt, seat, slot)?;
+        let stamps = self.survey_slot(rt, seat, slot, aim.level)?;
         let aim = Aim {
             level,
             bucket: aim.bucket,
@@ -115,7 +116,7 @@ impl<G: Gate, M: Mode, J: Room> HashFile<G, M, J> {
         ensures fault { IfErr result IsNotSpent }
         ensures of { IsOf self.now.state hand.new }
     {
-        let lock = self.segments.lock_of(aim.bucket, aim.level)?;
+        let lock = self.segments.there(aim.bucket, aim.level)?;
         let guard = lock.read(rt);
         self.gate.at(Point::Holding { bucket: aim.bucket });
         let copy = self.copy_of(rt, &mut hand.seat, &guard, aim);

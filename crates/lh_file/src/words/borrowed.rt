@@ -41,7 +41,7 @@ impl<M: Mode> Words<M> {
         true
     }
 
-    /// Gives a bucket its seat back, which lies in front of the others with this one.
+    /// Gives a bucket its seat back, the first of those that lie with this one.
     pub(crate) fn return_seat<J: Room>(&self, seat: &mut Seat<(), SeatView>, slot: &Slot<J>)
         requires at { seat.old.table_id ≡ self.now.table }
         requires room { self.now.table ≡ J.table }

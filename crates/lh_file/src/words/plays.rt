@@ -127,7 +127,7 @@ impl Split<SeatView> for GiveBack {
     ghost right = { token_of };
 }
 
-/// A load of the root word with which the first seat gives its first bucket to a seat of its own.
+/// A load of the root word with which a seat gives the first of its buckets to a seat of its own.
 pub struct DealOut;
 
 impl Split<SeatView> for DealOut {

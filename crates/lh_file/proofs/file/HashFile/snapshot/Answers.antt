@@ -76,5 +76,5 @@ returns-clause-told g c =
           (ap (λ (h : HandState). h.entries) knows)
           (ap (λ (h : HandState). h.logs) knows)
           (ap (map read_guard_value) c.deref-2.ensures.value)
-          (told.2 on c.if-not-whole.false)),
+          (told.2 on (omega (arith, c.if-seats-len.false, c.len.ensures, ap length c.deref-2.ensures.value, c.in_ok-guards.guards.ok.0)))),
     )

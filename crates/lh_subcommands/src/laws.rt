@@ -1,0 +1,21 @@
+//! Facts about what the program writes, each the contract of a function that does nothing.
+ghost use Rattle.std.specs.Prelude.{ℕ, ◌≤◌, length};
+ghost use Rattle.lh_bucket.specs.declared.call.Reply.{Reply};
+ghost use Rattle.lh_core.specs.Log.{Entry};
+ghost use Rattle.lh_page.specs.declared.pair.Pair.{Pair};
+ghost use Rattle.lh_script.specs.StepTexts.{entry_text};
+ghost use Rattle.lh_script.specs.Texts.{line, reply_text, size_text};
+ghost use Rattle.lh_subcommands.specs.Devices.{longest_line};
+ghost use Rattle.lh_subcommands.specs.ImageTexts.{record_text};
+ghost use Rattle.lh_subcommands.specs.LongestLine.{IsEntryInLimits, IsNumber, IsRecordInLimits, IsReplyInLimits};
+
+/// No line that `commands`, `steps` and `dump` write is longer than the room that is kept for one: so none wants memory
+/// after the first write.
+pub fn lines_have_room()
+    ensures replies { (reply : Reply) → IsReplyInLimits reply → length (line (reply_text reply)) ≤ longest_line }
+    ensures sizes { (buckets : ℕ) → IsNumber buckets → length (line (size_text buckets)) ≤ longest_line }
+    ensures entries { (entry : Entry) → IsEntryInLimits entry → length (line (entry_text entry)) ≤ longest_line }
+    ensures records { (bucket : ℕ) (pair : Pair) → IsNumber bucket → IsRecordInLimits pair →
+        length (line (record_text bucket pair)) ≤ longest_line }
+{
+}
