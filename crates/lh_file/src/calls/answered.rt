@@ -47,9 +47,8 @@ impl<G: Gate, M: Mode, J: Room> HashFile<G, M, J> {
         ensures served { Serves self.now.state hand.old (call.Insert key value) result hand.new }
         ensures entered { M.traced ≡ true → IfOk result (λ a. HasEntered false hand.old a.call a.reply hand.new) }
     {
-        let change = Change::Insert(&key, &value);
-        let (reply, home) = self.add(rt, hand, change, fnv1a(key.bytes()))?;
-        Ok(Answer::of_change(change, reply, home))
+        let (reply, home) = self.add(rt, hand, &key, &value, fnv1a(key.bytes()))?;
+        Ok(Answer::of_change(Change::Insert(&key, &value), reply, home))
     }
 
     /// Deletes a record: the answer's reply is whether the key was there.

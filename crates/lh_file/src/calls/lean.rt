@@ -1,10 +1,12 @@
 //! Calls as one makes them of a map: by a key that is lent, with no answer but what they are asked for.
-ghost use Rattle.std.specs.Prelude.{◌≡◌, ◌≢◌, ◌<◌, true, false, length, Ok, IfOk, IfSome};
+ghost use denote.Ref.{Bor};
+ghost use Rattle.std.specs.Prelude.{◌≡◌, ◌≢◌, ◌<◌, ℕ, List, true, false, length, Ok, IfOk, IfSome};
 ghost use Rattle.std.specs.Fn.{FnOnceReturnsAt};
 ghost use Rattle.lh_bucket.specs.PagedBucket.{found_at};
 ghost use Rattle.lh_bucket.specs.PlainMap.{found};
 ghost use Rattle.lh_bucket.specs.declared.call.Call.TheVariants as call;
 ghost use Rattle.lh_bucket.specs.declared.call.Reply.{Reply};
+ghost use Rattle.lh_page.specs.Limits.{IsValue};
 ghost use Rattle.lh_file.specs.Calls.Lean.{read_reply, put_reply, set_reply, remove_reply, LendsTo};
 ghost use Rattle.lh_file.specs.Calls.Served.{Makes};
 ghost use Rattle.lh_file.specs.FileState.{IsOf};
@@ -29,7 +31,7 @@ fn lend_found<T, F: FnOnce(&[u8]) -> T + Drop>(
     then: F,
 ) -> Option<T>
     requires within { IfSome place (λ place. place < length bucket.now.pairs) }
-    requires callable { F.IsAlwaysCallable then }
+    requires callable { (bytes : Bor (List ℕ)) → IsValue bytes.now → F.pre then bytes }
     ensures { LendsTo (FnOnceReturnsAt F.FnOnce then) (found_at bucket.now.pairs place) result }
 {
     match place {
@@ -91,8 +93,8 @@ impl<G: Gate, M: Mode, J: Room> HashFile<G, M, J> {
     /// Lends the bytes of the value under a key to a closure, and answers what that returns, or none where the key isn't
     /// there. Nothing is copied.
     ///
-    /// The closure runs while its bucket is held, shared with other searches: it is to be short, and must not call the
-    /// file, since a call may wait for that very bucket.
+    /// The closure is given 0 to 112 bytes, and runs while its bucket is held, shared with other searches: it is to be
+    /// short, and must not call the file, since a call may wait for that very bucket.
     ///
     /// ```text
     /// let length = file.with_value(&rt, &mut hand, &key, |bytes| bytes.len())?;
@@ -105,7 +107,7 @@ impl<G: Gate, M: Mode, J: Room> HashFile<G, M, J> {
         then: F,
     ) -> Result<Option<T>, FileFault>
         requires of { IsOf self.now.state hand.old }
-        requires callable { F.IsAlwaysCallable then }
+        requires callable { (bytes : Bor (List ℕ)) → IsValue bytes.now → F.pre then bytes }
         ensures served { (given : Reply)
             × Makes self.now.state hand.old (call.Search (K.bytes key.now)) result (λ _. given) hand.new
             × IfOk result (LendsTo (FnOnceReturnsAt F.FnOnce then) given)
@@ -134,8 +136,7 @@ impl<G: Gate, M: Mode, J: Room> HashFile<G, M, J> {
         ensures entered { M.traced ≡ true → IfOk result (λ is_new.
             HasEntered false hand.old (call.Insert (K.bytes key.now) value.now) (put_reply is_new) hand.new) }
     {
-        let change = Change::Insert(key.key(), value);
-        let (reply, _) = self.add(rt, hand, change, key.code())?;
+        let (reply, _) = self.add(rt, hand, key.key(), value, key.code())?;
         Ok(matches!(reply, ChangeReply::Inserted))
     }
 
