@@ -338,8 +338,8 @@ fn asked(name: &str, matches: &ArgMatches<'_>) -> Request
     }
 }
 
-/// What clap says is wrong: the first line of the error's text, with the control characters of its words escaped; and how
-/// to ask for help, where no subcommand is named.
+/// What clap says is wrong: the first line of the error's text, which a line feed in a word ends too, with the control
+/// characters of its words escaped; and how to ask for help, where no subcommand is named.
 fn first_line(alloc: Global, error: &Error) -> Result<String, AllocError>
     ensures { IfOk result (λ line. has_no_control (string_bytes line) ≡ true) }
 {

@@ -90,6 +90,12 @@ IsRun words status left rest before now =
     ((request : Request) × Answers words request × Serves request status left rest before now)
     ⊎ ((status ≡ Memory) × Keeps left rest × Keeps before now)
 
+-- the run ended so, or it was done, and what it left gathered could not be written
+abbrev pub IsFlushedRun : List Text → Status → Option (List ℕ) → Option (List ℕ) → Option (List ℕ) → Option (List ℕ) → Type 0
+IsFlushedRun words result left rest before now =
+    (status : Status) × IsRun words status left rest before now
+    × ((result ≡ status) ⊎ (IsDone status × (result ≡ Device Write)))
+
 -- ---- what follows of a run for words of each kind
 
 -- how a run ends, by what the reader had left and what the writer held and holds

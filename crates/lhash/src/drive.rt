@@ -143,7 +143,7 @@ fn driven_in<G: Gate + Sync, J: Room + Send + Sync, R: Threads + Wait + Sync>(
     settled(alloc, empty, &closed, &acts, &taken)
 }
 
-/// Like [`drive_with`], and takes so many snapshots meanwhile, spread over the calls as far as that can be. Each is kept
+/// Like [`drive_with`], and takes so many snapshots meanwhile, evenly spread over the calls, or later. Each is kept
 /// until the file is closed, and then settled with those acts that came before it. A fault of one is answered like one of
 /// the closed file, and comes only where a bucket of that was not met when it was closed.
 pub fn drive_with_snapshots<G: Gate + Drop + Sync, R: Threads + Wait + Sync>(

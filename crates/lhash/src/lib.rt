@@ -13,4 +13,4 @@ mod workers;
 pub use drive::{DriveFault, drive_with, drive_with_snapshots};
 pub use driven::Driven;
 pub use lh_subcommands::{DeviceFault, InputFault, Status, Unsettled};
-pub use program::{asks_for_image, run};
+pub use program::{asks_for_image, refuse, run};

@@ -25,8 +25,8 @@ fn write_help<W: Write>(writer: &mut W, text: &str) -> Status
     }
 }
 
-/// Words that are refused for this reason.
-fn refuse(alloc: Global, reason: &str) -> Status
+/// How a run ends whose words are refused for this reason.
+pub fn refuse(alloc: Global, reason: &str) -> Status
     ensures { IsWordsOf reason.now result }
 {
     match String::from_str(alloc, reason) {

@@ -235,6 +235,13 @@ fn await_acts<G: Gate, J: Room, R: Wait>(
     }
 }
 
+/// How many acts a snapshot waits for, counted from 0: the snapshots divide a run's calls evenly.
+fn acts_before(calls: u64, number: u32, snapshots: u32) -> u64 {
+    let acts =
+        u128::from(calls).saturating_mul(u128::from(number) + 1) / (u128::from(snapshots) + 1);
+    u64::try_from(acts).unwrap_or(u64::MAX)
+}
+
 /// Takes the next snapshot when it is due.
 fn take_snapshot<G: Gate, J: Room, R: Wait>(
     rt: &R,
@@ -252,8 +259,8 @@ fn take_snapshot<G: Gate, J: Room, R: Wait>(
     Ok(file.snapshot(rt, hand)?)
 }
 
-/// Takes snapshots while the workers run, one each time that as many calls more were made, and those that are left when
-/// they have ended. A worker that is missing is the fault that is answered.
+/// Takes snapshots while the workers run, evenly spread over the calls, and those that are left when they have ended. A
+/// worker that is missing is the fault that is answered.
 #[tactic(auto, using(crate::proofs::Looking::looked_again, crate::proofs::Looking::looked_first))]
 fn take_snapshots<G: Gate, J: Room, R: Wait>(
     rt: &R,
@@ -274,15 +281,13 @@ fn take_snapshots<G: Gate, J: Room, R: Wait>(
     if let Some(fault) = missing {
         return Err(fault);
     }
-    let step = progress.calls / (u64::from(snapshots) + 1);
     let mut taken = Vec::new(alloc);
-    let mut due = step;
-    for _number in 0..snapshots {
+    for number in 0..snapshots {
+        let due = acts_before(progress.calls, number, snapshots);
         let snapshot = take_snapshot(rt, file, hand, progress, due)?;
         if taken.push(snapshot).is_err() {
             return Err(DriveFault::Memory);
         }
-        due = due.saturating_add(step);
     }
     Ok(taken)
 }
@@ -354,6 +359,7 @@ pub fn work_in_threads<G: Gate + Sync, J: Room + Send + Sync, R: Threads + Wait 
                         worked
                     },
                 ) else {
+                    progress.running.fetch_sub(1, Ordering::SeqCst);
                     missing = Some(DriveFault::Thread);
                     break;
                 };

@@ -1,17 +1,17 @@
 //! The program `lhash`: [`run`] on the process's own words, input and output.
 #![tactic(auto)]
 
-ghost use Rattle.std.specs.Prelude.{◌≡◌, ℕ, List, Option, [], IfNone, IfSome, codes, false, map, true};
+ghost use Rattle.std.specs.Prelude.{◌≡◌, ◌⊎◌, ℕ, List, Option, [], IfNone, IfSome, codes, false, map, true};
 ghost use Rattle.std.specs.Io.Buffered.{writer_buffer, writer_contents, writer_inner};
 ghost use Rattle.std.specs.Io.KnownBytes.{Keeps};
-ghost use Rattle.lhash.specs.Serving.{IsDone, IsRun, IsWhetherImageAsked, IsWordsOf};
+ghost use Rattle.lhash.specs.Serving.{IsDone, IsFlushedRun, IsRun, IsWhetherImageAsked, IsWordsOf};
 
 mod one_try;
 mod progress;
 
 use crate::one_try::OneTry;
 use crate::progress::{Input, Output, Progress};
-use lhash::{DeviceFault, Status, asks_for_image, run};
+use lhash::{DeviceFault, Status, asks_for_image, refuse, run};
 use std::alloc::Global;
 use std::env;
 use std::io::{BufReader, BufWriter, ErrorKind, IsTerminal, Read, Write};
@@ -26,28 +26,20 @@ const READ_AHEAD: usize = 65_536;
 /// How many bytes of output are gathered for one write.
 const GATHERED: usize = 65_536;
 
-/// How a run ends of which a word is no text.
-fn no_text(alloc: Global) -> Status
-    ensures { IsWordsOf (codes "an argument is not UTF-8") result }
-{
-    match String::from_str(alloc, "an argument is not UTF-8") {
-        Ok(text) => Status::Words(text),
-        Err(_) => Status::Memory,
-    }
-}
-
 /// The words that the process was started with, or how the run ends without them.
 fn process_words(rt: &(impl Runtime + AllocGlobal)) -> Result<Vec<String>, Status> {
     match env::args(rt) {
         Ok(words) => words.collect(rt.alloc()).map_err(|_| Status::Memory),
         Err(error) if error.kind() == ErrorKind::OutOfMemory => Err(Status::Memory),
-        Err(_) => Err(no_text(rt.alloc())),
+        Err(_) => Err(refuse(rt.alloc(), "an argument is not UTF-8")),
     }
 }
 
 /// How a run ends once what it left gathered is written, as it must be where all was done.
 fn finish<W: Write + Drop>(status: Status, output: &mut BufWriter<W>) -> Status
     ensures done { IsDone result → IsDone status × (writer_buffer output.new ≡ []) }
+    ensures flushed { IsDone status → IsDone result ⊎ (result ≡ Status.Device DeviceFault.Write) }
+    ensures others { (IsDone status → ⊥) → result ≡ status }
     ensures kept { Keeps (writer_contents W.contents output.old) (writer_contents W.contents output.new) }
 {
     match status {
@@ -59,26 +51,18 @@ fn finish<W: Write + Drop>(status: Status, output: &mut BufWriter<W>) -> Status
     }
 }
 
-/// How a run ends that would write an image to a terminal.
-fn no_screen(alloc: Global) -> Status
-    ensures { IsWordsOf (codes "an image is not written to a terminal") result }
-{
-    match String::from_str(alloc, "an image is not written to a terminal") {
-        Ok(text) => Status::Words(text),
-        Err(_) => Status::Memory,
-    }
-}
-
 /// How a run ends before it begins: that words ask for an image, and the output is a terminal.
 fn refused<'a>(alloc: Global, words: &'a [&'a str], is_terminal: bool) -> Option<Status>
     ensures some { IfSome result (IsWordsOf (codes "an image is not written to a terminal")) }
+    ensures only { IfSome result (λ status. (is_terminal ≡ true)
+        × ((status ≡ Status.Memory) ⊎ IsWhetherImageAsked (map (λ s. s.now) words.now) true)) }
     ensures none { IfNone result (is_terminal ≡ true → ¬ IsWhetherImageAsked (map (λ s. s.now) words.now) true) }
 {
     if !is_terminal {
         return None;
     }
     match asks_for_image(alloc, words) {
-        Ok(true) => Some(no_screen(alloc)),
+        Ok(true) => Some(refuse(alloc, "an image is not written to a terminal")),
         Ok(false) => None,
         Err(_) => Some(Status::Memory),
     }
@@ -97,8 +81,14 @@ fn run_whole<'a, A: AllocGlobal + Threads + Wait + Sync, R: Read, W: Write + Dro
         IsRun (map (λ s. s.now) words.now) result (R.remaining reader.old) (R.remaining reader.new)
         (writer_contents W.contents output.old) held
         × Keeps held (W.contents (writer_inner output.new)) }
+    ensures ran { (is_terminal ≡ true → IsWhetherImageAsked (map (λ s. s.now) words.now) true → ⊥) →
+        (held : Option (List ℕ)) ×
+        IsFlushedRun (map (λ s. s.now) words.now) result (R.remaining reader.old) (R.remaining reader.new)
+        (writer_contents W.contents output.old) held
+        × Keeps held (writer_contents W.contents output.new) }
     ensures screen { is_terminal ≡ true → IsWhetherImageAsked (map (λ s. s.now) words.now) true →
-        IsWordsOf (codes "an image is not written to a terminal") result × (output.new ≡ output.old) }
+        IsWordsOf (codes "an image is not written to a terminal") result
+        × (reader.new ≡ reader.old) × (output.new ≡ output.old) }
 {
     if let Some(status) = refused(rt.alloc(), words, is_terminal) {
         return status;

@@ -148,12 +148,15 @@ fn an_untraced_file_is_not_gathered(rt: HostRuntime) -> Result<(), Fail> {
     Ok(())
 }
 
-/// A caller may leave before it opens the file: what was made for it is let go.
+/// A caller may leave before it opens the file, and open another one with the same listing.
 #[test]
 fn an_opening_may_be_left(rt: HostRuntime) -> Result<(), Fail> {
     let alloc = rt.alloc();
     let listing = empty(alloc)?;
     let opening = Opening::of(alloc, &listing, true, NoGate)?;
     drop(opening);
+    let (file, hand) = HashFile::open_from(alloc, &listing, true, NoGate)?;
+    let (closed, _) = file.close(&rt, hand)?;
+    assert_eq!(rt; (closed.buckets(), closed.records()), (1, 0));
     Ok(())
 }

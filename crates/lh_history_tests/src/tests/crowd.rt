@@ -80,15 +80,14 @@ fn take_turn<J: Room, R: Wait>(
 }
 
 /// Splits a bucket, where the right to do so is there to be got.
-fn grow<J: Room, R: Wait>(rt: &R, file: &File<GiveWay, J>, hand: &mut Hand)
+fn grow<J: Room, R: Wait>(rt: &R, file: &File<GiveWay, J>, hand: &mut Hand) -> bool
     requires { IsFree file.now.state hand.old }
     ensures { IsFree file.now.state hand.new }
 {
     if let Right::Got { .. } = file.try_split_right(hand) {
-        match file.split(rt, hand) {
-            Ok(()) | Err(_) => {}
-        }
+        return file.split(rt, hand).is_ok();
     }
+    true
 }
 
 /// Makes two thousand calls, and asks for a split after each sixteenth.
@@ -100,7 +99,7 @@ fn share<J: Room, R: Wait>(rt: &R, file: &File<GiveWay, J>, mut hand: Hand, firs
     for turn in 0..2000_u32 {
         is_well = take_turn(rt, file, &mut hand, first, turn) && is_well;
         if turn % 16 == 0 {
-            grow(rt, file, &mut hand);
+            is_well = grow(rt, file, &mut hand) && is_well;
         }
     }
     Finished { hand, is_well }

@@ -2,7 +2,7 @@
 ghost use Rattle.lh_file.specs.FileState.{IsOf};
 
 use super::lean::lean_as;
-use super::rights::split_once;
+use super::rights::split_if_free;
 use super::tasks::{REFUSED, Task, Told};
 use lh_bucket::{Call, Reply};
 use lh_file::{Gate, Hand, HashFile, Mode, Room};
@@ -177,8 +177,8 @@ pub(crate) fn draw_calls<G: Gate, M: Mode, J: Room, R: Wait>(
         if let Told::Fault(_) = told {
             return false;
         }
-        if turn % 8 == 0 {
-            split_once(rt, file, hand);
+        if turn % 8 == 0 && !split_if_free(rt, file, hand) {
+            return false;
         }
     }
     true

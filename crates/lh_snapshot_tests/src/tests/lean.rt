@@ -74,7 +74,11 @@ fn make_lean<K: Coded, G: Gate, M: Mode, J: Room, R: Wait>(
         },
         Lean::ReadInto => read(rt, file, hand, key)?,
         Lean::WithValue => {
-            let told = file.with_value(rt, hand, key, |bytes: &[u8]| found(Some(bytes)))?;
+            let told = file.with_value(rt, hand, key, |bytes: &[u8]| {
+                // A closure may rely on the length that values have.
+                let _length = bytes.len() as u8;
+                found(Some(bytes))
+            })?;
             told.unwrap_or(Told::Absent)
         }
         Lean::Put => either(
@@ -153,8 +157,8 @@ pub(crate) fn lean_as<G: Gate, M: Mode, J: Room, R: Wait>(
     }
 }
 
-/// Each call without an answer, by a key that is there and by one that isn't, among the calls that have one. The second
-/// put has the bucket split.
+/// Each call without an answer, by a key that is there and by one that isn't, among the calls that have one. The put of
+/// a second record has the bucket split.
 const ONE_BY_ONE: Scene = Scene {
     settings: [1, 1, 100, 65536],
     first: &[

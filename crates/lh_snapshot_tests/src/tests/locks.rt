@@ -2,7 +2,7 @@
 
 use super::scene::{ONE_BUCKET, Scene, perform};
 use super::stage::Hold;
-use super::tasks::{Task, Told};
+use super::tasks::{Task, Tasks, Told};
 use lh_file::Point;
 use std::test::Fail;
 
@@ -283,6 +283,21 @@ const HELD_UNTIL_BUCKET_1_IS_TAKEN: [Hold; 3] = [
     },
 ];
 
+const GROWS_THEN_WRITES_TO_BUCKET_0: Tasks = &[
+    (Task::Wait(2), Told::Done),
+    (Task::Grow(1), Told::Done),
+    (Task::Reach(3), Told::Done),
+    (Task::Wait(5), Told::Done),
+    (Task::Rest(6), Told::Done),
+    (Task::Replace(b'a'), Told::Replaced),
+    (Task::Reach(6), Told::Done),
+];
+
+const TAKES_BUCKET_1: Tasks = &[
+    (Task::Wait(3), Told::Done),
+    (Task::Replace(b'b'), Told::Replaced),
+];
+
 /// Bucket 0 is written to meanwhile.
 const SEARCH_FOR_BUCKET_1: Scene = Scene {
     holds: &HELD_UNTIL_BUCKET_1_IS_TAKEN,
@@ -291,19 +306,8 @@ const SEARCH_FOR_BUCKET_1: Scene = Scene {
             (Task::Reach(1), Told::Done),
             (Task::Search(b'b'), Told::Found(b'2')),
         ],
-        &[
-            (Task::Wait(2), Told::Done),
-            (Task::Grow(1), Told::Done),
-            (Task::Reach(3), Told::Done),
-            (Task::Wait(5), Told::Done),
-            (Task::Rest(6), Told::Done),
-            (Task::Replace(b'a'), Told::Replaced),
-            (Task::Reach(6), Told::Done),
-        ],
-        &[
-            (Task::Wait(3), Told::Done),
-            (Task::Replace(b'b'), Told::Replaced),
-        ],
+        GROWS_THEN_WRITES_TO_BUCKET_0,
+        TAKES_BUCKET_1,
     ],
     ..ONE_BUCKET
 };
@@ -314,19 +318,8 @@ const WRITE_FOR_BUCKET_1: Scene = Scene {
             (Task::Reach(1), Told::Done),
             (Task::Replace(b'b'), Told::Replaced),
         ],
-        &[
-            (Task::Wait(2), Told::Done),
-            (Task::Grow(1), Told::Done),
-            (Task::Reach(3), Told::Done),
-            (Task::Wait(5), Told::Done),
-            (Task::Rest(6), Told::Done),
-            (Task::Replace(b'a'), Told::Replaced),
-            (Task::Reach(6), Told::Done),
-        ],
-        &[
-            (Task::Wait(3), Told::Done),
-            (Task::Replace(b'b'), Told::Replaced),
-        ],
+        GROWS_THEN_WRITES_TO_BUCKET_0,
+        TAKES_BUCKET_1,
     ],
     ..SEARCH_FOR_BUCKET_1
 };

@@ -5,7 +5,7 @@ ghost use Rattle.lh_file.specs.FileState.{IsOf};
 use super::calls::{LETTERS, asked, call_of};
 use super::lean::REFUSED_ONCE;
 use super::rights::drop_right;
-use super::scene::{ONE_BUCKET, Scene, perform};
+use super::scene::{ONE_BUCKET, Scene, perform_refused};
 use super::stage::{Counts, Progress};
 use super::tasks::{REFUSED, Task, Told};
 use lh_file::{Gate, Hand, HashFile, Mode, Room};
@@ -27,7 +27,7 @@ const ONE_SNAPSHOT: Scene = Scene {
 
 #[test]
 fn a_refused_snapshot_holds_nothing(rt: HostRuntime) -> Result<(), Fail> {
-    perform(&rt, rt.alloc(), &ONE_SNAPSHOT)
+    perform_refused(&rt, rt.alloc(), &ONE_SNAPSHOT)
 }
 
 /// A copy that was refused is made then, and the scan meets each letter once all the same.
@@ -45,12 +45,12 @@ const ONE_SCAN: Scene = Scene {
 
 #[test]
 fn a_refused_scan_meets_all(rt: HostRuntime) -> Result<(), Fail> {
-    perform(&rt, rt.alloc(), &ONE_SCAN)
+    perform_refused(&rt, rt.alloc(), &ONE_SCAN)
 }
 
 #[test]
 fn refused_calls_without_an_answer_do_nothing(rt: HostRuntime) -> Result<(), Fail> {
-    perform(&rt, rt.alloc(), &REFUSED_ONCE)
+    perform_refused(&rt, rt.alloc(), &REFUSED_ONCE)
 }
 
 /// Inserts a letter, and once more where memory was refused: whether it was inserted. A refused insert has stood at no
@@ -148,5 +148,5 @@ const GROWING: Scene = Scene {
 
 #[test]
 fn a_refused_split_of_an_insert_gives_the_right_back(rt: HostRuntime) -> Result<(), Fail> {
-    perform(&rt, rt.alloc(), &GROWING)
+    perform_refused(&rt, rt.alloc(), &GROWING)
 }

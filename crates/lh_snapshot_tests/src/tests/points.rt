@@ -3,7 +3,7 @@
 use super::rights::{BUSY, RIGHT};
 use super::scene::{ONE_BUCKET, Scene, perform};
 use super::stage::Hold;
-use super::tasks::{Task, Told};
+use super::tasks::{Task, Tasks, Told};
 use lh_file::{Point, Right};
 use std::test::Fail;
 
@@ -239,6 +239,15 @@ const THE_SAME_BUCKET_AGAIN: [Point; 13] = [
     Point::Released { bucket: 0 },
 ];
 
+const GROWS_THEN_WRITES: Tasks = &[
+    (Task::Wait(2), Told::Done),
+    (Task::Grow(1), Told::Done),
+    (Task::Reach(3), Told::Done),
+    (Task::Wait(4), Told::Done),
+    (Task::Replace(b'e'), Told::Replaced),
+    (Task::Reach(5), Told::Done),
+];
+
 const A_SEARCH_AGAIN: Scene = Scene {
     holds: &HELD_BETWEEN_TWO_LEVELS,
     points: &THE_SAME_BUCKET_AGAIN,
@@ -247,14 +256,7 @@ const A_SEARCH_AGAIN: Scene = Scene {
             (Task::Reach(1), Told::Done),
             (Task::Search(b'e'), Told::Found(b'2')),
         ],
-        &[
-            (Task::Wait(2), Told::Done),
-            (Task::Grow(1), Told::Done),
-            (Task::Reach(3), Told::Done),
-            (Task::Wait(4), Told::Done),
-            (Task::Replace(b'e'), Told::Replaced),
-            (Task::Reach(5), Told::Done),
-        ],
+        GROWS_THEN_WRITES,
     ],
     ..ONE_BUCKET
 };
@@ -265,14 +267,7 @@ const A_WRITE_AGAIN: Scene = Scene {
             (Task::Reach(1), Told::Done),
             (Task::Delete(b'e'), Told::Deleted),
         ],
-        &[
-            (Task::Wait(2), Told::Done),
-            (Task::Grow(1), Told::Done),
-            (Task::Reach(3), Told::Done),
-            (Task::Wait(4), Told::Done),
-            (Task::Replace(b'e'), Told::Replaced),
-            (Task::Reach(5), Told::Done),
-        ],
+        GROWS_THEN_WRITES,
     ],
     ..A_SEARCH_AGAIN
 };

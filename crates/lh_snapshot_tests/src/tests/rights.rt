@@ -8,7 +8,7 @@ use std::sync::Wait;
 use std::test::Fail;
 
 /// Splits a bucket, where the right to do so is free: whether it was split.
-pub(crate) fn split_once<G: Gate, M: Mode, J: Room, R: Wait>(
+fn split_once<G: Gate, M: Mode, J: Room, R: Wait>(
     rt: &R,
     file: &HashFile<G, M, J>,
     hand: &mut Hand,
@@ -20,6 +20,21 @@ pub(crate) fn split_once<G: Gate, M: Mode, J: Room, R: Wait>(
         return file.split(rt, hand).is_ok();
     }
     false
+}
+
+/// Splits a bucket, where the right to do so is free: whether no fault was met.
+pub(crate) fn split_if_free<G: Gate, M: Mode, J: Room, R: Wait>(
+    rt: &R,
+    file: &HashFile<G, M, J>,
+    hand: &mut Hand,
+) -> bool
+    requires { IsOf file.now.state hand.old }
+    ensures { IsOf file.now.state hand.new }
+{
+    if let Right::Got { .. } = file.try_split_right(hand) {
+        return file.split(rt, hand).is_ok();
+    }
+    true
 }
 
 /// Splits so many buckets, each once more where memory was refused: whether they were split.

@@ -163,17 +163,18 @@ fn empty(alloc: Global, config: Config) -> Result<Listing, Memory> {
     }
 }
 
-/// Plays a scene, and once more in another file where opening or closing the first one was refused.
+/// Plays a scene, and where requests are refused once more in another file, if opening or closing the first one was.
 fn played_again<R: Threads + Wait + Sync>(
     rt: &R,
     alloc: Global,
     listing: &Listing,
     scene: &Scene,
     is_traced: bool,
+    is_refused: bool,
 ) -> Option<Outcome> {
     match played(rt, alloc, listing, scene, is_traced) {
-        Some(outcome) => Some(outcome),
-        None => played(rt, alloc, listing, scene, is_traced),
+        None if is_refused => played(rt, alloc, listing, scene, is_traced),
+        outcome => outcome,
     }
 }
 
@@ -182,6 +183,24 @@ pub(crate) fn perform<R: Threads + Wait + Sync + Abort>(
     rt: &R,
     alloc: Global,
     scene: &Scene,
+) -> Result<(), Fail> {
+    perform_as(rt, alloc, scene, false)
+}
+
+/// Like `perform`, where one request for memory is refused: a scene that lacked memory or a thread is played once more.
+pub(crate) fn perform_refused<R: Threads + Wait + Sync + Abort>(
+    rt: &R,
+    alloc: Global,
+    scene: &Scene,
+) -> Result<(), Fail> {
+    perform_as(rt, alloc, scene, true)
+}
+
+fn perform_as<R: Threads + Wait + Sync + Abort>(
+    rt: &R,
+    alloc: Global,
+    scene: &Scene,
+    is_refused: bool,
 ) -> Result<(), Fail> {
     let [initial, capacity, load, max] = scene.settings;
     let config = Config::new(initial, capacity, load, max)?;
@@ -194,9 +213,9 @@ pub(crate) fn perform<R: Threads + Wait + Sync + Abort>(
         snapshots: scene.taken.len(),
         unsound: None,
     };
-    let untraced = played_again(rt, alloc, &listing, scene, false).ok_or("refused twice")?;
+    let untraced = played_again(rt, alloc, &listing, scene, false, is_refused).ok_or("refused")?;
     assert_eq!(rt; untraced, due, "untraced");
-    let traced = played_again(rt, alloc, &listing, scene, true).ok_or("refused twice")?;
+    let traced = played_again(rt, alloc, &listing, scene, true, is_refused).ok_or("refused")?;
     assert_eq!(rt; traced, due, "traced");
     Ok(())
 }

@@ -42,11 +42,13 @@ fn control_characters_of_words_are_escaped(rt: HostRuntime) -> Result<(), Fail> 
         ["lhash", "commands", "--\u{1b}[31m"].as_slice(),
         ["lhash", "commands", "--max", "\u{1b}]0;x\u{7}"].as_slice(),
         ["lhash", "dump", "\u{7f}\u{9b}31m\r"].as_slice(),
+        ["lhash", "fr\nob"].as_slice(),
         ["\u{1b}[31mlhash", "--help"].as_slice(),
         ["\u{1b}[31mlhash", "drive", "--help"].as_slice(),
         ["\u{1b}[31mlhash"].as_slice(),
     ] {
         let (_, written, text) = ran(&rt, words, b"")?;
+        assert!(rt; !written.is_empty() || !text.as_str().is_empty());
         assert!(rt; !text.as_str().chars().any(|letter| letter.is_control()));
         assert!(rt;
             written
