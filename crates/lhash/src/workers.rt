@@ -1,5 +1,5 @@
 //! Threads that share a traced file, and do a script's calls between them, and snapshots that are taken meanwhile.
-ghost use Rattle.std.specs.Prelude.{◌≡◌, ◌+◌, ◌<◌, ◌≤◌, true, false, [], All, IfOk, IfErr, IfSome, None, OnOk, OnErr, length, sum_by};
+ghost use Rattle.std.specs.Prelude.{◌≡◌, ◌+◌, ◌*◌, ◌/◌, ◌<◌, ◌≤◌, true, false, [], All, IfOk, IfErr, IfSome, None, OnOk, OnErr, length, sum_by};
 ghost use Rattle.lh_file.specs.Calls.Served.{IsNotSpent};
 ghost use Rattle.lh_file.specs.History.Own.{IsOwn, share_of};
 ghost use Rattle.lhash.specs.Driving.{IsWorkersFault};
@@ -236,10 +236,12 @@ fn await_acts<G: Gate, J: Room, R: Wait>(
 }
 
 /// How many acts a snapshot waits for, counted from 0: the snapshots divide a run's calls evenly.
-fn acts_before(calls: u64, number: u32, snapshots: u32) -> u64 {
-    let acts =
-        u128::from(calls).saturating_mul(u128::from(number) + 1) / (u128::from(snapshots) + 1);
-    u64::try_from(acts).unwrap_or(u64::MAX)
+fn acts_before(calls: u64, number: u32, snapshots: u32) -> u64
+    requires { number < snapshots }
+    ensures { result ≡ calls * (number + 1) / (snapshots + 1) }
+{
+    let share = u128::from(calls) * (u128::from(number) + 1);
+    (share / (u128::from(snapshots) + 1)) as u64
 }
 
 /// Takes the next snapshot when it is due.
