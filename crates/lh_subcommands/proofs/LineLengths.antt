@@ -45,21 +45,31 @@ pub record_fits : (bucket : ℕ) (pair : Pair) → bucket < 2 ^ 32 → IsRecordI
 record_fits bucket pair few limits =
     let keys = digits_fit longest_key pair.key (omega arith) limits.0.1 in
     let values = digits_fit longest_value pair.value (omega arith) limits.1 in
-    omega (arith, keys, values, number_fits bucket few,
-    length-append (codes " ") (hexadecimal_text pair.value),
-    length-append (hexadecimal_text pair.key) (codes " " ++ hexadecimal_text pair.value),
-    length-append (codes " ") (hexadecimal_text pair.key ++ (codes " " ++ hexadecimal_text pair.value)),
-    length-append (decimal bucket) (codes " " ++ (hexadecimal_text pair.key ++ (codes " " ++ hexadecimal_text pair.value))),
-    length-append (record_text bucket pair) (10 ∷ []))
+    omega (
+      arith,
+      keys,
+      values,
+      number_fits bucket few,
+      length-append (codes " ") (hexadecimal_text pair.value),
+      length-append (hexadecimal_text pair.key) (codes " " ++ hexadecimal_text pair.value),
+      length-append (codes " ") (hexadecimal_text pair.key ++ (codes " " ++ hexadecimal_text pair.value)),
+      length-append (decimal bucket) (codes " " ++ (hexadecimal_text pair.key ++ (codes " " ++ hexadecimal_text pair.value))),
+      length-append (record_text bucket pair) (10 ∷ []),
+    )
 
 two_fit : (word : List ℕ) (first second : ℕ) → length word ≤ 16 → first < 2 ^ 32 → second < 2 ^ 32 →
     length (line (two_numbers word first second)) ≤ longest_line
 two_fit word first second short few also =
-    omega (arith, short, number_fits first few, number_fits second also,
-    length-append (codes " ") (decimal second),
-    length-append (decimal first) (codes " " ++ decimal second),
-    length-append word (decimal first ++ (codes " " ++ decimal second)),
-    length-append (two_numbers word first second) (10 ∷ []))
+    omega (
+      arith,
+      short,
+      number_fits first few,
+      number_fits second also,
+      length-append (codes " ") (decimal second),
+      length-append (decimal first) (codes " " ++ decimal second),
+      length-append word (decimal first ++ (codes " " ++ decimal second)),
+      length-append (two_numbers word first second) (10 ∷ []),
+    )
 
 effect_fits : (done : Effect) → IsEffectInLimits done → length (line (effect_text done)) ≤ longest_line
 effect_fits effect.Called few = omega arith

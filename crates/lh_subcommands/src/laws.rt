@@ -17,5 +17,4 @@ pub fn lines_have_room()
     ensures entries { (entry : Entry) → IsEntryInLimits entry → length (line (entry_text entry)) ≤ longest_line }
     ensures records { (bucket : ℕ) (pair : Pair) → IsNumber bucket → IsRecordInLimits pair →
         length (line (record_text bucket pair)) ≤ longest_line }
-{
-}
+{}

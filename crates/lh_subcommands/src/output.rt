@@ -21,8 +21,8 @@ use std::io::Write;
 /// How many bytes are written at once.
 const CHUNK: usize = 65_536;
 
-/// No line is longer: key and value take two digits a byte, and all else takes less than 256 bytes; a step of a picture
-/// has none of them, and takes less than 550. What stands above a picture's steps is longer, and comes first, when
+/// No line is longer ([a law](crate::laws::lines_have_room)): key and value take two digits a byte, and all else takes
+/// less than 256 bytes. A step of a picture has none of them, and takes less than 550. What stands above a picture's steps is longer, and comes first, when
 /// nothing waits.
 const LONGEST_LINE: usize = 256 + 2 * (LONGEST_KEY + LONGEST_VALUE);
 

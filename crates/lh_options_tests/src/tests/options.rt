@@ -220,11 +220,7 @@ fn snapshots_are_0_to_1000(rt: HostRuntime) -> Result<(), AllocError> {
         "--snapshots=1000",
         "1 14 80 65536, 4 threads, 1000 snapshots",
     )?;
-    drive_expect(
-        &rt,
-        "--snapshots=-0",
-        "refused: a number may have no sign",
-    )?;
+    drive_expect(&rt, "--snapshots=-0", "refused: a number may have no sign")?;
     drive_expect(
         &rt,
         "--snapshots=1001",
