@@ -1,6 +1,6 @@
 -- What a configuration holds, the ranges of its settings, and the split policy
 use Rattle.std.specs.Prelude.{ℕ, ◌*◌, Bool, ◌&&◌, nat_lt}
-use Rattle.lh_addr.specs.Limits.{IsInitial, IsCapacity, IsLoad, IsSize}
+use Rattle.lh_addr.specs.Limits.{IsInitial, IsCapacity, IsLoad, IsSize, most_buckets}
 
 -- the initial number of buckets, the records that a page holds, the load threshold in percent, and the greatest number
 -- of buckets
@@ -9,6 +9,10 @@ pub record Settings : Type 0 where
   pub capacity : ℕ
   pub load : ℕ
   pub max : ℕ
+
+-- what the settings are where nothing else is said
+abbrev pub default_settings : Settings
+default_settings = record { initial = 1; capacity = 14; load = 100; max = most_buckets }
 
 -- each setting is within its limits
 pub record IsInRange (s : Settings) : Type 0 where

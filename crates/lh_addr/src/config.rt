@@ -2,7 +2,8 @@
 ghost use Rattle.std.specs.Prelude.{◌≡◌, IfOk, IfErr, Some};
 
 use crate::limits::{
-    MAX_BUCKETS, MAX_CAPACITY, MAX_INITIAL, MAX_LOAD, MIN_CAPACITY, MIN_INITIAL, MIN_LOAD,
+    DEFAULT_CAPACITY, DEFAULT_INITIAL, DEFAULT_LOAD, DEFAULT_MAX, MAX_BUCKETS, MAX_CAPACITY,
+    MAX_INITIAL, MAX_LOAD, MIN_CAPACITY, MIN_INITIAL, MIN_LOAD,
 };
 use std::error::Error;
 use std::fmt;
@@ -40,6 +41,12 @@ impl fmt::Display for Range {
 impl Error for Range {}
 
 /// How a file begins, how full its pages may be, and how far it may grow.
+///
+/// [`Config::default`] is a file of any size; what is to be otherwise is named:
+///
+/// ```text
+/// let config = Config::default().with_capacity(24)?.with_load(80)?;
+/// ```
 #[derive(Clone, Copy, Debug, PartialEq, Eq)]
 pub struct Config {
     initial: u32,
@@ -59,6 +66,23 @@ impl Model for Config {
         record { initial = c.initial; capacity = c.capacity; load = c.load; max = c.max }) };
 
     ghost inverse = { λ s. record { initial = s.initial; capacity = s.capacity; load = s.load; max = s.max } };
+}
+
+impl Default for Config {
+    ghost use Rattle.lh_addr.specs.Settings.{default_settings};
+
+    /// A file that begins with 1 bucket, has 14 records in a page, grows above a load of 100 percent, and may have 65,536
+    /// buckets.
+    fn default() -> Config
+        ensures { result ≡ default_settings }
+    {
+        Config {
+            initial: DEFAULT_INITIAL,
+            capacity: DEFAULT_CAPACITY,
+            load: DEFAULT_LOAD,
+            max: DEFAULT_MAX,
+        }
+    }
 }
 
 impl Config {
@@ -93,6 +117,38 @@ impl Config {
             load,
             max,
         })
+    }
+
+    /// The same configuration with another initial number of buckets, 1 to 256.
+    pub fn with_initial(self, initial: u32) -> Result<Config, Range>
+        ensures ok { IfOk result (λ config. config ≡ record self { initial = initial }) }
+        ensures err { IfErr result (IsFirstOutOfRange (record self { initial = initial })) }
+    {
+        Config::new(initial, self.capacity, self.load, self.max)
+    }
+
+    /// The same configuration with another capacity of a page, 1 to 24 records.
+    pub fn with_capacity(self, capacity: u32) -> Result<Config, Range>
+        ensures ok { IfOk result (λ config. config ≡ record self { capacity = capacity }) }
+        ensures err { IfErr result (IsFirstOutOfRange (record self { capacity = capacity })) }
+    {
+        Config::new(self.initial, capacity, self.load, self.max)
+    }
+
+    /// The same configuration with another load threshold, 10 to 200 percent.
+    pub fn with_load(self, load: u32) -> Result<Config, Range>
+        ensures ok { IfOk result (λ config. config ≡ record self { load = load }) }
+        ensures err { IfErr result (IsFirstOutOfRange (record self { load = load })) }
+    {
+        Config::new(self.initial, self.capacity, load, self.max)
+    }
+
+    /// The same configuration with another greatest number of buckets, from the initial one to 65,536.
+    pub fn with_max(self, max: u32) -> Result<Config, Range>
+        ensures ok { IfOk result (λ config. config ≡ record self { max = max }) }
+        ensures err { IfErr result (IsFirstOutOfRange (record self { max = max })) }
+    {
+        Config::new(self.initial, self.capacity, self.load, max)
     }
 
     /// The number of buckets that a file begins with.

@@ -51,8 +51,8 @@ fn print_number<R: Print + Wait>(
 
 fn main(rt: HostRuntime) -> anyhow::Result<()> {
     // One bucket at first, two records to a page; a bucket splits whenever the pages are full.
-    let config = Config::new(1, 2, 100, 65_536)?;
-    let (file, mut hand) = HashFile::create(rt.alloc(), config, false, NoGate)?;
+    let config = Config::default().with_capacity(2)?;
+    let (file, mut hand) = HashFile::new(rt.alloc(), config)?;
     fill(&rt, &file, &mut hand)?;
 
     print_number(&rt, &file, &mut hand, "Ada")?;

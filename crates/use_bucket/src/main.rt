@@ -15,7 +15,7 @@ fn main(rt: HostRuntime) -> anyhow::Result<()> {
     for letter in b'a'..b'z' {
         calls.push(Call::Insert(Key::new(&[letter])?, Value::new(b"")?))?;
     }
-    let ran = serial::<Counted>(rt.alloc(), Config::new(1, 2, 100, 65_536)?, &calls)?;
+    let ran = serial::<Counted>(rt.alloc(), Config::default().with_capacity(2)?, &calls)?;
     for number in 0..ran.world.filled() {
         let bucket = ran.world.bucket(number);
         println!(rt;

@@ -185,7 +185,7 @@ fn take_bookings<J: Room + Send + Sync, R: Threads + Wait + Sync>(
 
 fn main(rt: HostRuntime) -> anyhow::Result<()> {
     let alloc = rt.alloc();
-    let empty = Listing::empty(alloc, Config::new(1, 2, 100, 65_536)?)?;
+    let empty = Listing::empty(alloc, Config::default().with_capacity(2)?)?;
     let made = take_bookings::<Brand, _>(&rt, Opening::of(alloc, &empty, true, NoGate)?)?;
     let own = made.midst.iter().all(|told| (60..=120).contains(told));
     println!(rt; "each was told of its own 60 acts in the midst: {own}")?;

@@ -25,7 +25,7 @@ fn fill<R: Wait>(rt: &R, file: &HashFile<NoGate>, hand: &mut Hand) -> anyhow::Re
 
 fn main(rt: HostRuntime) -> anyhow::Result<()> {
     let alloc = rt.alloc();
-    let config = Config::new(2, 2, 100, 65_536)?;
+    let config = Config::default().with_initial(2)?.with_capacity(2)?;
 
     // A file is filled, closed and listed.
     let (file, mut hand) = HashFile::create(alloc, config, false, NoGate)?;

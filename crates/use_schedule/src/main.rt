@@ -7,7 +7,7 @@ use lh_core::{Event, SplitState, World, run};
 use lh_page::{Key, Value};
 
 fn main(rt: HostRuntime) -> anyhow::Result<()> {
-    let config = Config::new(1, 2, 100, 65_536)?;
+    let config = Config::default().with_capacity(2)?;
     let insert = Call::Insert(Key::new(b"b")?, Value::new(b"1")?);
 
     // Place 0 reads the root; then a whole split passes; then place 0 goes on.

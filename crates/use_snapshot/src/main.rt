@@ -120,7 +120,7 @@ fn save<R: Wait>(rt: &R, alloc: Global, moment: Closed) -> anyhow::Result<u64> {
 
 fn main(rt: HostRuntime) -> anyhow::Result<()> {
     let alloc = rt.alloc();
-    let config = Config::new(1, 2, 100, 65_536)?;
+    let config = Config::default().with_capacity(2)?;
     let (file, hand) = HashFile::create(alloc, config, true, NoGate)?;
     let (mut hand, moments) = claim_and_look(&rt, alloc, &file, hand).context(
         "a thread or a look was refused",

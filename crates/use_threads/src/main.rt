@@ -68,7 +68,7 @@ fn claim_in_threads<R: Threads + Wait + Sync>(rt: &R, file: &File, hand: Hand) -
 
 fn main(rt: HostRuntime) -> anyhow::Result<()> {
     let alloc = rt.alloc();
-    let config = Config::new(1, 2, 100, 65_536)?;
+    let config = Config::default().with_capacity(2)?;
     let (file, hand) = HashFile::create(alloc, config, true, NoGate)?;
     let hand = claim_in_threads(&rt, &file, hand).context("a thread was refused")?;
     let (closed, acts) = file.close(&rt, hand)?;

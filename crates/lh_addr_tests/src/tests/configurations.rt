@@ -31,3 +31,20 @@ fn a_split_is_wanted_above_the_threshold(rt: HostRuntime) -> Result<(), Fail> {
     assert!(rt; !config.wants_split(u64::MAX, 3));
     Ok(())
 }
+
+#[test]
+fn a_setting_is_changed_by_its_name(rt: HostRuntime) -> Result<(), Fail> {
+    let config = Config::default();
+    assert_eq!(rt; Config::new(1, 14, 100, 65_536), Ok(config));
+    let config = config.with_initial(3).ok().ok_or("initial")?;
+    let config = config.with_capacity(2).ok().ok_or("capacity")?;
+    let config = config.with_load(80).ok().ok_or("load")?;
+    assert_eq!(rt; config.with_max(7), Config::new(3, 2, 80, 7));
+    assert_eq!(rt; config.with_initial(257), Err(Range::Initial));
+    assert_eq!(rt; config.with_capacity(0), Err(Range::Capacity));
+    assert_eq!(rt; config.with_load(9), Err(Range::Load));
+    assert_eq!(rt; config.with_max(2), Err(Range::Max));
+    let small = config.with_max(3).ok().ok_or("max")?;
+    assert_eq!(rt; small.with_initial(4), Err(Range::Max));
+    Ok(())
+}
