@@ -9,13 +9,14 @@ use Rattle.lh_page.specs.declared.pair.Pair.{Pair}
 use Rattle.lh_page.specs.Records.{keys_of}
 use Rattle.lh_bucket.specs.Bucket.{Seen}
 use Rattle.lh_bucket.specs.Listing.{Lists, list_at}
-use Rattle.lh_file.specs.Acts.{stamps_of}
-use Rattle.lh_file.specs.declared.act.ActLine.{ActLine}
+use Rattle.lh_settling.specs.Acts.{stamps_of}
+use Rattle.lh_settling.specs.ClosedFile.{ClosedFile}
+use Rattle.lh_settling.specs.SettleFault.{IsMissing}
+use Rattle.lh_settling.specs.Settled.{IsSettled}
+use Rattle.lh_settling.specs.declared.act.ActLine.{ActLine}
 use Rattle.lh_file.specs.FileState.{FileState}
 use Rattle.lh_file.specs.History.History.{History}
 use Rattle.lh_file.specs.History.Log.{lines_of}
-use Rattle.lh_file.specs.Settling.ClosedFile.{ClosedFile}
-use Rattle.lh_file.specs.Settling.Settled.{IsSettled}
 use Rattle.lh_file.specs.Snapshots.Moments.{IsSnapshot}
 use Rattle.lh_file.specs.Words.HandState.{HandState}
 use Rattle.lh_file.specs.Words.Rule.{Each, IsRule}
@@ -69,3 +70,10 @@ HasHistory opening closed acts hand =
     (log : List Entry) × IsSnapshot opening closed hand.entries hand.logs log
     × (hand.view.left + length hand.acts ≡ 2 ^ 63 → NoneLent hand.entries →
     IsSettled opening closed acts (lines_of log) × NoneLent log)
+
+-- No stamp is missing where the file records and all calls came home to the hand that closed it.
+abbrev pub NoneMissingLaw : Type 0
+NoneMissingLaw =
+    (hand : HandState) (closed : ClosedFile) (stamp : ℕ) → hand.recording ≡ true →
+    hand.view.left + length hand.acts ≡ 2 ^ 63 → NoneIsLost hand closed.stamps →
+    IsMissing closed hand.acts stamp → ⊥

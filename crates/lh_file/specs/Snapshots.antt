@@ -1,5 +1,4 @@
 -- The records of a running file: of all its buckets at one moment, or bucket by bucket
-pub mod Acts
 pub mod Hands
 pub mod Moments
 pub mod Held

@@ -4,13 +4,11 @@ ghost use Rattle.lh_file.specs.Closing.{NoneIsLost, AreGathered, HasHistory};
 ghost use Rattle.lh_file.specs.FileState.{IsOf};
 ghost use Rattle.lh_file.specs.HashFile.{IsClosing};
 
-use crate::act::Acts;
 use crate::buckets::room::Room;
 use crate::buckets::segments::Segments;
 use crate::buckets::slot::Slot;
 use crate::file::HashFile;
 use crate::gate::Gate;
-use crate::settling::closed_file::Closed;
 use crate::words::Words;
 use crate::words::hand::Hand;
 use crate::words::mode::Mode;
@@ -20,6 +18,8 @@ use lh_addr::RootWord;
 use lh_addr::laws::address_is_only_bucket;
 use lh_bucket::{Memory, copied_pairs};
 use lh_page::Pair;
+use lh_settling::laws::{acts_have_an_order, full_buckets_are_placed};
+use lh_settling::{Acts, Closed};
 use std::alloc::Global;
 use std::sync::Wait;
 
@@ -120,8 +120,10 @@ impl<G: Gate, M: Mode, J: Room> HashFile<G, M, J> {
         ensures history { IfOk result (λ r. M.traced ≡ true → r.0.gathered ≡ true → r.0.root % 2 ≡ 0 →
             HasHistory self.state.listing r.0 r.1 hand) }
     {
-        // Its law: a code has one address.
+        // Their laws: a code has one address, acts have an order, and full buckets hold no key twice together.
         address_is_only_bucket();
+        acts_have_an_order();
+        full_buckets_are_placed();
         let HashFile {
             words,
             segments,

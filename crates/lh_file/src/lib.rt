@@ -25,7 +25,6 @@
 //! ```
 #![tactic(auto)]
 
-mod act;
 mod buckets;
 mod calls;
 mod close;
@@ -35,11 +34,10 @@ mod file;
 mod gate;
 pub mod laws;
 mod opening;
-mod settling;
+pub mod settle_laws;
 mod snapshots;
 mod words;
 
-pub use act::{ActLine, Acts};
 pub use buckets::room::{Loose, Room};
 pub use buckets::segment::Segment;
 pub use calls::coded::{Coded, CodedKey};
@@ -48,14 +46,10 @@ pub use fault::{FileFault, JoinFault};
 pub use file::HashFile;
 pub use gate::{Gate, NoGate, Point};
 pub use lh_bucket::Memory;
+pub use lh_settling::{ActLine, Acts, Closed, History, SettleFault, settle, settle_snapshot};
 pub use opening::Opening;
-pub use settling::closed_file::Closed;
-pub use settling::history::History;
-pub use settling::settle_fault::SettleFault;
-pub use settling::{settle, settle_laws};
 pub use snapshots::bucket_copy::BucketCopy;
 pub use snapshots::scan::Scan;
-pub use snapshots::settled::settle_snapshot;
 pub use words::Words;
 pub use words::hand::Hand;
 pub use words::load::Load;

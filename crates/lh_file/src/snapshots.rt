@@ -2,6 +2,5 @@
 pub(crate) mod bucket_copy;
 mod held;
 pub(crate) mod scan;
-pub(crate) mod settled;
 pub(crate) mod snapshot;
 mod visit;

@@ -24,7 +24,6 @@ pub(crate) mod tokens;
 mod traced_looks;
 pub(crate) mod view;
 
-use crate::act::ActLine;
 use crate::words::hand::Hand;
 use crate::words::mode::{Mode, Untraced};
 use crate::words::numbers::FileWords;
@@ -33,6 +32,7 @@ use crate::words::seat_view::SeatView;
 use atomic_table::Table;
 use lh_addr::Config;
 use lh_bucket::{Listing, Memory};
+use lh_settling::ActLine;
 use std::alloc::Global;
 use std::marker::Model;
 

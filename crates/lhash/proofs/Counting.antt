@@ -5,8 +5,8 @@ use Rattle.std.proofs.lemmas.Grind.{take_at_read}
 use Rattle.std.proofs.lemmas.List.{get_or-map, length-map}
 use Rattle.std.proofs.lemmas.Option.{get_or_from_slice_get}
 use Rattle.lh_bucket.specs.declared.call.Reply.{Reply}
-use Rattle.lh_file.specs.Acts.{replies_of}
-use Rattle.lh_file.specs.declared.act.ActLine.{ActLine}
+use Rattle.lh_settling.specs.Acts.{replies_of}
+use Rattle.lh_settling.specs.declared.act.ActLine.{ActLine}
 use Rattle.lhash.specs.Driven.{Counts}
 use Rattle.lhash.specs.declared.driven.Driven.{Driven}
 

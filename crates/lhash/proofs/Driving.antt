@@ -9,17 +9,16 @@ use Rattle.std.proofs.lemmas.List.Sorted.{length_permutation}
 use Rattle.lh_addr.specs.Settings.{Settings}
 use Rattle.lh_bucket.specs.Listing.{Lists}
 use Rattle.lh_bucket.specs.declared.call.Call.{Call as CallOf}
-use Rattle.lh_file.specs.Acts.{calls_of, replies_of, IsInOrder}
+use Rattle.lh_settling.specs.Acts.{calls_of, replies_of, IsInOrder, acts_before}
+use Rattle.lh_settling.specs.ClosedFile.{ClosedFile}
+use Rattle.lh_settling.specs.Settled.{IsHistory, IsSettled}
+use Rattle.lh_settling.specs.declared.act.ActLine.{ActLine}
+use Rattle.lh_settling.specs.declared.settle_fault.SettleFault.TheVariants as settle
 use Rattle.lh_file.specs.Closing.{NoneLent, HasHistory}
 use Rattle.lh_file.specs.FileState.{FileState}
 use Rattle.lh_file.specs.History.Log.{lines_of}
-use Rattle.lh_file.specs.Settling.ClosedFile.{ClosedFile}
-use Rattle.lh_file.specs.Settling.Settled.{IsHistory, IsSettled}
-use Rattle.lh_file.specs.Snapshots.Acts.{acts_before}
 use Rattle.lh_file.specs.Snapshots.Settled.{BeforeLaw, IsSettledFirst, SnapshotLaw}
 use Rattle.lh_file.specs.Words.HandState.{HandState}
-use Rattle.lh_file.specs.declared.act.ActLine.{ActLine}
-use Rattle.lh_file.specs.declared.settling.settle_fault.SettleFault.TheVariants as settle
 use Rattle.lh_script.specs.Commands.{command}
 use Rattle.lh_subcommands.specs.Devices.{TakesBeginning}
 use Rattle.lhash.specs.Driven.{driven_text, snapshots_text}

@@ -2,10 +2,10 @@
 use Rattle.std.proofs.Common.{◌≡◌, ◌∙◌, ℕ, ◌%◌, List, [], ◌∷◌, ◌++◌, All, inl, inr, refl, sym, ap, subst}
 use Rattle.std.specs.Prelude.{Contains}
 use Rattle.std.proofs.lemmas.List.Elements.{All-weaker, All-push, Contains-append_left, Contains-append_right, Contains-push}
+use Rattle.lh_settling.specs.ClosedFile.{ClosedFile}
 use Rattle.lh_file.specs.Closing.{NoneLent}
 use Rattle.lh_file.specs.FileState.{FileState, IsOf}
 use Rattle.lh_file.specs.History.Own.{IsOwn, share_of}
-use Rattle.lh_file.specs.Settling.ClosedFile.{ClosedFile}
 use Rattle.lh_file.specs.Snapshots.Hands.{HasSurveyed}
 use Rattle.lh_file.specs.Snapshots.Moments.{IsSnapshot}
 use Rattle.lh_file.specs.Words.HandState.{HandState, IsJoined, knowing, told_of}

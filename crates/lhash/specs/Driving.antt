@@ -4,17 +4,16 @@ use Rattle.std.specs.Io.KnownBytes.{Keeps}
 use Rattle.lh_addr.specs.Settings.{Settings}
 use Rattle.lh_bucket.specs.declared.call.Call.{Call as CallOf}
 use Rattle.lh_bucket.specs.Listing.{Lists, count_of}
-use Rattle.lh_file.specs.Acts.{replies_of}
-use Rattle.lh_file.specs.Settling.ClosedFile.{ClosedFile}
-use Rattle.lh_file.specs.Settling.SettleFault.{IsDue}
-use Rattle.lh_file.specs.Settling.Settled.{IsSettled, Settled}
-use Rattle.lh_file.specs.Snapshots.Acts.{acts_before}
+use Rattle.lh_settling.specs.Acts.{replies_of, acts_before}
+use Rattle.lh_settling.specs.ClosedFile.{ClosedFile}
+use Rattle.lh_settling.specs.SettleFault.{IsDue}
+use Rattle.lh_settling.specs.Settled.{IsSettled, Settled}
+use Rattle.lh_settling.specs.declared.act.ActLine.{ActLine}
+use Rattle.lh_settling.specs.declared.settle_fault.SettleFault.TheVariants as settle
+use Rattle.lh_settling.specs.declared.settle_fault.SettleFault.{SettleFault}
 use Rattle.lh_file.specs.Snapshots.Settled.{IsSettledFirst}
-use Rattle.lh_file.specs.declared.act.ActLine.{ActLine}
 use Rattle.lh_file.specs.declared.fault.FileFault.{FileFault}
 use Rattle.lh_file.specs.declared.fault.FileFault.TheVariants as file
-use Rattle.lh_file.specs.declared.settling.settle_fault.SettleFault.{SettleFault}
-use Rattle.lh_file.specs.declared.settling.settle_fault.SettleFault.TheVariants as settle
 use Rattle.lh_script.specs.Commands.{command}
 use Rattle.lhash.specs.Driven.{Counts, driven_text, snapshots_text}
 use Rattle.lh_subcommands.specs.Run.{EndsTelling}

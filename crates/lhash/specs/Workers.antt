@@ -1,10 +1,10 @@
 -- What the threads of a run do of its script, and what they leave of their hands
 use Rattle.std.specs.Prelude.{◌≡◌, ℕ, ◌-◌, ◌%◌, false, List, None, All, Contains, IfSome, length}
 use Rattle.std.specs.Int.{div_ceil}
+use Rattle.lh_settling.specs.ClosedFile.{ClosedFile}
 use Rattle.lh_file.specs.Calls.Served.{IsNotSpent}
 use Rattle.lh_file.specs.FileState.{FileState}
 use Rattle.lh_file.specs.History.Own.{IsOwn, share_of}
-use Rattle.lh_file.specs.Settling.ClosedFile.{ClosedFile}
 use Rattle.lh_file.specs.Snapshots.Moments.{IsSnapshot}
 use Rattle.lh_file.specs.Words.HandState.{HandState}
 use Rattle.lh_file.specs.declared.words.seat_view.Entry.{Entry}

@@ -1,6 +1,6 @@
 //! The subcommand `drive`: a command script in threads, settled, from its bytes to its totals.
 ghost use Rattle.std.specs.Prelude.{◌≡◌, ◌%◌, ◌≤◌, true, All, IfOk, IfErr, IfSome, OnOk, length};
-ghost use Rattle.lh_file.specs.Acts.{calls_of};
+ghost use Rattle.lh_settling.specs.Acts.{calls_of};
 ghost use Rattle.lh_file.specs.Buckets.Rooms.{IsRoomOf};
 ghost use Rattle.lhash.specs.Driving.{AreSettled, EndsDriving, IsDriven, IsDrivenWith, IsDriveFault, IsDriveFaultWith, IsFaultOfOne, IsSettledBefore, empty_file, ended_by, unsettled_as};
 

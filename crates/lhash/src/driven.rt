@@ -1,7 +1,7 @@
 //! The totals of a settled run.
 ghost use Rattle.std.specs.Prelude.{◌≡◌, ◌-◌, ◌<◌, ◌^◌, ◌++◌, ◌∷◌, [], List, Some, length};
 ghost use Rattle.lh_bucket.specs.declared.call.Reply.{Reply as ReplyOf};
-ghost use Rattle.lh_file.specs.Acts.{replies_of};
+ghost use Rattle.lh_settling.specs.Acts.{replies_of};
 ghost use Rattle.lhash.specs.Driven.{Counts, driven_text, replies_text, snapshots_text};
 
 use lh_bucket::Reply;

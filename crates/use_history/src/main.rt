@@ -5,7 +5,7 @@
 ghost use Rattle.std.specs.Prelude.{true, IfOk, IfSome};
 ghost use Rattle.lh_file.specs.Buckets.Rooms.{IsRoomOf};
 ghost use Rattle.lh_file.specs.History.Own.{IsOwn};
-ghost use Rattle.lh_file.specs.Settling.Settled.{Settled};
+ghost use Rattle.lh_settling.specs.Settled.{Settled};
 ghost use Rattle.use_history.specs.Booked.{IsBooked};
 
 use anyhow::Context;

@@ -24,20 +24,21 @@ use Rattle.lh_bucket.specs.Listing.{list_at}
 use Rattle.lh_bucket.specs.PlainMap.{Records, after, replies, outcome}
 use Rattle.lh_bucket.specs.Records.{map_of}
 use Rattle.lh_bucket.proofs.PlainMaps.{kept_alike}
-use Rattle.lh_file.specs.Acts.{stamps_of, calls_of, replies_of, IsInOrder}
+use Rattle.lh_settling.specs.Acts.{stamps_of, calls_of, replies_of, IsInOrder}
+use Rattle.lh_settling.specs.Laws.{OrderLaw, FilledLaw}
+use Rattle.lh_settling.specs.Settled.{map_in, HoldsMap, IsSettled}
+use Rattle.lh_settling.specs.declared.act.ActLine.{ActLine}
 use Rattle.lh_file.specs.Closing.{IsEnd, AreGathered, NoneLent, HasHistory}
 use Rattle.lh_file.specs.FileState.{FileState}
 use Rattle.lh_file.specs.History.Buckets.{belongs, Mirrors, IsPlacedIn}
 use Rattle.lh_file.specs.History.History.{moves_in}
 use Rattle.lh_file.specs.History.Log.{passed, left_after, IsLegalLog, lines_of, stamps_in, StandsIn}
-use Rattle.lh_file.specs.Settling.Settled.{map_in, HoldsMap, IsSettled}
 use Rattle.lh_file.specs.Snapshots.Moments.{IsSnapshot}
 use Rattle.lh_file.specs.Words.Hand.{hand_state_of, IsHand}
 use Rattle.lh_file.specs.Words.HandState.{HandState}
 use Rattle.lh_file.specs.Words.Rule.{Each, rights_of}
 use Rattle.lh_file.specs.Words.Sums.{total, times, once_below}
 use Rattle.lh_file.specs.Words.Table.{shown}
-use Rattle.lh_file.specs.declared.act.ActLine.{ActLine}
 use Rattle.lh_file.specs.declared.words.hand.Hand.TheInside as hand
 use Rattle.lh_file.specs.declared.words.numbers.FileWords.{FileWords}
 use Rattle.lh_file.specs.declared.words.seat_view.Entry.{Entry}
@@ -45,10 +46,7 @@ use Rattle.lh_file.specs.declared.words.seat_view.SeatView.{SeatView}
 use Rattle.lh_file.specs.declared.words.view.View.{View}
 use Rattle.lh_file.proofs.OfHistory.Logs.{stamps_of-lines}
 use Rattle.lh_file.proofs.OfHistory.Opening.{back_at, total-map, addressed}
-use Rattle.lh_file.proofs.OfSettling.NoneMissing.{all_drawn}
-use Rattle.lh_file.proofs.OfSettling.Orders.{no_act}
-use Rattle.lh_file.proofs.OfSettling.Placed.{filled_placed}
-use Rattle.lh_file.proofs.OfSettling.Sorting.{order_of}
+use Rattle.lh_file.proofs.OfHistory.NoneMissing.{no_act, all_drawn}
 use Rattle.lh_file.proofs.OfWords.LastWords.{rule_of, none-lost}
 use Rattle.lh_file.proofs.OfWords.Lists.{total-le, term_le}
 
@@ -157,7 +155,7 @@ stamp_read history i d z below = get_or_default (stamps_of history) i d z.stamp 
 abbrev InLog : List Entry → ActLine → Type 0
 InLog log a = (e : Entry) × (e.line ≡ a) × (get_elem? log a.stamp ≡ some e) × (e.lent ≡ false)
 
-module _ (log entries : List Entry) (q : ℕ) (len : length log ≡ q) (stand : Each entries (StandsIn log)) (none : NoneLent entries)
+module _ (order_of : OrderLaw) (log entries : List Entry) (q : ℕ) (len : length log ≡ q) (stand : Each entries (StandsIn log)) (none : NoneLent entries)
     (once : (x : ℕ) → times x (stamps_in entries) ≡ once_below x q) where
   all_in : All (InLog log) (lines_of entries)
   all_in k d below =
@@ -198,10 +196,10 @@ nobody file last d e whole = let h = e.history refl in let g = total-le moves_in
     let t = total-map rights_of shown e.seats in let r = e.rule.right in omega arith
 
 -- a traced file that was closed with all buckets gathered holds what its log leaves, whoever made the acts
-leaves : AddressLaw → (file : FileState) (last : FileWords) (d : SeatView) (lists : List (List Pair)) (whole : ℕ) (clean gathered : Bool) → 1 ≤ file.config.initial → (e : IsEnd true file last d) → last.root % 2 ≡ 0
+leaves : AddressLaw → FilledLaw → (file : FileState) (last : FileWords) (d : SeatView) (lists : List (List Pair)) (whole : ℕ) (clean gathered : Bool) → 1 ≤ file.config.initial → (e : IsEnd true file last d) → last.root % 2 ≡ 0
     → AreGathered d.parts lists whole clean → clean ≡ true → whole ≡ buckets_of last.root
     → IsSnapshot file.listing (record { config = file.config; root = last.root; stamps = last.stamps; lists = lists; gathered = gathered }) d.entries d.logs (e.history refl).log
-leaves law file last d lists whole clean gathered pos e even g tidy all =
+leaves law placed file last d lists whole clean gathered pos e even g tidy all =
     let h = e.history refl in let N : ℕ = file.config.initial in let S : ℕ = buckets_of last.root in let m : Records = map_in file.listing in
     let least : N ≤ S = e.rule.least in
     let same : file.listing.config.initial ≡ N = ap (λ (s : Settings). s.initial) e.config in
@@ -211,20 +209,20 @@ leaves law file last d lists whole clean gathered pos e even g tidy all =
     (let t = some_at d.parts b (let c = g.count in omega arith) in let r = g.each b t.0 t.1 in
     ap map_of r.1 ∙ home law N S (left_after m h.log) t.0 b pos least (at t.0 b t.1) r.0 (h.mirror e.id d e.here b t.0 t.1)) in (
       (h.size_is, h.legal, h.stand e.id d e.here, h.logs e.id d e.here),
-      filled_placed N S (left_after m h.log) lists (λ code. ((law N S code (address N S code) pos least).0 refl).0) each (λ b past. g.beyond tidy b (let c = all in omega arith)) g.distinct,
+      placed N S (left_after m h.log) lists (λ code. ((law N S code (address N S code) pos least).0 refl).0) each (λ b past. g.beyond tidy b (let c = all in omega arith)) g.distinct,
     )
 
 -- where all its calls are at home and no act was lent, it is settled
-settles : (file : FileState) (last : FileWords) (d : SeatView) (lists : List (List Pair)) (gathered : Bool) → (e : IsEnd true file last d) → last.root % 2 ≡ 0
+settles : OrderLaw → (file : FileState) (last : FileWords) (d : SeatView) (lists : List (List Pair)) (gathered : Bool) → (e : IsEnd true file last d) → last.root % 2 ≡ 0
     → NoneLent d.entries → d.view.left + length d.view.stamps ≡ 2 ^ 63
     → IsSnapshot file.listing (record { config = file.config; root = last.root; stamps = last.stamps; lists = lists; gathered = gathered }) d.entries d.logs (e.history refl).log
     → IsSettled file.listing (record { config = file.config; root = last.root; stamps = last.stamps; lists = lists; gathered = gathered }) (lines_of d.entries) (lines_of (e.history refl).log)
     × NoneLent (e.history refl).log
-settles file last d lists gathered e even none full held =
+settles order_of file last d lists gathered e even none full held =
     let h = e.history refl in let m : Records = map_in file.listing in
     let once : (x : ℕ) → times x (stamps_in d.entries) ≡ once_below x last.stamps = λ x.
     ap (times x) (sym (h.stamped e.id d e.here)) ∙ none-lost file.config last d.view (rule_of true file last d d.view e refl) full x in
-    let ord = ordered h.log d.entries last.stamps h.size_is (h.stand e.id d e.here) none once in
+    let ord = ordered order_of h.log d.entries last.stamps h.size_is (h.stand e.id d e.here) none once in
     let simple = plain m h.log ord.2 h.legal in (
       record {
         stamped = record { whole = even; order = ord.0; stamps = ord.1 };
@@ -272,18 +270,18 @@ none_gathered = record {
 }
 
 -- what was done with a traced file is its history, by the fields of the hand that closes it
-pub closes : AddressLaw → (traced : Bool) (file : FileState) (last : FileWords) (h : hand.Inside) (H : HandState) (d : SeatView) (lists : List (List Pair)) (whole : ℕ) (clean gathered : Bool) → hand_state_of h ≡ H → IsHand h → d ≡ record (h.seat.me.0) { parts = d.parts }
+pub closes : AddressLaw → OrderLaw → FilledLaw → (traced : Bool) (file : FileState) (last : FileWords) (h : hand.Inside) (H : HandState) (d : SeatView) (lists : List (List Pair)) (whole : ℕ) (clean gathered : Bool) → hand_state_of h ≡ H → IsHand h → d ≡ record (h.seat.me.0) { parts = d.parts }
     → 1 ≤ file.config.initial → IsEnd traced file last d → AreGathered d.parts lists whole clean → clean ≡ true → whole ≡ buckets_of last.root
     → traced ≡ true → last.root % 2 ≡ 0
     → HasHistory file.listing (record { config = file.config; root = last.root; stamps = last.stamps; lists = lists; gathered = gathered }) h.acts.items H
-closes law traced file last h H d lists whole clean gathered seen is kept pos e g tidy all on even =
+closes law order_of placed traced file last h H d lists whole clean gathered seen is kept pos e g tidy all on even =
     let own = h.seat.me.0 in
     let ends : IsEnd true file last d = subst (λ (b : Bool). IsEnd b file last d) on e in
     let log : List Entry = (ends.history refl).log in
     let view : d.view ≡ own.view = ap (λ (x : SeatView). x.view) kept in
     let entries : d.entries ≡ own.entries = ap (λ (x : SeatView). x.entries) kept in
     let told : d.logs ≡ H.logs = ap (λ (x : SeatView). x.logs) kept ∙ ap (λ (x : HandState). x.logs) seen in
-    let held : IsSnapshot file.listing (record { config = file.config; root = last.root; stamps = last.stamps; lists = lists; gathered = gathered }) d.entries d.logs log = leaves law file last d lists whole clean gathered pos ends even g tidy all in (
+    let held : IsSnapshot file.listing (record { config = file.config; root = last.root; stamps = last.stamps; lists = lists; gathered = gathered }) d.entries d.logs log = leaves law placed file last d lists whole clean gathered pos ends even g tidy all in (
       log,
       subst (λ es. IsSnapshot file.listing (record { config = file.config; root = last.root; stamps = last.stamps; lists = lists; gathered = gathered }) es H.logs log) (entries ∙ ap (λ (x : HandState). x.entries) seen)
           (subst (λ ls. IsSnapshot file.listing (record { config = file.config; root = last.root; stamps = last.stamps; lists = lists; gathered = gathered }) d.entries ls log) told held),
@@ -295,5 +293,5 @@ closes law traced file last h H d lists whole clean gathered seen is kept pos e 
           let a = ap length lines in let b = length-map own.entries (λ (x : Entry). x.line) in let c = length-map own.entries (λ (x : Entry). x.line.stamp) in let s = ap length is.entered in
           let v = ap (λ (u : View). u.left) view in let w = ap (λ (u : View). length u.stamps) view in omega arith) in
           subst (λ ls. IsSettled file.listing (record { config = file.config; root = last.root; stamps = last.stamps; lists = lists; gathered = gathered }) ls (lines_of log) × NoneLent log) (ap lines_of entries ∙ sym lines)
-          (settles file last d lists gathered ends even apart home held),
+          (settles order_of file last d lists gathered ends even apart home held),
     )

@@ -5,10 +5,10 @@ use lib.ListN.{get_elem?}
 use Rattle.lh_addr.specs.RootWord.{buckets_of}
 use Rattle.lh_bucket.specs.Bucket.{Seen}
 use Rattle.lh_bucket.specs.Listing.{Lists}
+use Rattle.lh_settling.specs.Settled.{map_in}
 use Rattle.lh_file.specs.History.Buckets.{bit, owns, owners_in, Mirrors, IsPlacedIn}
 use Rattle.lh_file.specs.History.History.{owners, moves_in, History}
 use Rattle.lh_file.specs.History.Log.{left_after, stamps_in, StandsIn, Begins}
-use Rattle.lh_file.specs.Settling.Settled.{map_in}
 use Rattle.lh_file.specs.Words.Rule.{Each, rights_of}
 use Rattle.lh_file.specs.Words.Seats.{holder, lessened_seat, branch_seat, joined_seats}
 use Rattle.lh_file.specs.Words.Sums.{total}

@@ -11,10 +11,10 @@ use Rattle.lh_addr.specs.Growth.{hash_at, level, pointer, level_of, RootLaw, Spl
 use Rattle.lh_addr.specs.RootWord.{buckets_of}
 use Rattle.lh_bucket.specs.Bucket.{Seen}
 use Rattle.lh_bucket.specs.Listing.{Lists}
+use Rattle.lh_settling.specs.Settled.{map_in}
 use Rattle.lh_file.specs.History.Buckets.{bit, owns, owners_in, Mirrors, HasDivided, IsPlacedIn, IsNextSplit}
 use Rattle.lh_file.specs.History.History.{owners, moves_in, History}
 use Rattle.lh_file.specs.History.Log.{left_after, stamps_in, StandsIn, Begins}
-use Rattle.lh_file.specs.Settling.Settled.{map_in}
 use Rattle.lh_file.specs.Words.Rule.{Each, rights_of, words_of}
 use Rattle.lh_file.specs.Words.Seats.{mover, upper_half}
 use Rattle.lh_file.specs.Words.Sums.{total}

@@ -14,11 +14,11 @@ use Rattle.lh_bucket.specs.Bucket.{Seen}
 use Rattle.lh_bucket.specs.Laws.{PlacedLaw}
 use Rattle.lh_bucket.specs.Listing.{Lists, IsListing, size}
 use Rattle.lh_bucket.proofs.PlainMaps.{kept_alike}
+use Rattle.lh_settling.specs.Settled.{map_in}
 use Rattle.lh_file.specs.Buckets.Segments.{start_of, end_of}
 use Rattle.lh_file.specs.History.Buckets.{bit, owns, belongs, owners_in, Mirrors, IsPlacedIn}
 use Rattle.lh_file.specs.History.History.{owners, moves_in, History}
 use Rattle.lh_file.specs.History.Log.{stamps_in, StandsIn, Begins}
-use Rattle.lh_file.specs.Settling.Settled.{map_in}
 use Rattle.lh_file.specs.Words.Dealing.{first_bucket_of, other_buckets_of, dealt_seat, dealt_token, buckets_from, undealt}
 use Rattle.lh_file.specs.Words.Plays.{Seated}
 use Rattle.lh_file.specs.Words.Rule.{Each, rights_of, words_of}

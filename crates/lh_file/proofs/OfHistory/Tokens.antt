@@ -9,10 +9,10 @@ use Rattle.atomic_table.proofs.Lists.{at_map, set_again}
 use Rattle.lh_addr.specs.RootWord.{buckets_of}
 use Rattle.lh_bucket.specs.Bucket.{Seen}
 use Rattle.lh_bucket.specs.Listing.{Lists}
+use Rattle.lh_settling.specs.Settled.{map_in}
 use Rattle.lh_file.specs.History.Buckets.{owners_in, Mirrors, IsPlacedIn}
 use Rattle.lh_file.specs.History.History.{owners, moves_in, History}
 use Rattle.lh_file.specs.History.Log.{left_after, stamps_in, StandsIn, Begins}
-use Rattle.lh_file.specs.Settling.Settled.{map_in}
 use Rattle.lh_file.specs.Words.Rule.{Each, rights_of, HasLimits, IsRule, words_of}
 use Rattle.lh_file.specs.Words.Seats.{holder, with_token, partless, token_of}
 use Rattle.lh_file.specs.Words.Sums.{total, times}

@@ -15,21 +15,22 @@ use Rattle.lh_addr.specs.Settings.{Settings}
 use Rattle.lh_page.specs.declared.pair.Pair.{Pair}
 use Rattle.lh_page.specs.Records.{keys_of, key_at}
 use Rattle.lh_bucket.specs.Bucket.{Head, Seen, HasOwnKeys}
+use Rattle.lh_bucket.specs.Laws.{KeyLaw}
 use Rattle.lh_bucket.specs.Listing.{Lists, EachPlace, IsHome, list_at}
 use Rattle.lh_bucket.specs.PlainMap.{Records}
 use Rattle.lh_bucket.specs.Records.{map_of}
+use Rattle.lh_settling.specs.ClosedFile.{ClosedFile, IsWhole}
+use Rattle.lh_settling.specs.Contents.{IsPlaced}
+use Rattle.lh_settling.specs.Laws.{FilledLaw}
+use Rattle.lh_settling.specs.Settled.{map_in}
 use Rattle.lh_file.specs.History.Buckets.{Mirrors, IsPlacedIn}
 use Rattle.lh_file.specs.History.Log.{left_after}
 use Rattle.lh_file.specs.History.Told.{IsSurveyed}
-use Rattle.lh_file.specs.Settling.ClosedFile.{ClosedFile}
-use Rattle.lh_file.specs.Settling.Contents.{IsPlaced}
-use Rattle.lh_file.specs.Settling.Settled.{map_in}
-use Rattle.lh_file.specs.Snapshots.Moments.{IsWhole, IsSnapshot}
+use Rattle.lh_file.specs.Snapshots.Moments.{IsSnapshot}
 use Rattle.lh_file.specs.Snapshots.Held.{head_in, AreBucketsOf}
 use Rattle.lh_file.specs.Words.Rule.{Each}
 use Rattle.lh_file.specs.declared.words.seat_view.Entry.{Entry}
 use Rattle.lh_file.proofs.OfHistory.Closing.{home, index_past, some_at, no_key}
-use Rattle.lh_file.proofs.OfSettling.Placed.{filled_placed, values_there}
 
 -- the lists of a row of buckets
 abbrev pub lists_of : List Seen → List (List Pair)
@@ -43,7 +44,7 @@ pairs_at (x ∷ row) (suc i) b e = pairs_at row i b e
 none_past : (row : List Seen) (i : ℕ) → length row ≤ i → list_at (lists_of row) i ≡ []
 none_past row i past = index_past (lists_of row) [] i (omega (arith, length-map row (λ (x : Seen). x.pairs)))
 
-module _ (law : AddressLaw) (config : Settings) (row : List Seen) (pos : 1 ≤ config.initial) (least : config.initial ≤ length row) (is : AreBucketsOf config row) where
+module _ (law : AddressLaw) (keys : KeyLaw) (filled : FilledLaw) (config : Settings) (row : List Seen) (pos : 1 ≤ config.initial) (least : config.initial ≤ length row) (is : AreBucketsOf config row) where
   -- a bucket of the row has its number and level
   in_place : (b : ℕ) (p : Seen) → get_elem? row b ≡ some p → b < length row → IsPlacedIn config.initial (length row) p
   in_place b p at below =
@@ -70,7 +71,7 @@ module _ (law : AddressLaw) (config : Settings) (row : List Seen) (pos : 1 ≤ c
       let lists : list_at (lists_of row) b ≡ p.pairs = pairs_at row b p t.1 in
       let inside' : place < length p.pairs = omega (arith, ap length lists) in
       let own : HasOwnKeys (head_in config (length row) b) p.pairs (head_in config (length row) b).level = subst (λ (h : Head). HasOwnKeys h p.pairs h.level) head (is b p t.1).1.home in
-      let there : hash_at config.initial (level_of config.initial (length row) b) (code_of (key_at p.pairs place)) ≡ b = own.1 (key_at p.pairs place) (values_there p.pairs place inside') in
+      let there : hash_at config.initial (level_of config.initial (length row) b) (code_of (key_at p.pairs place)) ≡ b = own.1 (key_at p.pairs place) (keys p.pairs place inside') in
       subst (λ (ps : List Pair). address config.initial (length row) (code_of (key_at ps place)) ≡ b) (sym lists)
       ((law config.initial (length row) (code_of (key_at p.pairs place)) b pos least).1 (below, there)))
       (λ (past : length row ≤ b). absurd (omega (arith, inside, ap length (none_past row b past))))
@@ -79,7 +80,7 @@ module _ (law : AddressLaw) (config : Settings) (row : List Seen) (pos : 1 ≤ c
   -- where each bucket holds what a map has of its keys, all hold the map
   pub row_placed : (m : Records) → Each row (Mirrors m) → IsPlaced config.initial (length row) m (lists_of row)
   row_placed m held =
-      filled_placed config.initial (length row) m (lists_of row)
+      filled config.initial (length row) m (lists_of row)
       (λ code. ((law config.initial (length row) code (address config.initial (length row) code) pos least).0 refl).0)
       (λ b below. let t = some_at row b below in
       ap map_of (pairs_at row b t.0 t.1)

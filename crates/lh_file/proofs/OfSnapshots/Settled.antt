@@ -11,20 +11,17 @@ use Rattle.std.proofs.lemmas.List.Sorted.{IsPermutation-sym, All-permutation, le
 use mathlib.Core.Option.{some, some-ne-none}
 use lib.ListN.{get_elem?}
 use Rattle.atomic_table.proofs.Lists.{at_index}
-use Rattle.lh_file.specs.Acts.{stamps_of, IsInOrder}
+use Rattle.lh_settling.specs.Acts.{stamps_of, IsInOrder, acts_before}
+use Rattle.lh_settling.specs.Laws.{HistoryLaw, OrderLaw}
+use Rattle.lh_settling.specs.Settled.{map_in, HoldsMap, IsSettled}
+use Rattle.lh_settling.specs.declared.act.ActLine.{ActLine}
 use Rattle.lh_file.specs.Closing.{NoneLent}
 use Rattle.lh_file.specs.History.Log.{lines_of, Begins}
-use Rattle.lh_file.specs.Settling.Settled.{map_in, HoldsMap, IsSettled}
-use Rattle.lh_file.specs.Snapshots.Acts.{acts_before}
 use Rattle.lh_file.specs.Snapshots.Settled.{BeforeLaw, SnapshotLaw}
 use Rattle.lh_file.specs.Words.Sums.{times, once_below}
-use Rattle.lh_file.specs.declared.act.ActLine.{ActLine}
 use Rattle.lh_file.specs.declared.words.seat_view.Entry.{Entry}
 use Rattle.lh_file.proofs.OfHistory.Closing.{below_end, plain, same_rows, read_at, there_at, stamp_read}
-use Rattle.lh_file.proofs.OfSettling.NoneMissing.{times-map, all_drawn}
-use Rattle.lh_file.proofs.OfSettling.Orders.{no_act}
-use Rattle.lh_file.proofs.OfSettling.Sorting.{order_of}
-use Rattle.lh_file.proofs.OfSettling.Verdicts.{history_law}
+use Rattle.lh_file.proofs.OfHistory.NoneMissing.{no_act, times-map, all_drawn}
 use Rattle.lh_file.proofs.OfWords.Lists.{times-cons, once-yes, once-no, once-more, same-no}
 
 -- how often a stamp stands among the acts before
@@ -129,8 +126,8 @@ begun_at [] rest k e at = absurd (some-ne-none e (sym at))
 begun_at (x ∷ log) rest zero e at = at
 begun_at (x ∷ log) rest (suc k) e at = begun_at log rest k e at
 
-pub snapshot_law : SnapshotLaw
-snapshot_law opening snapshot closed entries logs log hand acts history even ((size, legal, stand, begin), held) kept (whole, ((long, lawful, all, begun), placed), settles) full none settled =
+pub snapshot_law : HistoryLaw → OrderLaw → SnapshotLaw
+snapshot_law history_law order_of opening snapshot closed entries logs log hand acts history even ((size, legal, stand, begin), held) kept (whole, ((long, lawful, all, begun), placed), settles) full none settled =
     let both = settles full none in
     let n : ℕ = snapshot.stamps in
     let same : history ≡ lines_of whole = history_law closed acts history (lines_of whole) settled.stamped both.0.stamped in

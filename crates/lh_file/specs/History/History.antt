@@ -2,9 +2,9 @@
 use Rattle.std.specs.Prelude.{◌≡◌, ℕ, ◌+◌, ◌≤◌, List, length}
 use Rattle.lh_addr.specs.RootWord.{buckets_of}
 use Rattle.lh_bucket.specs.Listing.{Lists}
+use Rattle.lh_settling.specs.Settled.{map_in}
 use Rattle.lh_file.specs.History.Buckets.{bit, owners_in, Mirrors, IsPlacedIn}
 use Rattle.lh_file.specs.History.Log.{left_after, IsLegalLog, stamps_in, StandsIn, Begins}
-use Rattle.lh_file.specs.Settling.Settled.{map_in}
 use Rattle.lh_file.specs.Words.Rule.{Each, rights_of}
 use Rattle.lh_file.specs.Words.Sums.{total}
 use Rattle.lh_file.specs.declared.words.numbers.FileWords.{FileWords}

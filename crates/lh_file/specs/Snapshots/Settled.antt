@@ -1,13 +1,13 @@
 -- A snapshot of a file whose acts are settled
 use Rattle.std.specs.Prelude.{◌≡◌, ◌+◌, ◌%◌, ◌^◌, List, Contains, length, take}
 use Rattle.lh_bucket.specs.Listing.{Lists}
+use Rattle.lh_settling.specs.Acts.{acts_before}
+use Rattle.lh_settling.specs.ClosedFile.{ClosedFile}
+use Rattle.lh_settling.specs.Settled.{IsHistory, IsSettled}
+use Rattle.lh_settling.specs.declared.act.ActLine.{ActLine}
 use Rattle.lh_file.specs.Closing.{NoneLent, HasHistory}
-use Rattle.lh_file.specs.Settling.ClosedFile.{ClosedFile}
-use Rattle.lh_file.specs.Settling.Settled.{IsHistory, IsSettled}
-use Rattle.lh_file.specs.Snapshots.Acts.{acts_before}
 use Rattle.lh_file.specs.Snapshots.Moments.{IsSnapshot}
 use Rattle.lh_file.specs.Words.HandState.{HandState}
-use Rattle.lh_file.specs.declared.act.ActLine.{ActLine}
 use Rattle.lh_file.specs.declared.words.seat_view.Entry.{Entry}
 
 -- The acts that came before the snapshot are settled with it, and their history is the first part of this one.

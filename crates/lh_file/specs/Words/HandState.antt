@@ -1,8 +1,8 @@
 -- What contracts see of a hand
 use Rattle.std.specs.Prelude.{◌≡◌, ℕ, Bool, List, [], ◌∷◌, ◌++◌}
 use Rattle.atomic_table.specs.Seated.{TableId}
+use Rattle.lh_settling.specs.declared.act.ActLine.{ActLine}
 use Rattle.lh_file.specs.Words.Views.{rooted, floored, branch, joined_views}
-use Rattle.lh_file.specs.declared.act.ActLine.{ActLine}
 use Rattle.lh_file.specs.declared.words.seat_view.Entry.{Entry}
 use Rattle.lh_file.specs.declared.words.view.View.{View}
 

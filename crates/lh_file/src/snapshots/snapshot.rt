@@ -4,21 +4,24 @@ ghost use Rattle.lh_addr.specs.RootWord.{buckets_of};
 ghost use Rattle.lh_file.specs.Calls.Served.{IsNotSpent};
 ghost use Rattle.lh_file.specs.FileState.{IsOf};
 ghost use Rattle.lh_file.specs.Snapshots.Hands.{HasSurveyed};
-ghost use Rattle.lh_file.specs.Snapshots.Moments.{IsWhole, IsSnapshot};
+ghost use Rattle.lh_file.specs.Snapshots.Moments.{IsSnapshot};
 ghost use Rattle.lh_file.specs.Words.HandState.{knowing, told_of};
 ghost use Rattle.lh_file.specs.declared.words.seat_view.Entry.{Entry};
+ghost use Rattle.lh_settling.specs.ClosedFile.{IsWhole};
 
 use crate::buckets::room::Room;
 use crate::buckets::segments::missing_bucket;
 use crate::fault::FileFault;
 use crate::file::HashFile;
 use crate::gate::{Gate, Point};
-use crate::settling::closed_file::Closed;
 use crate::snapshots::held::{check_held, copied_held};
 use crate::words::hand::Hand;
 use crate::words::mode::Mode;
 use lh_addr::RootWord;
 use lh_addr::laws::address_is_only_bucket;
+use lh_bucket::laws::records_make_a_map;
+use lh_settling::Closed;
+use lh_settling::laws::full_buckets_are_placed;
 use std::sync::Wait;
 
 impl<G: Gate, M: Mode, J: Room> HashFile<G, M, J> {
@@ -47,8 +50,10 @@ impl<G: Gate, M: Mode, J: Room> HashFile<G, M, J> {
         ensures fault { IfErr result IsNotSpent }
         ensures of { IsOf self.now.state hand.new }
     {
-        // Its law: a code has one address.
+        // Their laws: a code has one address, a map has each record's key, and full buckets hold no key twice together.
         address_is_only_bucket();
+        records_make_a_map();
+        full_buckets_are_placed();
         let words = &self.words;
         let buckets = words.buckets(hand);
         self.gate.at(Point::Read);

@@ -1,7 +1,7 @@
 //! What the rule knows of a seat of the table.
-use crate::act::ActLine;
 use crate::words::view::View;
 use lh_bucket::PagedBucket;
+use lh_settling::ActLine;
 use std::collections::LinkedList;
 
 /// An act as the log of a file has it.

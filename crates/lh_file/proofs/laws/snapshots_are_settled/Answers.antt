@@ -5,4 +5,4 @@ pub returns-clause-before : goal.returns-clause-before
 returns-clause-before c = before_law
 
 pub returns-clause-settled : goal.returns-clause-settled
-returns-clause-settled c = snapshot_law
+returns-clause-settled c = snapshot_law c.settling_has_one_answer.ensures.history c.acts_have_an_order.ensures

@@ -3,9 +3,9 @@ use Rattle.std.proofs.lemmas.Grind.{take_at_read}
 use Rattle.std.proofs.lemmas.List.{take_all}
 use Rattle.std.proofs.lemmas.List.Elements.{All-push}
 use Rattle.lh_bucket.specs.Listing.{Lists}
-use Rattle.lh_file.specs.Settling.ClosedFile.{ClosedFile}
-use Rattle.lh_file.specs.Settling.Settled.{IsSettled}
-use Rattle.lh_file.specs.Snapshots.Acts.{acts_before}
+use Rattle.lh_settling.specs.Acts.{acts_before}
+use Rattle.lh_settling.specs.ClosedFile.{ClosedFile}
+use Rattle.lh_settling.specs.Settled.{IsSettled}
 use Rattle.lhash.specs.Driving.{IsSettledBefore}
 use Rattle.lhash.proofs.drive.settle_each.Goals as goal
 

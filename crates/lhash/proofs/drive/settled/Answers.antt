@@ -1,7 +1,7 @@
 use Rattle.std.proofs.Common.{◌≡◌, ◌∙◌, ◌%◌, true, All, length, ap, refl, subst, rules}
 use Rattle.lh_addr.specs.Settings.{Settings}
 use Rattle.lh_bucket.specs.Listing.{Lists}
-use Rattle.lh_file.specs.Settling.Settled.{IsSettled}
+use Rattle.lh_settling.specs.Settled.{IsSettled}
 use Rattle.lhash.specs.Driving.{AreSettled, IsDriveFaultWith, IsFaultOfOne, IsSettledBefore}
 use Rattle.lhash.proofs.Driving.{first_of, replies_made, snapshot_fault}
 use Rattle.lhash.proofs.drive.settled.Goals as goal

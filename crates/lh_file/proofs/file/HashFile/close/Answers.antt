@@ -3,10 +3,10 @@ use Rattle.std.proofs.lemmas.Bool.{false≢true}
 use Rattle.std.proofs.lemmas.Map.Views.{exact_unsigned_eq}
 use Rattle.lh_addr.specs.RootWord.{buckets_of}
 use Rattle.lh_addr.specs.Settings.{Settings}
+use Rattle.lh_settling.specs.ClosedFile.{ClosedFile}
 use Rattle.lh_file.specs.Closing.{NoneIsLost, RuleHolds, HasHistory}
 use Rattle.lh_file.specs.FileState.{FileState}
 use Rattle.lh_file.specs.HashFile.{Shared}
-use Rattle.lh_file.specs.Settling.ClosedFile.{ClosedFile}
 use Rattle.lh_file.specs.Words.HandState.{HandState}
 use Rattle.lh_file.specs.Words.Plays.{Seated}
 use Rattle.lh_file.proofs.OfHistory.Closing.{closes}
@@ -41,7 +41,7 @@ returns-clause-history g c on all even =
     subst (λ (s : Shared). HasHistory s.state.listing c.ended-closed.result c.new.result c.args.hand) c.self.view_is
     (subst (λ ls. HasHistory c.self.inside.words.listing c.ended-closed.result ls c.args.hand) (sym c.new.ensures)
     (subst (λ (f : ClosedFile). HasHistory c.self.inside.words.listing f c.hand.inside.acts.items c.args.hand) (sym (c.ended-closed.ensures ∙ ap (λ (s : Settings). record { config = s; root = c.end-last.result.root; stamps = c.end-last.result.stamps; lists = map (λ v. v.items) c.in_ok-lists.field-0.lists.items; gathered = c.if-clean.gathered }) config))
-    (closes c.address_is_only_bucket.ensures g.M.Mode.traced c.self.inside.words c.end-last.result c.hand.inside c.args.hand c.copied.new.seat.me.0 (map (λ v. v.items) c.in_ok-lists.field-0.lists.items) c.in_ok-lists.field-0.whole c.in_ok-lists.field-0.clean c.if-clean.gathered
+    (closes c.address_is_only_bucket.ensures c.acts_have_an_order.ensures c.full_buckets_are_placed.ensures g.M.Mode.traced c.self.inside.words c.end-last.result c.hand.inside c.args.hand c.copied.new.seat.me.0 (map (λ v. v.items) c.in_ok-lists.field-0.lists.items) c.in_ok-lists.field-0.whole c.in_ok-lists.field-0.clean c.if-clean.gathered
     c.hand.view_is c.hand.invariant (ap (λ (m : Seated). m.0) c.copied.ensures.kept)
     (subst (λ (s : Settings). 1 ≤ s.initial) c.self.invariant.config c.self.invariant.in_range.initial.0)
     c.end-last.ensures c.in_ok-lists.ensures.gathered whole.0 whole.1 on (sym (ap (λ n. n % 2) root) ∙ even))))

@@ -4,9 +4,9 @@ use Rattle.std.specs.Sync.RwLock.{read_guard_value}
 use Rattle.lh_addr.specs.RootWord.{buckets_of}
 use Rattle.lh_addr.specs.Settings.{Settings}
 use Rattle.lh_bucket.specs.Bucket.{Seen}
+use Rattle.lh_settling.specs.ClosedFile.{ClosedFile}
 use Rattle.lh_file.specs.FileState.{FileState}
 use Rattle.lh_file.specs.HashFile.{Shared}
-use Rattle.lh_file.specs.Settling.ClosedFile.{ClosedFile}
 use Rattle.lh_file.specs.Snapshots.Held.{AreBucketsOf}
 use Rattle.lh_file.specs.Words.Hand.{hand_state_of}
 use Rattle.lh_file.specs.Words.HandState.{HandState, knowing, told_of}
@@ -51,7 +51,7 @@ returns-clause-config g c = ap (λ (f : ClosedFile). f.config) c.ended.ensures �
 
 pub returns-clause-whole : goal.returns-clause-whole
 returns-clause-whole g c =
-    row_whole c.address_is_only_bucket.ensures (config g c) (row g c) (pos g c) (least g c) (is_row g c) c.ended.result (ap (λ (f : ClosedFile). f.config) c.ended.ensures) (size g c) (lists g c) (even g c)
+    row_whole c.address_is_only_bucket.ensures c.records_make_a_map.ensures.keys c.full_buckets_are_placed.ensures (config g c) (row g c) (pos g c) (least g c) (is_row g c) c.ended.result (ap (λ (f : ClosedFile). f.config) c.ended.ensures) (size g c) (lists g c) (even g c)
 
 pub returns-clause-told : goal.returns-clause-told
 returns-clause-told g c =
@@ -69,7 +69,7 @@ returns-clause-told g c =
       (λ i. record (hand_state_of inside) { table = c.survey_held-acts.ensures.at i; view = (told.1 i).0.view; entries = (told.1 i).0.entries; logs = (told.1 i).0.logs })
           ∙ ap (λ (h : HandState). told_of h acts log) knows
           ∙ ap (λ k. told_of (knowing old n) k log) stamps,
-      λ on. row_snapshot c.address_is_only_bucket.ensures (config g c) (row g c) (pos g c) (least g c) (is_row g c) c.ended.result (ap (λ (f : ClosedFile). f.config) c.ended.ensures) (size g c) (lists g c) state.listing old.entries old.logs log
+      λ on. row_snapshot c.address_is_only_bucket.ensures c.records_make_a_map.ensures.keys c.full_buckets_are_placed.ensures (config g c) (row g c) (pos g c) (least g c) (is_row g c) c.ended.result (ap (λ (f : ClosedFile). f.config) c.ended.ensures) (size g c) (lists g c) state.listing old.entries old.logs log
           (surveyed_as _ state.listing _ c.ended.result.stamps _ old.entries _ old.logs _ (row g c) log
           (ap (λ (s : Shared). s.state.listing) c.self.view_is)
           stamps

@@ -1,6 +1,6 @@
 use Rattle.std.proofs.Common.{take, arith}
 use Rattle.std.proofs.lemmas.List.{length-take}
-use Rattle.lh_file.specs.Acts.{replies_of}
+use Rattle.lh_settling.specs.Acts.{replies_of}
 use Rattle.lhash.proofs.Counting.{counts-more}
 use Rattle.lhash.proofs.driven.Driven.of.Goals as goal
 

@@ -1,5 +1,5 @@
 use Rattle.std.proofs.Common.{◌≡◌, take}
-use Rattle.lh_file.specs.Acts.{replies_of}
+use Rattle.lh_settling.specs.Acts.{replies_of}
 use Rattle.lhash.specs.Driven.{Counts}
 use Rattle.lhash.proofs.driven.Driven.of.Given as goal
 

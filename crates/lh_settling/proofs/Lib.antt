@@ -1,0 +1,14 @@
+pub mod Away
+pub mod Choosing
+pub mod Deciding
+pub mod Exact
+pub mod FaultLaws
+pub mod Histories
+pub mod Orders
+pub mod Placed
+pub mod Sorting
+pub mod Tables
+pub mod Tallies
+pub mod Telling
+pub mod Values
+pub mod Verdicts

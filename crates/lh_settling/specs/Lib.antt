@@ -1,0 +1,9 @@
+pub mod Acts
+pub mod ClosedFile
+pub mod Contents
+pub mod Laws
+pub mod PlainMap
+pub mod Replay
+pub mod SettleFault
+pub mod Settled
+pub mod Tally
