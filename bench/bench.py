@@ -28,10 +28,13 @@ SHOWN = {"lh_bench": "this file", "twin_tags": "the same in C++", "dashmap": "Da
 TITLES = {"W1": "W1 inserts", "W2": "W2 searches", "W3": "W3, 1 insert to 19 searches", "W4": "W4, half are writes",
           "W5": "W5, to a file and back", "W6": "W6 new values", "W7": "W7, skewed searches", "W8": "W8, searches that miss",
           "W9": "W9, as W4, long records"}
-# One thread looks at all records while the others call; these have a table of their own.
+# One thread looks at all records while the others call, or reads the clock alone; these have tables of their own.
 LOOKS = {"W11": "W11, snapshots", "W12": "W12, scans"}
+BESIDE = {"W11": "snapshots", "W12": "scans", "W13": "the clock"}
+# From which class of lengths on the calls of a column took as long as its head says.
+AT_LEAST = {">= 4 us": 3, ">= 16 us": 5, ">= 64 us": 7, ">= 256 us": 9, ">= 4 ms": 13, ">= 16 ms": 15}
 # How many threads are tried, where --threads says nothing; the other workloads have one.
-THREADS = {"W3": "1,2,4", "W4": "1,2,4", "W7": "1,4", "W8": "1,4", "W9": "1,4", "W11": "1,3", "W12": "1,3"}
+THREADS = {"W3": "1,2,4", "W4": "1,2,4", "W7": "1,4", "W8": "1,4", "W9": "1,4", "W11": "1,3", "W12": "1,3", "W13": "1,3"}
 
 
 def numbers(text):
@@ -152,10 +155,9 @@ def picture(rows, path):
 def looks_table(workload, threads, rows, names):
     """What looks of one kind beside so many threads took, and what those threads did meanwhile."""
     columns = [("looks", "looks", 1, "%.0f"), ("shortest", "look_min_s", 1e3, "%.3f"), ("median", "look_median_s", 1e3, "%.3f"),
-               ("longest", "look_max_s", 1e3, "%.3f"), ("a write", "write_max_s", 1e3, "%.3f"),
-               ("a search", "search_max_s", 1e3, "%.3f"), ("Mop/s", "ops_per_s", 1e-6, "%.3f"),
+               ("longest", "look_max_s", 1e3, "%.3f"), ("Mop/s", "ops_per_s", 1e-6, "%.3f"),
                ("peak MB", "peak_bytes", 1e-6, "%.1f")]
-    print("\n%s beside %d thread%s: milliseconds of a look and of the longest calls, medians of the rounds"
+    print("\n%s beside %d thread%s: milliseconds of a look, medians of the rounds"
           % (LOOKS[workload], threads, "s" * (threads > 1)))
     print("%-15s" % "peer" + "".join("%10s" % head for head, *_ in columns) + "%10s" % "check")
     for name in names:
@@ -165,6 +167,25 @@ def looks_table(workload, threads, rows, names):
         if own:
             cells.append(next((r["check"][:8] for r in own if r["check"] != "ok"), "ok"))
             print("%-15s" % name + "".join("%10s" % c for c in cells))
+
+
+def lengths_table(kind, one, threads, rows, names):
+    """How many of a million timed calls of one kind took how long beside what one thread more does."""
+    print("\n%s of %d thread%s, by the clock: how many of a million took so long in all rounds, and the longest of a round (median)"
+          % (kind, threads, "s" * (threads > 1)))
+    heads = ["thousands", *list(AT_LEAST)[:4], "> 1 ms", *list(AT_LEAST)[4:], "ms"]
+    print("%-15s%-11s" % ("peer", "beside") + "".join("%11s" % head for head in heads))
+    for name in names:
+        for workload, beside in BESIDE.items():
+            good = [r for r in rows if (r["peer"], r["workload"], r["threads"], r["check"]) == (name, workload, threads, "ok")]
+            timed = sum(r[kind + "_timed"] for r in good)
+            if not timed:
+                continue
+            counts = [sum(sum(r[kind + "_by_length"][first:]) for r in good) for first in AT_LEAST.values()]
+            counts.insert(4, sum(r[kind + "_over_1ms"] for r in good))
+            cells = ["%.0f" % (timed / 1e3), *("%.2f" % (count / timed * 1e6) for count in counts),
+                     "%.3f" % (statistics.median(r["longest_%s_ns" % one] for r in good) / 1e6)]
+            print("%-15s%-11s" % (name, beside) + "".join("%11s" % cell for cell in cells))
 
 
 def tables(rows, to):
@@ -180,7 +201,11 @@ def table(rows, to):
     names += sorted({r["peer"] for r in rows} - set(names))
     for workload, threads in sorted({(r["workload"], r["threads"]) for r in rows if r["workload"] in LOOKS}):
         looks_table(workload, threads, rows, names)
-    rows = [r for r in rows if r["workload"] not in LOOKS]
+    timed = [r for r in rows if "writes_by_length" in r]
+    for threads in sorted({r["threads"] for r in timed}):
+        lengths_table("writes", "write", threads, timed, names)
+        lengths_table("searches", "search", threads, timed, names)
+    rows = [r for r in rows if r["workload"] not in BESIDE]
     if not rows:
         return
     good = [r for r in rows if r["check"] == "ok"]
@@ -244,8 +269,8 @@ def main():
     a = argparse.ArgumentParser(description=__doc__, formatter_class=argparse.RawDescriptionHelpFormatter)
     a.add_argument("--contestant", action="append", default=[], metavar="NAME=PATH", help="one more program")
     a.add_argument("--peers", default="", help="only these, with commas between them")
-    a.add_argument("--workloads", default="W1,W2,W3,W4,W5,W7,W8,W9,W11,W12")
-    a.add_argument("--threads", help="of W3, W4, W7 to W9, W11 and W12; 1,2,4, 1,4 or 1,3 if nothing is said")
+    a.add_argument("--workloads", default="W1,W2,W3,W4,W5,W7,W8,W9,W11,W12,W13")
+    a.add_argument("--threads", help="of W3, W4, W7 to W9 and W11 to W13; 1,2,4, 1,4 or 1,3 if nothing is said")
     a.add_argument("--records", default="3000,10000,1000000", help="the sizes, of which 3000 and 10000 lie in caches")
     a.add_argument("--seed", type=int, default=1)
     a.add_argument("--rounds", type=int, default=3)

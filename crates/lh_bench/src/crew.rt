@@ -3,7 +3,7 @@ ghost use Rattle.std.specs.Prelude.{◌≡◌, All, IfOk};
 ghost use Rattle.lh_file.specs.FileState.{IsOf};
 
 use crate::caller::{Caller, play, play_to_end};
-use crate::looks::{Looks, take_looks};
+use crate::looks::{Looks, read_clock, take_looks};
 use crate::meter::{Spent, Stopwatch};
 use crate::order::{Order, Workload};
 use crate::starter::Starter;
@@ -74,7 +74,7 @@ fn work<M: Mode, J: Room, R: Wait + Clock>(
         Workload::Skewed => play_part::<Skewed, M, J, R>(rt, starter, file, caller, order, thread),
         Workload::Misses => play_part::<Misses, M, J, R>(rt, starter, file, caller, order, thread),
         Workload::OneKey => play_part::<OneKey, M, J, R>(rt, starter, file, caller, order, thread),
-        Workload::Snapshots | Workload::Scans => {
+        Workload::Snapshots | Workload::Scans | Workload::Readings => {
             let stream = Mixed::of_thread(&order, thread);
             starter.stand_by(rt);
             play_to_end(rt, file, caller, stream, starter)
@@ -140,7 +140,24 @@ fn join_two<M: Mode, J: Room>(
     }
 }
 
-/// Looks while workers call, where the order has looks, and lets them end.
+/// What one thread more does while workers call: it looks, or reads the clock, where the order has that.
+fn look_on<M: Mode, J: Room, R: Wait + Clock + Files + AllocGlobal>(
+    rt: &R,
+    file: &HashFile<NoGate, M, J>,
+    hand: &mut Hand,
+    order: &Order,
+) -> Result<Looks>
+    requires { IsOf file.now.state hand.old }
+    ensures { IsOf file.now.state hand.new }
+{
+    match order.workload {
+        Workload::Snapshots | Workload::Scans => take_looks(rt, file, hand, order),
+        Workload::Readings => read_clock(rt),
+        _ => Ok(Looks::NONE),
+    }
+}
+
+/// The same, which then lets the workers end.
 fn look_beside<M: Mode, J: Room, R: Wait + Clock + Files + AllocGlobal>(
     rt: &R,
     starter: &Starter,
@@ -151,10 +168,7 @@ fn look_beside<M: Mode, J: Room, R: Wait + Clock + Files + AllocGlobal>(
     requires { IsOf file.now.state hand.old }
     ensures { IsOf file.now.state hand.new }
 {
-    if !order.workload.has_looks() {
-        return Ok(Looks::NONE);
-    }
-    let looks = take_looks(rt, file, hand, &order);
+    let looks = look_on(rt, file, hand, &order);
     starter.end();
     looks
 }
@@ -188,7 +202,7 @@ where
     if started != order.threads {
         bail!("no memory for {started} threads and one more");
     }
-    let calls = if order.workload.has_looks() {
+    let calls = if order.workload.times_calls() {
         all.tally.replies()
     } else {
         order.calls_of_thread().wrapping_mul(started)

@@ -210,3 +210,16 @@ pub fn take_looks<M: Mode, J: Room, R: Wait + Clock + Files + AllocGlobal>(
     looks.peak_bytes = peak_bytes(rt);
     Ok(looks.timed(times))
 }
+
+/// Reads the clock for a second, one reading after another, and takes no look.
+pub fn read_clock<R: Wait + Clock>(rt: &R) -> Result<Looks> {
+    let mut laps = Laps::start(rt)?;
+    let mut passed = 0_u64;
+    for _ in rt.forever() {
+        passed = passed.saturating_add(laps.next(rt)?);
+        if passed >= SECOND {
+            break;
+        }
+    }
+    Ok(Looks::NONE)
+}

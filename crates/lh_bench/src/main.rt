@@ -14,6 +14,7 @@ mod contents;
 mod crew;
 mod image;
 mod kinds;
+mod lengths;
 mod looks;
 mod meter;
 mod numbers;

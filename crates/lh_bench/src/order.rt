@@ -31,6 +31,8 @@ pub enum Workload {
     Snapshots,
     /// Scans, one after another, while other threads make mixed calls.
     Scans,
+    /// Readings of the clock, one after another, while other threads make mixed calls.
+    Readings,
     /// Searches for one record, by all threads.
     OneKey,
     /// The single atomic steps of a file's words.
@@ -42,7 +44,7 @@ pub enum Workload {
 }
 
 impl Workload {
-    pub const MEASURED: [Workload; 11] = [
+    pub const MEASURED: [Workload; 12] = [
         Workload::Inserts,
         Workload::Searches,
         Workload::MostlySearches,
@@ -54,6 +56,7 @@ impl Workload {
         Workload::LongRecords,
         Workload::Snapshots,
         Workload::Scans,
+        Workload::Readings,
     ];
 
     /// The word that asks for it.
@@ -70,6 +73,7 @@ impl Workload {
             Workload::LongRecords => "W9",
             Workload::Snapshots => "W11",
             Workload::Scans => "W12",
+            Workload::Readings => "W13",
             Workload::OneKey => "hot",
             Workload::Steps => "steps",
             Workload::Settling => "settle",
@@ -90,6 +94,7 @@ impl Workload {
             "W9" => Workload::LongRecords,
             "W11" => Workload::Snapshots,
             "W12" => Workload::Scans,
+            "W13" => Workload::Readings,
             "hot" => Workload::OneKey,
             "steps" => Workload::Steps,
             "settle" => Workload::Settling,
@@ -121,6 +126,7 @@ impl Workload {
                 | Workload::LongRecords
                 | Workload::Snapshots
                 | Workload::Scans
+                | Workload::Readings
                 | Workload::OneKey
                 | Workload::Steps
                 | Workload::All
@@ -130,6 +136,14 @@ impl Workload {
     /// Whether one thread more looks at all records while the others call.
     pub fn has_looks(self) -> bool {
         matches!(self, Workload::Snapshots | Workload::Scans)
+    }
+
+    /// Whether each call is timed, and calls go on until one thread more lets them end.
+    pub fn times_calls(self) -> bool {
+        matches!(
+            self,
+            Workload::Snapshots | Workload::Scans | Workload::Readings
+        )
     }
 
     /// Whether it may run on a traced file.
@@ -200,9 +214,9 @@ pub enum Asked {
     Told(Error),
 }
 
-const WORDS: [&str; 15] = [
-    "W1", "W2", "W3", "W4", "W5", "W6", "W7", "W8", "W9", "W11", "W12", "hot", "steps", "settle",
-    "all",
+const WORDS: [&str; 16] = [
+    "W1", "W2", "W3", "W4", "W5", "W6", "W7", "W8", "W9", "W11", "W12", "W13", "hot", "steps",
+    "settle", "all",
 ];
 
 fn number<'a>(
@@ -223,7 +237,9 @@ fn number<'a>(
 fn command<'a>(alloc: Global) -> Result<Command<'a>, Error> {
     let workload = Arg::new(alloc, "workload")
         .long("workload")
-        .help("What to measure")
+        .help(
+            "What to measure; beside W4's calls W11 takes snapshots, W12 takes scans, and W13 only reads the clock",
+        )
         .required(true)
         .action(ArgAction::Set)
         .value_parser(ValueParser::Names(&WORDS));

@@ -1,5 +1,6 @@
 //! The line that a run prints.
 
+use crate::lengths::Lengths;
 use crate::looks::Looks;
 use crate::meter::Spent;
 use crate::order::Order;
@@ -81,18 +82,22 @@ impl Outcome {
         if order.lends {
             print!(rt; ",\"lent\":true")?;
         }
-        let has_looks = order.workload.has_looks();
-        // How many looks there were, and calls beside them, differs from run to run.
+        let times_calls = order.workload.times_calls();
+        // How many calls are timed, and how many looks there are, differs from run to run.
         match form {
-            Form::Counts if has_looks => {}
+            Form::Counts if times_calls => {}
             _ => self.print_calls(rt, form)?,
         }
         match form {
-            Form::Line if has_looks => self.print_looks(rt)?,
+            Form::Line if order.workload.has_looks() => self.print_looks(rt)?,
+            _ => {}
+        }
+        match form {
+            Form::Line if times_calls => self.print_lengths(rt)?,
             _ => {}
         }
         let digest = self.tally.digest;
-        if threads == 1 && !has_looks {
+        if threads == 1 && !times_calls {
             print!(rt; ",\"digest\":\"{digest:016x}\"")?;
         } else {
             print!(rt; ",\"digest\":\"-\"")?;
@@ -115,15 +120,17 @@ impl Outcome {
     }
 
     fn print_looks(&self, rt: &impl Print) -> io::Result<()> {
-        let (looks, tally) = (&self.looks, &self.tally);
+        let looks = &self.looks;
         let (taken, sum, memory) = (looks.taken, looks.sum, looks.peak_bytes);
         let (shortest, median) = (Seconds(looks.shortest), Seconds(looks.median));
         let longest = Seconds(looks.longest);
-        let write = Seconds(tally.longest_write);
-        let search = Seconds(tally.longest_search);
         print!(rt; ",\"looks\":{taken},\"look_min_s\":{shortest},\"look_median_s\":{median}")?;
-        print!(rt; ",\"look_max_s\":{longest},\"write_max_s\":{write}")?;
-        print!(rt; ",\"search_max_s\":{search},\"sum\":{sum},\"peak_bytes\":{memory}")
+        print!(rt; ",\"look_max_s\":{longest},\"sum\":{sum},\"peak_bytes\":{memory}")
+    }
+
+    fn print_lengths(&self, rt: &impl Print) -> io::Result<()> {
+        print_lengths_of(rt, "write", "writes", &self.tally.writes)?;
+        print_lengths_of(rt, "search", "searches", &self.tally.searches)
     }
 
     fn print_counts(&self, rt: &impl Print) -> io::Result<()> {
@@ -152,6 +159,18 @@ impl Outcome {
         let processor = Seconds(self.spent.processor);
         eprintln!(rt; "{seconds} s, {processor} s of processor time")
     }
+}
+
+/// How many calls of a kind were timed, and how long they took. The kind goes by its words for one call and for several.
+fn print_lengths_of(
+    rt: &impl Print,
+    one: &str,
+    several: &str,
+    lengths: &Lengths,
+) -> io::Result<()> {
+    let (timed, over, longest) = (lengths.timed(), lengths.over_1ms, lengths.longest);
+    print!(rt; ",\"{several}_timed\":{timed},\"{several}_over_1ms\":{over}")?;
+    print!(rt; ",\"longest_{one}_ns\":{longest},\"{several}_by_length\":{lengths}")
 }
 
 /// The line of a workload that can't be run so.

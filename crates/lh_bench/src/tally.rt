@@ -1,5 +1,6 @@
 //! What the replies were.
 
+use crate::lengths::Lengths;
 use lh_bucket::Reply;
 
 const OFFSET_BASIS: u64 = 0xcbf2_9ce4_8422_2325;
@@ -17,9 +18,9 @@ pub struct Tally {
     pub replaced: u64,
     pub wrong: u64,
     pub digest: u64,
-    /// Nanoseconds that the longest search, and the longest other call, took, where calls are timed.
-    pub longest_search: u64,
-    pub longest_write: u64,
+    /// How long searches, and other calls, took, where calls are timed.
+    pub searches: Lengths,
+    pub writes: Lengths,
 }
 
 fn count(number: &mut u64) {
@@ -37,8 +38,8 @@ impl Tally {
             replaced: 0,
             wrong: 0,
             digest: OFFSET_BASIS,
-            longest_search: 0,
-            longest_write: 0,
+            searches: Lengths::NONE,
+            writes: Lengths::NONE,
         }
     }
 
@@ -88,9 +89,9 @@ impl Tally {
     /// Notes how many nanoseconds a call took.
     pub fn note_time(&mut self, is_search: bool, time: u64) {
         if is_search {
-            self.longest_search = self.longest_search.max(time);
+            self.searches.note(time);
         } else {
-            self.longest_write = self.longest_write.max(time);
+            self.writes.note(time);
         }
     }
 
@@ -112,7 +113,7 @@ impl Tally {
         self.replaced = self.replaced.wrapping_add(other.replaced);
         self.wrong = self.wrong.wrapping_add(other.wrong);
         self.digest = other.digest;
-        self.longest_search = self.longest_search.max(other.longest_search);
-        self.longest_write = self.longest_write.max(other.longest_write);
+        self.searches.add(&other.searches);
+        self.writes.add(&other.writes);
     }
 }
