@@ -120,36 +120,49 @@ def title_of(workload, threads):
 
 
 def picture(rows, path):
-    """Bars in SVG: of each workload at the greatest size the speed of the tables in SHOWN, over that of the fastest of
+    """Writes an SVG of the greatest size: of each workload the speed of the tables in SHOWN, over that of the fastest of
     them in the same round."""
     most = max((r["records"] for r in rows), default=0)
     good = [r for r in rows if r["check"] == "ok" and r["peer"] in SHOWN and r["records"] == most]
     best = fastest(good)
-    shapes = [s for s in sorted({(r["workload"], r["threads"]) for r in good}) if s[0] in TITLES and s[1] in (1, 4)]
-    wide, bar, head, room = 330, 15, 26, 96
+    panels = []
+    for shape in sorted({(r["workload"], r["threads"]) for r in good}):
+        if shape[0] in TITLES and shape[1] in (1, 4):
+            ratios = {p: [speed(r) / best[(r["round"], *shape)] for r in good if (r["peer"], r["workload"], r["threads"]) == (p, *shape)]
+                      for p in SHOWN}
+            panels.append((title_of(*shape), {p: statistics.median(found) for p, found in ratios.items() if found}))
+    with open(path, "w") as f:
+        f.write(drawn(panels, most))
+
+
+def drawn(panels, records):
+    """Bars in SVG: of each panel, a title and the ratios of the tables that ran, two panels in a row."""
+    wide, bar, head, room, above = 338, 15, 26, 104, 28
     tall = head + bar * len(SHOWN) + 10
-    out = []
-    for n, shape in enumerate(shapes):
-        x, y = (n % 2) * wide, (n // 2) * tall
-        out.append('<text x="%d" y="%d" class="t">%s</text>' % (x + 4, y + 16, title_of(*shape)))
+    label = '<text x="%d" y="%d" class="%s">%s</text>'
+    says = "Speed over that of the fastest of the same round, %s records: longer is faster" % format(records, ",")
+    out = [label % (4, 16, "t", says)]
+    for n, (title, ratios) in enumerate(panels):
+        x, y = (n % 2) * wide, above + (n // 2) * tall
+        out.append(label % (x + 4, y + 16, "t", title))
         for k, (peer, name) in enumerate(SHOWN.items()):
-            ratios = [speed(r) / best[(r["round"], *shape)] for r in good if (r["peer"], r["workload"], r["threads"]) == (peer, *shape)]
             top, here = y + head + k * bar, peer == "lh_bench"
-            label = '<text x="%d" y="%d" class="%s">%s</text>'
             out.append(label % (x + room, top + 11, "n me" if here else "n", name))
-            if not ratios:
+            if peer not in ratios:
                 out.append(label % (x + room + 6, top + 11, "v", "not run"))
                 continue
-            ratio = statistics.median(ratios)
-            length = ratio * (wide - room - 50)
+            length = ratios[peer] * (wide - room - 50)
             out.append('<rect x="%d" y="%d" width="%.1f" height="%d" class="%s"/>' % (x + room + 4, top + 1, length, bar - 4, "b me" if here else "b"))
-            out.append(label % (x + room + 9 + length, top + 11, "v", "%.2f" % ratio))
+            out.append(label % (x + room + 9 + length, top + 11, "v", "%.2f" % ratios[peer]))
     style = ("text{font:11px sans-serif;fill:#444}.t{font-weight:bold;fill:#111}.n{text-anchor:end}.me{font-weight:bold;fill:#111}"
-             ".b{fill:#a9b8c6}.b.me{fill:#c2452d}")
-    with open(path, "w") as f:
-        f.write('<svg xmlns="http://www.w3.org/2000/svg" width="%d" height="%d" role="img" aria-label="Speeds over that of the fastest">\n'
-                '<style>%s</style>\n<rect width="100%%" height="100%%" fill="#fff"/>\n%s\n</svg>\n'
-                % (2 * wide, (len(shapes) + 1) // 2 * tall, style, "\n".join(out)))
+             ".b{fill:#788ea3}.b.me{fill:#c2452d}")
+    size = (2 * wide, above + (len(panels) + 1) // 2 * tall)
+    means = ("Bars in groups, one for each workload, and in a group one for each table, with its number; this file's bar is red. "
+             "Medians of the rounds. " + " ".join("%s: this file %.2f." % (title, ratios["lh_bench"])
+                                                for title, ratios in panels if "lh_bench" in ratios))
+    return ('<svg xmlns="http://www.w3.org/2000/svg" width="%d" height="%d" viewBox="0 0 %d %d" role="img" aria-labelledby="title desc">\n'
+            '<title id="title">%s</title>\n<desc id="desc">%s</desc>\n<style>%s</style>\n'
+            '<rect width="100%%" height="100%%" fill="#fff"/>\n%s\n</svg>\n' % (*size, *size, says, means, style, "\n".join(out)))
 
 
 def looks_table(workload, threads, rows, names):
