@@ -47,7 +47,8 @@ module _ (Good : List ℕ → Type 0) (told : (k : List ℕ) → (Good k) ⊎ (�
       ))
       (least_of ks))
       (λ (bad : ¬ Good x). ⊎_elim
-      (λ (all : (q : List ℕ) → Among q ks ≡ true → Good q). inr (x, bad, λ q i b. all q (others q x ks (λ e. never_before x (subst (λ q. IsBefore q x) e b)) i)))
+      (λ (all : (q : List ℕ) → Among q ks ≡ true → Good q).
+      inr (x, bad, λ q i b. all q (others q x ks (λ e. never_before x (subst (λ q. IsBefore q x) e b)) i)))
       (λ (l : LeastOf ks). inr (lesser x ks bad l))
       (least_of ks))
       (told x)
@@ -55,9 +56,26 @@ module _ (Good : List ℕ → Type 0) (told : (k : List ℕ) → (Good k) ⊎ (�
       lesser : (x : List ℕ) (ks : List (List ℕ)) → ¬ Good x → LeastOf ks → LeastOf (x ∷ ks)
       lesser x ks bad l =
           elim (slice_cmp nat_cmp x l.0) as (λ r. slice_cmp nat_cmp x l.0 ≡ r → LeastOf (x ∷ ks)) [
-            | Less ↦ λ e. (x, bad, λ q i b. l.2 q (others q x ks (λ s. never_before x (subst (λ q. IsBefore q x) s b)) i) (nat_list_cmp_total.trans q x l.0 b e))
-            | Equal ↦ λ e. (l.0, l.1, λ q i b. l.2 q (others q x ks (λ s. never_before x (subst (IsBefore x) (sym (exact x l.0 e)) (subst (λ q. IsBefore q l.0) s b))) i) b)
-            | Greater ↦ λ e. (l.0, l.1, λ q i b. l.2 q (others q x ks (λ s. greater_less (sym e ∙ subst (λ q. IsBefore q l.0) s b)) i) b)
+            | Less ↦ λ e. (
+              x,
+              bad,
+              λ q i b.
+                  l.2 q (others q x ks (λ s. never_before x (subst (λ q. IsBefore q x) s b)) i)
+                  (nat_list_cmp_total.trans q x l.0 b e),
+            )
+            | Equal ↦ λ e. (
+              l.0,
+              l.1,
+              λ q i b.
+                  l.2 q (others q x ks (λ s. never_before x
+                  (subst (IsBefore x) (sym (exact x l.0 e)) (subst (λ q. IsBefore q l.0) s b))) i) b,
+            )
+            | Greater ↦ λ e. (
+              l.0,
+              l.1,
+              λ q i b.
+                  l.2 q (others q x ks (λ s. greater_less (sym e ∙ subst (λ q. IsBefore q l.0) s b)) i) b,
+            )
           ] refl
         where
           greater_less : Greater ≡ Less → ⊥
@@ -65,7 +83,8 @@ module _ (Good : List ℕ → Type 0) (told : (k : List ℕ) → (Good k) ⊎ (�
 
 not_there : (m : Records) (q : List ℕ) → Among q (keys m) ≡ false → get m q ≡ None
 not_there m q e =
-    let same : Among q (keys m) ≡ list_any (eq_by_cmp (slice_cmp nat_cmp) q) (keys m) = λ i. list_any (λ x. texts_ties q x i) (keys m) in
+    let same : Among q (keys m) ≡ list_any (eq_by_cmp (slice_cmp nat_cmp) q) (keys m) =
+    λ i. list_any (λ x. texts_ties q x i) (keys m) in
     none (get m q) (contains_key-keys m q ∙ sym same ∙ e)
   where
     none : (o : Option (List ℕ)) → is_some o ≡ false → o ≡ None
@@ -79,7 +98,8 @@ module _ (m : Records) (lists : List (List Pair)) where
 
   outside : (q : List ℕ) → Among q candidates ≡ false → StandsAs m lists q
   outside q e =
-      let both = either_or (Among q (keys_of (all_of lists))) (Among q (keys m)) (sym (list_any-append (bytes_eq q) (keys_of (all_of lists)) (keys m)) ∙ e) in
+      let both = either_or (Among q (keys_of (all_of lists))) (Among q (keys m))
+      (sym (list_any-append (bytes_eq q) (keys_of (all_of lists)) (keys m)) ∙ e) in
       absent_any (all_of lists) q both.0 ∙ ap option_to_list (sym (not_there m q both.1))
 
   everywhere : (q : List ℕ) → (Among q candidates ≡ true → StandsAs m lists q) → StandsAs m lists q
@@ -92,15 +112,20 @@ module _ (m : Records) (lists : List (List Pair)) where
   pub stray_or_not : ((q : List ℕ) → StandsAs m lists q) ⊎ ((k : List ℕ) × IsFirstStray m lists k)
   stray_or_not = ⊎_elim
       (λ (all : (q : List ℕ) → Among q candidates ≡ true → StandsAs m lists q). inl (λ q. everywhere q (all q)))
-      (λ (l : LeastOf (StandsAs m lists) (λ k. told_values (values_under k (all_of lists)) (option_to_list (get m k))) candidates).
+      (λ (l : LeastOf (StandsAs m lists)
+      (λ k. told_values (values_under k (all_of lists)) (option_to_list (get m k))) candidates).
       inr (l.0, record { stray = l.1; least = λ q b. everywhere q (λ i. l.2 q i b) }))
-      (least_of (StandsAs m lists) (λ k. told_values (values_under k (all_of lists)) (option_to_list (get m k))) candidates)
+      (least_of (StandsAs m lists) (λ k.
+      told_values (values_under k (all_of lists)) (option_to_list (get m k))) candidates)
 
 -- the lesser of two keys
-lesser_of : (o : Option (List ℕ)) (key : List ℕ) → (k : List ℕ) × ((o ≡ Some k) ⊎ (k ≡ key)) × ((q : List ℕ) → IsBefore q k → IsBefore q key) × IfSome o (λ s. (q : List ℕ) → IsBefore q k → IsBefore q s)
+lesser_of : (o : Option (List ℕ)) (key : List ℕ) → (k : List ℕ) × ((o ≡ Some k) ⊎ (k ≡ key))
+    × ((q : List ℕ) → IsBefore q k → IsBefore q key) × IfSome o (λ s. (q : List ℕ) → IsBefore q k → IsBefore q s)
 lesser_of None key = (key, inr refl, λ q b. b, tt)
 lesser_of (Some s) key =
-    elim (slice_cmp nat_cmp s key) as (λ r. slice_cmp nat_cmp s key ≡ r → (k : List ℕ) × ((Some s ≡ Some k) ⊎ (k ≡ key)) × ((q : List ℕ) → IsBefore q k → IsBefore q key) × ((q : List ℕ) → IsBefore q k → IsBefore q s)) [
+    elim (slice_cmp nat_cmp s key) as
+    (λ r. slice_cmp nat_cmp s key ≡ r → (k : List ℕ) × ((Some s ≡ Some k) ⊎ (k ≡ key))
+    × ((q : List ℕ) → IsBefore q k → IsBefore q key) × ((q : List ℕ) → IsBefore q k → IsBefore q s)) [
       | Less ↦ λ e. (s, inl refl, λ q b. nat_list_cmp_total.trans q s key b e, λ q b. b)
       | Equal ↦ λ e. (key, inr refl, λ q b. b, before_greater s key (λ l. equal_less (sym e ∙ l)))
       | Greater ↦ λ e. (key, inr refl, λ q b. b, before_greater s key (λ l. greater_less (sym e ∙ l)))
@@ -119,17 +144,27 @@ module _ (initial size : ℕ) where
   away_upto bucket ps (suc n) =
       let before = away_upto bucket ps n in
       ⊎_elim
-      (λ (here : IsHome initial size bucket ps n).
-      (before.0, subst (λ n. IsAwayOf initial size bucket ps n before.0) (add-one n) (away_same initial size bucket ps n before.0 here before.1)))
+      (λ (here : IsHome initial size bucket ps n). (
+        before.0,
+        subst (λ n. IsAwayOf initial size bucket ps n before.0) (add-one n)
+            (away_same initial size bucket ps n before.0 here before.1),
+      ))
       (λ (away : address initial size (code_of (key_at ps n)) ≢ bucket).
-      let l = lesser_of before.0 (key_at ps n) in
-      (Some l.0, subst (λ n. IsAwayOf initial size bucket ps n (Some l.0)) (add-one n) (away_more initial size bucket ps n before.0 (key_at ps n) l.0 refl away never_before l.1 l.2 l.3 before.1)))
+      let l = lesser_of before.0 (key_at ps n) in (
+        Some l.0,
+        subst (λ n. IsAwayOf initial size bucket ps n (Some l.0)) (add-one n)
+            (away_more initial size bucket ps n before.0 (key_at ps n) l.0 refl away never_before l.1 l.2 l.3 before.1),
+      ))
       (told_number (address initial size (code_of (key_at ps n))) bucket)
 
-  in_bucket : (bucket : ℕ) (ps : List Pair) → ((p : ℕ) → p < length ps → IsHome initial size bucket ps p) ⊎ ((k : List ℕ) × IsLeastAway initial size bucket ps k)
+  in_bucket : (bucket : ℕ) (ps : List Pair)
+      → ((p : ℕ) → p < length ps → IsHome initial size bucket ps p) ⊎
+      ((k : List ℕ) × IsLeastAway initial size bucket ps k)
   in_bucket bucket ps = let r = away_upto bucket ps (length ps) in split r.0 r.1
     where
-      split : (o : Option (List ℕ)) → IsAwayOf initial size bucket ps (length ps) o → ((p : ℕ) → p < length ps → IsHome initial size bucket ps p) ⊎ ((k : List ℕ) × IsLeastAway initial size bucket ps k)
+      split : (o : Option (List ℕ)) → IsAwayOf initial size bucket ps (length ps) o
+          → ((p : ℕ) → p < length ps → IsHome initial size bucket ps p) ⊎
+          ((k : List ℕ) × IsLeastAway initial size bucket ps k)
       split None h = inl h
       split (Some k) h = inr (k, least_away initial size bucket ps (length ps) k refl h)
 
@@ -141,14 +176,17 @@ module _ (initial size : ℕ) where
   home_upto lists (suc n) = ⊎_elim
       (λ (before : AtHomeBefore initial size lists n). ⊎_elim
       (λ (here : (p : ℕ) → p < length (list_at lists n) → IsHome initial size n (list_at lists n) p).
-      inl (subst (AtHomeBefore initial size lists) (add-one n) (home_more initial size lists n (list_at lists n) refl here before)))
-      (λ (l : (k : List ℕ) × IsLeastAway initial size n (list_at lists n) k). inr (n, l.0, record { stands = l.1; before = λ b p low w. before b p low w }))
+      inl (subst (AtHomeBefore initial size lists) (add-one n)
+      (home_more initial size lists n (list_at lists n) refl here before)))
+      (λ (l : (k : List ℕ) × IsLeastAway initial size n (list_at lists n) k).
+      inr (n, l.0, record { stands = l.1; before = λ b p low w. before b p low w }))
       (in_bucket n (list_at lists n)))
       (λ (f : FirstOf lists). inr f)
       (home_upto lists n)
 
   pub home_or_not : (lists : List (List Pair)) → (EachPlace (IsHome initial size) lists) ⊎ FirstOf lists
   home_or_not lists = ⊎_elim
-      (λ (h : AtHomeBefore initial size lists (length lists)). inl (home_all initial size lists (length lists) (omega arith) h))
+      (λ (h : AtHomeBefore initial size lists (length lists)).
+      inl (home_all initial size lists (length lists) (omega arith) h))
       (λ (f : FirstOf lists). inr f)
       (home_upto lists (length lists))

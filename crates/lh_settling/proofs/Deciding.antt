@@ -25,7 +25,8 @@ use Rattle.lh_settling.proofs.Sorting.{order_of}
 use Rattle.lh_settling.proofs.Choosing.{FirstOf, stray_or_not, home_or_not}
 
 -- lists of one length have both an element where they first differ
-both_there : {X : Type 0} (xs ys : List X) (t : ℕ) → length xs ≡ length ys → slice_get xs t ≢ slice_get ys t → (x : X) × (y : X) × (slice_get xs t ≡ Some x) × (slice_get ys t ≡ Some y)
+both_there : {X : Type 0} (xs ys : List X) (t : ℕ) → length xs ≡ length ys → slice_get xs t ≢ slice_get ys t
+    → (x : X) × (y : X) × (slice_get xs t ≡ Some x) × (slice_get ys t ≡ Some y)
 both_there [] [] t e h = absurd (h refl)
 both_there [] (y ∷ ys) t e h = absurd (omega (arith, e))
 both_there (x ∷ xs) [] t e h = absurd (omega (arith, e))
@@ -36,11 +37,21 @@ module _ (law : AddressLaw) (opening : Lists) (closed : ClosedFile) (acts : List
   abbrev Said : Type 0
   Said = (Settled opening closed acts) ⊎ ((fault : SettleFault) × (fault ≢ Memory) × IsDue opening closed acts fault)
 
-  with_contents : (history : List ActLine) → IsHistory closed acts history → IsLegal opening history → ((q : List ℕ) → StandsAs (left_by opening history) closed.lists q) → Said
+  with_contents : (history : List ActLine) → IsHistory closed acts history → IsLegal opening history
+      → ((q : List ℕ) → StandsAs (left_by opening history) closed.lists q) → Said
   with_contents history h l stands = ⊎_elim
       (λ (home : EachPlace (IsHome closed.config.initial (buckets_of closed.root)) closed.lists).
-      inl (history, record { stamped = h; legal = l; placed = placed closed.config.initial (buckets_of closed.root) (left_by opening history) closed.lists (within_size law closed kept) stands home }))
-      (λ (f : FirstOf closed.config.initial (buckets_of closed.root) closed.lists). inr (Placed f.0 f.1, real f.0 f.1, (history, h, l, stands, f.2)))
+      inl (
+        history,
+        record {
+          stamped = h;
+          legal = l;
+          placed = placed closed.config.initial (buckets_of closed.root)
+              (left_by opening history) closed.lists (within_size law closed kept) stands home;
+        },
+      ))
+      (λ (f : FirstOf closed.config.initial (buckets_of closed.root) closed.lists). inr
+      (Placed f.0 f.1, real f.0 f.1, (history, h, l, stands, f.2)))
       (home_or_not closed.config.initial (buckets_of closed.root) closed.lists)
     where
       real : (b : ℕ) (k : List ℕ) → Placed b k ≢ Memory
@@ -49,7 +60,8 @@ module _ (law : AddressLaw) (opening : Lists) (closed : ClosedFile) (acts : List
   with_replies : (history : List ActLine) → IsHistory closed acts history → IsLegal opening history → Said
   with_replies history h l = ⊎_elim
       (λ (stands : (q : List ℕ) → StandsAs (left_by opening history) closed.lists q). with_contents history h l stands)
-      (λ (s : (k : List ℕ) × IsFirstStray (left_by opening history) closed.lists k). inr (Content s.0, real s.0, (history, h, l, s.1)))
+      (λ (s : (k : List ℕ) × IsFirstStray (left_by opening history) closed.lists k). inr
+      (Content s.0, real s.0, (history, h, l, s.1)))
       (stray_or_not (left_by opening history) closed.lists)
     where
       real : (k : List ℕ) → Content k ≢ Memory
@@ -67,13 +79,15 @@ module _ (law : AddressLaw) (opening : Lists) (closed : ClosedFile) (acts : List
       real t g d e = cc
 
       many : length (replies_of history) ≡ length (replies (map_in opening) (calls_of history))
-      many = length-map history (λ (a : ActLine). a.reply) ∙ sym (length-map history (λ (a : ActLine). a.call)) ∙ sym (length-replies (map_in opening) (calls_of history))
+      many = length-map history (λ (a : ActLine). a.reply) ∙ sym (length-map history (λ (a : ActLine). a.call))
+          ∙ sym (length-replies (map_in opening) (calls_of history))
 
   with_root : closed.root % 2 ≡ 0 → Said
   with_root even =
       let o = order_of acts in
       ⊎_elim
-      (λ (same : stamps_of o.0 ≡ range_with_len 0 closed.stamps). with_stamps o.0 (record { whole = even; order = o.1; stamps = same }))
+      (λ (same : stamps_of o.0 ≡ range_with_len 0 closed.stamps). with_stamps o.0
+      (record { whole = even; order = o.1; stamps = same }))
       (λ (d : (t : ℕ) × FirstDiffer (stamps_of o.0) (range_with_len 0 closed.stamps) t).
       inr (MissingStamp d.0, real d.0, record { whole = even; history = o.0; order = o.1; differ = d.1 }))
       (told_list told_number (stamps_of o.0) (range_with_len 0 closed.stamps))

@@ -20,7 +20,8 @@ outcome-append m [] ys = refl
 outcome-append m (x ∷ xs) ys = outcome-append (after m x) xs ys
 
 -- the reply at a place is that of the map which the calls before it leave
-pub reply_at : (m : Records) (calls : List Call) (n : ℕ) (c : Call) → slice_get calls n ≡ Some c → slice_get (replies m calls) n ≡ Some (reply (outcome m (take n calls)) c)
+pub reply_at : (m : Records) (calls : List Call) (n : ℕ) (c : Call) → slice_get calls n ≡ Some c
+    → slice_get (replies m calls) n ≡ Some (reply (outcome m (take n calls)) c)
 reply_at m [] n c e = none e
   where
     none : {G : Type 0} → ◌≡◌ {A = Option Call} None (Some c) → G
@@ -50,29 +51,37 @@ all_of-append [] ys = refl
 all_of-append (x ∷ xs) ys = ap (λ zs. x ++ zs) (all_of-append xs ys) ∙ sym (append_assoc x (all_of xs) (all_of ys))
 
 -- a list of lists, one list further
-pub all_of-more : (lists : List (List Pair)) (n : ℕ) → n < length lists → all_of (take (n + 1) lists) ≡ all_of (take n lists) ++ list_at lists n
+pub all_of-more : (lists : List (List Pair)) (n : ℕ) → n < length lists
+    → all_of (take (n + 1) lists) ≡ all_of (take n lists) ++ list_at lists n
 all_of-more lists n below =
     ap all_of (take_more lists n [] below) ∙ all_of-append (take n lists) (list_at lists n ∷ [])
     ∙ ap (λ ps. all_of (take n lists) ++ ps) (append-nil (list_at lists n))
 
 -- a record was inserted
-pub inserted_more : (m r r' : Records) (ps : List Pair) (n : ℕ) (p : Pair) → slice_get ps n ≡ Some p → r ≡ outcome m (calls_inserting (take n ps)) → r' ≡ after r (Insert p.key p.value) → r' ≡ outcome m (calls_inserting (take (n + 1) ps))
+pub inserted_more : (m r r' : Records) (ps : List Pair) (n : ℕ) (p : Pair) → slice_get ps n ≡ Some p
+    → r ≡ outcome m (calls_inserting (take n ps)) → r' ≡ after r (Insert p.key p.value)
+    → r' ≡ outcome m (calls_inserting (take (n + 1) ps))
 inserted_more m r r' ps n p at before is =
     let below : n < length ps = slice_get_within ps n p at in
     is ∙ ap (λ r. after r (Insert p.key p.value)) before
     ∙ sym (outcome-append m (calls_inserting (take n ps)) (Insert p.key p.value ∷ []))
     ∙ ap (outcome m) (sym (map-append (λ (p : Pair). Insert p.key p.value) (take n ps) (p ∷ [])))
-    ∙ ap (λ ps. outcome m (calls_inserting ps)) (ap (λ x. take n ps ++ x ∷ []) (sym (get_or_from_slice_get ps n p p at)) ∙ sym (take_more ps n p below))
+    ∙ ap (λ ps. outcome m (calls_inserting ps))
+    (ap (λ x. take n ps ++ x ∷ []) (sym (get_or_from_slice_get ps n p p at)) ∙ sym (take_more ps n p below))
 
 -- the records of a list were
-pub loaded_more : (m r r' : Records) (lists : List (List Pair)) (n : ℕ) → n < length lists → r ≡ outcome m (calls_inserting (all_of (take n lists))) → r' ≡ outcome r (calls_inserting (list_at lists n)) → r' ≡ outcome m (calls_inserting (all_of (take (n + 1) lists)))
+pub loaded_more : (m r r' : Records) (lists : List (List Pair)) (n : ℕ) → n < length lists
+    → r ≡ outcome m (calls_inserting (all_of (take n lists))) → r' ≡ outcome r (calls_inserting (list_at lists n))
+    → r' ≡ outcome m (calls_inserting (all_of (take (n + 1) lists)))
 loaded_more m r r' lists n below before is =
     is ∙ ap (λ r. outcome r (calls_inserting (list_at lists n))) before
     ∙ sym (outcome-append m (calls_inserting (all_of (take n lists))) (calls_inserting (list_at lists n)))
-    ∙ ap (outcome m) (sym (map-append (λ (p : Pair). Insert p.key p.value) (all_of (take n lists)) (list_at lists n)) ∙ ap calls_inserting (sym (all_of-more lists n below)))
+    ∙ ap (outcome m) (sym (map-append (λ (p : Pair). Insert p.key p.value) (all_of (take n lists)) (list_at lists n))
+    ∙ ap calls_inserting (sym (all_of-more lists n below)))
 
 -- the act at a place of a history, its call and its reply
-module _ (m : Records) (history : List ActLine) (n : ℕ) (act : ActLine) (below : n < length history) (is : act ≡ get_or history n act) where
+module _ (m : Records) (history : List ActLine) (n : ℕ) (act : ActLine) (below : n < length history)
+    (is : act ≡ get_or history n act) where
   at : slice_get history n ≡ Some act
   at = slice_get-get_or history n act below ∙ ap Some (sym is)
 
@@ -82,21 +91,29 @@ module _ (m : Records) (history : List ActLine) (n : ℕ) (act : ActLine) (below
   pub given_at : slice_get (replies_of history) n ≡ Some act.reply
   given_at = slice_get-map (λ (a : ActLine). a.reply) history n ∙ ap (option_map (λ (a : ActLine). a.reply)) at
 
-  pub due_at : (r : Records) (due : Reply) → r ≡ outcome m (take n (calls_of history)) → due ≡ reply r act.call → slice_get (replies m (calls_of history)) n ≡ Some due
-  due_at r due left e = reply_at m (calls_of history) n act.call call_at ∙ ap Some (sym (e ∙ ap (λ r. reply r act.call) left))
+  pub due_at : (r : Records) (due : Reply) → r ≡ outcome m (take n (calls_of history)) → due ≡ reply r act.call
+      → slice_get (replies m (calls_of history)) n ≡ Some due
+  due_at r due left e = reply_at m (calls_of history) n act.call call_at
+      ∙ ap Some (sym (e ∙ ap (λ r. reply r act.call) left))
 
-  pub left_more : (r r' : Records) → r ≡ outcome m (take n (calls_of history)) → r' ≡ after r act.call → r' ≡ outcome m (take (n + 1) (calls_of history))
+  pub left_more : (r r' : Records) → r ≡ outcome m (take n (calls_of history)) → r' ≡ after r act.call
+      → r' ≡ outcome m (take (n + 1) (calls_of history))
   left_more r r' left e =
       let within : n < length (calls_of history) = slice_get_within (calls_of history) n act.call call_at in
       e ∙ ap (λ r. after r act.call) left
       ∙ sym (outcome-append m (take n (calls_of history)) (act.call ∷ []))
-      ∙ ap (outcome m) (ap (λ x. take n (calls_of history) ++ x ∷ []) (sym (get_or_from_slice_get (calls_of history) n act.call act.call call_at)) ∙ sym (take_more (calls_of history) n act.call within))
+      ∙ ap (outcome m) (ap (λ x. take n (calls_of history) ++ x ∷ [])
+      (sym (get_or_from_slice_get (calls_of history) n act.call act.call call_at))
+      ∙ sym (take_more (calls_of history) n act.call within))
 
 -- all replies were looked at
-pub all_legal : (m : Records) (history : List ActLine) (n : ℕ) → length history ≤ n → ((p : ℕ) → p < n → slice_get (replies_of history) p ≡ slice_get (replies m (calls_of history)) p) → replies_of history ≡ replies m (calls_of history)
+pub all_legal : (m : Records) (history : List ActLine) (n : ℕ) → length history ≤ n
+    → ((p : ℕ) → p < n → slice_get (replies_of history) p ≡ slice_get (replies m (calls_of history)) p)
+    → replies_of history ≡ replies m (calls_of history)
 all_legal m history n all same = same_list _ _ (λ p. ⊎_elim
     (λ (below : p < n). same p below)
     (λ (past : n ≤ p).
     slice_get_past (replies_of history) p (omega (arith, length-map history (λ (a : ActLine). a.reply)))
-    ∙ sym (slice_get_past (replies m (calls_of history)) p (omega (arith, length-replies m (calls_of history), length-map history (λ (a : ActLine). a.call)))))
+    ∙ sym (slice_get_past (replies m (calls_of history)) p
+    (omega (arith, length-replies m (calls_of history), length-map history (λ (a : ActLine). a.call)))))
     (cases_lt p n))

@@ -19,7 +19,8 @@ use Rattle.lh_settling.specs.Contents.{values_under, IsPlaced, StandsAs}
 use Rattle.lh_settling.proofs.Values.{apart, equals, itself, same_records, get_first, get-map_of-cons, get-retained, values_under-append}
 
 abbrev Under : List ℕ → Pair → List Pair → Bool → List (List ℕ)
-Under q p ps b = map (λ (p : Pair). p.value) (cond b (p ∷ filter (λ p. bytes_eq q p.key) ps) (filter (λ p. bytes_eq q p.key) ps))
+Under q p ps b = map (λ (p : Pair). p.value)
+    (cond b (p ∷ filter (λ p. bytes_eq q p.key) ps) (filter (λ p. bytes_eq q p.key) ps))
 
 -- no record has the key
 values_absent : (ps : List Pair) (q : List ℕ) → ((p : ℕ) → p < length ps → key_at ps p ≢ q) → values_under q ps ≡ []
@@ -31,7 +32,8 @@ values_absent (p ∷ ps) q h =
 -- a record with the key is there
 pub values_there : (ps : List Pair) (k : ℕ) → k < length ps → IsSome (get (map_of ps) (key_at ps k))
 values_there [] k below = absurd (omega arith)
-values_there (p ∷ ps) zero below = ap is_some (get-map_of-cons p ps p.key ∙ ap (λ b. cond b (Some p.value) (get (map_of ps) p.key)) (itself p.key))
+values_there (p ∷ ps) zero below =
+    ap is_some (get-map_of-cons p ps p.key ∙ ap (λ b. cond b (Some p.value) (get (map_of ps) p.key)) (itself p.key))
 values_there (p ∷ ps) (suc k) below =
     subst IsSome (sym (get-map_of-cons p ps (key_at ps k)))
     (elim (bytes_eq (key_at ps k) p.key) as (λ b. IsSome (cond b (Some p.value) (get (map_of ps) (key_at ps k)))) [
@@ -40,10 +42,12 @@ values_there (p ∷ ps) (suc k) below =
     ])
 
 -- no key stands twice exactly if each has one value at most
-apart_all : (ps : List Pair) (k : List ℕ) → values_under k ps ≡ [] → AllByRecursion (λ y. bytes_eq k y ≡ false) (keys_of ps)
+apart_all : (ps : List Pair) (k : List ℕ) → values_under k ps ≡ []
+    → AllByRecursion (λ y. bytes_eq k y ≡ false) (keys_of ps)
 apart_all [] k e = tt
 apart_all (p ∷ ps) k e =
-    elim (bytes_eq k p.key) as (λ b. Under k p ps b ≡ [] → (b ≡ false) × AllByRecursion (λ y. bytes_eq k y ≡ false) (keys_of ps)) [
+    elim (bytes_eq k p.key) as (λ b. Under k p ps b ≡ [] → (b ≡ false)
+    × AllByRecursion (λ y. bytes_eq k y ≡ false) (keys_of ps)) [
       | true ↦ λ e. absurd (full p.value (values_under k ps) e)
       | false ↦ λ e. (refl, apart_all ps k e)
     ] e
@@ -51,7 +55,8 @@ apart_all (p ∷ ps) k e =
     full : (x : List ℕ) (xs : List (List ℕ)) → x ∷ xs ≡ [] → ⊥
     full x xs e = cc
 
-absent_all : (ps : List Pair) (k : List ℕ) → AllByRecursion (λ y. bytes_eq k y ≡ false) (keys_of ps) → values_under k ps ≡ []
+absent_all : (ps : List Pair) (k : List ℕ) → AllByRecursion (λ y. bytes_eq k y ≡ false) (keys_of ps)
+    → values_under k ps ≡ []
 absent_all [] k h = refl
 absent_all (p ∷ ps) k h = ap (Under k p ps) h.0 ∙ absent_all ps k h.1
 
@@ -75,7 +80,8 @@ unfolding IsDistinct
 distinct_few [] few = tt
 distinct_few (p ∷ ps) few =
     IsDistinct-cons bytes_eq p.key (keys_of ps)
-    (apart_all ps p.key (no_more (values_under p.key ps) (subst (λ b. length (Under p.key p ps b) ≤ 1) (itself p.key) (few p.key))))
+    (apart_all ps p.key (no_more (values_under p.key ps)
+    (subst (λ b. length (Under p.key p ps b) ≤ 1) (itself p.key) (few p.key))))
     (distinct_few ps (λ q. fewer q (bytes_eq q p.key) (few q)))
   where
     fewer : (q : List ℕ) (b : Bool) → length (Under q p ps b) ≤ 1 → length (values_under q ps) ≤ 1
@@ -86,7 +92,8 @@ few_distinct : (ps : List Pair) (q : List ℕ) → IsDistinct bytes_eq (keys_of 
 few_distinct [] q d = omega arith
 few_distinct (p ∷ ps) q d =
     elim (bytes_eq q p.key) as (λ b. (b ≡ true → q ≡ p.key) → length (Under q p ps b) ≤ 1) [
-      | true ↦ λ same. let none : values_under q ps ≡ [] = ap (λ k. values_under k ps) (same refl) ∙ absent_all ps p.key (IsDistinct-head bytes_eq p.key (keys_of ps) d) in omega (arith, ap length none)
+      | true ↦ λ same. let none : values_under q ps ≡ [] = ap (λ k. values_under k ps) (same refl)
+          ∙ absent_all ps p.key (IsDistinct-head bytes_eq p.key (keys_of ps) d) in omega (arith, ap length none)
       | false ↦ λ same. few_distinct ps q (IsDistinct-tail bytes_eq p.key (keys_of ps) d)
     ] (equals q p.key)
 
@@ -110,13 +117,15 @@ module _ (home : List ℕ → ℕ) where
   later : (j : ℕ) (ps : List Pair) (lists : List (List Pair)) → IsHomeFrom j (ps ∷ lists) → IsHomeFrom (j + 1) lists
   later j ps lists h b p below = omega (arith, h (suc b) p below)
 
-  not_first : (j : ℕ) (ps : List Pair) (lists : List (List Pair)) → IsHomeFrom j (ps ∷ lists) → (q : List ℕ) → home q ≢ j → values_under q ps ≡ []
+  not_first : (j : ℕ) (ps : List Pair) (lists : List (List Pair)) → IsHomeFrom j (ps ∷ lists) → (q : List ℕ)
+      → home q ≢ j → values_under q ps ≡ []
   not_first j ps lists h q other = values_absent ps q (λ p below same. other (sym (ap home same) ∙ at (h 0 p below)))
     where
       at : {n : ℕ} → n ≡ j + 0 → n ≡ j
       at e = omega arith
 
-  before : (j : ℕ) (lists : List (List Pair)) → IsHomeFrom j lists → (q : List ℕ) → home q < j → values_under q (all_of lists) ≡ []
+  before : (j : ℕ) (lists : List (List Pair)) → IsHomeFrom j lists → (q : List ℕ) → home q < j
+      → values_under q (all_of lists) ≡ []
   before j [] h q low = refl
   before j (ps ∷ lists) h q low =
       values_under-append q ps (all_of lists)
@@ -124,7 +133,8 @@ module _ (home : List ℕ → ℕ) where
       ∙ before (j + 1) lists (later j ps lists h) q (omega arith)
 
   -- the values under a key are those in the list of its home
-  at_home : (j : ℕ) (lists : List (List Pair)) → IsHomeFrom j lists → (q : List ℕ) (b : ℕ) → home q ≡ j + b → values_under q (all_of lists) ≡ values_under q (list_at lists b)
+  at_home : (j : ℕ) (lists : List (List Pair)) → IsHomeFrom j lists → (q : List ℕ) (b : ℕ) → home q ≡ j + b
+      → values_under q (all_of lists) ≡ values_under q (list_at lists b)
   at_home j [] h q b is = refl
   at_home j (ps ∷ lists) h q zero is =
       values_under-append q ps (all_of lists)
@@ -142,7 +152,8 @@ nothing_in (p ∷ ps) h = absurd (h (omega arith))
 equal_true : (m n : ℕ) → m ≡ n → nat_eq m n ≡ true
 equal_true m n e = grind (arith, nat_tests)
 
-module _ (initial size : ℕ) (m : Records) (lists : List (List Pair)) (within : (c : ℕ) → address initial size c < size) where
+module _ (initial size : ℕ) (m : Records) (lists : List (List Pair))
+    (within : (c : ℕ) → address initial size c < size) where
   abbrev Home : List ℕ → ℕ
   Home key = address initial size (code_of key)
 
@@ -150,21 +161,28 @@ module _ (initial size : ℕ) (m : Records) (lists : List (List Pair)) (within :
   from_zero home b p below = omega (arith, home b p below)
 
   -- where each key stands as in the map, and at home, the records are placed
-  pub placed : ((q : List ℕ) → StandsAs m lists q) → EachPlace (IsHome initial size) lists → IsPlaced initial size m lists
+  pub placed : ((q : List ℕ) → StandsAs m lists q) → EachPlace (IsHome initial size) lists
+      → IsPlaced initial size m lists
   placed stands home = record {
     each = λ b below. same_records _ _ (λ q.
         get_first (list_at lists b) q
         ∙ chosen b q (nat_eq (Home q) b) refl
         ∙ sym (get-retained m (λ key. nat_eq (Home key) b) q));
-    beyond = λ b past. nothing_in (list_at lists b) (λ some. absurd (omega (arith, home b 0 some, within (code_of (key_at (list_at lists b) 0)))));
-    distinct = distinct_few (all_of lists) (λ q. subst (λ (xs : List (List ℕ)). length xs ≤ 1) (sym (stands q)) (few_of (get m q)));
+    beyond = λ b past. nothing_in (list_at lists b)
+        (λ some. absurd (omega (arith, home b 0 some, within (code_of (key_at (list_at lists b) 0)))));
+    distinct = distinct_few (all_of lists)
+        (λ q. subst (λ (xs : List (List ℕ)). length xs ≤ 1) (sym (stands q)) (few_of (get m q)));
   }
     where
-      chosen : (b : ℕ) (q : List ℕ) (t : Bool) → nat_eq (Home q) b ≡ t → slice_get (values_under q (list_at lists b)) 0 ≡ cond t (get m q) None
+      chosen : (b : ℕ) (q : List ℕ) (t : Bool) → nat_eq (Home q) b ≡ t
+          → slice_get (values_under q (list_at lists b)) 0 ≡ cond t (get m q) None
       chosen b q true e =
-          ap (λ (xs : List (List ℕ)). slice_get xs 0) (sym (at_home Home 0 lists (from_zero home) q b (omega (arith, exact_unsigned_eq (Home q) b e))) ∙ stands q)
+          ap (λ (xs : List (List ℕ)). slice_get xs 0)
+          (sym (at_home Home 0 lists (from_zero home) q b (omega (arith, exact_unsigned_eq (Home q) b e)))
+          ∙ stands q)
           ∙ first_of_list (get m q)
-      chosen b q false e = ap (λ (xs : List (List ℕ)). slice_get xs 0) (values_absent (list_at lists b) q (λ p below same.
+      chosen b q false e = ap (λ (xs : List (List ℕ)). slice_get xs 0)
+          (values_absent (list_at lists b) q (λ p below same.
           let other : Home q ≡ b = sym (ap Home same) ∙ home b p below in
           false≢true (sym e ∙ equal_true (Home q) b other)))
 
@@ -179,7 +197,9 @@ module _ (initial size : ℕ) (m : Records) (lists : List (List Pair)) (within :
   filled_home each beyond b p below = ⊎_elim
       (λ (inside : b < size).
       let key = key_at (list_at lists b) p in
-      let some : IsSome (cond (nat_eq (Home key) b) (get m key) None) = subst IsSome (ap (λ (r : Records). get r key) (each b inside) ∙ get-retained m (λ key. nat_eq (Home key) b) key) (values_there (list_at lists b) p below) in
+      let some : IsSome (cond (nat_eq (Home key) b) (get m key) None) =
+      subst IsSome (ap (λ (r : Records). get r key) (each b inside)
+      ∙ get-retained m (λ key. nat_eq (Home key) b) key) (values_there (list_at lists b) p below) in
       exact_unsigned_eq (Home key) b (tested (nat_eq (Home key) b) (get m key) some))
       (λ (past : size ≤ b). absurd (omega (arith, below, ap length (beyond b past))))
       (cases_lt b size)
@@ -192,18 +212,22 @@ module _ (initial size : ℕ) (m : Records) (lists : List (List Pair)) (within :
   placed_home h = filled_home h.each h.beyond
 
   -- so no key stands twice, where none does in one bucket
-  pub filled_placed : Filled → Shut → ((b : ℕ) → IsDistinct bytes_eq (keys_of (list_at lists b))) → IsPlaced initial size m lists
+  pub filled_placed : Filled → Shut → ((b : ℕ) → IsDistinct bytes_eq (keys_of (list_at lists b)))
+      → IsPlaced initial size m lists
   filled_placed each beyond own = record {
     each = each;
     beyond = beyond;
     distinct = distinct_few (all_of lists) (λ q.
-        subst (λ (xs : List (List ℕ)). length xs ≤ 1) (sym (at_home Home 0 lists (from_zero (filled_home each beyond)) q (Home q) (omega arith))) (few_distinct (list_at lists (Home q)) q (own (Home q))));
+        subst (λ (xs : List (List ℕ)). length xs ≤ 1)
+        (sym (at_home Home 0 lists (from_zero (filled_home each beyond)) q (Home q) (omega arith)))
+        (few_distinct (list_at lists (Home q)) q (own (Home q))));
   }
 
   pub placed_stands : IsPlaced initial size m lists → (q : List ℕ) → StandsAs m lists q
   placed_stands h q =
       one_of (values_under q (all_of lists)) (get m q) (few_distinct (all_of lists) q h.distinct)
-      (ap (λ (xs : List (List ℕ)). slice_get xs 0) (at_home Home 0 lists (from_zero (placed_home h)) q (Home q) (omega arith))
+      (ap (λ (xs : List (List ℕ)). slice_get xs 0)
+      (at_home Home 0 lists (from_zero (placed_home h)) q (Home q) (omega arith))
       ∙ sym (get_first (list_at lists (Home q)) q)
       ∙ ap (λ (r : Records). get r q) (h.each (Home q) (within (code_of q)))
       ∙ get-retained m (λ key. nat_eq (Home key) (Home q)) q

@@ -22,7 +22,8 @@ Entries = List (Name × List ℕ)
 abbrev pub is_named : List ℕ → Name → Bool
 is_named q n = bytes_eq q n.0
 
-find_lookup : (q : List ℕ) (es : Entries) → find (slice_cmp nat_cmp) q (map (λ e. (e.0.0, e.1)) es) ≡ lookup (is_named q) es
+find_lookup : (q : List ℕ) (es : Entries)
+    → find (slice_cmp nat_cmp) q (map (λ e. (e.0.0, e.1)) es) ≡ lookup (is_named q) es
 find_lookup q [] = refl
 find_lookup q (e ∷ es) =
     ap (λ b. cond b (Some e.1) (find (slice_cmp nat_cmp) q (map (λ e. (e.0.0, e.1)) es))) (sym (texts_ties q e.0.0))
@@ -36,27 +37,36 @@ flipped : (q k : List ℕ) → bytes_eq k q ≡ eq_by_cmp (slice_cmp nat_cmp) q 
 flipped q k = nat_list_eq_equiv.symm k q ∙ texts_ties q k
 
 -- one entry more, or another value under its key
-pub inserted : (es fs : Entries) (k v : List ℕ) → ((q : Name) → lookup (is_named q.0) fs ≡ cond (bytes_eq k q.0) (Some v) (lookup (is_named q.0) es)) → records_of fs ≡ insert (records_of es) k v
+pub inserted : (es fs : Entries) (k v : List ℕ)
+    → ((q : Name) → lookup (is_named q.0) fs ≡ cond (bytes_eq k q.0) (Some v) (lookup (is_named q.0) es))
+    → records_of fs ≡ insert (records_of es) k v
 inserted es fs k v h = same_records _ _ (λ q.
     get-records_of fs q ∙ h (record { 0 = q })
     ∙ ap (λ b. cond b (Some v) (lookup (is_named q) es)) (flipped q k)
-    ∙ sym (get-insert nat_list_cmp_total (records_of es) k v q ∙ ap (cond (eq_by_cmp (slice_cmp nat_cmp) q k) (Some v)) (get-records_of es q)))
+    ∙ sym (get-insert nat_list_cmp_total (records_of es) k v q
+    ∙ ap (cond (eq_by_cmp (slice_cmp nat_cmp) q k) (Some v)) (get-records_of es q)))
 
-removed : (es fs : Entries) (k : List ℕ) → ((q : Name) → lookup (is_named q.0) fs ≡ cond (bytes_eq k q.0) None (lookup (is_named q.0) es)) → records_of fs ≡ remove (records_of es) k
+removed : (es fs : Entries) (k : List ℕ)
+    → ((q : Name) → lookup (is_named q.0) fs ≡ cond (bytes_eq k q.0) None (lookup (is_named q.0) es))
+    → records_of fs ≡ remove (records_of es) k
 removed es fs k h = same_records _ _ (λ q.
     get-records_of fs q ∙ h (record { 0 = q })
     ∙ ap (λ b. cond b None (lookup (is_named q) es)) (flipped q k)
-    ∙ sym (get-remove nat_list_cmp_total (records_of es) k q ∙ ap (cond (eq_by_cmp (slice_cmp nat_cmp) q k) None) (get-records_of es q)))
+    ∙ sym (get-remove nat_list_cmp_total (records_of es) k q
+    ∙ ap (cond (eq_by_cmp (slice_cmp nat_cmp) q k) None) (get-records_of es q)))
 
 -- an entry less, or none
-pub taken : (es fs : Entries) (k : List ℕ) (o : Option (List ℕ)) → ((q : Name) → lookup (is_named q.0) fs ≡ cond (bytes_eq k q.0) None (lookup (is_named q.0) es)) → IfNone o (fs ≡ es) → records_of fs ≡ cond (is_some o) (remove (records_of es) k) (records_of es)
+pub taken : (es fs : Entries) (k : List ℕ) (o : Option (List ℕ))
+    → ((q : Name) → lookup (is_named q.0) fs ≡ cond (bytes_eq k q.0) None (lookup (is_named q.0) es))
+    → IfNone o (fs ≡ es) → records_of fs ≡ cond (is_some o) (remove (records_of es) k) (records_of es)
 taken es fs k (Some v) h same = removed es fs k h
 taken es fs k None h same = ap records_of same
 
 -- the least of some names, where there are any
 abbrev pub IsLeast : List Name → Option (List ℕ) → Type 0
 IsLeast ns None = ns ≡ []
-IsLeast ns (Some k) = (list_any (is_named k) ns ≡ true) × ((q : List ℕ) → IsBefore q k → list_any (is_named q) ns ≡ false)
+IsLeast ns (Some k) = (list_any (is_named k) ns ≡ true)
+    × ((q : List ℕ) → IsBefore q k → list_any (is_named q) ns ≡ false)
 
 or_last : (a b : Bool) → b ≡ true → (a || (b || false)) ≡ true
 or_last true b e = refl
@@ -73,15 +83,20 @@ neither false true e f = f
 neither false false e f = refl
 
 -- one name more
-pub least_more : (ns : List Name) (o : Option (List ℕ)) (n : Name) (k : List ℕ) → IsLeast ns o → (o ≡ Some k) ⊎ (k ≡ n.0) → ((q : List ℕ) → IsBefore q k → IsBefore q n.0) → IfSome o (λ f. (q : List ℕ) → IsBefore q k → IsBefore q f) → IsLeast (ns ++ n ∷ []) (Some k)
+pub least_more : (ns : List Name) (o : Option (List ℕ)) (n : Name) (k : List ℕ) → IsLeast ns o
+    → (o ≡ Some k) ⊎ (k ≡ n.0) → ((q : List ℕ) → IsBefore q k → IsBefore q n.0)
+    → IfSome o (λ f. (q : List ℕ) → IsBefore q k → IsBefore q f) → IsLeast (ns ++ n ∷ []) (Some k)
 least_more ns o n k least either second first = (
   list_any-append (is_named k) ns (n ∷ []) ∙ ⊎_elim
       (λ (old : o ≡ Some k). or_first (list_any (is_named k) ns) (is_named k n) (subst (IsLeast ns) old least).0)
-      (λ (new : k ≡ n.0). or_last (list_any (is_named k) ns) (is_named k n) (ap (λ x. bytes_eq k x) (sym new) ∙ itself k)) either,
-  λ q b. list_any-append (is_named q) ns (n ∷ []) ∙ neither (list_any (is_named q) ns) (is_named q n) (others o least first q b) (before-apart q n.0 (second q b)),
+      (λ (new : k ≡ n.0). or_last (list_any (is_named k) ns) (is_named k n)
+      (ap (λ x. bytes_eq k x) (sym new) ∙ itself k)) either,
+  λ q b. list_any-append (is_named q) ns (n ∷ [])
+      ∙ neither (list_any (is_named q) ns) (is_named q n) (others o least first q b) (before-apart q n.0 (second q b)),
 )
   where
-    others : (o : Option (List ℕ)) → IsLeast ns o → IfSome o (λ f. (q : List ℕ) → IsBefore q k → IsBefore q f) → (q : List ℕ) → IsBefore q k → list_any (is_named q) ns ≡ false
+    others : (o : Option (List ℕ)) → IsLeast ns o → IfSome o (λ f. (q : List ℕ) → IsBefore q k → IsBefore q f)
+        → (q : List ℕ) → IsBefore q k → list_any (is_named q) ns ≡ false
     others None none under q b = ap (list_any (is_named q)) none
     others (Some f) least under q b = least.1 q (under q b)
 
@@ -93,14 +108,19 @@ missing None e = refl
 missing (Some v) e = absurd (false≢true (sym e))
 
 -- the least of all keys of a table
-pub least_none : (es : Entries) (ns : List Name) (o : Option (List ℕ)) → ns ≡ entry_keys es → IsLeast ns o → IfNone o ((q : List ℕ) → get (records_of es) q ≡ None)
-least_none es ns None all least = λ q. missing (get (records_of es) q) (is_some-get es q ∙ ap (list_any (is_named q)) (sym all ∙ least))
+pub least_none : (es : Entries) (ns : List Name) (o : Option (List ℕ)) → ns ≡ entry_keys es → IsLeast ns o
+    → IfNone o ((q : List ℕ) → get (records_of es) q ≡ None)
+least_none es ns None all least =
+    λ q. missing (get (records_of es) q) (is_some-get es q ∙ ap (list_any (is_named q)) (sym all ∙ least))
 least_none es ns (Some k) all least = tt
 
-pub least_there : (es : Entries) (ns : List Name) (o : Option (List ℕ)) → ns ≡ entry_keys es → IsLeast ns o → IfSome o (λ k. IsSome (get (records_of es) k))
+pub least_there : (es : Entries) (ns : List Name) (o : Option (List ℕ)) → ns ≡ entry_keys es → IsLeast ns o
+    → IfSome o (λ k. IsSome (get (records_of es) k))
 least_there es ns None all least = tt
 least_there es ns (Some k) all least = is_some-get es k ∙ ap (list_any (is_named k)) (sym all) ∙ least.0
 
-pub least_first : (es : Entries) (ns : List Name) (o : Option (List ℕ)) → ns ≡ entry_keys es → IsLeast ns o → IfSome o (λ k. (q : List ℕ) → IsBefore q k → get (records_of es) q ≡ None)
+pub least_first : (es : Entries) (ns : List Name) (o : Option (List ℕ)) → ns ≡ entry_keys es → IsLeast ns o
+    → IfSome o (λ k. (q : List ℕ) → IsBefore q k → get (records_of es) q ≡ None)
 least_first es ns None all least = tt
-least_first es ns (Some k) all least = λ q b. missing (get (records_of es) q) (is_some-get es q ∙ ap (list_any (is_named q)) (sym all) ∙ least.1 q b)
+least_first es ns (Some k) all least =
+    λ q b. missing (get (records_of es) q) (is_some-get es q ∙ ap (list_any (is_named q)) (sym all) ∙ least.1 q b)

@@ -40,7 +40,8 @@ told_reply Deleted Deleted = inl refl
 told_reply Replaced Replaced = inl refl
 told_reply _ _ = inr (λ e. cc)
 
-later : {X : Type 0} (x y : X) (xs ys : List X) (t : ℕ) → x ≡ y → FirstDiffer xs ys t → FirstDiffer (x ∷ xs) (y ∷ ys) (suc t)
+later : {X : Type 0} (x y : X) (xs ys : List X) (t : ℕ) → x ≡ y → FirstDiffer xs ys t
+    → FirstDiffer (x ∷ xs) (y ∷ ys) (suc t)
 later x y xs ys t same f = record { before = before; here = f.here }
   where
     before : (p : ℕ) → p < suc t → slice_get (x ∷ xs) p ≡ slice_get (y ∷ ys) p
@@ -48,7 +49,8 @@ later x y xs ys t same f = record { before = before; here = f.here }
     before (suc p) b = f.before p (omega arith)
 
 -- two lists are one, or differ first at some place
-pub told_list : {X : Type 0} → ((x y : X) → (x ≡ y) ⊎ (x ≢ y)) → (xs ys : List X) → (xs ≡ ys) ⊎ ((t : ℕ) × FirstDiffer xs ys t)
+pub told_list : {X : Type 0} → ((x y : X) → (x ≡ y) ⊎ (x ≢ y)) → (xs ys : List X)
+    → (xs ≡ ys) ⊎ ((t : ℕ) × FirstDiffer xs ys t)
 told_list told [] [] = inl refl
 told_list told [] (y ∷ ys) = inr (0, record { before = λ p b. absurd (omega arith); here = λ e. none-some y e })
 told_list told (x ∷ xs) [] = inr (0, record { before = λ p b. absurd (omega arith); here = λ e. none-some x (sym e) })

@@ -42,7 +42,8 @@ pub get-map_of-nil : (q : List ℕ) → get (map_of []) q ≡ None
 unfolding map_of
 get-map_of-nil q = get-empty (slice_cmp nat_cmp) q
 
-pub get-map_of-cons : (p : Pair) (ps : List Pair) (q : List ℕ) → get (map_of (p ∷ ps)) q ≡ cond (bytes_eq q p.key) (Some p.value) (get (map_of ps) q)
+pub get-map_of-cons : (p : Pair) (ps : List Pair) (q : List ℕ)
+    → get (map_of (p ∷ ps)) q ≡ cond (bytes_eq q p.key) (Some p.value) (get (map_of ps) q)
 unfolding map_of
 get-map_of-cons p ps q =
     get-insert nat_list_cmp_total (from_entries (map entry_of ps)) p.key p.value q
@@ -53,33 +54,46 @@ pub get_first : (ps : List Pair) (q : List ℕ) → get (map_of ps) q ≡ slice_
 get_first [] q = get-map_of-nil q
 get_first (p ∷ ps) q =
     get-map_of-cons p ps q
-    ∙ elim (bytes_eq q p.key) as (λ b. cond b (Some p.value) (get (map_of ps) q) ≡ slice_get (map (λ (p : Pair). p.value) (cond b (p ∷ filter (λ p. bytes_eq q p.key) ps) (filter (λ p. bytes_eq q p.key) ps))) 0) [
+    ∙ elim (bytes_eq q p.key) as (λ b.
+    cond b (Some p.value) (get (map_of ps) q) ≡ slice_get
+    (map (λ (p : Pair). p.value) (cond b (p ∷ filter (λ p. bytes_eq q p.key) ps)
+    (filter (λ p. bytes_eq q p.key) ps))) 0) [
       | true ↦ refl
       | false ↦ get_first ps q
     ]
 
-pub values_under-append : (q : List ℕ) (ps qs : List Pair) → values_under q (ps ++ qs) ≡ values_under q ps ++ values_under q qs
+pub values_under-append : (q : List ℕ) (ps qs : List Pair)
+    → values_under q (ps ++ qs) ≡ values_under q ps ++ values_under q qs
 values_under-append q ps qs =
     ap (map (λ (p : Pair). p.value)) (filter-append (λ p. bytes_eq q p.key) ps qs)
     ∙ map-append (λ (p : Pair). p.value) (filter (λ p. bytes_eq q p.key) ps) (filter (λ p. bytes_eq q p.key) qs)
 
 -- one record more, with this key or with another
-pub values_under-push : (q : List ℕ) (ps : List Pair) (p : Pair) → bytes_eq q p.key ≡ true → values_under q (ps ++ p ∷ []) ≡ values_under q ps ++ p.value ∷ []
+pub values_under-push : (q : List ℕ) (ps : List Pair) (p : Pair) → bytes_eq q p.key ≡ true
+    → values_under q (ps ++ p ∷ []) ≡ values_under q ps ++ p.value ∷ []
 values_under-push q ps p e =
     values_under-append q ps (p ∷ [])
     ∙ ap (λ b. values_under q ps ++ map (λ (p : Pair). p.value) (cond b (p ∷ []) [])) e
 
-pub values_under-other : (q : List ℕ) (ps : List Pair) (p : Pair) → bytes_eq q p.key ≡ false → values_under q (ps ++ p ∷ []) ≡ values_under q ps
+pub values_under-other : (q : List ℕ) (ps : List Pair) (p : Pair) → bytes_eq q p.key ≡ false
+    → values_under q (ps ++ p ∷ []) ≡ values_under q ps
 values_under-other q ps p e =
     values_under-append q ps (p ∷ [])
     ∙ ap (λ b. values_under q ps ++ map (λ (p : Pair). p.value) (cond b (p ∷ []) [])) e
     ∙ append-nil (values_under q ps)
 
-deleted : (m : Records) (k q : List ℕ) (o : Option (List ℕ)) (b : Bool) → get m k ≡ o → (b ≡ true → q ≡ k) → eq_by_cmp (slice_cmp nat_cmp) q k ≡ b → get (after m (Delete k)) q ≡ cond b None (get m q)
+deleted : (m : Records) (k q : List ℕ) (o : Option (List ℕ)) (b : Bool) → get m k ≡ o → (b ≡ true → q ≡ k)
+    → eq_by_cmp (slice_cmp nat_cmp) q k ≡ b → get (after m (Delete k)) q ≡ cond b None (get m q)
 deleted m k q o b there same is =
     elim o as (λ o. get m k ≡ o → get (after m (Delete k)) q ≡ cond b None (get m q)) [
-      | None ↦ λ e. ap (λ (o : Option (List ℕ)). get (cond (is_some o) (remove m k) m) q) e ∙ elim b as (λ b. (b ≡ true → q ≡ k) → get m q ≡ cond b None (get m q)) [ true ↦ λ s. ap (get m) (s refl) ∙ e | false ↦ λ s. refl ] same
-      | Some v ↦ λ e. ap (λ (o : Option (List ℕ)). get (cond (is_some o) (remove m k) m) q) e ∙ get-remove nat_list_cmp_total m k q ∙ ap (λ b. cond b None (get m q)) is
+      | None ↦ λ e. ap (λ (o : Option (List ℕ)). get (cond (is_some o) (remove m k) m) q) e
+          ∙ elim b as (λ b. (b ≡ true → q ≡ k) → get m q ≡ cond b None (get m q)) [
+            | true ↦ λ s. ap (get m) (s refl)
+                ∙ e
+            | false ↦ λ s. refl
+          ] same
+      | Some v ↦ λ e. ap (λ (o : Option (List ℕ)). get (cond (is_some o) (remove m k) m) q) e
+          ∙ get-remove nat_list_cmp_total m k q ∙ ap (λ b. cond b None (get m q)) is
     ] there
 
 -- what a map has after a key was deleted
@@ -91,7 +105,8 @@ abbrev pub either_one : Option (List ℕ) → Option (List ℕ) → Option (List
 either_one (Some v) o = Some v
 either_one None o = o
 
-inserted : (m : Records) (k v q : List ℕ) (o : Option (List ℕ)) (b : Bool) → get m k ≡ o → (b ≡ true → q ≡ k) → eq_by_cmp (slice_cmp nat_cmp) q k ≡ b → get (after m (Insert k v)) q ≡ either_one (get m q) (cond b (Some v) None)
+inserted : (m : Records) (k v q : List ℕ) (o : Option (List ℕ)) (b : Bool) → get m k ≡ o → (b ≡ true → q ≡ k)
+    → eq_by_cmp (slice_cmp nat_cmp) q k ≡ b → get (after m (Insert k v)) q ≡ either_one (get m q) (cond b (Some v) None)
 inserted m k v q None b e same is =
     ap (λ (o : Option (List ℕ)). get (cond (is_some o) m (insert m k v)) q) e
     ∙ get-insert nat_list_cmp_total m k v q ∙ ap (λ b. cond b (Some v) (get m q)) is
@@ -106,7 +121,8 @@ inserted m k v q None b e same is =
 inserted m k v q (Some w) b e same is =
     ap (λ (o : Option (List ℕ)). get (cond (is_some o) m (insert m k v)) q) e
     ∙ elim b as (λ b. (b ≡ true → q ≡ k) → get m q ≡ either_one (get m q) (cond b (Some v) None)) [
-      | true ↦ λ s. let there : get m q ≡ Some w = ap (get m) (s refl) ∙ e in there ∙ ap (λ o. either_one o (Some v)) (sym there)
+      | true ↦ λ s. let there : get m q ≡ Some w = ap (get m) (s refl) ∙ e in there
+          ∙ ap (λ o. either_one o (Some v)) (sym there)
       | false ↦ λ s. nothing (get m q)
     ] same
   where
@@ -114,7 +130,8 @@ inserted m k v q (Some w) b e same is =
     nothing (Some v) = refl
     nothing None = refl
 
-in_turn : (a : Option (List ℕ)) (b : Bool) (v : List ℕ) (c : Option (List ℕ)) → either_one (either_one a (cond b (Some v) None)) c ≡ either_one a (cond b (Some v) c)
+in_turn : (a : Option (List ℕ)) (b : Bool) (v : List ℕ) (c : Option (List ℕ))
+    → either_one (either_one a (cond b (Some v) None)) c ≡ either_one a (cond b (Some v) c)
 in_turn (Some w) b v c = refl
 in_turn None true v c = refl
 in_turn None false v c = refl
@@ -123,11 +140,13 @@ only_first : (a : Option (List ℕ)) → a ≡ either_one a None
 only_first (Some v) = refl
 only_first None = refl
 
-get-inserts : (ps : List Pair) (m : Records) (q : List ℕ) → get (outcome m (calls_inserting ps)) q ≡ either_one (get m q) (get (map_of ps) q)
+get-inserts : (ps : List Pair) (m : Records) (q : List ℕ)
+    → get (outcome m (calls_inserting ps)) q ≡ either_one (get m q) (get (map_of ps) q)
 get-inserts [] m q = only_first (get m q) ∙ ap (either_one (get m q)) (sym (get-map_of-nil q))
 get-inserts (p ∷ ps) m q =
     get-inserts ps (after m (Insert p.key p.value)) q
-    ∙ ap (λ o. either_one o (get (map_of ps) q)) (inserted m p.key p.value q (get m p.key) (bytes_eq q p.key) refl (equals q p.key) (sym (texts_ties q p.key)))
+    ∙ ap (λ o. either_one o (get (map_of ps) q))
+    (inserted m p.key p.value q (get m p.key) (bytes_eq q p.key) refl (equals q p.key) (sym (texts_ties q p.key)))
     ∙ in_turn (get m q) (bytes_eq q p.key) p.value (get (map_of ps) q)
     ∙ ap (either_one (get m q)) (sym (get-map_of-cons p ps q))
 

@@ -8,7 +8,8 @@ pub loop-list-preserved : goal.loop-list-preserved
 loop-list-preserved c =
     let lists : List (List Pair) = map (λ v. v.items) c.args.lists.now in
     let n = c.loop-list.list-index in
-    let list = list_read (λ v. v.items) c.args.lists.now n c.list-item.result c.loop-list-test.true c.list-item.is ∙ sym c.deref.ensures.value in
+    let list = list_read (λ v. v.items) c.args.lists.now n c.list-item.result c.loop-list-test.true c.list-item.is
+    ∙ sym c.deref.ensures.value in
     ap (map (λ v. v.items)) c.in_ok-push.ensures.items
     ∙ map-append (λ v. v.items) c.loop-list.copies.items (c.in_ok-copy.copy ∷ [])
     ∙ ap (λ xs. xs ++ c.in_ok-copy.copy.items ∷ []) c.loop-list.invariant

@@ -5,4 +5,5 @@ use Rattle.lh_settling.specs.Tally.{IsTally}
 use Rattle.lh_settling.proofs.contents.tally.Given as goal
 
 abbrev pub invariant-loop-pair : goal.invariant-loop-pair
-invariant-loop-pair l = (m : Records) (done : List Pair) → IsTally m done l.initial.records l.initial.stray → IsTally m (done ++ take l.pair-index l.pairs) l.records l.stray
+invariant-loop-pair l = (m : Records) (done : List Pair) → IsTally m done l.initial.records l.initial.stray
+    → IsTally m (done ++ take l.pair-index l.pairs) l.records l.stray

@@ -8,5 +8,6 @@ use Rattle.lh_settling.proofs.replay.replay.Given as goal
 abbrev pub invariant-loop-place : goal.invariant-loop-place
 invariant-loop-place l = record {
   left : l.records ≡ outcome (map_in l.opening) (take l.place (calls_of l.history));
-  same : (p : ℕ) → p < l.place → slice_get (replies_of l.history) p ≡ slice_get (replies (map_in l.opening) (calls_of l.history)) p;
+  same : (p : ℕ) → p < l.place
+      → slice_get (replies_of l.history) p ≡ slice_get (replies (map_in l.opening) (calls_of l.history)) p;
 }
