@@ -17,7 +17,9 @@ loop-pair-preserved c =
     elim c.if-address-bucket.branch [
       | then-address-bucket w ↦ subst (IsAwayOf initial size c.args.bucket pairs (c.loop-pair.pair-index + 1))
           (sym w.away-is)
-          (away_more initial size c.args.bucket pairs c.loop-pair.pair-index c.loop-pair.away c.pair-item.result.key w.lesser.result at (λ e. w.if-address-bucket.true (code ∙ e)) never_before w.lesser.ensures.either w.lesser.ensures.second w.lesser.ensures.first c.loop-pair.invariant)
+          (away_more initial size c.args.bucket pairs c.loop-pair.pair-index c.loop-pair.away c.pair-item.result.key
+          w.lesser.result at (λ e. w.if-address-bucket.true (code ∙ e)) never_before w.lesser.ensures.either
+          w.lesser.ensures.second w.lesser.ensures.first c.loop-pair.invariant)
       | else-address-bucket w ↦ subst (IsAwayOf initial size c.args.bucket pairs (c.loop-pair.pair-index + 1))
           (sym w.away-is)
           (away_same initial size c.args.bucket pairs c.loop-pair.pair-index c.loop-pair.away

@@ -26,4 +26,5 @@ returns-in-Some-clause-some c =
     (subst (λ ls. IsTally c.args.records (all_of ls) c.loop-list.records c.loop-list.stray)
     (take_all c.loop-list.list-index lists
     (omega (arith, c.loop-list-test.false, length-map c.args.lists.now (λ v. v.items)))) c.loop-list.invariant)
-    c.lesser.result c.in-Some.key c.lesser.ensures.either c.lesser.ensures.second c.lesser.ensures.first c.in-Some.ensures.there c.in-Some.ensures.least
+    c.lesser.result c.in-Some.key c.lesser.ensures.either c.lesser.ensures.second c.lesser.ensures.first
+    c.in-Some.ensures.there c.in-Some.ensures.least

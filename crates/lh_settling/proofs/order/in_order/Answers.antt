@@ -18,7 +18,8 @@ loop-place-preserved c =
 
 pub returns : goal.returns
 returns c =
-    in_order c.args.acts.now c.in_ok-places.places.items c.loop-place.history.items c.in_ok-places.ensures.same c.in_ok-places.ensures.rising
+    in_order c.args.acts.now c.in_ok-places.places.items c.loop-place.history.items c.in_ok-places.ensures.same
+    c.in_ok-places.ensures.rising
     (c.loop-place.invariant ∙ ap (map (act_at c.args.acts.now))
     (take_all c.loop-place.place-index c.deref-place-items.result.now c.loop-place-test.false
     ∙ c.deref-place-items.ensures.value))

@@ -7,4 +7,5 @@ returns-clause-value c = c.remove.ensures.value ∙ sym (get-records_of c.args.r
 
 pub returns-clause-left : goal.returns-clause-left
 returns-clause-left c =
-    taken c.args.records.now.entries c.remove.new.self.entries c.args.key.now c.remove.result c.remove.ensures.updates.0 c.remove.ensures.unchanged
+    taken c.args.records.now.entries c.remove.new.self.entries c.args.key.now c.remove.result c.remove.ensures.updates.0
+    c.remove.ensures.unchanged

@@ -10,7 +10,8 @@ returns-then-not-is_same-clause-err c =
     let act = c.index-history-place.result in
     let given = given_at m c.args.history.now c.loop-place.place act c.loop-place-test.true c.index-history-place.is in
     let due =
-    due_at m c.args.history.now c.loop-place.place act c.loop-place-test.true c.index-history-place.is c.loop-place.records c.in_ok-due.due c.loop-place.invariant.left c.in_ok-due.ensures.reply in
+    due_at m c.args.history.now c.loop-place.place act c.loop-place-test.true c.index-history-place.is
+    c.loop-place.records c.in_ok-due.due c.loop-place.invariant.left c.in_ok-due.ensures.reply in
     record {
       differ = record {
         before = c.loop-place.invariant.same;
@@ -27,12 +28,16 @@ loop-place-preserved c =
     let act = c.index-history-place.result in
     let given = given_at m c.args.history.now c.loop-place.place act c.loop-place-test.true c.index-history-place.is in
     let due =
-    due_at m c.args.history.now c.loop-place.place act c.loop-place-test.true c.index-history-place.is c.loop-place.records act.reply c.loop-place.invariant.left (c.if-not-is_same.ensures.same ∙ c.in_ok-due.ensures.reply) in
+    due_at m c.args.history.now c.loop-place.place act c.loop-place-test.true c.index-history-place.is
+    c.loop-place.records act.reply c.loop-place.invariant.left
+    (c.if-not-is_same.ensures.same ∙ c.in_ok-due.ensures.reply) in
     record {
-      left = left_more m c.args.history.now c.loop-place.place act c.loop-place-test.true c.index-history-place.is c.loop-place.records c.serve.new.self c.loop-place.invariant.left c.in_ok-due.ensures.after;
+      left = left_more m c.args.history.now c.loop-place.place act c.loop-place-test.true c.index-history-place.is
+          c.loop-place.records c.serve.new.self c.loop-place.invariant.left c.in_ok-due.ensures.after;
       same = below_more _ _ c.loop-place.invariant.same (given ∙ sym due);
     }
 
 pub returns-clause-legal : goal.returns-clause-legal
 returns-clause-legal c = all_legal
-    (map_in c.args.opening.now) c.args.history.now c.loop-place.place c.loop-place-test.false c.loop-place.invariant.same
+    (map_in c.args.opening.now) c.args.history.now c.loop-place.place c.loop-place-test.false
+    c.loop-place.invariant.same

@@ -30,7 +30,8 @@ copies c =
 pub returns-in-Ok-clause-ok : goal.returns-in-Ok-clause-ok
 returns-in-Ok-clause-ok c =
     subst (λ n. IfOk c.new.result (λ listing.
-    listing ≡ record { config = c.args.self.now.config; lists = take n c.args.self.now.lists })) c.buckets-buckets.ensures.value
+    listing ≡ record { config = c.args.self.now.config; lists = take n c.args.self.now.lists }))
+    c.buckets-buckets.ensures.value
     (subst (λ (s : Settings). IfOk c.new.result
     (λ listing. listing ≡ record { config = s; lists = take c.buckets-buckets.result c.args.self.now.lists }))
     (ap (λ (f : ClosedFile). f.config) c.self.view_is)
