@@ -7,3 +7,4 @@ pub mod reads
 pub mod judging
 pub mod writes
 pub mod samples
+pub mod looking

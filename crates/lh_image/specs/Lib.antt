@@ -18,5 +18,6 @@ pub mod Misplaced
 pub mod Listed
 pub mod Reading
 pub mod RoundTrip
+pub mod LookUp
 pub mod Writing
 pub mod Texts

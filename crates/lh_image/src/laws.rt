@@ -5,8 +5,11 @@ ghost use Rattle.lh_image.specs.Chains.{ChainLaw, PathsLaw};
 ghost use Rattle.lh_image.specs.Counted.{CensusLaw};
 ghost use Rattle.lh_image.specs.FirstFault.{FirstFaultLaw, NoFaultLaw};
 ghost use Rattle.lh_image.specs.Image.{ImageLaw, OneListingLaw};
+ghost use Rattle.lh_image.specs.LookUp.{MapLaw, StandsLaw};
 ghost use Rattle.lh_image.specs.RoundTrip.{RoundTripLaw};
 
+use lh_addr::laws::address_is_only_bucket;
+use lh_bucket::laws::{listing_is_placed, records_make_a_map};
 use lh_page::laws::{
     a_page_is_its_bytes, faultless_bytes_are_a_page, pages_are_packed, pages_are_pieces,
     pages_read_back,
@@ -64,4 +67,16 @@ pub fn written_images_read_back()
 {
     what_is_written_is_an_image();
     image_is_of_only_listing();
+}
+
+/// A look-up in an image of a listing answers as the plain map of all records does. In any bytes, a value that is found
+/// stands with the key in a page of the key's bucket.
+pub fn what_is_found_stands_there()
+    ensures map { MapLaw }
+    ensures stands { StandsLaw }
+{
+    image_is_of_only_listing();
+    address_is_only_bucket();
+    records_make_a_map();
+    listing_is_placed();
 }

@@ -6,11 +6,13 @@
 //! write_image_v1(&listing, &mut writer)?;           // or of version 1, if its records are short enough
 //! let listing = read_image(alloc, &mut reader)?;    // exactly the images, and each fault by its place
 //! check_image(alloc, &mut reader)?.longest          // pages of the longest chain
+//! Image::open(&bytes)?.find(&key)?                  // one key's value, in the bytes as they are
 //! ```
 #![tactic(auto)]
 
 mod census;
 mod fault;
+mod image;
 mod judge;
 pub mod laws;
 mod layout;
@@ -21,6 +23,7 @@ mod writing;
 
 pub use census::{Census, check_image};
 pub use fault::{ImageFault, WriteImageFault};
+pub use image::Image;
 pub use reading::read_image;
 pub use version::Version;
 pub use writing::{write_image, write_image_v1};

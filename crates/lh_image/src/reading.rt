@@ -6,7 +6,7 @@ ghost use Rattle.lh_image.specs.Reading.{IsDueAnswer, Leaves, reading_of};
 mod filling;
 pub(crate) mod first_page;
 pub(crate) mod memory;
-mod page;
+pub(crate) mod page;
 pub(crate) mod pages;
 pub(crate) mod table;
 

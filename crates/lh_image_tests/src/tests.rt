@@ -3,6 +3,7 @@ mod building;
 mod census;
 mod faults;
 mod faults_2;
+mod looking;
 mod memory;
 mod old_limits;
 mod pages;

@@ -29,10 +29,10 @@ use Rattle.lh_image.proofs.reads.Filled.{fills_whole}
 -- ---- the fields are those of the first page
 
 -- the first page of some bytes
-abbrev front : List ℕ → List ℕ
+abbrev pub front : List ℕ → List ℕ
 front bytes = take (page_bytes (version_of bytes)) bytes
 
-header-front : (bytes : List ℕ) → header_of (front bytes) ≡ header_of bytes
+pub header-front : (bytes : List ℕ) → header_of (front bytes) ≡ header_of bytes
 unfolding header_of
 header-front bytes =
     let w : ℕ = page_bytes (version_of bytes) in
@@ -50,7 +50,7 @@ header-front bytes =
       records = little_from-take records_offset 8 w bytes (omega arith) i;
     }
 
-zeros-front : (bytes : List ℕ) → ends_in_zeros (front bytes) ≡ ends_in_zeros bytes
+pub zeros-front : (bytes : List ℕ) → ends_in_zeros (front bytes) ≡ ends_in_zeros bytes
 zeros-front bytes =
     let v : Version = version_of bytes in
     let low : 1024 ≤ page_bytes v = least_page v in
@@ -62,7 +62,7 @@ zeros-front bytes =
 abbrev pub due : List ℕ → Option ImageFault
 due bytes = first_fault_of (field_rows (header_of bytes) (ends_in_zeros bytes))
 
-due-front : (bytes : List ℕ) → due (front bytes) ≡ due bytes
+pub due-front : (bytes : List ℕ) → due (front bytes) ≡ due bytes
 due-front bytes = rw (header-front bytes, zeros-front bytes) refl
 
 -- ---- the answers
@@ -90,7 +90,7 @@ leaves_due (Some x) b f bytes now rest e = let is : f ≡ HeaderField x = cc in 
 leaves_due None true f bytes now rest e = let is : f ≡ Counts = cc in rw is (consumed (page_bytes (version_of bytes)) bytes now rest)
 leaves_due None false f bytes now rest e = let no_fault : ⊥ = cc in absurd no_fault
 
-magic_is : (bytes : List ℕ) → no_magic bytes ≡ true → first_fault_of (header_rows bytes) ≡ Some Magic
+pub magic_is : (bytes : List ℕ) → no_magic bytes ≡ true → first_fault_of (header_rows bytes) ≡ Some Magic
 unfolding first_fault_of
 magic_is bytes e = rw e refl
 
@@ -101,7 +101,7 @@ short_is bytes e less =
     let short : ltb (length bytes) (page_bytes (version_of bytes)) ≡ true = grind (arith, nat_tests) in
     read_as bytes Short (rw (e, test, short) refl)
 
-due_is : (bytes : List ℕ) → no_magic bytes ≡ false → page_bytes (version_of bytes) ≤ length bytes → first_fault_of (header_rows bytes) ≡ due bytes
+pub due_is : (bytes : List ℕ) → no_magic bytes ≡ false → page_bytes (version_of bytes) ≤ length bytes → first_fault_of (header_rows bytes) ≡ due bytes
 unfolding first_fault_of
 due_is bytes e enough = let test : leb (page_bytes (version_of bytes)) (length bytes) ≡ true = grind (arith, nat_tests) in rw (e, test) refl
 

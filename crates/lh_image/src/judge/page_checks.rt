@@ -31,7 +31,7 @@ fn note(least: &mut Option<u32>, page: u32, at_fault: bool)
 
 /// Whether a page isn't of the kind of its place, or a reserved byte isn't zero.
 #[tactic(auto, unfolding(crate::specs::Faults::bad_kind))]
-fn has_bad_kind(header: &Header, page: u32, head: &PageHead) -> bool
+pub(crate) fn has_bad_kind(header: &Header, page: u32, head: &PageHead) -> bool
     ensures { result ≡ bad_kind header.now page head.now }
 {
     let kind = if page <= header.buckets { 1 } else { 2 };
@@ -40,7 +40,7 @@ fn has_bad_kind(header: &Header, page: u32, head: &PageHead) -> bool
 
 /// Whether a page has another bucket than its own, or one that the file hasn't.
 #[tactic(auto, unfolding(crate::specs::Faults::bad_bucket))]
-fn has_bad_bucket(header: &Header, page: u32, head: &PageHead) -> bool
+pub(crate) fn has_bad_bucket(header: &Header, page: u32, head: &PageHead) -> bool
     requires { 1 ≤ page }
     ensures { result ≡ bad_bucket header.now page head.now }
 {
@@ -49,7 +49,7 @@ fn has_bad_bucket(header: &Header, page: u32, head: &PageHead) -> bool
 
 /// Whether a page's level isn't the local level of its bucket, where the file has that bucket.
 #[tactic(auto, unfolding(crate::specs::Faults::bad_level))]
-fn has_bad_level(header: &Header, root: &Root, head: &PageHead) -> bool
+pub(crate) fn has_bad_level(header: &Header, root: &Root, head: &PageHead) -> bool
     requires { root.now ≡ record { initial = header.now.config.initial; buckets = header.now.buckets } }
     ensures { (page : ℕ) → result ≡ known_bad_level header.now page head.now }
 {
@@ -58,7 +58,7 @@ fn has_bad_level(header: &Header, root: &Root, head: &PageHead) -> bool
 
 /// Whether a page can't have this many records.
 #[tactic(auto, unfolding(crate::specs::Faults::bad_used))]
-fn has_bad_used(header: &Header, head: &PageHead) -> bool
+pub(crate) fn has_bad_used(header: &Header, head: &PageHead) -> bool
     ensures { (page : ℕ) → result ≡ bad_used header.now page head.now }
 {
     let used = head.used as u32;

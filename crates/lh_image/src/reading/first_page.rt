@@ -127,7 +127,7 @@ fn has_bad_counts(fields: &Fields) -> bool
 }
 
 /// The header that a page is, or the fault of its fields.
-fn header_of(version: Version, page: &[u8]) -> Result<Header, ImageFault>
+pub(crate) fn header_of(version: Version, page: &[u8]) -> Result<Header, ImageFault>
     requires version { version ≡ version_of page.now }
     requires size { length page.now ≡ page_bytes version }
     ensures header { IfOk result (λ header. header ≡ header_of page.now) }

@@ -1,0 +1,7 @@
+-- Looking a key up in the bytes
+pub mod Values
+pub mod Slots
+pub mod Scans
+pub mod Steps
+pub mod Openings
+pub mod Maps

@@ -1,0 +1,339 @@
+//! Look-ups in the bytes of images of either version: worked, forged and cut ones.
+use crate::tests::building::{
+    empty, listing_of, numbered, pair, six_pages, three_buckets, three_buckets_image, two_pages,
+    two_pages_image,
+};
+use crate::tests::pages::{VERSION_1, VERSION_2, falling_chain, set, two_buckets};
+use crate::tests::streams::Sink;
+use crate::tests::version_2::{three_buckets_image_2, two_pages_image_2};
+use lh_bucket::Listing;
+use lh_image::*;
+use lh_page::{Key, Value};
+use std::alloc::{AllocGlobal, Global};
+use std::process::Abort;
+use std::test::Fail;
+
+/// What a look-up in some bytes answers, or why they can't be opened.
+fn look(bytes: &[u8], key: &[u8]) -> Result<Result<Option<Value>, ImageFault>, Fail> {
+    let key = Key::new(key)?;
+    match Image::open(bytes) {
+        Ok(image) => Ok(image.find(&key)),
+        Err(fault) => Ok(Err(fault)),
+    }
+}
+
+/// The key has this value in the bytes, copied and lent.
+fn expect_value(rt: &impl Abort, image: &Image<'_>, key: &Key, value: &[u8]) {
+    match image.find(key) {
+        Ok(Some(found)) => assert_eq!(rt; found.bytes(), value),
+        _ => assert!(rt; false),
+    }
+    match image.find_bytes(key) {
+        Ok(Some(found)) => assert_eq!(rt; found, value),
+        _ => assert!(rt; false),
+    }
+}
+
+/// The bytes are opened, and have just the records of a listing. Of these keys of one byte, each one that the listing
+/// hasn't is absent.
+fn expect_listing(
+    rt: &impl Abort,
+    bytes: &[u8],
+    listing: &Listing,
+    version: Version,
+    absent: &[&[u8]],
+) -> Result<(), Fail> {
+    let image = Image::open(bytes).ok().ok_or("open")?;
+    assert_eq!(rt; image.version(), version);
+    assert_eq!(rt; image.config(), listing.config());
+    assert!(rt; image.buckets() == listing.buckets());
+    assert!(rt; image.len() == listing.len());
+    assert!(rt; image.is_empty() == (listing.len() == 0));
+    for bucket in 0..listing.buckets() {
+        for place in 0..listing.len_of(bucket) {
+            let pair = listing.pair_at(bucket, place);
+            expect_value(rt, &image, &pair.key, pair.value.bytes());
+        }
+    }
+    for key in absent {
+        let key = Key::new(*key)?;
+        assert_eq!(rt; image.find(&key), Ok(None));
+        assert!(rt; matches!(image.find_bytes(&key), Ok(None)));
+    }
+    Ok(())
+}
+
+/// The images of both versions of a listing have just its records.
+fn expect_both(
+    rt: &(impl Abort + AllocGlobal),
+    listing: &Listing,
+    absent: &[&[u8]],
+) -> Result<(), Fail> {
+    let mut sink = Sink::new(rt.alloc(), usize::MAX, 0);
+    assert_eq!(rt; write_image(listing, &mut sink), Ok(()));
+    expect_listing(rt, sink.bytes.as_slice(), listing, Version::Two, absent)?;
+    let mut sink = Sink::new(rt.alloc(), usize::MAX, 0);
+    assert_eq!(rt; write_image_v1(listing, &mut sink), Ok(()));
+    expect_listing(rt, sink.bytes.as_slice(), listing, Version::One, absent)
+}
+
+#[test]
+fn worked_listings(rt: HostRuntime) -> Result<(), Fail> {
+    let alloc = rt.alloc();
+    expect_both(&rt, &empty(alloc)?, &[b"a", b"b", b"\0"])?;
+    expect_both(
+        &rt,
+        &three_buckets(alloc)?,
+        &[b"f", b"aa", b"1", b"\0", b"z"],
+    )?;
+    expect_both(&rt, &two_pages(alloc)?, &[b"b", b"d", b"f", b"ac"])?;
+    expect_both(&rt, &six_pages(alloc)?, &[b"c", b"f", b"g", b"h"])
+}
+
+/// Each record of a chain of many pages, and of a file where each other bucket was split.
+#[test]
+fn long_chains(rt: HostRuntime) -> Result<(), Fail> {
+    let records = numbered(rt.alloc(), 60)?;
+    let one = listing_of(rt.alloc(), [1, 2, 200, 1], 1, &records)?;
+    expect_both(&rt, &one, &[b"\0\0\0\x3c", b"\0\0\0", b"\0\0\0\0\0"])?;
+    let some = listing_of(rt.alloc(), [2, 3, 100, 65_536], 5, &records)?;
+    expect_both(&rt, &some, &[b"\0\0\0\x3c", b"\x01\0\0\0", b"a"])
+}
+
+/// A record that a later image hasn't any more, and the others, which moved up.
+#[test]
+fn deleted_record(rt: HostRuntime) -> Result<(), Fail> {
+    let alloc = rt.alloc();
+    let mut records = Vec::new(alloc);
+    for record in [b"a1", b"e3", b"g4"] {
+        records.push(pair(&record[..1], &record[1..])?)?;
+    }
+    let listing = listing_of(alloc, [1, 2, 100, 1], 1, &records)?;
+    expect_both(&rt, &listing, &[b"c"])
+}
+
+/// The longest key and value of each version, and keys that differ from them in the last byte.
+#[test]
+fn longest_records(rt: HostRuntime) -> Result<(), Fail> {
+    let alloc = rt.alloc();
+    let mut records = Vec::new(alloc);
+    records.push(pair(&[7; 30], &[9; 40])?)?;
+    records.push(pair(&[7; 29], &[])?)?;
+    let listing = listing_of(alloc, [1, 14, 100, 1], 1, &records)?;
+    expect_both(&rt, &listing, &[&[7; 28], &[7; 31]])?;
+    let mut records = Vec::new(alloc);
+    records.push(pair(&[7; 56], &[9; 112])?)?;
+    records.push(pair(&[7; 55], &[])?)?;
+    let listing = listing_of(alloc, [1, 24, 100, 1], 1, &records)?;
+    let mut sink = Sink::new(alloc, usize::MAX, 0);
+    assert_eq!(rt; write_image(&listing, &mut sink), Ok(()));
+    let bytes = sink.bytes.as_slice();
+    expect_listing(&rt, bytes, &listing, Version::Two, &[&[7; 54], &[8; 56]])
+}
+
+/// Each row: the bytes that are set, a key, and what the look-up answers.
+fn expect_rows(
+    rt: &impl Abort,
+    bytes: &Vec<u8>,
+    rows: &[(&[(usize, u8)], &[u8], Result<Option<&[u8]>, ImageFault>)],
+) -> Result<(), Fail> {
+    for (changes, key, want) in rows {
+        let mut bytes = bytes.clone()?;
+        for (at, byte) in *changes {
+            set(&mut bytes, *at, *byte);
+        }
+        let found = look(&bytes, *key)?;
+        match *want {
+            Ok(Some(value)) => assert_eq!(rt; found, Ok(Some(Value::new(value)?))),
+            Ok(None) => assert_eq!(rt; found, Ok(None)),
+            Err(fault) => assert_eq!(rt; found, Err(fault)),
+        }
+    }
+    Ok(())
+}
+
+/// Pages that have a fault by themselves. A key of another bucket doesn't meet them.
+#[test]
+fn forged_pages(rt: HostRuntime) -> Result<(), Fail> {
+    let bytes = three_buckets_image_2(rt.alloc())?;
+    expect_rows(
+        &rt,
+        &bytes,
+        &[
+            (&[(4096, 2)], b"a", Err(ImageFault::Kind(1))),
+            (&[(4096, 2)], b"b", Ok(Some(b"2"))),
+            (&[(8192, 0)], b"d", Err(ImageFault::Kind(2))),
+            (&[(4099, 1)], b"e", Err(ImageFault::Kind(1))),
+            (&[(12_288 + 15, 1)], b"c", Err(ImageFault::Kind(3))),
+            (&[(8196, 0)], b"b", Err(ImageFault::BucketNumber(2))),
+            (&[(12_292, 3)], b"c", Err(ImageFault::BucketNumber(3))),
+            (&[(8194, 2)], b"b", Err(ImageFault::Level(2))),
+            (&[(8193, 3)], b"b", Err(ImageFault::Used(2))),
+            (&[(12_296, 1)], b"c", Err(ImageFault::Used(3))),
+            (&[(4104, 1)], b"a", Err(ImageFault::Next(1))),
+            (&[(4104, 4)], b"e", Err(ImageFault::Next(1))),
+            (&[(4107, 1)], b"a", Err(ImageFault::Next(1))),
+            (&[(4113, 113)], b"a", Err(ImageFault::Slot(1))),
+            (&[(4112, 0)], b"e", Err(ImageFault::Slot(1))),
+            (&[(4112, 57)], b"e", Err(ImageFault::Slot(1))),
+            (&[(4171, 1)], b"e", Err(ImageFault::Slot(1))),
+            (&[(4282 + 3, 1)], b"a", Err(ImageFault::Slot(1))),
+            (&[(16_383, 1)], b"c", Err(ImageFault::Slot(3))),
+            (&[(12_288 + 16 + 170, 1)], b"f", Err(ImageFault::Slot(3))),
+            (&[(4114, b'b')], b"e", Err(ImageFault::Misfit(1))),
+            (&[(4114, b'b')], b"b", Ok(Some(b"2"))),
+            (&[(4114 + 170, b'c')], b"a", Err(ImageFault::Misfit(1))),
+            (&[(4114, b'b'), (4282, 0)], b"e", Err(ImageFault::Slot(1))),
+        ],
+    )?;
+    let bytes = three_buckets_image(rt.alloc())?;
+    expect_rows(
+        &rt,
+        &bytes,
+        &[
+            (&[], b"e", Ok(Some(b"5"))),
+            (&[(1024, 2)], b"a", Err(ImageFault::Kind(1))),
+            (&[(2052, 0)], b"b", Err(ImageFault::BucketNumber(2))),
+            (&[(2050, 2)], b"b", Err(ImageFault::Level(2))),
+            (&[(2049, 3)], b"b", Err(ImageFault::Used(2))),
+            (&[(1032, 9)], b"a", Err(ImageFault::Next(1))),
+            (&[(1040, 31)], b"e", Err(ImageFault::Slot(1))),
+            (&[(1113, 41)], b"a", Err(ImageFault::Slot(1))),
+            (&[(4095, 1)], b"c", Err(ImageFault::Slot(3))),
+            (&[(1042, b'b')], b"e", Err(ImageFault::Misfit(1))),
+            (&[(1042, b'b')], b"d", Ok(Some(b"4"))),
+        ],
+    )
+}
+
+/// Chains that come to a page again, to another bucket, or past the end. What stands before is found.
+#[test]
+fn forged_chains(rt: HostRuntime) -> Result<(), Fail> {
+    let bytes = two_pages_image_2(rt.alloc())?;
+    expect_rows(
+        &rt,
+        &bytes,
+        &[
+            (&[(8200, 2)], b"a", Ok(Some(b"1"))),
+            (&[(8200, 2)], b"g", Ok(Some(b"4"))),
+            (&[(8200, 2)], b"b", Err(ImageFault::Twice(2))),
+            (&[(8200, 1)], b"a", Ok(Some(b"1"))),
+            (&[(8200, 1)], b"g", Err(ImageFault::Next(2))),
+            (&[(8200, 3)], b"b", Err(ImageFault::Next(2))),
+            (&[(4104, 0)], b"e", Ok(None)),
+            (&[(8193, 0)], b"a", Ok(Some(b"1"))),
+            (&[(8193, 0)], b"e", Err(ImageFault::Used(2))),
+            (&[(8210, b'a')], b"e", Ok(None)),
+        ],
+    )?;
+    let bytes = two_pages_image(rt.alloc())?;
+    expect_rows(
+        &rt,
+        &bytes,
+        &[
+            (&[(2056, 2)], b"c", Ok(Some(b"2"))),
+            (&[(2056, 2)], b"b", Err(ImageFault::Twice(2))),
+            (&[(1032, 3)], b"a", Err(ImageFault::Next(1))),
+        ],
+    )?;
+    for shape in [&VERSION_1, &VERSION_2] {
+        let bytes = two_buckets(rt.alloc(), shape)?;
+        let at = if bytes.len() < 4096 * 2 {
+            1024 + 8
+        } else {
+            4096 + 8
+        };
+        expect_rows(
+            &rt,
+            &bytes,
+            &[
+                (&[], b"d", Ok(Some(b"4"))),
+                (&[(at, 4)], b"c", Err(ImageFault::Next(1))),
+                (&[(at, 4)], b"a", Err(ImageFault::Next(1))),
+                (&[(at, 4)], b"d", Ok(Some(b"4"))),
+            ],
+        )?;
+    }
+    Ok(())
+}
+
+/// A chain in falling order of its pages, and a loop of all but its first page.
+#[test]
+fn falling_chains(rt: HostRuntime) -> Result<(), Fail> {
+    let mut bytes = falling_chain(rt.alloc(), &VERSION_2, 30)?;
+    let last = Ok(Some(Value::empty()));
+    assert_eq!(rt; look(&bytes, b"\0\0\0\x02")?, last);
+    assert_eq!(rt; look(&bytes, b"\0\0\0\x1f")?, Ok(None));
+    set(&mut bytes, 2 * 4096 + 8, 30);
+    assert_eq!(rt; look(&bytes, b"\0\0\0\x02")?, last);
+    assert_eq!(rt; look(&bytes, b"\0\0\0\x1f")?, Err(ImageFault::Twice(29)));
+    Ok(())
+}
+
+/// Every length of the first two pages, and one byte more than all. The other pages aren't looked at.
+fn expect_lengths(rt: &impl Abort, bytes: &mut Vec<u8>, page: usize) -> Result<(), Fail> {
+    for count in 0..2 * page {
+        let want = if count < 4 {
+            ImageFault::Magic
+        } else {
+            ImageFault::Short
+        };
+        let cut = &bytes[..count.min(bytes.len())];
+        assert_eq!(rt; Image::open(cut).err(), Some(want), "{count}");
+    }
+    assert!(rt; Image::open(bytes).is_ok());
+    bytes.push(0)?;
+    assert_eq!(rt; Image::open(bytes).err(), Some(ImageFault::Trailing));
+    Ok(())
+}
+
+#[test]
+fn cut_images(rt: HostRuntime) -> Result<(), Fail> {
+    expect_lengths(&rt, &mut three_buckets_image(rt.alloc())?, 1024)?;
+    expect_lengths(&rt, &mut three_buckets_image_2(rt.alloc())?, 4096)
+}
+
+/// Each row: a byte of the header that is set, and the fault that opening answers.
+fn expect_headers(
+    rt: &impl Abort,
+    bytes: &Vec<u8>,
+    rows: &[(usize, u8, ImageFault)],
+) -> Result<(), Fail> {
+    for (at, byte, want) in rows {
+        let mut bytes = bytes.clone()?;
+        set(&mut bytes, *at, *byte);
+        assert_eq!(rt; Image::open(&bytes).err(), Some(*want), "{at}");
+    }
+    Ok(())
+}
+
+#[test]
+fn headers(rt: HostRuntime) -> Result<(), Fail> {
+    expect_headers(
+        &rt,
+        &three_buckets_image_2(rt.alloc())?,
+        &[
+            (3, b'3', ImageFault::Magic),
+            (4, 0, ImageFault::HeaderField(4)),
+            (8, 25, ImageFault::HeaderField(8)),
+            (12, 9, ImageFault::HeaderField(12)),
+            (16, 0, ImageFault::HeaderField(16)),
+            (20, 1, ImageFault::HeaderField(20)),
+            (4095, 1, ImageFault::HeaderField(36)),
+            (24, 3, ImageFault::Counts),
+            (28, 7, ImageFault::Counts),
+            (24, 5, ImageFault::Short),
+        ],
+    )?;
+    expect_headers(
+        &rt,
+        &three_buckets_image(rt.alloc())?,
+        &[
+            (3, b'2', ImageFault::HeaderField(36)),
+            (8, 15, ImageFault::HeaderField(8)),
+            (1023, 1, ImageFault::HeaderField(36)),
+            (28, 7, ImageFault::Counts),
+            (24, 5, ImageFault::Short),
+        ],
+    )
+}
