@@ -5,3 +5,4 @@ pub mod Scans
 pub mod Steps
 pub mod Openings
 pub mod Maps
+pub mod Loops

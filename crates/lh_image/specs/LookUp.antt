@@ -1,5 +1,5 @@
 -- A look-up in the bytes of an image: what it answers, whatever the bytes are
-use Rattle.std.specs.Prelude.{◌≡◌, ℕ, zero, suc, ◌+◌, ◌*◌, ◌<◌, ◌≤◌, Bool, true, false, not, List, [], ◌∷◌, ◌++◌, length, map, Option, Some, None, Result, Ok, Err, option_map, ◌==◌, if◌then◌else◌}
+use Rattle.std.specs.Prelude.{◌≡◌, ℕ, zero, suc, ◌+◌, ◌*◌, ◌<◌, ◌≤◌, ◌⊎◌, Bool, true, false, not, List, [], ◌∷◌, ◌++◌, length, map, Option, Some, None, Result, Ok, Err, option_map, ◌==◌, if◌then◌else◌}
 use Rattle.std.specs.FinMap.{get}
 use Rattle.std.specs.List.{Contains, find, list_any, range_with_len}
 use Rattle.std.specs.Str.{bytes_eq}
@@ -15,7 +15,7 @@ use Rattle.lh_bucket.specs.Records.{map_of}
 use Rattle.lh_image.specs.declared.fault.ImageFault.{ImageFault}
 use Rattle.lh_image.specs.declared.fault.ImageFault.TheVariants.{Kind, BucketNumber, Level, Used, Next, Twice, Slot, Misfit}
 use Rattle.lh_image.specs.declared.reading.first_page.Header.{Header}
-use Rattle.lh_image.specs.Chains.{stands_in}
+use Rattle.lh_image.specs.Chains.{pages_from, stands_in}
 use Rattle.lh_image.specs.Faults.{at_head, bad_bucket, bad_kind, bad_level, bad_next, bad_used, first_fault_of, has_bad_slot, header_rows, is_at_home, size_rows, where_so}
 use Rattle.lh_image.specs.Header.{AreInRange}
 use Rattle.lh_image.specs.Image.{IsImage}
@@ -80,7 +80,7 @@ found_first None None further = further
 unfoldable pub home_of : View → List ℕ → ℕ
 home_of v key = address (initial v) (buckets v) (code_of key)
 
--- what is found from page p on, in at most this many pages; a page more was met before
+-- what is found from page p on, in at most this many pages; a page more leads back to itself
 unfoldable pub found_from : View → List ℕ → ℕ → ℕ → Result (Option (List ℕ)) ImageFault
 found_from v key zero p = if p == 0 then Ok None else Err (Twice p)
 found_from v key (suc n) p =
@@ -113,6 +113,21 @@ abbrev pub StandsLaw : Type 0
 StandsLaw =
     (v : View) (key value : List ℕ) → 1 ≤ initial v → initial v ≤ buckets v →
     look_up v key ≡ Ok (Some value) → Stands v key value
+
+-- a page of the key's chain has the fault as the first that it has by itself
+abbrev pub HasOwnFault : View → List ℕ → ImageFault → Type 0
+HasOwnFault v key f =
+    (p : ℕ) × (stands_in (chain_of v (home_of v key)) p ≡ true) × (own_fault v (home_of v key) p ≡ Some f)
+
+-- a page that comes again, by `next`, from itself
+abbrev pub ComesAgain : View → ImageFault → Type 0
+ComesAgain v f = (p : ℕ) × (f ≡ Twice p) × (stands_in (pages_from (next v) (page_count v) (next v p)) p ≡ true)
+
+-- Whatever the pages show, a fault is that of a page of the key's chain, or names a page that leads back to itself.
+abbrev pub FaultLaw : Type 0
+FaultLaw =
+    (v : View) (key : List ℕ) (f : ImageFault) → 1 ≤ initial v → initial v ≤ buckets v → buckets v < page_count v →
+    look_up v key ≡ Err f → HasOwnFault v key f ⊎ ComesAgain v f
 
 -- ---- where it is found
 

@@ -101,7 +101,7 @@ impl<'a> Image<'a> {
     pub fn is_empty(&self) -> bool
         ensures { result ≡ ((header_of self.now).records == 0) }
     {
-        self.header.records == 0
+        self.len() == 0
     }
 
     /// The bytes of a key's value, lent by the image, or none where there is no such key.

@@ -5,7 +5,7 @@ ghost use Rattle.lh_image.specs.Chains.{ChainLaw, PathsLaw};
 ghost use Rattle.lh_image.specs.Counted.{CensusLaw};
 ghost use Rattle.lh_image.specs.FirstFault.{FirstFaultLaw, NoFaultLaw};
 ghost use Rattle.lh_image.specs.Image.{ImageLaw, OneListingLaw};
-ghost use Rattle.lh_image.specs.LookUp.{MapLaw, StandsLaw};
+ghost use Rattle.lh_image.specs.LookUp.{FaultLaw, MapLaw, StandsLaw};
 ghost use Rattle.lh_image.specs.RoundTrip.{RoundTripLaw};
 
 use lh_addr::laws::address_is_only_bucket;
@@ -70,10 +70,12 @@ pub fn written_images_read_back()
 }
 
 /// A look-up in an image of a listing answers as the plain map of all records does. In any bytes, a value that is found
-/// stands with the key in a page of the key's bucket.
+/// stands with the key in a page of the key's bucket, and a fault is that of a page of the key's chain, or names a page that
+/// leads back to itself.
 pub fn what_is_found_stands_there()
     ensures map { MapLaw }
     ensures stands { StandsLaw }
+    ensures faults { FaultLaw }
 {
     image_is_of_only_listing();
     address_is_only_bucket();

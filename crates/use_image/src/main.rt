@@ -6,7 +6,7 @@ ghost use Rattle.lh_file.specs.FileState.{IsOf};
 use lh_addr::Config;
 use lh_bucket::Reply;
 use lh_file::{Hand, HashFile, NoGate};
-use lh_image::{check_image, read_image, write_image};
+use lh_image::{Image, check_image, read_image, write_image};
 use lh_page::{Key, Value};
 use std::sync::Wait;
 
@@ -53,6 +53,15 @@ fn main(rt: HostRuntime) -> anyhow::Result<()> {
         "sol is there: {}",
         reply == Reply::Found(Value::new(b"note")?)
     )?;
+
+    // A key is looked up in the bytes as they are, with no listing made.
+    let image = Image::open(&bytes)?;
+    for word in [b"sol".as_slice(), b"ut"] {
+        match image.find_bytes(&Key::new(word)?)? {
+            Some(value) => println!(rt; "{} bytes, of {} records", value.len(), image.len())?,
+            None => println!(rt; "absent")?,
+        }
+    }
 
     // One byte less is no image.
     if let Some((_, mut cut)) = bytes.as_slice().split_last() {

@@ -131,7 +131,7 @@ pub(crate) fn place_of(
         }
         number = next;
     }
-    // More pages than the file has: this one was met before.
+    // More pages than the file has: this one leads back to itself.
     Err(ImageFault::Twice(number))
 }
 
