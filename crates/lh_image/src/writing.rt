@@ -17,16 +17,17 @@ use crate::limits::MAX_PAGES;
 use crate::version::Version;
 use crate::writing::fitting::first_too_long;
 use crate::writing::listing_pages::{
-    following_after, header_bytes, page_count_in, page_in, page_total,
+    following_after, header_bytes, page_count_in, page_total, put_page,
 };
 use crate::writing::sending::{WriteFailed, write_page};
 use lh_addr::Root;
 use lh_bucket::Listing;
 use lh_page::laws::a_page_is_its_bytes;
-use lh_page::{page_to_bytes, page2_to_bytes};
+use lh_page::{Page, PageKind, Pairs, page_to_bytes, page2_to_bytes};
 use std::io::Write;
 
-/// Writes page `k` of a bucket. `following` is the number of the bucket's first overflow page, if it has any.
+/// Writes page `k` of a bucket, which is put in place of another. `following` is the number of the bucket's first overflow
+/// page, if it has any.
 fn write_page_of<W: Write>(
     listing: &Listing,
     version: Version,
@@ -34,22 +35,23 @@ fn write_page_of<W: Write>(
     bucket: u32,
     k: u32,
     following: u32,
+    page: &mut Page,
     writer: &mut W,
 ) -> Result<(), WriteFailed>
     requires fits { FitsVersion version listing.now }
     requires root { root.now ≡ record { initial = listing.now.config.initial; buckets = size listing.now } }
     requires bucket { bucket < size listing.now }
-    requires page { k < page_count_in listing.now bucket }
+    requires k { k < page_count_in listing.now bucket }
     requires few { page_total listing.now ≤ most_pages }
     requires following { following ≡ 1 + size listing.now + overflow_before listing.now bucket }
     ensures { IsSent (text_in version listing.now bucket k) result (W.contents writer.old) (W.contents writer.new) }
 {
     // Its law: a page has one row of bytes, so those that are written are its text.
     a_page_is_its_bytes();
-    let page = page_in(listing, root, bucket, k, following);
+    put_page(page, listing, root, bucket, k, following);
     match version {
-        Version::One => write_page(writer, &page_to_bytes(&page)),
-        Version::Two => write_page(writer, &page2_to_bytes(&page)),
+        Version::One => write_page(writer, &page_to_bytes(page)),
+        Version::Two => write_page(writer, &page2_to_bytes(page)),
     }
 }
 
@@ -58,6 +60,7 @@ fn write_primary_pages<W: Write>(
     listing: &Listing,
     version: Version,
     root: &Root,
+    page: &mut Page,
     writer: &mut W,
 ) -> Result<(), WriteFailed>
     requires fits { FitsVersion version listing.now }
@@ -70,7 +73,7 @@ fn write_primary_pages<W: Write>(
     let mut following = 1 + buckets;
     for bucket in 0..buckets {
         let after = following_after(listing, bucket, following);
-        write_page_of(listing, version, root, bucket, 0, following, writer)?;
+        write_page_of(listing, version, root, bucket, 0, following, page, writer)?;
         following = after;
     }
     Ok(())
@@ -83,6 +86,7 @@ fn write_overflow_pages_of<W: Write>(
     root: &Root,
     bucket: u32,
     following: u32,
+    page: &mut Page,
     writer: &mut W,
 ) -> Result<(), WriteFailed>
     requires fits { FitsVersion version listing.now }
@@ -94,7 +98,7 @@ fn write_overflow_pages_of<W: Write>(
         (W.contents writer.new) }
 {
     for k in 1..page_count_in(listing, bucket) as u32 {
-        write_page_of(listing, version, root, bucket, k, following, writer)?;
+        write_page_of(listing, version, root, bucket, k, following, page, writer)?;
     }
     Ok(())
 }
@@ -104,6 +108,7 @@ fn write_overflow_pages<W: Write>(
     listing: &Listing,
     version: Version,
     root: &Root,
+    page: &mut Page,
     writer: &mut W,
 ) -> Result<(), WriteFailed>
     requires fits { FitsVersion version listing.now }
@@ -115,7 +120,7 @@ fn write_overflow_pages<W: Write>(
     let buckets = listing.buckets();
     let mut following = 1 + buckets;
     for bucket in 0..buckets {
-        write_overflow_pages_of(listing, version, root, bucket, following, writer)?;
+        write_overflow_pages_of(listing, version, root, bucket, following, page, writer)?;
         following = following_after(listing, bucket, following);
     }
     Ok(())
@@ -136,8 +141,15 @@ fn write_pages<W: Write>(
     let root = listing.root();
     let header = header_bytes(listing, version, pages);
     write_page(writer, &header[..version.page_bytes()])?;
-    write_primary_pages(listing, version, &root, writer)?;
-    write_overflow_pages(listing, version, &root, writer)
+    let mut page = Page {
+        kind: PageKind::Primary,
+        level: 0,
+        bucket: 0,
+        next: 0,
+        pairs: Pairs::new(),
+    };
+    write_primary_pages(listing, version, &root, &mut page, writer)?;
+    write_overflow_pages(listing, version, &root, &mut page, writer)
 }
 
 /// The number of pages of an image, if an image may have this many.

@@ -94,18 +94,17 @@ pub(crate) fn header_bytes(listing: &Listing, version: Version, pages: u32) -> [
     bytes
 }
 
-/// The records of a bucket from a place on, as many as a page holds.
-fn pairs_from(listing: &Listing, bucket: u32, start: usize) -> Pairs
+/// Puts the records of a bucket from a place on, as many as a page holds, in place of others.
+fn put_pairs(pairs: &mut Pairs, listing: &Listing, bucket: u32, start: usize)
     requires bucket { bucket < size listing.now }
     requires start { start ≤ length (list_at listing.now.lists bucket) }
-    ensures { result ≡ take listing.now.config.capacity (drop start (list_at listing.now.lists bucket)) }
+    ensures { pairs.new ≡ take listing.now.config.capacity (drop start (list_at listing.now.lists bucket)) }
 {
     let count = (listing.len_of(bucket) - start).min(listing.config().capacity() as usize);
-    let mut pairs = Pairs::new();
+    pairs.clear();
     for place in 0..count {
         pairs.push(listing.pair_at(bucket, start + place));
     }
-    pairs
 }
 
 /// The number of the first overflow page of the bucket behind `bucket`, of which it is `following`.
@@ -145,16 +144,24 @@ fn next_page(listing: &Listing, bucket: u32, k: u32, following: u32) -> u32
     }
 }
 
-/// Page `k` of a bucket. `following` is the number of the bucket's first overflow page, if it has any.
-pub(crate) fn page_in(listing: &Listing, root: &Root, bucket: u32, k: u32, following: u32) -> Page
+/// Puts page `k` of a bucket in place of another. `following` is the number of the bucket's first overflow page, if it
+/// has any. A page is long to make and to move: a writer of many has room for one.
+pub(crate) fn put_page(
+    page: &mut Page,
+    listing: &Listing,
+    root: &Root,
+    bucket: u32,
+    k: u32,
+    following: u32,
+)
     requires root { root.now ≡ record { initial = listing.now.config.initial; buckets = size listing.now } }
     requires bucket { bucket < size listing.now }
     requires page { k < page_count_in listing.now bucket }
     requires few { page_total listing.now ≤ most_pages }
     requires following { following ≡ 1 + size listing.now + overflow_before listing.now bucket }
-    ensures value { result ≡ page_in listing.now bucket k }
+    ensures value { page.new ≡ page_in listing.now bucket k }
     ensures writable { (version : Version) → FitsVersion version listing.now →
-        IsWritable (format_of version) result }
+        IsWritable (format_of version) page.new }
 {
     // Its law: page `k` of a chain holds the records from place `k` times the capacity on.
     pages_are_pieces();
@@ -162,12 +169,9 @@ pub(crate) fn page_in(listing: &Listing, root: &Root, bucket: u32, k: u32, follo
     let level = root.level_of(bucket);
     let next = next_page(listing, bucket, k, following);
     let start = k as usize * listing.config().capacity() as usize;
-    let pairs = pairs_from(listing, bucket, start);
-    Page {
-        kind,
-        level,
-        bucket,
-        next,
-        pairs,
-    }
+    page.kind = kind;
+    page.level = level;
+    page.bucket = bucket;
+    page.next = next;
+    put_pairs(&mut page.pairs, listing, bucket, start);
 }

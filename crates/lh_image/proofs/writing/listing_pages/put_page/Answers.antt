@@ -4,13 +4,13 @@ use Rattle.lh_bucket.specs.Listing.{size, list_at}
 use Rattle.lh_image.specs.Canonical.{page_count_in, pages_in}
 use Rattle.lh_image.proofs.writes.Counting.{overflow_within, page_starts}
 use Rattle.lh_image.proofs.writes.Writable.{writable_page}
-use Rattle.lh_image.proofs.writing.listing_pages.page_in.Goals as goal
+use Rattle.lh_image.proofs.writing.listing_pages.put_page.Goals as goal
 
 pub next_page-next-requires-clause-fits : goal.next_page-next-requires-clause-fits
 next_page-next-requires-clause-fits c = omega (arith, c.requires.few, c.requires.following, c.requires.page, overflow_within c.args.listing.now c.args.bucket (size c.args.listing.now) c.requires.bucket)
 
-pub pairs_from-pairs-requires-clause-start : goal.pairs_from-pairs-requires-clause-start
-pairs_from-pairs-requires-clause-start c =
+pub put_pairs-requires-clause-start : goal.put_pairs-requires-clause-start
+put_pairs-requires-clause-start c =
     let b : c.capacity.result ≡ c.args.listing.now.config.capacity = c.capacity.ensures.value ∙ ap (λ s. s.capacity) c.config.ensures.value in
     let at : c.args.k * c.args.listing.now.config.capacity ≤ length (list_at c.args.listing.now.lists c.args.bucket) =
     (page_starts c.args.listing.now c.args.bucket c.args.k c.pages_are_pieces.ensures c.config.ensures.kept.config.capacity.0 c.requires.page).0 in
@@ -21,8 +21,8 @@ returns-clause-value c =
     let b : c.capacity.result ≡ c.args.listing.now.config.capacity = c.capacity.ensures.value ∙ ap (λ s. s.capacity) c.config.ensures.value in
     let level = c.level_of-level.ensures.value ∙ ap (λ r. level_of r.initial r.buckets c.args.bucket) c.requires.root in
     let next = c.next_page-next.ensures ∙ ap (λ n. cond (eqb (c.args.k + 1) (page_count_in c.args.listing.now c.args.bucket)) 0 (n + c.args.k)) c.requires.following in
-    let pairs : c.pairs_from-pairs.result ≡ get_or (pages_in c.args.listing.now c.args.bucket) c.args.k [] =
-    c.pairs_from-pairs.ensures ∙ ap (λ n. take c.args.listing.now.config.capacity (drop (c.args.k * n) (list_at c.args.listing.now.lists c.args.bucket))) b
+    let pairs : c.put_pairs.new.pairs ≡ get_or (pages_in c.args.listing.now c.args.bucket) c.args.k [] =
+    c.put_pairs.ensures ∙ ap (λ n. take c.args.listing.now.config.capacity (drop (c.args.k * n) (list_at c.args.listing.now.lists c.args.bucket))) b
     ∙ sym (page_starts c.args.listing.now c.args.bucket c.args.k c.pages_are_pieces.ensures c.config.ensures.kept.config.capacity.0 c.requires.page).1 in
     λ i. record { kind = c.kind_of-kind.ensures i; level = level i; bucket = c.args.bucket; next = next i; pairs = pairs i }
 
