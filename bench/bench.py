@@ -15,11 +15,12 @@ import time
 
 HERE = os.path.dirname(os.path.abspath(__file__))
 # Those that keep a file come last; within a group the order is that of the table.
-PEERS = ["null", "lh_bench", "lh_lent", "lh_traced", "twin", "twin_nostamp", "twin_tags", "rust_shard", "rust_shard_sip", "dashmap_fnv", "dashmap", "absl_shard", "libcuckoo", "tbb", "urcu_sized", "urcu",
+PEERS = ["null", "lh_bench", "lh_lent", "lh_traced", "lh_image1", "twin", "twin_nostamp", "twin_tags", "rust_shard", "rust_shard_sip", "dashmap_fnv", "dashmap", "absl_shard", "libcuckoo", "tbb", "urcu_sized", "urcu",
          "std_shard", "std_onelock", "kc_stash", "kc_hash", "tc_hash", "lmdb", "tdb", "gdbm", "bdb_hash"]
 FILE = "../../crates/lh_bench/out/lh_bench"
-PROGRAM = {"libcuckoo": "cuckoo", "bdb_hash": "bdb", "lh_bench": FILE, "lh_lent": FILE, "lh_traced": FILE}
-WORDS = {"lh_lent": ["--lent"], "lh_traced": ["--traced"]}
+PROGRAM = {"libcuckoo": "cuckoo", "bdb_hash": "bdb", "lh_bench": FILE, "lh_lent": FILE, "lh_traced": FILE, "lh_image1": FILE}
+WORDS = {"lh_lent": ["--lent"], "lh_traced": ["--traced"], "lh_image1": ["--image", "1"]}
+ONLY = {"lh_image1": {"W5"}}  # the workloads of a peer, where it has not all
 UNRANKED = {"null"}
 REFERENCE = "std_onelock"  # its digests at one thread are those due
 # What the picture shows, and under which names.
@@ -74,7 +75,7 @@ def measure(args, contestants):
         for turn in range(first, first + args.rounds):
             for n, w, t in shapes:
                 for name, path in paths.items():
-                    if (name, n, w, t) in left_out:
+                    if (name, n, w, t) in left_out or w not in ONLY.get(name, {w}):
                         continue
                     row = run(name, path, w, t, n, args)
                     row.update(records=n, round=turn)

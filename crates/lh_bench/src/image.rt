@@ -11,7 +11,7 @@ use crate::workloads::{empty_file, load};
 use anyhow::Result;
 use lh_bucket::Listing;
 use lh_file::{Hand, HashFile, NoGate};
-use lh_image::{read_image, write_image};
+use lh_image::{Version, read_image, write_image, write_image_v1};
 use std::fs;
 use std::io::{BufReader, BufWriter};
 use std::os::unix::fs::MetadataExt;
@@ -24,27 +24,33 @@ const PATH: &str = "lh_bench.lhf";
 const BUFFER: usize = 1 << 17;
 
 /// Writes an image of a listing.
-fn write_listing<R: Files + AllocGlobal>(rt: &R, listing: &Listing) -> Result<()> {
+fn write_listing<R: Files + AllocGlobal>(
+    rt: &R,
+    listing: &Listing,
+    version: Version,
+) -> Result<()> {
     let mut writer = BufWriter::with_capacity(rt.alloc(), BUFFER, fs::create(rt, PATH)?)?;
-    write_image(listing, &mut writer)?;
+    match version {
+        Version::One => write_image_v1(listing, &mut writer)?,
+        Version::Two => write_image(listing, &mut writer)?,
+    }
     Ok(())
 }
 
-/// Inserts the records into an empty file, and writes it. Answers how long that took, and whether all were inserted.
-// The file is made, and the listing let go, off the clock.
+/// Inserts the records into an empty file, and writes a snapshot of it. Answers how long that took, and whether all were
+/// inserted.
+// The file is made, and it and the snapshot are let go, off the clock.
 fn write<R>(rt: &R, order: &Order) -> Result<(Spent, bool)>
 where
     R: Wait + Files + Clock + CpuClock + AllocGlobal,
 {
     let (file, hand) = empty_file(rt.alloc(), false)?;
     let watch = Stopwatch::start(rt)?;
-    let caller = load(rt, &file, hand, order, 1);
-    let inserted = caller.tally.inserted;
-    let (closed, _) = file.close(rt, caller.hand)?;
-    let listing = closed.into_listing()?;
-    write_listing(rt, &listing)?;
+    let mut caller = load(rt, &file, hand, order, 1);
+    let listing = file.snapshot(rt, &mut caller.hand)?.into_known_listing();
+    write_listing(rt, &listing, order.image)?;
     let spent = watch.stop(rt)?;
-    Ok((spent, inserted == order.records))
+    Ok((spent, caller.tally.inserted == order.records))
 }
 
 /// The file that was written.

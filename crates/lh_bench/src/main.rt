@@ -6,7 +6,8 @@
 //! ```
 //!
 //! With `--traced` the file is traced, and the line says so. `--workload all` runs on both kinds then. With `--lent` the
-//! calls are those without an answer, and a value is compared where it is lent.
+//! calls are those without an answer, and a value is compared where it is lent. With `--image 1` the image of W5 is one of
+//! version 1, which has room for its records too.
 #![tactic(auto)]
 
 mod caller;

@@ -4,6 +4,7 @@ use crate::contents::Contents;
 use crate::report::Form;
 use clap::builder::ValueParser;
 use clap::{Arg, ArgAction, ArgMatches, Command, Error};
+use lh_image::Version;
 use std::alloc::Global;
 
 /// What is measured.
@@ -166,6 +167,8 @@ pub struct Order {
     pub traced: bool,
     /// Whether its calls are those without an answer, which lend values.
     pub lends: bool,
+    /// The version of the image, where one is written.
+    pub image: Version,
 }
 
 /// How many calls a workload times at least.
@@ -195,6 +198,11 @@ impl Order {
             Workload::Inserts | Workload::Image => LEAST.div_ceil(self.calls().max(1)),
             _ => 1,
         }
+    }
+
+    /// Whether an image is written of another version than a program writes that isn't asked for one.
+    pub fn has_old_image(&self) -> bool {
+        self.workload == Workload::Image && self.image == Version::One
     }
 
     /// How its keys and values are made.
@@ -258,6 +266,7 @@ fn command<'a>(alloc: Global) -> Result<Command<'a>, Error> {
     let threads = ValueParser::Unsigned(1, 64);
     let records = ValueParser::Unsigned(1, 1_000_000_000);
     let seed = ValueParser::Unsigned(0, u64::MAX);
+    let image = ValueParser::Unsigned(1, 2);
     Ok(
         Command::new(alloc, "lh_bench")
             .about("Measures a linear hash file that threads share")
@@ -265,6 +274,7 @@ fn command<'a>(alloc: Global) -> Result<Command<'a>, Error> {
             .arg(number(alloc, "threads", "Threads", "1", threads))?
             .arg(number(alloc, "records", "Records", "1000", records))?
             .arg(number(alloc, "seed", "Seed of the streams", "1", seed))?
+            .arg(number(alloc, "image", "Version of W5's image", "2", image))?
             .arg(traced)?
             .arg(lent)?
             .arg(counts)?,
@@ -279,6 +289,10 @@ fn order_of(matches: &ArgMatches<'_>) -> Order {
         seed: matches.get_one("seed").unwrap_or(1),
         traced: matches.get_flag("traced"),
         lends: matches.get_flag("lent"),
+        image: match matches.get_one("image") {
+            Some(1_u64) => Version::One,
+            _ => Version::Two,
+        },
     }
 }
 

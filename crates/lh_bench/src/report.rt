@@ -82,6 +82,9 @@ impl Outcome {
         if order.lends {
             print!(rt; ",\"lent\":true")?;
         }
+        if order.has_old_image() {
+            print!(rt; ",\"image\":1")?;
+        }
         let times_calls = order.workload.times_calls();
         // How many calls are timed, and how many looks there are, differs from run to run.
         match form {
