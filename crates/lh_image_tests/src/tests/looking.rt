@@ -179,7 +179,7 @@ fn forged_pages(rt: HostRuntime) -> Result<(), Fail> {
             (&[(4171, 1)], b"e", Err(ImageFault::Slot(1))),
             (&[(4282 + 3, 1)], b"a", Err(ImageFault::Slot(1))),
             (&[(16_383, 1)], b"c", Err(ImageFault::Slot(3))),
-            (&[(12_288 + 16 + 170, 1)], b"f", Err(ImageFault::Slot(3))),
+            (&[(12_288 + 16 + 170, 1)], b"c", Err(ImageFault::Slot(3))),
             (&[(4114, b'b')], b"e", Err(ImageFault::Misfit(1))),
             (&[(4114, b'b')], b"b", Ok(Some(b"2"))),
             (&[(4114 + 170, b'c')], b"a", Err(ImageFault::Misfit(1))),
@@ -272,7 +272,7 @@ fn falling_chains(rt: HostRuntime) -> Result<(), Fail> {
 
 /// Every length of the first two pages, and one byte more than all. The other pages aren't looked at.
 fn expect_lengths(rt: &impl Abort, bytes: &mut Vec<u8>, page: usize) -> Result<(), Fail> {
-    for count in 0..2 * page {
+    for count in 0..page.saturating_mul(2) {
         let want = if count < 4 {
             ImageFault::Magic
         } else {
