@@ -56,7 +56,7 @@ fn main(rt: HostRuntime) -> anyhow::Result<()> {
 
     // A key is looked up in the bytes as they are, with no listing made.
     let image = Image::open(&bytes)?;
-    for word in [b"sol".as_slice(), b"ut"] {
+    for word in [b"sol".as_slice(), b"ut".as_slice()] {
         match image.find_bytes(&Key::new(word)?)? {
             Some(value) => println!(rt; "{} bytes, of {} records", value.len(), image.len())?,
             None => println!(rt; "absent")?,
