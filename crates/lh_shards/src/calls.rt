@@ -1,0 +1,3 @@
+//! Calls by a key: each is that of the key's file.
+mod answered;
+mod lean;

@@ -1,0 +1,140 @@
+//! Calls as one makes them of a map: by a key that is lent, with no answer but what they are asked for.
+ghost use denote.Ref.{Bor};
+ghost use Rattle.std.specs.Prelude.{◌≡◌, ◌≢◌, ℕ, List, true, Ok, IfOk};
+ghost use Rattle.std.specs.Fn.{FnOnceReturnsAt};
+ghost use Rattle.lh_bucket.specs.PlainMap.{found};
+ghost use Rattle.lh_bucket.specs.declared.call.Call.TheVariants as call;
+ghost use Rattle.lh_bucket.specs.declared.call.Reply.{Reply};
+ghost use Rattle.lh_page.specs.Limits.{IsValue};
+ghost use Rattle.lh_file.specs.Calls.Lean.{read_reply, put_reply, set_reply, remove_reply, LendsTo};
+ghost use Rattle.lh_file.specs.Calls.Served.{Makes};
+ghost use Rattle.lh_shards.specs.Hands.{AreOf, AtShardOf};
+
+use crate::hands::Hands;
+use crate::known_key::KnownKey;
+use crate::shards::Shards;
+use lh_file::{Coded, FileFault};
+use lh_page::Value;
+use std::sync::Wait;
+
+impl Shards {
+    /// The value under a key.
+    #[inline]
+    pub fn get<K: Coded, R: Wait>(
+        &self,
+        rt: &R,
+        hands: &mut Hands,
+        key: &K,
+    ) -> Result<Option<Value>, FileFault>
+        requires { AreOf self.now hands.old }
+        ensures served { AtShardOf (K.bytes key.now) self.now hands.old hands.new (λ file before after.
+            Makes file before (call.Search (K.bytes key.now)) result found after) }
+        ensures of { AreOf self.now hands.new }
+    {
+        let known = KnownKey::of(key);
+        let shard = self.shard_of(known.code()) as usize;
+        self.files[shard].get(rt, &mut hands.hands[shard], &known)
+    }
+
+    /// Copies the value under a key over another one: whether the key is there. Where it isn't, and after a fault, that
+    /// one is as it was.
+    #[inline]
+    pub fn read_into<K: Coded, R: Wait>(
+        &self,
+        rt: &R,
+        hands: &mut Hands,
+        key: &K,
+        value: &mut Value,
+    ) -> Result<bool, FileFault>
+        requires { AreOf self.now hands.old }
+        ensures served { AtShardOf (K.bytes key.now) self.now hands.old hands.new (λ file before after.
+            Makes file before (call.Search (K.bytes key.now)) result (read_reply value.new) after) }
+        ensures of { AreOf self.now hands.new }
+        ensures same { result ≢ Ok true → value.new ≡ value.old }
+    {
+        let known = KnownKey::of(key);
+        let shard = self.shard_of(known.code()) as usize;
+        self.files[shard].read_into(rt, &mut hands.hands[shard], &known, value)
+    }
+
+    /// Lends the bytes of the value under a key to a closure, and answers what that returns, or none where the key isn't
+    /// there. Nothing is copied.
+    ///
+    /// The closure is given 0 to 112 bytes, and runs while its bucket is held, shared with other searches: it is to be
+    /// short, and must not call the shards, since a call may wait for that very bucket.
+    pub fn with_value<K: Coded, R: Wait, T, F: FnOnce(&[u8]) -> T + Drop>(
+        &self,
+        rt: &R,
+        hands: &mut Hands,
+        key: &K,
+        then: F,
+    ) -> Result<Option<T>, FileFault>
+        requires of { AreOf self.now hands.old }
+        requires callable { (bytes : Bor (List ℕ)) → IsValue bytes.now → F.pre then bytes }
+        ensures served { AtShardOf (K.bytes key.now) self.now hands.old hands.new (λ file before after. (given : Reply)
+            × Makes file before (call.Search (K.bytes key.now)) result (λ _. given) after
+            × IfOk result (LendsTo (FnOnceReturnsAt F.FnOnce then) given)) }
+        ensures of { AreOf self.now hands.new }
+    {
+        let known = KnownKey::of(key);
+        let shard = self.shard_of(known.code()) as usize;
+        self.files[shard].with_value(rt, &mut hands.hands[shard], &known, then)
+    }
+
+    /// Adds a record, unless its key is there: whether it was added. A value that is there stays. Where the load of the
+    /// key's file asks for it, a bucket of that file is split, while other files may split theirs.
+    #[inline]
+    pub fn put<K: Coded, R: Wait>(
+        &self,
+        rt: &R,
+        hands: &mut Hands,
+        key: &K,
+        value: &Value,
+    ) -> Result<bool, FileFault>
+        requires { AreOf self.now hands.old }
+        ensures served { AtShardOf (K.bytes key.now) self.now hands.old hands.new (λ file before after.
+            Makes file before (call.Insert (K.bytes key.now) value.now) result put_reply after) }
+        ensures of { AreOf self.now hands.new }
+    {
+        let known = KnownKey::of(key);
+        let shard = self.shard_of(known.code()) as usize;
+        self.files[shard].put(rt, &mut hands.hands[shard], &known, value)
+    }
+
+    /// Gives a key this value in place of its own: whether the key is there. The value itself takes no memory.
+    #[inline]
+    pub fn set<K: Coded, R: Wait>(
+        &self,
+        rt: &R,
+        hands: &mut Hands,
+        key: &K,
+        value: &Value,
+    ) -> Result<bool, FileFault>
+        requires { AreOf self.now hands.old }
+        ensures served { AtShardOf (K.bytes key.now) self.now hands.old hands.new (λ file before after.
+            Makes file before (call.Replace (K.bytes key.now) value.now) result set_reply after) }
+        ensures of { AreOf self.now hands.new }
+    {
+        let known = KnownKey::of(key);
+        let shard = self.shard_of(known.code()) as usize;
+        self.files[shard].set(rt, &mut hands.hands[shard], &known, value)
+    }
+
+    /// Deletes the record of a key: whether the key was there.
+    #[inline]
+    pub fn remove<K: Coded, R: Wait>(
+        &self,
+        rt: &R,
+        hands: &mut Hands,
+        key: &K,
+    ) -> Result<bool, FileFault>
+        requires { AreOf self.now hands.old }
+        ensures served { AtShardOf (K.bytes key.now) self.now hands.old hands.new (λ file before after.
+            Makes file before (call.Delete (K.bytes key.now)) result remove_reply after) }
+        ensures of { AreOf self.now hands.new }
+    {
+        let known = KnownKey::of(key);
+        let shard = self.shard_of(known.code()) as usize;
+        self.files[shard].remove(rt, &mut hands.hands[shard], &known)
+    }
+}

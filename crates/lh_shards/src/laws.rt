@@ -1,0 +1,9 @@
+//! The law that makes one map of several files: the contract of a function that does nothing.
+ghost use Rattle.lh_shards.specs.OneMap.{OneMapLaw};
+
+/// Where each shard's history is legal, as settling answers it, every merge of these histories that keeps the order of each
+/// is a legal history of one plain map, with the same replies, and what the shards hold at last are the parts of what it
+/// leaves. So the shards together are linearizable where each file is (Herlihy and Wing, 1990: locality).
+pub fn shards_are_one_map()
+    ensures { OneMapLaw }
+{}

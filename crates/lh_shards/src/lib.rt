@@ -1,0 +1,32 @@
+//! Many tables as one: up to 1,024 linear hash files, of which the code of a key chooses one.
+//!
+//! One file has 65,536 buckets at most, and each call of each thread adds to its one stamp word. [`Shards`] has room for as
+//! many times more records as it has files, and calls on different files share no word.
+//!
+//! A caller takes part with [`Hands`], one hand of each file. Each call is that of the key's file, and leaves the hands of
+//! the others as they were. What the hands have done is settled file by file, and the law
+//! [`shards_are_one_map`](laws::shards_are_one_map) joins the files' histories to those of one plain map.
+//!
+//! The files are untraced: the type of a traced file names its own table, so no two traced files have one type, and no
+//! list holds several.
+//!
+//! ```text
+//! let (shards, mut hands) = Shards::create(alloc, config, 8, false)?;
+//! shards.put(&rt, &mut hands, &key, &value)?          // true: the record is new
+//! shards.get(&rt, &mut hands, &key)?                  // Some(value)
+//! let second = shards.split_hands(&mut hands, 1_000)?;    // 1,000 calls of each file, for another thread
+//! ```
+#![tactic(auto)]
+
+mod calls;
+mod fault;
+mod hands;
+mod known_key;
+pub mod laws;
+mod number;
+mod shards;
+
+pub use fault::{CreateFault, JoinFault, SplitFault};
+pub use hands::Hands;
+pub use number::{MOST_SHARDS, mixed, shard_of};
+pub use shards::Shards;

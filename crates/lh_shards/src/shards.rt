@@ -1,0 +1,85 @@
+//! The shards, and how they are created.
+ghost use Rattle.std.specs.Prelude.{◌≡◌, ◌<◌, ◌↔◌, List, ℕ, length, Err, IfOk};
+ghost use Rattle.lh_shards.specs.Hands.{AreCreated, IsCount};
+ghost use Rattle.lh_shards.specs.Number.{shard_of as shard_of_code};
+
+use crate::fault::CreateFault;
+use crate::hands::Hands;
+use crate::number::{MOST_SHARDS, shard_of};
+use lh_addr::Config;
+use lh_file::{HashFile, Memory, NoGate};
+use std::alloc::Global;
+use std::marker::Model;
+
+/// Several files as one table. Threads share them, and each takes part with [`Hands`] of its own.
+#[derive(Drop)]
+pub struct Shards {
+    pub(crate) files: Vec<HashFile<NoGate>>,
+}
+
+impl Model for Shards {
+    ghost use Rattle.std.specs.Prelude.{List, length, map};
+    ghost use Rattle.lh_file.specs.FileState.{FileState};
+    ghost use Rattle.lh_shards.specs.Hands.{IsCount};
+
+    ghost Value = { List FileState };
+
+    ghost view = { λ s. map (λ file. file.state) s.files.items };
+
+    ghost invariant = { λ s. IsCount (length s.files.items) };
+}
+
+impl Shards {
+    /// Empty files of a configuration, 1 to 1,024 of them, and the first hand of each, which may make 2^63 calls. With
+    /// `recording` each hand keeps its acts.
+    pub fn create(
+        alloc: Global,
+        config: Config,
+        shards: u32,
+        recording: bool,
+    ) -> Result<(Shards, Hands), CreateFault>
+        ensures created { IfOk result (λ made. AreCreated shards config recording made.0 made.1) }
+        ensures count { (result ≡ Err CreateFault.Count) ↔ (¬ (IsCount shards)) }
+    {
+        if shards == 0 || shards > MOST_SHARDS {
+            return Err(CreateFault::Count);
+        }
+        Ok(Shards::created(alloc, config, shards, recording)?)
+    }
+
+    /// The same, of a number that is known to be in range.
+    fn created(
+        alloc: Global,
+        config: Config,
+        shards: u32,
+        recording: bool,
+    ) -> Result<(Shards, Hands), Memory>
+        requires { IsCount shards }
+        ensures { IfOk result (λ made. AreCreated shards config recording made.0 made.1) }
+    {
+        let mut files = Vec::with_capacity(alloc, shards as usize)?;
+        let mut hands = Vec::with_capacity(alloc, shards as usize)?;
+        for _shard in 0..shards {
+            let (file, hand) = HashFile::create(alloc, config, recording, NoGate)?;
+            files.push(file)?;
+            hands.push(hand)?;
+        }
+        Ok((Shards { files }, Hands { hands }))
+    }
+
+    /// The number of shards.
+    pub fn count(&self) -> u32
+        ensures value { result ≡ length self.now }
+        ensures range { IsCount result }
+    {
+        self.files.len() as u32
+    }
+
+    /// The shard of a key with this code.
+    pub fn shard_of(&self, code: u64) -> u32
+        ensures value { result ≡ shard_of_code code (length self.now) }
+        ensures within { result < length self.now }
+    {
+        shard_of(code, self.count())
+    }
+}
