@@ -1,4 +1,5 @@
 -- Lemmas by subject
+pub mod Giving
 pub mod Merging
 pub mod OneShard
 pub mod Parts

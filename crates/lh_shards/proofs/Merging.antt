@@ -14,27 +14,8 @@ use Rattle.lh_file.specs.declared.act.ActLine.{ActLine}
 use Rattle.lh_shards.specs.Hands.{AreAtHome}
 use Rattle.lh_shards.specs.Number.{home_of}
 use Rattle.lh_shards.specs.OneMap.{IsPart, IsLegalFrom, IsMerge, OneMapLaw}
+use Rattle.lh_shards.proofs.Places.{set_tells, set_same, set_other}
 use Rattle.lh_shards.proofs.Parts.{reply_here, after_here, after_elsewhere}
-
--- what stands at a place of a list that was written to, at the place or elsewhere
-set_tells : {X : Type 0} (xs : List X) (i : ℕ) (v : X) (j : ℕ) (x : X) → slice_get (set xs i v) j ≡ Some x → ((j ≡ i) × (x ≡ v)) ⊎ ((j ≢ i) × (slice_get xs j ≡ Some x))
-set_tells [] i v j x h = absurd (none-some x h)
-set_tells (y ∷ ys) zero v zero x h = inl (refl, sym (same_Some v x h))
-set_tells (y ∷ ys) zero v (suc j) x h = inr ((λ e. omega (arith, e)), h)
-set_tells (y ∷ ys) (suc i) v zero x h = inr ((λ e. omega (arith, e)), h)
-set_tells (y ∷ ys) (suc i) v (suc j) x h = ⊎_elim (λ e. inl (ap suc e.0, e.1)) (λ e. inr ((λ s. e.0 (omega (arith, s))), e.1)) (set_tells ys i v j x h)
-
-set_same : {X : Type 0} (xs : List X) (i : ℕ) (v w : X) → slice_get xs i ≡ Some w → slice_get (set xs i v) i ≡ Some v
-set_same [] i v w h = absurd (none-some w h)
-set_same (y ∷ ys) zero v w h = refl
-set_same (y ∷ ys) (suc i) v w h = set_same ys i v w h
-
-set_other : {X : Type 0} (xs : List X) (i : ℕ) (v : X) (j : ℕ) → j ≢ i → slice_get (set xs i v) j ≡ slice_get xs j
-set_other [] i v j ne = refl
-set_other (y ∷ ys) zero v zero ne = absurd (ne refl)
-set_other (y ∷ ys) zero v (suc j) ne = refl
-set_other (y ∷ ys) (suc i) v zero ne = refl
-set_other (y ∷ ys) (suc i) v (suc j) ne = set_other ys i v j (λ e. ne (ap suc e))
 
 there : {X : Type 0} (xs : List X) (i : ℕ) → i < length xs → (x : X) × (slice_get xs i ≡ Some x)
 there [] i lt = absurd (omega arith)

@@ -31,3 +31,23 @@ pub read_at : {X Y : Type 0} (f : X → Y) (xs : List X) (ys : List Y) (i : ℕ)
 read_at f xs ys i x is lt e =
     let lt : i < length xs = subst (λ n. i < n) (length_mapped f xs) (subst (λ (l : List _). i < length l) (sym is) lt) in
     subst (λ l. slice_get l i ≡ Some (f x)) is (slice_get-map f xs i ∙ ap (option_map f) (slice_get_read xs (length xs) i x refl lt e))
+
+-- what stands at a place of a list that was written to, at the place or elsewhere
+pub set_tells : {X : Type 0} (xs : List X) (i : ℕ) (v : X) (j : ℕ) (x : X) → slice_get (set xs i v) j ≡ Some x → ((j ≡ i) × (x ≡ v)) ⊎ ((j ≢ i) × (slice_get xs j ≡ Some x))
+set_tells [] i v j x h = absurd (none-some x h)
+set_tells (y ∷ ys) zero v zero x h = inl (refl, sym (same_Some v x h))
+set_tells (y ∷ ys) zero v (suc j) x h = inr ((λ e. omega (arith, e)), h)
+set_tells (y ∷ ys) (suc i) v zero x h = inr ((λ e. omega (arith, e)), h)
+set_tells (y ∷ ys) (suc i) v (suc j) x h = ⊎_elim (λ e. inl (ap suc e.0, e.1)) (λ e. inr ((λ s. e.0 (omega (arith, s))), e.1)) (set_tells ys i v j x h)
+
+pub set_same : {X : Type 0} (xs : List X) (i : ℕ) (v w : X) → slice_get xs i ≡ Some w → slice_get (set xs i v) i ≡ Some v
+set_same [] i v w h = absurd (none-some w h)
+set_same (y ∷ ys) zero v w h = refl
+set_same (y ∷ ys) (suc i) v w h = set_same ys i v w h
+
+pub set_other : {X : Type 0} (xs : List X) (i : ℕ) (v : X) (j : ℕ) → j ≢ i → slice_get (set xs i v) j ≡ slice_get xs j
+set_other [] i v j ne = refl
+set_other (y ∷ ys) zero v zero ne = absurd (ne refl)
+set_other (y ∷ ys) zero v (suc j) ne = refl
+set_other (y ∷ ys) (suc i) v zero ne = refl
+set_other (y ∷ ys) (suc i) v (suc j) ne = set_other ys i v j (λ e. ne (ap suc e))

@@ -1,9 +1,7 @@
-//! Why shards are not created, and why their hands are neither divided nor joined.
+//! Why shards are not created, and why their hands are not divided.
 ghost use Rattle.std.specs.Prelude.{◌≡◌};
 
-use crate::hands::Hands;
 use lh_bucket::Memory;
-use std::alloc::AllocError;
 use thiserror::Error;
 
 /// Why shards are not created.
@@ -48,13 +46,4 @@ impl From<Memory> for SplitFault {
     fn from(_memory: Memory) -> Self {
         SplitFault::Memory
     }
-}
-
-/// Hands that were to be joined, and the shard for whose acts there was no memory. Both are as they were.
-#[derive(Debug, Drop, Error)]
-#[error("no memory in shard {shard}")]
-pub struct JoinFault {
-    pub shard: u32,
-    pub first: Hands,
-    pub second: Hands,
 }

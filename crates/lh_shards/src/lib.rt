@@ -19,6 +19,7 @@
 #![tactic(auto)]
 
 mod calls;
+mod dividing;
 mod fault;
 mod hands;
 mod known_key;
@@ -26,7 +27,7 @@ pub mod laws;
 mod number;
 mod shards;
 
-pub use fault::{CreateFault, JoinFault, SplitFault};
+pub use fault::{CreateFault, SplitFault};
 pub use hands::Hands;
 pub use number::{MOST_SHARDS, mixed, shard_of};
 pub use shards::Shards;
