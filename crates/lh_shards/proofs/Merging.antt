@@ -9,8 +9,8 @@ use Rattle.std.proofs.lemmas.List.Elements.{All-head, All-tail}
 use Rattle.std.proofs.lemmas.Option.{same_Some, none-some, slice_get_within}
 use Rattle.lh_bucket.specs.PlainMap.{Records, reply, replies, after, outcome, key_of}
 use Rattle.lh_bucket.specs.declared.call.Reply.{Reply}
-use Rattle.lh_file.specs.Acts.{calls_of, replies_of}
-use Rattle.lh_file.specs.declared.act.ActLine.{ActLine}
+use Rattle.lh_settling.specs.Acts.{calls_of, replies_of}
+use Rattle.lh_settling.specs.declared.act.ActLine.{ActLine}
 use Rattle.lh_shards.specs.Hands.{AreAtHome}
 use Rattle.lh_shards.specs.Number.{home_of}
 use Rattle.lh_shards.specs.OneMap.{IsPart, IsLegalFrom, IsMerge, OneMapLaw}

@@ -14,7 +14,7 @@ use Rattle.lh_file.specs.FileState.{FileState, IsOf, IsOpened}
 use Rattle.lh_file.specs.HashFile.{Shared}
 use Rattle.lh_file.specs.Words.HandState.{HandState}
 use Rattle.lh_file.specs.Words.Recording.{kept_of}
-use Rattle.lh_file.specs.declared.act.ActLine.{ActLine}
+use Rattle.lh_settling.specs.declared.act.ActLine.{ActLine}
 use Rattle.lh_file.specs.declared.fault.FileFault.{FileFault}
 use Rattle.lh_shards.specs.Hands.{AreOf, AtShardOf, AreAtHome, IsOfShard, ShardFact, EachShard}
 use Rattle.lh_shards.specs.Number.{home_of}

@@ -2,7 +2,7 @@
 use Rattle.std.specs.Prelude.{◌≡◌, ℕ, ◌≤◌, Bool, List, length, All, Some, slice_get, slice_set}
 use Rattle.lh_addr.specs.Settings.{Settings}
 use Rattle.lh_bucket.specs.PlainMap.{key_of}
-use Rattle.lh_file.specs.declared.act.ActLine.{ActLine}
+use Rattle.lh_settling.specs.declared.act.ActLine.{ActLine}
 use Rattle.lh_file.specs.FileState.{FileState, IsOf, IsOpened}
 use Rattle.lh_file.specs.Words.HandState.{HandState}
 use Rattle.lh_shards.specs.Number.{home_of}

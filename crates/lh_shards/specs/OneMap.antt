@@ -2,8 +2,8 @@
 use Rattle.std.specs.Prelude.{◌≡◌, ℕ, ◌==◌, List, [], ◌∷◌, length, Some, None, slice_get, slice_set, if◌then◌else◌}
 use Rattle.std.specs.FinMap.{get}
 use Rattle.lh_bucket.specs.PlainMap.{Records, replies, outcome}
-use Rattle.lh_file.specs.Acts.{calls_of, replies_of}
-use Rattle.lh_file.specs.declared.act.ActLine.{ActLine}
+use Rattle.lh_settling.specs.Acts.{calls_of, replies_of}
+use Rattle.lh_settling.specs.declared.act.ActLine.{ActLine}
 use Rattle.lh_shards.specs.Hands.{AreAtHome}
 use Rattle.lh_shards.specs.Number.{home_of}
 

@@ -4,8 +4,8 @@
 //! many times more records as it has files, and calls on different files share no word.
 //!
 //! A caller takes part with [`Hands`], one hand of each file. Each call is that of the key's file, and leaves the hands of
-//! the others as they were. What the hands have done is settled file by file, and the law
-//! [`shards_are_one_map`](laws::shards_are_one_map) joins the files' histories to those of one plain map.
+//! the others as they were. The law [`shards_are_one_map`](laws::shards_are_one_map) joins legal histories of the files to
+//! those of one plain map.
 //!
 //! The files are untraced: the type of a traced file names its own table, so no two traced files have one type, and no
 //! list holds several.

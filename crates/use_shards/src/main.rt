@@ -1,14 +1,11 @@
-//! Several files, of which a second hash of the key chooses one: room for more records than one file has.
+//! Several files as one table: room for more records than one file has.
 #![tactic(auto)]
 
-ghost use Rattle.std.specs.Prelude.{◌<◌};
+ghost use Rattle.lh_shards.specs.Hands.{AreOf};
 
-mod shard;
-
-use crate::shard::Shard;
 use lh_addr::Config;
 use lh_page::{Key, Value};
-use std::hash::{DefaultHasher, Hasher};
+use lh_shards::{Hands, Shards};
 use std::str;
 use std::sync::Wait;
 
@@ -20,20 +17,14 @@ const BOOK: [(&str, &str); 5] = [
     ("Kathleen", "0131"),
 ];
 
-/// The shard of a key, by SipHash: FNV-1a chooses the bucket within a shard.
-fn shard_of(key: &Key) -> usize
-    ensures { result < 2 }
+/// Inserts the whole book, each number into the shard of its name.
+fn fill<R: Wait>(rt: &R, shards: &Shards, hands: &mut Hands) -> anyhow::Result<()>
+    requires { AreOf shards.now hands.old }
+    ensures { AreOf shards.now hands.new }
 {
-    let mut hasher = DefaultHasher::new();
-    hasher.write(key.bytes());
-    (hasher.finish() % 2) as usize
-}
-
-/// Inserts the whole book, each number into its shard.
-fn fill<R: Wait>(rt: &R, shards: &mut [Shard; 2]) -> anyhow::Result<()> {
     for (name, number) in BOOK {
         let (key, value) = (Key::new(name.as_bytes())?, Value::new(number.as_bytes())?);
-        shards[shard_of(&key)].insert(rt, key, value)?;
+        shards.put(rt, hands, &key, &value)?;
     }
     Ok(())
 }
@@ -41,11 +32,14 @@ fn fill<R: Wait>(rt: &R, shards: &mut [Shard; 2]) -> anyhow::Result<()> {
 /// Looks a name up, and prints its number.
 fn print_number<R: Print + Wait>(
     rt: &R,
-    shards: &mut [Shard; 2],
+    shards: &Shards,
+    hands: &mut Hands,
     name: &str,
-) -> anyhow::Result<()> {
-    let key = Key::new(name.as_bytes())?;
-    match shards[shard_of(&key)].search(rt, key)? {
+) -> anyhow::Result<()>
+    requires { AreOf shards.now hands.old }
+    ensures { AreOf shards.now hands.new }
+{
+    match shards.get(rt, hands, &Key::new(name.as_bytes())?)? {
         Some(value) => println!(rt; "{name}: {}", str::from_utf8(value.bytes())?)?,
         None => println!(rt; "{name} is not in the book")?,
     }
@@ -53,13 +47,14 @@ fn print_number<R: Print + Wait>(
 }
 
 fn main(rt: HostRuntime) -> anyhow::Result<()> {
-    let (alloc, config) = (rt.alloc(), Config::new(1, 2, 100, 65_536)?);
-    let mut shards = [Shard::create(alloc, config)?, Shard::create(alloc, config)?];
-    fill(&rt, &mut shards)?;
-    print_number(&rt, &mut shards, "Grace")?;
-    print_number(&rt, &mut shards, "Hedy")?;
-    for shard in &mut shards {
-        println!(rt; "buckets: {}", shard.buckets())?;
-    }
+    let config = Config::new(1, 2, 100, 65_536)?;
+    let (shards, mut hands) = Shards::create(rt.alloc(), config, 8, false)?;
+    fill(&rt, &shards, &mut hands)?;
+
+    // Hands for another caller: 100 calls of each file.
+    let mut reader = shards.split_hands(&mut hands, 100)?;
+    print_number(&rt, &shards, &mut reader, "Grace")?;
+    print_number(&rt, &shards, &mut reader, "Hedy")?;
+    println!(rt; "{} shards", shards.count())?;
     Ok(())
 }

@@ -1,0 +1,5 @@
+//! Tests of `lh_shards`, all by its public calls.
+#![tactic(auto)]
+
+#[cfg(test)]
+mod tests;

@@ -1,0 +1,3 @@
+//! What no contract says: how evenly keys are spread, that each call works, and which counts are refused.
+mod calls;
+mod spread;

@@ -1,0 +1,5 @@
+use Rattle.lh_shards.specs.Hands.{AreOf}
+use Rattle.use_shards.proofs.fill.Given as goal
+
+abbrev pub invariant-loop-name : goal.invariant-loop-name
+invariant-loop-name g l = AreOf l.shards l.hands
