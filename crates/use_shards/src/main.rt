@@ -47,7 +47,7 @@ fn print_number<R: Print + Wait>(
 }
 
 fn main(rt: HostRuntime) -> anyhow::Result<()> {
-    let config = Config::new(1, 2, 100, 65_536)?;
+    let config = Config::default().with_capacity(2)?;
     let (shards, mut hands) = Shards::create(rt.alloc(), config, 8, false)?;
     fill(&rt, &shards, &mut hands)?;
 
