@@ -1,5 +1,5 @@
 -- What contracts see of a running file, but for its buckets
-use Rattle.std.specs.Prelude.{◌≡◌, ℕ, ◌+◌, ◌%◌, ◌≤◌, Bool, []}
+use Rattle.std.specs.Prelude.{◌≡◌, ℕ, ◌+◌, ◌%◌, ◌≤◌, Bool, false, []}
 use Rattle.atomic_table.specs.Seated.{TableId}
 use Rattle.lh_addr.specs.RootWord.{buckets_of}
 use Rattle.lh_addr.specs.Settings.{Settings}
@@ -22,6 +22,11 @@ pub record IsOf (file : FileState) (hand : HandState) : Type 0 where
   pub initial : hand.view.initial ≡ file.config.initial
   pub max : hand.view.max ≡ file.config.max
   pub recording : hand.recording ≡ file.recording
+
+-- the hand is one of this file, and hasn't the right to split, so that it may be joined into another one
+pub record MayBeJoined (file : FileState) (hand : HandState) : Type 0 where
+  pub of : IsOf file hand
+  pub right : hand.view.has_right ≡ false
 
 -- the file may have this many buckets
 abbrev pub MayHave : FileState → ℕ → Type 0

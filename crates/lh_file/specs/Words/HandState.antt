@@ -1,5 +1,5 @@
 -- What contracts see of a hand
-use Rattle.std.specs.Prelude.{◌≡◌, ℕ, Bool, List, [], ◌∷◌, ◌++◌}
+use Rattle.std.specs.Prelude.{◌≡◌, ℕ, Bool, List, [], ◌∷◌, ◌++◌, fold}
 use Rattle.atomic_table.specs.Seated.{TableId}
 use Rattle.lh_settling.specs.declared.act.ActLine.{ActLine}
 use Rattle.lh_file.specs.Words.Views.{rooted, floored, branch, joined_views}
@@ -52,11 +52,19 @@ pub record IsBranch (calls : ℕ) (old new : HandState) : Type 0 where
   pub logs : new.logs ≡ []
   pub acts : new.acts ≡ []
 
--- two hands in one
-pub record IsJoined (first second new : HandState) : Type 0 where
-  pub table : new.table ≡ first.table
-  pub recording : new.recording ≡ first.recording
-  pub view : new.view ≡ joined_views first.view second.view
-  pub entries : new.entries ≡ first.entries ++ second.entries
-  pub logs : new.logs ≡ first.logs ++ second.logs
-  pub acts : new.acts ≡ first.acts ++ second.acts
+-- two hands in one, with the first one's room
+abbrev pub united : HandState → HandState → HandState
+united first second = record first {
+  view = joined_views first.view second.view;
+  entries = first.entries ++ second.entries;
+  logs = first.logs ++ second.logs;
+  acts = first.acts ++ second.acts;
+}
+
+-- two hands in one, with whatever room for acts
+abbrev pub IsJoined : HandState → HandState → HandState → Type 0
+IsJoined first second new = IsSame (united first second) new
+
+-- many hands in one, one after another joined into the first
+abbrev pub AreJoined : HandState → List HandState → HandState → Type 0
+AreJoined first others new = IsSame (fold united first others) new

@@ -2,6 +2,7 @@
 ghost use Rattle.std.specs.Prelude.{IfOk, IfSome};
 ghost use Rattle.lh_file.specs.FileState.{IsOf};
 
+use super::crew::added_in_threads;
 use super::made::{made, second_of};
 use super::stage::Progress;
 use super::tasks::{FIRST_RIGHT, Task, Told, one};
@@ -491,5 +492,19 @@ fn refused_growth_loses_no_act_of_threads(rt: HostRuntime) -> Result<(), Fail> {
     let (file, all) = worked_apart(&rt, rt.alloc(), 3, 5)?;
     let acts = check_acts(&rt, rt.alloc(), file, all)?;
     assert!(rt; acts == 30 || acts == 29 || acts == 20);
+    Ok(())
+}
+
+/// Hands for threads, and the hand that theirs are joined into, stay as they were where memory is refused, and so does
+/// each call: what the joined hand has made are the acts that were served.
+#[test]
+fn refused_hands_come_back(rt: HostRuntime) -> Result<(), Fail> {
+    let config = Config::new(1, 14, 100, 65536)?;
+    let (file, hand) = made_again(rt.alloc(), config)?;
+    let hand = added_in_threads(&rt, &file, hand, 2)?;
+    let made = (1_u64 << 63).wrapping_sub(hand.left());
+    assert!(rt; made == 51 || made == 52);
+    let mut hand = hand;
+    assert_eq!(rt; file.load(&mut hand).inserted, made);
     Ok(())
 }
