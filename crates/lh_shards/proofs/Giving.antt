@@ -9,7 +9,7 @@ use Rattle.lh_shards.specs.Dividing.{HasGiven, EachPair}
 use Rattle.lh_shards.specs.Hands.{AreOf, AreAtHome, IsOfShard}
 use Rattle.lh_file.specs.HashFile.{Shared}
 use Rattle.lh_shards.proofs.OneShard.{Ready}
-use Rattle.lh_shards.proofs.Places.{at_push, set_tells, set_other, read_at, length_mapped}
+use Rattle.lh_shards.proofs.Places.{there, at_push, set_tells, set_other, read_at, length_mapped}
 
 abbrev pub Given : ℕ → List HandState → List HandState → Type 0
 Given calls olds gs = (k : ℕ) (old new : HandState) → slice_get olds k ≡ Some old → slice_get gs k ≡ Some new → IsBranch calls old new
@@ -40,7 +40,7 @@ pub rest_next : (olds hs : List HandState) (i : ℕ) (a : HandState) → Rest i 
 rest_next olds hs i a was k lt = set_other hs i a k (λ e. omega (arith, e)) ∙ was k (omega arith)
 
 kept_of_file : (calls n i : ℕ) (f : FileState) (old new : HandState) → IsOfShard n i f old → HasGiven calls old new → IsOfShard n i f new
-kept_of_file calls n i f old new o g = subst (λ x. IsOfShard n i f x) (sym g.kept) (record { of = record { table = o.of.table; initial = o.of.initial; max = o.of.max; recording = o.of.recording }; home = o.home })
+kept_of_file calls n i f old new o g = subst (λ x. IsOfShard n i f x) (sym g.kept) (record { of = record { table = o.of.table; initial = o.of.initial; max = o.of.max; recording = o.of.recording }; right = o.right; home = o.home })
 
 branch_of_file : (calls n i : ℕ) (f : FileState) (old new : HandState) → IsOfShard n i f old → IsBranch calls old new → IsOfShard n i f new
 branch_of_file calls n i f old new o g = record {
@@ -50,6 +50,7 @@ branch_of_file calls n i f old new o g = record {
     max = ap (λ (v : View). v.max) g.view ∙ o.of.max;
     recording = g.recording ∙ o.of.recording;
   };
+  right = ap (λ (v : View). v.has_right) g.view;
   home = subst (λ l. AreAtHome n i l) (sym g.acts) (λ k d lt. absurd (omega arith));
 }
 
@@ -62,11 +63,6 @@ turn files states olds items i x h seen are many rest lt xi hi =
     let le : i ≤ i = omega arith in
     let ha : slice_get olds i ≡ Some h = sym (rest i le) ∙ slice_get_read items (length items) i h refl (omega arith) hi in
     record { file_at = fa; hand_at = ha; of = (are.each i x.state h fa ha).of }
-
-there : (xs : List HandState) (i : ℕ) → i < length xs → (x : HandState) × (slice_get xs i ≡ Some x)
-there [] i lt = absurd (omega arith)
-there (x ∷ xs) zero lt = (x, refl)
-there (x ∷ xs) (suc i) lt = there xs i (omega arith)
 
 pub given_are_of : (calls : ℕ) (files : List FileState) (olds news : List HandState) → AreOf files olds → EachPair (IsBranch calls) olds news → AreOf files news
 given_are_of calls files olds news o p = record {

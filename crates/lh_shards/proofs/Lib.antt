@@ -1,6 +1,14 @@
 -- Lemmas by subject
+pub mod Beginnings
+pub mod Counting
 pub mod Giving
+pub mod Homes
+pub mod Joins
+pub mod Listed
 pub mod Merging
 pub mod OneShard
 pub mod Parts
+pub mod Passing
 pub mod Places
+pub mod Settled
+pub mod Wholes

@@ -14,13 +14,8 @@ use Rattle.lh_settling.specs.declared.act.ActLine.{ActLine}
 use Rattle.lh_shards.specs.Hands.{AreAtHome}
 use Rattle.lh_shards.specs.Number.{home_of}
 use Rattle.lh_shards.specs.OneMap.{IsPart, IsLegalFrom, IsMerge, OneMapLaw}
-use Rattle.lh_shards.proofs.Places.{set_tells, set_same, set_other}
+use Rattle.lh_shards.proofs.Places.{there, set_tells, set_same, set_other}
 use Rattle.lh_shards.proofs.Parts.{reply_here, after_here, after_elsewhere}
-
-there : {X : Type 0} (xs : List X) (i : ℕ) → i < length xs → (x : X) × (slice_get xs i ≡ Some x)
-there [] i lt = absurd (omega arith)
-there (x ∷ xs) zero lt = (x, refl)
-there (x ∷ xs) (suc i) lt = there xs i (omega arith)
 
 head_of : (a b : Reply) (xs ys : List Reply) → a ∷ xs ≡ b ∷ ys → a ≡ b
 head_of a b xs ys e = cc

@@ -16,6 +16,7 @@ use Rattle.lh_file.specs.Words.HandState.{HandState}
 use Rattle.lh_file.specs.Words.Recording.{kept_of}
 use Rattle.lh_settling.specs.declared.act.ActLine.{ActLine}
 use Rattle.lh_file.specs.declared.fault.FileFault.{FileFault}
+use Rattle.lh_file.specs.declared.words.view.View.{View}
 use Rattle.lh_shards.specs.Hands.{AreOf, AtShardOf, AreAtHome, IsOfShard, ShardFact, EachShard}
 use Rattle.lh_shards.specs.Number.{home_of}
 use Rattle.lh_shards.proofs.Places.{at_set, at_push, read_at, length_mapped}
@@ -37,6 +38,15 @@ made_home n i file old call (Err e) reply_in new m key h = subst (λ l. AreAtHom
 serves_home : (n i : ℕ) (file : FileState) (old : HandState) (call : Call) (result : Result Answered FileFault) (new : HandState) → Serves file old call result new → home_of n (key_of call) ≡ i → AreAtHome n i old.acts → AreAtHome n i new.acts
 serves_home n i file old call (Ok a) new m key h = served_home n i old a.call a.reply new m.served (ap (λ c. home_of n (key_of c)) m.call ∙ key) h
 serves_home n i file old call (Err e) new m key h = subst (λ l. AreAtHome n i l) (sym m.err.acts) h
+
+-- the right to split is as before
+made_right : {T : Type 0} (file : FileState) (old : HandState) (call : Call) (result : Result T FileFault) (reply_in : T → Reply) (new : HandState) → Makes file old call result reply_in new → new.view.has_right ≡ old.view.has_right
+made_right file old call (Ok t) reply_in new m = ap (λ (v : View). v.has_right) m.served.view
+made_right file old call (Err e) reply_in new m = ap (λ (v : View). v.has_right) m.err.view
+
+serves_right : (file : FileState) (old : HandState) (call : Call) (result : Result Answered FileFault) (new : HandState) → Serves file old call result new → new.view.has_right ≡ old.view.has_right
+serves_right file old call (Ok a) new m = ap (λ (v : View). v.has_right) m.served.view
+serves_right file old call (Err e) new m = ap (λ (v : View). v.has_right) m.err.view
 
 pub of_after : (files : List FileState) (olds : List HandState) (i : ℕ) (f : FileState) (a : HandState) → AreOf files olds → slice_get files i ≡ Some f → IsOfShard (length files) i f a → AreOf files (set olds i a)
 of_after files olds i f a h at good = record {
@@ -66,12 +76,20 @@ ready files items states olds i x h seen same are lt xi hi =
 pub of_made : {T : Type 0} {call : Call} {result : Result T FileFault} {reply_in : T → Reply} {x : Shared} {b a : HandState} (states : List FileState) (olds items : List HandState) (i : ℕ) → items ≡ olds → AreOf states olds → i ≡ home_of (length states) (key_of call) → Ready states olds i x b → Makes x.state b call result reply_in a → AreOf states (set items i a)
 of_made {T} {call} {result} {reply_in} {x} {b} {a} states olds items i same h e r m =
     subst (λ l. AreOf states (set l i a)) (sym same)
-    (of_after states olds i x.state a h r.file_at (record { of = m.of; home = made_home (length states) i x.state b call result reply_in a m (sym e) (h.each i x.state b r.file_at r.hand_at).home }))
+    (of_after states olds i x.state a h r.file_at (record {
+      of = m.of;
+      right = made_right x.state b call result reply_in a m ∙ (h.each i x.state b r.file_at r.hand_at).right;
+      home = made_home (length states) i x.state b call result reply_in a m (sym e) (h.each i x.state b r.file_at r.hand_at).home;
+    }))
 
 pub of_served : {call : Call} {result : Result Answered FileFault} {x : Shared} {b a : HandState} (states : List FileState) (olds items : List HandState) (i : ℕ) → items ≡ olds → AreOf states olds → i ≡ home_of (length states) (key_of call) → Ready states olds i x b → Serves x.state b call result a → AreOf states (set items i a)
 of_served {call} {result} {x} {b} {a} states olds items i same h e r m =
     subst (λ l. AreOf states (set l i a)) (sym same)
-    (of_after states olds i x.state a h r.file_at (record { of = m.of; home = serves_home (length states) i x.state b call result a m (sym e) (h.each i x.state b r.file_at r.hand_at).home }))
+    (of_after states olds i x.state a h r.file_at (record {
+      of = m.of;
+      right = serves_right x.state b call result a m ∙ (h.each i x.state b r.file_at r.hand_at).right;
+      home = serves_home (length states) i x.state b call result a m (sym e) (h.each i x.state b r.file_at r.hand_at).home;
+    }))
 
 pub at_shard : {x : Shared} {b a : HandState} (Does : FileState → HandState → HandState → Type 0) (key : List ℕ) (states : List FileState) (olds items : List HandState) (i : ℕ) → items ≡ olds → i ≡ home_of (length states) key → Ready states olds i x b → Does x.state b a → AtShardOf key states olds (set items i a) Does
 at_shard {x} {b} {a} Does key states olds items i same e r d = record {
@@ -108,5 +126,5 @@ pub opened_of : (files : List FileState) (hands : List HandState) (config : ℕ 
 opened_of files hands config buckets recording records n each = record {
   count = n;
   each = λ i f h fi hi. let o : IsOpened (config i) (buckets i) recording (records i) f h = each i f h fi hi in
-      record { of = o.is_of; home = subst (λ l. AreAtHome (length files) i l) (sym o.acts) (λ k d lt. absurd (omega arith)) };
+      record { of = o.is_of; right = ap (λ (v : View). v.has_right) o.view; home = subst (λ l. AreAtHome (length files) i l) (sym o.acts) (λ k d lt. absurd (omega arith)) };
 }

@@ -1,8 +1,14 @@
 -- What stands at a place of a list that was written to, made longer, or mapped
-use Rattle.std.proofs.Common.{zero, suc, ◌≡◌, ◌≢◌, ℕ, ◌<◌, ◌⊎◌, List, [], ◌∷◌, ◌++◌, length, map, set, get_or, Option, Some, None, refl, sym, ap, ◌∙◌, subst, inl, inr, ⊎_elim, arith}
+use Rattle.std.proofs.Common.{zero, suc, ◌≡◌, ◌≢◌, ℕ, ◌<◌, ◌⊎◌, List, [], ◌∷◌, ◌++◌, length, map, set, get_or, drop, Option, Some, None, refl, sym, ap, ◌∙◌, subst, inl, inr, ⊎_elim, arith}
 use Rattle.std.specs.List.{slice_get}
 use Rattle.std.specs.Option.{option_map}
 use Rattle.std.proofs.lemmas.Option.{same_Some, none-some, slice_get-map, slice_get_read, slice_get-get_or, slice_get_within}
+
+-- something stands at each place within a list
+pub there : {X : Type 0} (xs : List X) (i : ℕ) → i < length xs → (x : X) × (slice_get xs i ≡ Some x)
+there [] i lt = absurd (omega arith)
+there (x ∷ xs) zero lt = (x, refl)
+there (x ∷ xs) (suc i) lt = there xs i (omega arith)
 
 pub at_set : {X : Type 0} (xs : List X) (i : ℕ) (v : X) (j : ℕ) (x : X) → slice_get (set xs i v) j ≡ Some x → ((j ≡ i) × (x ≡ v)) ⊎ (slice_get xs j ≡ Some x)
 at_set [] i v j x h = inr h
@@ -51,3 +57,30 @@ set_other (y ∷ ys) zero v zero ne = absurd (ne refl)
 set_other (y ∷ ys) zero v (suc j) ne = refl
 set_other (y ∷ ys) (suc i) v zero ne = refl
 set_other (y ∷ ys) (suc i) v (suc j) ne = set_other ys i v j (λ e. ne (ap suc e))
+
+-- what comes first of what is left of a list from a place on, and what is left then
+pub left_next : {X : Type 0} (xs rest : List X) (i : ℕ) (x : X) → drop i xs ≡ x ∷ rest → (slice_get xs i ≡ Some x) × (drop (suc i) xs ≡ rest)
+left_next [] rest zero x e = absurd (cc)
+left_next [] rest (suc i) x e = absurd (cc)
+left_next (y ∷ ys) rest zero x e = (cc, cc)
+left_next (y ∷ ys) rest (suc i) x e = left_next ys rest i x e
+
+-- the same of a list behind which others stand
+pub front_next : {X : Type 0} (xs done rest : List X) (i : ℕ) (x : X) → i < length xs → drop i xs ++ done ≡ x ∷ rest → (slice_get xs i ≡ Some x) × (rest ≡ drop (suc i) xs ++ done)
+front_next [] done rest i x lt e = absurd (omega arith)
+front_next (y ∷ ys) done rest zero x lt e = (cc, cc)
+front_next (y ∷ ys) done rest (suc i) x lt e = front_next ys done rest i x (omega arith) e
+
+-- a relation holds of what stands at each place of three lists
+abbrev pub EachThree : {X Y Z : Type 0} → (X → Y → Z → Type 0) → List X → List Y → List Z → Type 0
+EachThree {X} {Y} {Z} Relates xs ys zs = (k : ℕ) (x : X) (y : Y) (z : Z) → slice_get xs k ≡ Some x → slice_get ys k ≡ Some y → slice_get zs k ≡ Some z → Relates x y z
+
+pub three_next : {X Y Z : Type 0} (Relates : X → Y → Z → Type 0) (xs : List X) (ys : List Y) (zs : List Z) (i : ℕ) (x : X) (y : Y) (z : Z) → length zs ≡ i → slice_get xs i ≡ Some x → slice_get ys i ≡ Some y → Relates x y z → EachThree Relates xs ys zs → EachThree Relates xs ys (zs ++ z ∷ [])
+three_next Relates xs ys zs i x y z many at_x at_y new was k u v w ku kv kw =
+    ⊎_elim
+    (λ e. let at : k ≡ i = e.0 ∙ many in
+    let same_x : x ≡ u = same_Some x u (sym at_x ∙ subst (λ j. slice_get xs j ≡ Some u) at ku) in
+    let same_y : y ≡ v = same_Some y v (sym at_y ∙ subst (λ j. slice_get ys j ≡ Some v) at kv) in
+    subst (λ a. Relates a v w) same_x (subst (λ b. Relates x b w) same_y (subst (λ c. Relates x y c) (sym e.1) new)))
+    (λ e. was k u v w ku kv e)
+    (at_push zs z k w kw)

@@ -1,5 +1,5 @@
 -- Hands of all shards: a hand of each file, in the order of the files
-use Rattle.std.specs.Prelude.{◌≡◌, ℕ, ◌≤◌, Bool, List, length, All, Some, slice_get, slice_set}
+use Rattle.std.specs.Prelude.{◌≡◌, ℕ, ◌≤◌, Bool, false, List, length, All, Some, slice_get, slice_set}
 use Rattle.lh_addr.specs.Settings.{Settings}
 use Rattle.lh_bucket.specs.PlainMap.{key_of}
 use Rattle.lh_settling.specs.declared.act.ActLine.{ActLine}
@@ -15,9 +15,11 @@ IsCount shards = (1 ≤ shards) × (shards ≤ 1024)
 abbrev pub AreAtHome : ℕ → ℕ → List ActLine → Type 0
 AreAtHome shards shard acts = All (λ act. home_of shards (key_of act.call) ≡ shard) acts
 
--- the hand is one of this file, which is one of so many shards, and the keys of its acts belong there
+-- the hand is one of this file, which is one of so many shards, without the right to split, and the keys of its acts
+-- belong there
 pub record IsOfShard (shards shard : ℕ) (file : FileState) (hand : HandState) : Type 0 where
   pub of : IsOf file hand
+  pub right : hand.view.has_right ≡ false
   pub home : AreAtHome shards shard hand.acts
 
 -- a fact about a shard: its place, its file and a hand of it

@@ -14,6 +14,7 @@ pub(crate) struct KnownKey<'a> {
 }
 
 impl<'a> KnownKey<'a> {
+    #[inline]
     pub fn of<K: Coded>(key: &'a K) -> KnownKey<'a>
         ensures { result.key.now ≡ K.bytes key.now }
     {

@@ -1,4 +1,5 @@
-//! The law that makes one map of several files: the contract of a function that does nothing.
+//! Laws of shards, each the contract of a function that does nothing.
+ghost use Rattle.lh_shards.specs.Listings.{ListedLaw};
 ghost use Rattle.lh_shards.specs.OneMap.{OneMapLaw};
 
 /// Where each shard's history is legal, as settling answers it, every merge of these histories that keeps the order of each
@@ -6,4 +7,10 @@ ghost use Rattle.lh_shards.specs.OneMap.{OneMapLaw};
 /// leaves. So the shards together are linearizable where each file is (Herlihy and Wing, 1990: locality).
 pub fn shards_are_one_map()
     ensures { OneMapLaw }
+{}
+
+/// The listings of settled shards have each record in its own shard, where those that the shards were opened from had. So
+/// [`Shards::open_from`](crate::Shards::open_from) refuses no record of them.
+pub fn settled_shards_list_their_own()
+    ensures { ListedLaw }
 {}

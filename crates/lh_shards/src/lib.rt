@@ -19,15 +19,26 @@
 #![tactic(auto)]
 
 mod calls;
+mod closed;
+mod closed_shard;
+mod closing;
+mod counts;
 mod dividing;
 mod fault;
 mod hands;
+mod joining;
 mod known_key;
 pub mod laws;
+mod listings;
 mod number;
+mod opening;
+mod settling;
 mod shards;
 
-pub use fault::{CreateFault, SplitFault};
+pub use closed::ClosedShards;
+pub use closed_shard::ClosedShard;
+pub use fault::{CreateFault, JoinFault, ListingsFault, OpenFault, ShardFault, SplitFault};
 pub use hands::Hands;
+pub use listings::empty_listings;
 pub use number::{MOST_SHARDS, mixed, shard_of};
 pub use shards::Shards;

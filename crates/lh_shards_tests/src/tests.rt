@@ -1,3 +1,7 @@
 //! What no contract says: how evenly keys are spread, that each call works, and which counts are refused.
 mod calls;
+mod memory;
+mod opened;
 mod spread;
+mod threads;
+mod whole;

@@ -14,6 +14,7 @@ use std::sync::Wait;
 
 impl Shards {
     /// Searches for a key: the answer's reply is the value, or that the key is absent.
+    #[inline]
     pub fn search<R: Wait>(&self, rt: &R, hands: &mut Hands, key: Key) -> Result<Answer, FileFault>
         requires { AreOf self.now hands.old }
         ensures served { AtShardOf key self.now hands.old hands.new (λ file before after.
@@ -26,6 +27,7 @@ impl Shards {
 
     /// Inserts a record, unless the key is there. Where the record is new and the load of the key's file asks for a split,
     /// the call asks once for that file's right to split, and splits a bucket of it if it gets it.
+    #[inline]
     pub fn insert<R: Wait>(
         &self,
         rt: &R,
@@ -43,6 +45,7 @@ impl Shards {
     }
 
     /// Deletes a record: the answer's reply is whether the key was there.
+    #[inline]
     pub fn delete<R: Wait>(&self, rt: &R, hands: &mut Hands, key: Key) -> Result<Answer, FileFault>
         requires { AreOf self.now hands.old }
         ensures served { AtShardOf key self.now hands.old hands.new (λ file before after.
@@ -54,6 +57,7 @@ impl Shards {
     }
 
     /// Gives a key this value in place of its own: the answer's reply is whether the key was there.
+    #[inline]
     pub fn replace<R: Wait>(
         &self,
         rt: &R,

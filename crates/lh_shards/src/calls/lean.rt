@@ -62,6 +62,7 @@ impl Shards {
     ///
     /// The closure is given 0 to 112 bytes, and runs while its bucket is held, shared with other searches: it is to be
     /// short, and must not call the shards, since a call may wait for that very bucket.
+    #[inline]
     pub fn with_value<K: Coded, R: Wait, T, F: FnOnce(&[u8]) -> T + Drop>(
         &self,
         rt: &R,

@@ -12,7 +12,7 @@ use std::process::Abort;
 use std::sync::Wait;
 use std::test::Fail;
 
-fn shards_of(alloc: Global, count: u32) -> Result<(Shards, Hands), Fail>
+pub(crate) fn shards_of(alloc: Global, count: u32) -> Result<(Shards, Hands), Fail>
     ensures { IfOk result (λ made. AreOf made.0 made.1) }
 {
     let config = Config::new(1, 2, 100, 16)?;
@@ -36,7 +36,11 @@ fn none_and_too_many_are_refused(rt: HostRuntime) -> Result<(), Fail> {
 }
 
 /// Inserts each letter, which is there from then on.
-fn insert_letters<R: Abort + Wait>(rt: &R, shards: &Shards, hands: &mut Hands) -> Result<(), Fail>
+pub(crate) fn insert_letters<R: Abort + Wait>(
+    rt: &R,
+    shards: &Shards,
+    hands: &mut Hands,
+) -> Result<(), Fail>
     requires { AreOf shards.now hands.old }
     ensures { AreOf shards.now hands.new }
 {

@@ -1,0 +1,49 @@
+//! How shards are closed.
+ghost use Rattle.std.specs.Prelude.{IfOk};
+ghost use Rattle.lh_file.specs.FileState.{IsOf};
+ghost use Rattle.lh_shards.specs.Closing.{AreClosedBy, IsClosedBy};
+ghost use Rattle.lh_shards.specs.Hands.{AreOf};
+
+use crate::closed::ClosedShards;
+use crate::closed_shard::ClosedShard;
+use crate::hands::Hands;
+use crate::shards::Shards;
+use lh_file::{Hand, HashFile, Memory, NoGate};
+use std::sync::Wait;
+
+/// Closes one file by its hand.
+fn close_shard<R: Wait>(rt: &R, file: HashFile<NoGate>, hand: Hand) -> Result<ClosedShard, Memory>
+    requires { IsOf file.state hand }
+    ensures { IfOk result (IsClosedBy file.state hand) }
+{
+    let (closed, acts) = file.close(rt, hand)?;
+    Ok(ClosedShard { closed, acts })
+}
+
+impl Shards {
+    /// Closes all files, each by the hand of its shard: how far each has grown, with the records of its buckets, and the
+    /// acts of that hand. Hands that were not joined into these are lost with their acts. Without memory for the records,
+    /// the files and the hands are gone.
+    pub fn close<R: Wait>(self, rt: &R, hands: Hands) -> Result<ClosedShards, Memory>
+        requires { AreOf self hands }
+        ensures { IfOk result (AreClosedBy self hands) }
+    {
+        let count = self.count() as usize;
+        let Shards { files } = self;
+        let Hands { hands } = hands;
+        let mut shards = Vec::with_capacity(*files.allocator(), count)?;
+        let mut files = files.into_iter();
+        let mut hands = hands.into_iter();
+        for _shard in 0..count {
+            let Some(file) = files.next() else {
+                unreachable!()
+            };
+            let Some(hand) = hands.next() else {
+                unreachable!()
+            };
+            let shard = close_shard(rt, file, hand)?;
+            shards.push(shard)?;
+        }
+        Ok(ClosedShards { shards })
+    }
+}

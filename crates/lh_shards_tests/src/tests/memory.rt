@@ -1,0 +1,173 @@
+//! Memory that is refused: run with each request for it refused in turn, one in each run. Each call is made once more
+//! where it was refused, and nothing is lost then.
+ghost use Rattle.std.specs.Prelude.{◌≡◌, length, IfOk, IfSome};
+ghost use Rattle.lh_shards.specs.Hands.{AreOf};
+
+use super::whole::{acts_in, records_in};
+use lh_addr::Config;
+use lh_bucket::Listing;
+use lh_file::{FileFault, History, Memory, SettleFault};
+use lh_page::{Key, Value};
+use lh_shards::{
+    ClosedShards, CreateFault, Hands, JoinFault, ShardFault, Shards, SplitFault, empty_listings,
+};
+use std::alloc::Global;
+use std::sync::Wait;
+use std::test::Fail;
+
+/// Four shards that record.
+fn made_again(alloc: Global, config: Config) -> Result<(Shards, Hands), CreateFault>
+    ensures { IfOk result (λ made. AreOf made.0 made.1) }
+{
+    match Shards::create(alloc, config, 4, true) {
+        Err(CreateFault::Memory) => Shards::create(alloc, config, 4, true),
+        made => made,
+    }
+}
+
+/// Hands that may make 100 calls in each shard.
+fn divided_again(shards: &Shards, hands: &mut Hands) -> Result<Hands, SplitFault>
+    requires { AreOf shards.now hands.old }
+    ensures old { AreOf shards.now hands.new }
+    ensures new { IfOk result (AreOf shards.now) }
+{
+    match shards.split_hands(hands, 100) {
+        Err(SplitFault::Memory) => shards.split_hands(hands, 100),
+        given => given,
+    }
+}
+
+/// Inserts a letter: whether all went as it has to. Where the insert was refused, the other hands don't find the letter.
+fn put_again<R: Wait>(
+    rt: &R,
+    shards: &Shards,
+    hands: &mut Hands,
+    other: &mut Hands,
+    letter: u8,
+) -> bool
+    requires hands { AreOf shards.now hands.old }
+    requires other { AreOf shards.now other.old }
+    ensures hands { AreOf shards.now hands.new }
+    ensures other { AreOf shards.now other.new }
+{
+    let (Ok(key), Ok(value)) = (Key::new(&[letter]), Value::new(&[letter])) else {
+        return false;
+    };
+    let mut put = shards.put(rt, hands, &key, &value);
+    if put == Err(FileFault::Memory) {
+        if shards.get(rt, other, &key) != Ok(None) {
+            return false;
+        }
+        put = shards.put(rt, hands, &key, &value);
+    }
+    put == Ok(true)
+}
+
+/// Two callers insert twelve letters each: whether all went as it has to.
+fn fill_again<R: Wait>(rt: &R, shards: &Shards, first: &mut Hands, second: &mut Hands) -> bool
+    requires first { AreOf shards.now first.old }
+    requires second { AreOf shards.now second.old }
+    ensures first { AreOf shards.now first.new }
+    ensures second { AreOf shards.now second.new }
+{
+    for letter in b'a'..b'm' {
+        if !put_again(rt, shards, first, second, letter)
+            || !put_again(rt, shards, second, first, letter - 32)
+        {
+            return false;
+        }
+    }
+    true
+}
+
+/// Joins hands. Where that was refused, a shard is named, and both come back.
+fn joined_again(shards: &Shards, first: Hands, second: Hands) -> Option<Hands>
+    requires first { AreOf shards.now first }
+    requires second { AreOf shards.now second }
+    ensures { IfSome result (AreOf shards.now) }
+{
+    let JoinFault {
+        shard,
+        first,
+        second,
+    } = match shards.join_hands(first, second) {
+        Ok(hands) => return Some(hands),
+        Err(fault) => fault,
+    };
+    if shard >= shards.count() {
+        return None;
+    }
+    shards.join_hands(first, second).ok()
+}
+
+/// Four shards are filled, by hands that are joined, and closed. None where a call went wrong.
+fn filled_and_closed<R: Wait>(
+    rt: &R,
+    alloc: Global,
+    config: Config,
+) -> Option<Result<ClosedShards, Memory>> {
+    let (shards, mut first) = made_again(alloc, config).ok()?;
+    let mut second = divided_again(&shards, &mut first).ok()?;
+    if !fill_again(rt, &shards, &mut first, &mut second) {
+        return None;
+    }
+    let mut hands = joined_again(&shards, first, second)?;
+    if shards.load(&mut hands).inserted != 24 {
+        return None;
+    }
+    Some(shards.close(rt, hands))
+}
+
+/// The listings that shards begin as.
+fn openings_again(
+    alloc: Global,
+    config: Config,
+    closed: &ClosedShards,
+) -> Result<Vec<Listing>, Memory>
+    ensures { IfOk result (λ listings. length listings.items ≡ length closed.now) }
+{
+    match empty_listings(alloc, config, closed.count()) {
+        Err(Memory) => empty_listings(alloc, config, closed.count()),
+        listings => listings,
+    }
+}
+
+/// Whether a settling was refused for memory.
+fn is_refused(settled: &Result<Vec<History>, ShardFault>) -> bool {
+    match settled {
+        Ok(_) => false,
+        Err(at) => at.fault == SettleFault::Memory,
+    }
+}
+
+/// The histories of closed shards.
+fn settled_again(
+    alloc: Global,
+    openings: &[Listing],
+    closed: &ClosedShards,
+) -> Result<Vec<History>, ShardFault>
+    requires { length openings.now ≡ length closed.now }
+{
+    let settled = closed.settle(alloc, openings);
+    if is_refused(&settled) {
+        closed.settle(alloc, openings)
+    } else {
+        settled
+    }
+}
+
+#[test]
+fn refused_growth_loses_nothing(rt: HostRuntime) -> Result<(), Fail> {
+    let config = Config::new(1, 2, 100, 16)?;
+    let closed = filled_and_closed(&rt, rt.alloc(), config).ok_or("a call went wrong")?;
+    // A refused close has taken shards and hands along: others are used then.
+    let closed = match closed {
+        Ok(closed) => closed,
+        Err(Memory) => filled_and_closed(&rt, rt.alloc(), config).ok_or("a call went wrong")??,
+    };
+    assert_eq!(rt; records_in(&closed), 24);
+    let openings = openings_again(rt.alloc(), config, &closed)?;
+    let histories = settled_again(rt.alloc(), &openings, &closed)?;
+    assert!(rt; acts_in(&histories) == 24 || acts_in(&histories) == 25);
+    Ok(())
+}

@@ -1,0 +1,117 @@
+//! Shards that are opened from listings, and listings that are refused.
+use super::calls::{insert_letters, shards_of};
+use super::whole::{openings, records_in};
+use lh_addr::{Config, fnv1a};
+use lh_bucket::Listing;
+use lh_file::Load;
+use lh_page::{Key, Pair, Value};
+use lh_shards::{OpenFault, Shards, empty_listings, shard_of};
+use std::alloc::Global;
+use std::test::Fail;
+
+/// Why listings are not taken.
+fn fault_of(alloc: Global, listings: &[Listing]) -> Result<OpenFault, Fail> {
+    match Shards::open_from(alloc, listings, false) {
+        Ok(_) => Err(Fail::new("opened")),
+        Err(fault) => Ok(fault),
+    }
+}
+
+#[test]
+fn settled_shards_are_opened_again(rt: HostRuntime) -> Result<(), Fail> {
+    let (shards, mut hands) = shards_of(rt.alloc(), 8)?;
+    insert_letters(&rt, &shards, &mut hands)?;
+    let closed = shards.close(&rt, hands)?;
+    let openings = openings(rt.alloc(), &closed)?;
+    let _ = closed.settle(rt.alloc(), &openings)?;
+    assert_eq!(rt; records_in(&closed), 25);
+    let listings = closed.into_listings()?;
+    let (shards, mut hands) = Shards::open_from(rt.alloc(), &listings, true)?;
+    assert_eq!(rt; shards.count(), 8);
+    let load = Load {
+        opening: 25,
+        inserted: 0,
+        deleted: 0,
+    };
+    assert_eq!(rt; shards.load(&mut hands), load);
+    let (key, value) = (Key::new(b"q")?, Value::new(b"qq")?);
+    assert_eq!(rt; shards.get(&rt, &mut hands, &key)?, Some(value));
+    assert!(rt; shards.remove(&rt, &mut hands, &key)?);
+    let closed = shards.close(&rt, hands)?;
+    assert_eq!(rt; listings.len(), closed.count() as usize);
+    let histories = closed.settle(rt.alloc(), &listings)?;
+    assert_eq!(rt; histories.len(), 8);
+    assert_eq!(rt; records_in(&closed), 24);
+    Ok(())
+}
+
+#[test]
+fn numbers_of_listings_are_refused(rt: HostRuntime) -> Result<(), Fail> {
+    let config = Config::new(1, 2, 100, 16)?;
+    for count in [0, 1_025] {
+        let listings = empty_listings(rt.alloc(), config, count)?;
+        assert_eq!(rt; fault_of(rt.alloc(), &listings)?, OpenFault::Count);
+    }
+    for count in [1, 1_024] {
+        let listings = empty_listings(rt.alloc(), config, count)?;
+        let (shards, _) = Shards::open_from(rt.alloc(), &listings, false)?;
+        assert_eq!(rt; shards.count(), count);
+    }
+    Ok(())
+}
+
+#[test]
+fn another_configuration_is_refused(rt: HostRuntime) -> Result<(), Fail> {
+    let mut listings = empty_listings(rt.alloc(), Config::new(1, 2, 100, 16)?, 3)?;
+    listings.push(Listing::empty(rt.alloc(), Config::new(1, 3, 100, 16)?)?)?;
+    assert_eq!(rt;
+        fault_of(rt.alloc(), &listings)?,
+        OpenFault::Config { shard: 3 }
+    );
+    Ok(())
+}
+
+/// A listing of one bucket with a record of each of these keys.
+fn listed(alloc: Global, keys: &[&[u8]]) -> Result<Listing, Fail> {
+    let mut pairs = Vec::new(alloc);
+    for bytes in keys {
+        let (key, value) = (Key::new(bytes)?, Value::empty());
+        pairs.push(Pair { key, value })?;
+    }
+    let mut lists = Vec::new(alloc);
+    lists.push(pairs)?;
+    Ok(Listing::new(alloc, Config::new(1, 2, 100, 16)?, 1, lists)?)
+}
+
+/// Two listings whose first one has a record of the second shard behind those of its own.
+#[test]
+fn a_record_of_another_shard_is_named(rt: HostRuntime) -> Result<(), Fail> {
+    let alloc = rt.alloc();
+    let (mut first, mut second) = (Vec::new(alloc), Vec::new(alloc));
+    let letters: [&[u8]; 8] = [b"a", b"b", b"c", b"d", b"e", b"f", b"g", b"h"];
+    for letter in letters {
+        if shard_of(fnv1a(letter), 2) == 0 {
+            first.push(letter)?;
+        } else {
+            second.push(letter)?;
+        }
+    }
+    let own = first.len();
+    assert!(rt; own > 0);
+    let Some(stray) = second.pop() else {
+        return Err(Fail::new("no key of the second shard"));
+    };
+    first.push(stray)?;
+    let mut listings = Vec::new(alloc);
+    listings.push(listed(alloc, &first)?)?;
+    listings.push(listed(alloc, &second)?)?;
+    assert_eq!(rt;
+        fault_of(alloc, &listings)?,
+        OpenFault::Misplaced {
+            shard: 0,
+            bucket: 0,
+            place: own
+        }
+    );
+    Ok(())
+}

@@ -1,0 +1,119 @@
+//! Shards as a whole: counted, divided, joined, closed and settled.
+ghost use Rattle.std.specs.Prelude.{◌≡◌, length, IfOk};
+ghost use Rattle.lh_shards.specs.Hands.{AreOf};
+
+use super::calls::{insert_letters, shards_of};
+use lh_addr::Config;
+use lh_bucket::Listing;
+use lh_file::{History, Load, SettleFault};
+use lh_page::{Key, Value};
+use lh_shards::{ClosedShards, Hands, ShardFault, Shards, empty_listings};
+use std::alloc::Global;
+use std::process::Abort;
+use std::sync::Wait;
+use std::test::Fail;
+
+/// The listings that shards begin as.
+pub(crate) fn openings(alloc: Global, closed: &ClosedShards) -> Result<Vec<Listing>, Fail>
+    ensures { IfOk result (λ listings. length listings.items ≡ length closed.now) }
+{
+    let config = Config::new(1, 2, 100, 16)?;
+    Ok(empty_listings(alloc, config, closed.count())?)
+}
+
+/// How many acts all histories have.
+pub(crate) fn acts_in(histories: &[History]) -> u64 {
+    let mut acts = 0_u64;
+    for history in histories {
+        acts = acts.saturating_add(history.len() as u64);
+    }
+    acts
+}
+
+/// How many records all closed shards have.
+pub(crate) fn records_in(closed: &ClosedShards) -> u64 {
+    let mut records = 0_u64;
+    for shard in 0..closed.count() {
+        records = records.saturating_add(closed.shard(shard).closed.records());
+    }
+    records
+}
+
+#[test]
+fn sums_are_of_all_shards(rt: HostRuntime) -> Result<(), Fail> {
+    let (shards, mut hands) = shards_of(rt.alloc(), 8)?;
+    assert_eq!(rt; shards.buckets(&mut hands), 8);
+    let mut load = Load {
+        opening: 0,
+        inserted: 0,
+        deleted: 0,
+    };
+    assert_eq!(rt; shards.load(&mut hands), load);
+    insert_letters(&rt, &shards, &mut hands)?;
+    assert!(rt; shards.buckets(&mut hands) > 8);
+    let key = Key::new(b"c")?;
+    assert!(rt; shards.remove(&rt, &mut hands, &key)?);
+    load.inserted = 25;
+    load.deleted = 1;
+    assert_eq!(rt; shards.load(&mut hands), load);
+    Ok(())
+}
+
+/// Letters are inserted into so many shards by hands that are joined into the first ones, and all is settled.
+fn check_whole<R: Abort + Wait>(rt: &R, alloc: Global, count: u32) -> Result<(), Fail> {
+    let (shards, mut first) = shards_of(alloc, count)?;
+    let mut second = shards.split_hands(&mut first, 1_000)?;
+    insert_letters(rt, &shards, &mut second)?;
+    let key = Key::new(b"a")?;
+    assert!(rt; shards.get(rt, &mut first, &key)?.is_some());
+    let Ok(hands) = shards.join_hands(first, second) else {
+        return Err(Fail::new("not joined"));
+    };
+    let closed = shards.close(rt, hands)?;
+    assert_eq!(rt; closed.count(), count);
+    assert_eq!(rt; records_in(&closed), 25);
+    let openings = openings(alloc, &closed)?;
+    let histories = closed.settle(alloc, &openings)?;
+    assert_eq!(rt; histories.len(), count as usize);
+    assert_eq!(rt; acts_in(&histories), 76);
+    Ok(())
+}
+
+#[test]
+fn one_shard_is_settled(rt: HostRuntime) -> Result<(), Fail> {
+    check_whole(&rt, rt.alloc(), 1)
+}
+
+#[test]
+fn eight_shards_are_settled(rt: HostRuntime) -> Result<(), Fail> {
+    check_whole(&rt, rt.alloc(), 8)
+}
+
+#[test]
+fn the_most_shards_are_settled(rt: HostRuntime) -> Result<(), Fail> {
+    check_whole(&rt, rt.alloc(), 1_024)
+}
+
+/// A hand that is dropped is missed in the shard of the key that it has used, and in no other.
+#[test]
+fn a_dropped_hand_is_missed_in_its_shard(rt: HostRuntime) -> Result<(), Fail> {
+    let (shards, mut first) = shards_of(rt.alloc(), 8)?;
+    let mut second = shards.split_hands(&mut first, 1_000)?;
+    let (key, value) = (Key::new(b"key")?, Value::new(b"value")?);
+    assert!(rt; shards.put(&rt, &mut second, &key, &value)?);
+    let shard = shards.shard_of(lh_addr::fnv1a(key.bytes()));
+    assert!(rt; shard > 0);
+    let closed = shards.close(&rt, first)?;
+    let openings = openings(rt.alloc(), &closed)?;
+    match closed.settle(rt.alloc(), &openings) {
+        Err(fault) => assert_eq!(rt;
+            fault,
+            ShardFault {
+                shard,
+                fault: SettleFault::MissingStamp(0)
+            }
+        ),
+        Ok(_) => return Err(Fail::new("settled")),
+    }
+    Ok(())
+}
