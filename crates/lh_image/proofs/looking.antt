@@ -6,3 +6,4 @@ pub mod Steps
 pub mod Openings
 pub mod Maps
 pub mod Loops
+pub mod Checked

@@ -5,3 +5,4 @@ pub mod FirstPage
 pub mod FirstPages
 pub mod Steps
 pub mod Whole
+pub mod Leading

@@ -4,7 +4,9 @@ use Rattle.lh_addr.specs.declared.config.Range.{Range}
 use Rattle.lh_addr.specs.declared.config.Range.TheVariants.{Initial, Capacity, Load, Max}
 use Rattle.lh_addr.specs.Limits.{IsInitial, IsLoad, IsSize}
 use Rattle.lh_addr.specs.Settings.{IsInRange}
+use Rattle.lh_bucket.specs.Listing.{Lists}
 use Rattle.lh_image.specs.declared.fault.ImageFault.{ImageFault}
+use Rattle.lh_image.specs.declared.fault.ImageFault.TheVariants.{Trailing}
 use Rattle.lh_image.specs.declared.reading.first_page.Fields.{Fields}
 use Rattle.lh_image.specs.declared.reading.first_page.Header.{Header}
 use Rattle.lh_image.specs.declared.version.Version.{Version}
@@ -59,12 +61,17 @@ pub record HasBegun (version : Version) (bytes buffer : List ℕ) (now : Option 
   pub magic : no_magic bytes ≡ false
   pub filled : FillsWhole bytes buffer now
 
+-- what is left after a fault that the first page decides, which the end of the bytes doesn't
+abbrev pub LeavesFirst : ImageFault → List ℕ → Option (List ℕ) → Type 0
+LeavesFirst Trailing bytes now = ⊥
+LeavesFirst f bytes now = Leaves {X = Lists} (Err f) bytes now
+
 -- the front of the bytes, by the version that it tells, or the answer that is due
 abbrev pub ReadsFront : List ℕ → Result Version ImageFault → (Version → List ℕ) → Option (List ℕ) → Type 0
 ReadsFront bytes (Ok version) buffer now = HasBegun version bytes (buffer version) now
-ReadsFront bytes (Err f) buffer now = IsDueFault f (reading_of bytes) × Leaves {X = Version} (Err f) bytes now
+ReadsFront bytes (Err f) buffer now = IsDueFault f (reading_of bytes) × LeavesFirst f bytes now
 
 -- the header, or the answer that is due
 abbrev pub ReadsHeader : List ℕ → Result Header ImageFault → Option (List ℕ) → Type 0
 ReadsHeader bytes (Ok header) now = HasHeader header bytes now
-ReadsHeader bytes (Err f) now = IsDueFault f (reading_of bytes) × Leaves {X = Header} (Err f) bytes now
+ReadsHeader bytes (Err f) now = IsDueFault f (reading_of bytes) × LeavesFirst f bytes now

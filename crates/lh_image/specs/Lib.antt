@@ -19,5 +19,6 @@ pub mod Listed
 pub mod Reading
 pub mod RoundTrip
 pub mod LookUp
+pub mod Checked
 pub mod Writing
 pub mod Texts

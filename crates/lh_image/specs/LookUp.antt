@@ -29,9 +29,10 @@ use Rattle.lh_image.specs.View.{View, initial, buckets, page_count, bucket, next
 unfoldable pub opening_fault : List ℕ → Option ImageFault
 opening_fault bytes = first_fault_of (header_rows bytes ++ size_rows bytes)
 
--- the bytes have a header whose numbers are in their ranges, and are as many pages as it says
+-- the bytes have a header without a fault, whose numbers are in their ranges, and are as many pages as it says
 pub record IsOpened (bytes : List ℕ) (header : Header) (root : Extent) : Type 0 where
   pub fields : header ≡ header_of bytes
+  pub faultless : first_fault_of (header_rows bytes) ≡ None
   pub in_range : AreInRange header
   pub size : length bytes ≡ page_bytes (version_of bytes) * header.pages
   pub extent : root ≡ record { initial = header.config.initial; buckets = header.buckets }

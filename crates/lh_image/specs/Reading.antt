@@ -1,11 +1,11 @@
 -- What a reader of images answers
-use Rattle.std.specs.Prelude.{◌≡◌, ℕ, ◌+◌, List, Option, Some, None, Result, Ok, Err, take}
+use Rattle.std.specs.Prelude.{◌≡◌, ℕ, ◌+◌, max, List, ◌++◌, Option, Some, None, Result, Ok, Err, take, drop}
 use Rattle.std.specs.Io.KnownBytes.{Consumes, IsAtEnd}
 use Rattle.lh_bucket.specs.Listing.{Lists}
 use Rattle.lh_image.specs.declared.fault.ImageFault.{ImageFault}
 use Rattle.lh_image.specs.declared.fault.ImageFault.TheVariants.{Magic, HeaderField, Counts, Trailing, ReadFault, Memory}
 use Rattle.lh_image.specs.Faults.{page_fault, image_fault}
-use Rattle.lh_image.specs.Image.{listing_of}
+use Rattle.lh_image.specs.Image.{IsImage, listing_of}
 use Rattle.lh_image.specs.Layout.{image_bytes, view_of}
 use Rattle.lh_image.specs.Version.{page_bytes, version_of}
 use Rattle.lh_image.specs.View.{View}
@@ -43,3 +43,28 @@ Leaves (Err (HeaderField offset)) bytes now = Consumes (Some bytes) now (take (p
 Leaves (Err Counts) bytes now = Consumes (Some bytes) now (take (page_bytes (version_of bytes)) bytes)
 Leaves (Err Trailing) bytes now = Consumes (Some bytes) now (take (image_bytes bytes + 1) bytes)
 Leaves (Err f) bytes now = Unit {0}
+
+-- ---- an image that other bytes may follow
+
+-- how many bytes are the image's: those of its pages, or of the first one, where the header says that it has none
+abbrev pub leading_size : List ℕ → ℕ
+leading_size bytes = max (page_bytes (version_of bytes)) (image_bytes bytes)
+
+-- the bytes of the image, all of them where there are fewer
+unfoldable pub leading : List ℕ → List ℕ
+leading bytes = take (leading_size bytes) bytes
+
+-- the bytes that follow the image
+unfoldable pub following : List ℕ → List ℕ
+following bytes = drop (leading_size bytes) bytes
+
+-- What is left after an image that others may follow: those alone. After a fault it is as for a whole input.
+abbrev pub LeavesFollowing : {X : Type 0} → Result X ImageFault → List ℕ → Option (List ℕ) → Type 0
+LeavesFollowing (Ok x) bytes now = now ≡ Some (following bytes)
+LeavesFollowing (Err f) bytes now = Leaves {X = Lists} (Err f) bytes now
+
+-- Of an image with other bytes behind it, the image is what leads, and they are what follows.
+abbrev pub LeadingLaw : Type 0
+LeadingLaw =
+    (bytes rest : List ℕ) (l : Lists) → IsImage bytes l →
+    (leading (bytes ++ rest) ≡ bytes) × (following (bytes ++ rest) ≡ rest)

@@ -5,15 +5,18 @@ ghost use Rattle.std.specs.Result.{result_err};
 ghost use Rattle.lh_bucket.specs.Listing.{Lists, all_of, count_of, size};
 ghost use Rattle.lh_bucket.specs.Records.{map_of};
 ghost use Rattle.lh_page.specs.Limits.{IsValue};
+ghost use Rattle.lh_image.specs.Faults.{image_fault};
 ghost use Rattle.lh_image.specs.Image.{IsImage};
 ghost use Rattle.lh_image.specs.Layout.{header_of, view_of};
+ghost use Rattle.lh_image.specs.Listed.{IsMemoryOr};
 ghost use Rattle.lh_image.specs.LookUp.{Stands, look_up, opening_fault};
 ghost use Rattle.lh_image.specs.Version.{version_of};
 
 mod opening;
-mod slots;
-mod walk;
+pub(crate) mod slots;
+pub(crate) mod walk;
 
+use crate::checked::CheckedImage;
 use crate::fault::ImageFault;
 use crate::image::opening::{check_size, header_in};
 use crate::image::walk::{place_of, value_at};
@@ -22,6 +25,7 @@ use crate::reading::first_page::Header;
 use crate::version::Version;
 use lh_addr::{Config, Root};
 use lh_page::{Key, Value};
+use std::alloc::Global;
 use std::marker::Model;
 
 /// The bytes of an image of either version, to look keys up in. They are borrowed, as of a file that was read or
@@ -64,6 +68,17 @@ impl<'a> Image<'a> {
             root: header.config.root(header.buckets),
             header,
         })
+    }
+
+    /// Looks at all pages once, for look-ups that then have no fault and look at no more than they need.
+    ///
+    /// While it runs it takes memory for the records; 32 bytes for each page are kept. The fault is that of
+    /// [`check_image`](crate::check_image).
+    pub fn check(&self, alloc: Global) -> Result<CheckedImage<'a>, ImageFault>
+        ensures image { IfOk result (λ checked. IsImage self.now checked) }
+        ensures fault { IfErr result (λ fault. IsMemoryOr fault (image_fault self.now)) }
+    {
+        CheckedImage::of(alloc, self.bytes, &self.header, &self.root)
     }
 
     /// The version of the image.

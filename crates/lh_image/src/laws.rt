@@ -6,6 +6,7 @@ ghost use Rattle.lh_image.specs.Counted.{CensusLaw};
 ghost use Rattle.lh_image.specs.FirstFault.{FirstFaultLaw, NoFaultLaw};
 ghost use Rattle.lh_image.specs.Image.{ImageLaw, OneListingLaw};
 ghost use Rattle.lh_image.specs.LookUp.{FaultLaw, MapLaw, StandsLaw};
+ghost use Rattle.lh_image.specs.Reading.{LeadingLaw};
 ghost use Rattle.lh_image.specs.RoundTrip.{RoundTripLaw};
 
 use lh_addr::laws::address_is_only_bucket;
@@ -66,6 +67,13 @@ pub fn written_images_read_back()
     ensures { RoundTripLaw }
 {
     what_is_written_is_an_image();
+    image_is_of_only_listing();
+}
+
+/// An image with other bytes behind it is what leads in them, and the others are what follows.
+pub fn an_image_leads()
+    ensures { LeadingLaw }
+{
     image_is_of_only_listing();
 }
 

@@ -5,12 +5,16 @@
 //! write_image(&listing, &mut writer)?;              // the listing as bytes of version 2
 //! write_image_v1(&listing, &mut writer)?;           // or of version 1, if its records are short enough
 //! let listing = read_image(alloc, &mut reader)?;    // exactly the images, and each fault by its place
+//! read_leading_image(alloc, &mut reader)?           // of an image that other bytes follow, which are left to be read
 //! check_image(alloc, &mut reader)?.longest          // pages of the longest chain
 //! Image::open(&bytes)?.find(&key)?                  // one key's value, in the bytes as they are
+//! Image::open(&bytes)?.check(alloc)?                // all pages are looked at once,
+//!     .find(&key)                                   // and then many keys are looked up, which has no fault
 //! ```
 #![tactic(auto)]
 
 mod census;
+mod checked;
 mod fault;
 mod image;
 mod judge;
@@ -22,8 +26,9 @@ mod version;
 mod writing;
 
 pub use census::{Census, check_image};
+pub use checked::CheckedImage;
 pub use fault::{ImageFault, WriteImageFault};
 pub use image::Image;
-pub use reading::read_image;
+pub use reading::{read_image, read_leading_image};
 pub use version::Version;
 pub use writing::{write_image, write_image_v1};

@@ -5,6 +5,7 @@ ghost use Rattle.lh_image.specs.Reading.{IsDueAnswer, Leaves, reading_of};
 
 mod filling;
 pub(crate) mod first_page;
+mod leading;
 pub(crate) mod memory;
 pub(crate) mod page;
 pub(crate) mod pages;
@@ -15,6 +16,7 @@ use crate::judge::listed::listing_of_pages;
 use crate::laws::faultless_bytes_are_an_image;
 use crate::reading::first_page::read_header;
 use crate::reading::pages::{read_end, read_pages};
+pub use leading::read_leading_image;
 use lh_bucket::Listing;
 use std::alloc::Global;
 use std::io::Read;

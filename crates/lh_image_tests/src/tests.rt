@@ -1,8 +1,10 @@
 //! What no contract says.
 mod building;
 mod census;
+mod checked;
 mod faults;
 mod faults_2;
+mod leading;
 mod looking;
 mod memory;
 mod old_limits;

@@ -21,7 +21,7 @@ unfolding pairs_of
 first_pairs-all f bytes n e = ap (first_pairs f bytes) e
 
 -- one record more
-value_more : (key : List ℕ) (xs : List Pair) (x : Pair) (sought : Bool) → sought ≡ bytes_eq x.key key → value_in key (xs ++ x ∷ []) ≡ option_or (value_in key xs) (cond sought (Some x.value) None)
+pub value_more : (key : List ℕ) (xs : List Pair) (x : Pair) (sought : Bool) → sought ≡ bytes_eq x.key key → value_in key (xs ++ x ∷ []) ≡ option_or (value_in key xs) (cond sought (Some x.value) None)
 value_more key xs x sought is =
     value_in-append key xs (x ∷ [])
     ∙ ap (option_or (value_in key xs)) (value_in-cons key x [] ∙ ap (λ b. cond b (Some x.value) (value_in key [])) (sym is) ∙ ap (cond sought (Some x.value)) (value_in-none key))

@@ -244,7 +244,7 @@ pub record IsOnItsWay (v : View) (key : List ℕ) (pages counter number : ℕ) :
   pub below : number < pages
 
 module _ (v : View) (key : List ℕ) (pages counter number : ℕ) (h : IsOnItsWay v key pages counter number) (more : counter < pages) where
-  here : look_up v key ≡ found_first (own_fault v (home_of v key) number) (value_in key (v.records number)) (found_from v key (pages - (counter + 1)) (next v number))
+  pub here : look_up v key ≡ found_first (own_fault v (home_of v key) number) (value_in key (v.records number)) (found_from v key (pages - (counter + 1)) (next v number))
   here = h.same ∙ found_more v key (pages - counter) (pages - (counter + 1)) number (omega arith) (λ z. omega (arith, h.from))
 
   pub step_fault : (f : ImageFault) → own_fault v (home_of v key) number ≡ Some f → look_up v key ≡ Err f

@@ -12,12 +12,12 @@ use Rattle.lh_page.specs.PageFields.{all_zero}
 use Rattle.lh_page.specs.PageLaws.{AreBytes}
 use Rattle.lh_bucket.specs.Listing.{Lists}
 use Rattle.lh_image.specs.declared.fault.ImageFault.{ImageFault}
-use Rattle.lh_image.specs.declared.fault.ImageFault.TheVariants.{Magic, HeaderField, Counts, Short, ReadFault, Memory}
+use Rattle.lh_image.specs.declared.fault.ImageFault.TheVariants.{Magic, HeaderField, Counts, Short, Trailing, ReadFault, Memory}
 use Rattle.lh_image.specs.declared.reading.first_page.Header.{Header}
 use Rattle.lh_image.specs.Faults.{bad_field, bad_counts, no_magic, is_short, where_so, field_rows, header_rows, size_rows, page_rows, first_fault_of, image_fault}
 use Rattle.lh_image.specs.Filling.{FillsWhole, IsCut, IsFilled}
 use Rattle.lh_image.specs.declared.version.Version.{Version}
-use Rattle.lh_image.specs.Header.{HasBegun, ReadsFront, ReadsHeader}
+use Rattle.lh_image.specs.Header.{HasBegun, LeavesFirst, ReadsFront, ReadsHeader}
 use Rattle.lh_image.specs.Layout.{initial_offset, capacity_offset, load_offset, buckets_offset, max_offset, pages_offset, records_offset, fields_end, ends_in_zeros, header_of, padding, view_of}
 use Rattle.lh_image.specs.Reading.{IsDueFault, Leaves, reading_of}
 use Rattle.lh_image.specs.Version.{page_bytes, version_of}
@@ -76,7 +76,7 @@ pub read_as : (bytes : List ℕ) (f : ImageFault) → image_fault bytes ≡ Some
 unfolding reading_of
 read_as bytes f e = rw e refl
 
-from_header : (bytes : List ℕ) (f : ImageFault) → first_fault_of (header_rows bytes) ≡ Some f → reading_of bytes ≡ Err f
+pub from_header : (bytes : List ℕ) (f : ImageFault) → first_fault_of (header_rows bytes) ≡ Some f → reading_of bytes ≡ Err f
 unfolding image_fault
 from_header bytes f e = read_as bytes f (first_before (header_rows bytes) (size_rows bytes ++ page_rows (view_of bytes)) f e)
 
@@ -84,7 +84,7 @@ consumed : (n : ℕ) (bytes : List ℕ) (now : Option (List ℕ)) → now ≡ So
 consumed n bytes now e = rw e (sym (take-append-drop n bytes))
 
 leaves_due : (o : Option ℕ) (b : Bool) (f : ImageFault) (bytes : List ℕ) (now : Option (List ℕ)) → now ≡ Some (drop (page_bytes (version_of bytes)) bytes) → Some f ≡ first_fault_of (option_map HeaderField o ∷ where_so b Counts ∷ []) →
-    Leaves {X = Header} (Err f) bytes now
+    LeavesFirst f bytes now
 unfolding first_fault_of
 leaves_due (Some x) b f bytes now rest e = let is : f ≡ HeaderField x = cc in rw is (consumed (page_bytes (version_of bytes)) bytes now rest)
 leaves_due None true f bytes now rest e = let is : f ≡ Counts = cc in rw is (consumed (page_bytes (version_of bytes)) bytes now rest)
@@ -147,7 +147,7 @@ rest_cut version (Some bytes) mid new front rest f first size has cut = due_to f
     left : mid ≡ Some (drop 1024 bytes)
     left = rw first at has.filled.rest
 
-    due_to : (f : ImageFault) → IsCut (drop 1024 bytes) (length rest) f → IsDueFault f (reading_of bytes) × Leaves {X = Version} (Err f) bytes new
+    due_to : (f : ImageFault) → IsCut (drop 1024 bytes) (length rest) f → IsDueFault f (reading_of bytes) × LeavesFirst f bytes new
     due_to Short less =
         let same : page_bytes version ≡ page_bytes (version_of bytes) = ap page_bytes has.told in
         (short_is bytes has.magic (omega (arith, less, same, size, length-drop 1024 bytes, least_page version)), tt)
@@ -205,6 +205,15 @@ pub header_told : (old new : Option (List ℕ)) (page : Version → List ℕ) (f
 header_told None new page f h = tt
 header_told (Some bytes) new page Magic h = h
 header_told (Some bytes) new page f h = h
+
+-- what is left after a fault of the header is left after that fault
+left_first : (bytes : List ℕ) (now : Option (List ℕ)) (f : ImageFault) → LeavesFirst f bytes now → Leaves {X = Lists} (Err f) bytes now
+left_first bytes now Trailing h = absurd h
+left_first bytes now f h = h
+
+pub header_left : (old new : Option (List ℕ)) (f : ImageFault) → IfSome old (λ bytes. ReadsHeader bytes (Err f) new) → IfSome old (λ bytes. Leaves {X = Lists} (Err f) bytes new)
+header_left None new f h = tt
+header_left (Some bytes) new f h = left_first bytes new f h.1
 
 -- the first page is the front of the bytes
 page_is : (version : Version) (bytes page : List ℕ) (now : Option (List ℕ)) → length page ≡ page_bytes version → HasBegun version bytes page now → page ≡ front bytes

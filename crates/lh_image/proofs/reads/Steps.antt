@@ -1,6 +1,6 @@
 -- What is kept and noted of the pages that came, after one page more
-use Rattle.std.proofs.Common.{◌≡◌, ℕ, zero, suc, ◌+◌, ◌-◌, ◌*◌, ◌<◌, ◌≤◌, inl, inr, Bool, true, false, cond, not, ◌||◌, ◌&&◌, eqb, ltb, List, [], ◌∷◌, ◌++◌, length, take, drop, get_or, Option, Some, None, refl, sym, ap, ◌∙◌, arith, length-append}
-use Rattle.std.specs.Prelude.{option_map}
+use Rattle.std.proofs.Common.{◌≡◌, ℕ, zero, suc, ◌+◌, ◌-◌, ◌*◌, ◌<◌, ◌≤◌, inl, inr, Bool, true, false, cond, not, ◌||◌, ◌&&◌, eqb, ltb, List, [], ◌∷◌, ◌++◌, length, take, drop, get_or, Option, Some, None, Result, Ok, Err, refl, sym, ap, ◌∙◌, arith, length-append}
+use Rattle.std.specs.Prelude.{IfErr, OnOk, option_map}
 use Rattle.std.specs.List.{range_with_len, find, sum_by}
 use Rattle.std.specs.Option.{is_some}
 use Rattle.std.proofs.lemmas.Bool.{cases_lt, cases_order, ne_eqb}
@@ -10,6 +10,8 @@ use Rattle.lh_page.specs.declared.fault.PageFault.TheVariants.{Kind as OwnKind, 
 use Rattle.lh_page.specs.declared.head.PageHead.{PageHead}
 use Rattle.lh_page.specs.declared.pair.Pair.{Pair}
 use Rattle.lh_page.specs.PageFields.{bad_slot, fault_of, has_bad_kind, head_of, is_clear, kind_of, pairs_of, used_of}
+use Rattle.lh_image.specs.declared.fault.ImageFault.{ImageFault}
+use Rattle.lh_image.specs.declared.fault.ImageFault.TheVariants.{Memory}
 use Rattle.lh_image.specs.declared.reading.first_page.Header.{Header}
 use Rattle.lh_image.specs.declared.judge.page_checks.PageFaults.{PageFaults}
 use Rattle.lh_image.specs.declared.version.Version.{Version}
@@ -17,7 +19,7 @@ use Rattle.lh_image.specs.declared.reading.table.Entry.{Entry}
 use Rattle.lh_image.specs.Faults.{at_head, bad_kind, bad_bucket, bad_used}
 use Rattle.lh_image.specs.Layout.{header_of, page, view_of}
 use Rattle.lh_image.specs.PageChecks.{AreNoted, known_bad_level, known_bad_slot, noted, seen}
-use Rattle.lh_image.specs.Pages.{HaveCome}
+use Rattle.lh_image.specs.Pages.{HaveCome, ReadsTo}
 use Rattle.lh_image.specs.Table.{no_entry, entry_at, next_in, bucket_in, page_records, has_plain_head, AreWithin, IsPushed, IsTable, is_of_slot}
 use Rattle.lh_image.specs.Version.{format_of, page_bytes, version_of}
 use Rattle.lh_image.specs.View.{View, capacity, used}
@@ -179,3 +181,9 @@ come_more bytes header n entries new_entries pairs new_pairs faults head bad buf
             omega (arith, here, each (i - size * n))
       ];
     }
+
+-- one page more was read, or there was no memory for it
+pub reads_more : {X : Type 0} (bytes : List ℕ) (header : Header) (n : ℕ) (result : Result X ImageFault) (entries : List Entry) (pairs : List Pair) (faults : PageFaults) (now : Option (List ℕ)) → OnOk result (HaveCome bytes header n entries pairs faults) →
+    IfErr result (λ f. f ≡ Memory) → now ≡ Some (drop (page_bytes (version_of bytes) * n) bytes) → ReadsTo bytes header n result entries pairs faults now
+reads_more bytes header n (Ok x) entries pairs faults now come memory rest = (come, rest)
+reads_more bytes header n (Err f) entries pairs faults now come memory rest = rw memory tt

@@ -32,7 +32,7 @@ use Rattle.lh_image.proofs.images.ImageLaws.{is_view, some_pages, whole_rule}
 -- ---- fewer pages
 
 -- the bytes of a header's pages are those that the header of the bytes says
-bytes_same : (bytes : List ℕ) (header : Header) → header ≡ header_of bytes → page_bytes (version_of bytes) * header.pages ≡ image_bytes bytes
+pub bytes_same : (bytes : List ℕ) (header : Header) → header ≡ header_of bytes → page_bytes (version_of bytes) * header.pages ≡ image_bytes bytes
 bytes_same bytes header same = ap (λ (h : Header). page_bytes (version_of bytes) * h.pages) same
 
 -- over plain numbers: of this many bytes there are to be at least `least`, and in all `all`
@@ -49,7 +49,7 @@ short_is bytes header now has less =
     let test : (ltb (length bytes) size || ltb (length bytes) (image_bytes bytes)) ≡ true = short_test (length bytes) size (image_bytes bytes) (rw (bytes_same bytes header has.fields) at less) in
     read_as bytes Short (first_behind (header_rows bytes) (size_rows bytes ++ page_rows (view_of bytes)) has.faultless ∙ rw test refl)
 
-cut_is : (bytes : List ℕ) (header : Header) (now : Option (List ℕ)) (f : ImageFault) → HasHeader header bytes now → IsCut bytes (page_bytes (version_of bytes) * header.pages) f → IsDueFault f (reading_of bytes)
+pub cut_is : (bytes : List ℕ) (header : Header) (now : Option (List ℕ)) (f : ImageFault) → HasHeader header bytes now → IsCut bytes (page_bytes (version_of bytes) * header.pages) f → IsDueFault f (reading_of bytes)
 cut_is bytes header now Short has cut = short_is bytes header now has cut
 cut_is bytes header now ReadFault has cut = tt
 cut_is bytes header now Memory has cut = tt
@@ -162,7 +162,7 @@ kept_is bytes header entries pairs faults read =
 abbrev pub AnswersView : Header → List Entry → List Pair → PageFaults → Result Lists ImageFault → Type 0
 AnswersView header entries pairs faults result = (v : View) → v.header ≡ header → IsViewKept v entries pairs faults → IsDueAnswer (λ listing l. listing ≡ l) result (judged v)
 
-exact_is : (bytes : List ℕ) (header : Header) (entries : List Entry) (pairs : List Pair) (faults : PageFaults) (result : Result Lists ImageFault) → 1 ≤ header.pages → IsRead bytes header entries pairs faults →
+pub exact_is : (bytes : List ℕ) (header : Header) (entries : List Entry) (pairs : List Pair) (faults : PageFaults) (result : Result Lists ImageFault) → 1 ≤ header.pages → IsRead bytes header entries pairs faults →
     AnswersView header entries pairs faults result → IsDueAnswer (λ listing l. listing ≡ l) result (reading_of bytes)
 exact_is bytes header entries pairs faults result some read exact =
     rw (judged_is bytes header entries pairs faults some read) (exact (view_of bytes) (header_same bytes ∙ sym read.come.fields) (kept_is bytes header entries pairs faults read))
@@ -193,16 +193,20 @@ each_byte_of bytes header entries pairs faults read i = elim (cases_lt i (page_b
   | inr past ↦ let none : get_or bytes i 0 ≡ 0 = get_or_past bytes i 0 (omega (arith, read.size)) in omega (arith, none)
 ]
 
+pub image_is : (bytes : List ℕ) (header : Header) (entries : List Entry) (pairs : List Pair) (faults : PageFaults) (result : Result Lists ImageFault) → ImageLaw → 1 ≤ header.pages → IsRead bytes header entries pairs faults →
+    AnswersView header entries pairs faults result → IfOk result (λ listing. IsImage bytes listing)
+image_is bytes header entries pairs faults (Err f) law some read exact = tt
+image_is bytes header entries pairs faults (Ok x) law some read exact =
+    let answer = exact_is bytes header entries pairs faults (Ok x) some read exact in
+    let whole = whole_from bytes answer.0 answer.1 in
+    (law bytes x (each_byte_of bytes header entries pairs faults read)).1 (whole.0, answer.2 ∙ sym whole.1)
+
 pub image_read : (old mid last now : Option (List ℕ)) (header : Header) (entries : List Entry) (pairs : List Pair) (faults : PageFaults) (result : Result Lists ImageFault) → ImageLaw → 1 ≤ header.pages → IfSome old (λ bytes. HasHeader header bytes mid) →
     ((bytes : List ℕ) → HasHeader header bytes mid → HaveCome bytes header header.pages entries pairs faults × (last ≡ Some (drop (page_bytes (version_of bytes) * header.pages) bytes))) →
     IfSome last (λ rest. (rest ≡ []) × (now ≡ Some [])) →
     AnswersView header entries pairs faults result →
     IfSome old (λ bytes. IfOk result (λ listing. IsImage bytes listing))
 image_read None mid last now header entries pairs faults result law some has read ended exact = tt
-image_read (Some bytes) mid last now header entries pairs faults (Err f) law some has read ended exact = tt
-image_read (Some bytes) mid last now header entries pairs faults (Ok x) law some has read ended exact =
+image_read (Some bytes) mid last now header entries pairs faults result law some has read ended exact =
     let all = read bytes has in
-    let is = all_read bytes mid last now header entries pairs faults has all.0 all.1 ended in
-    let answer = exact_is bytes header entries pairs faults (Ok x) some is exact in
-    let whole = whole_from bytes answer.0 answer.1 in
-    (law bytes x (each_byte_of bytes header entries pairs faults is)).1 (whole.0, answer.2 ∙ sym whole.1)
+    image_is bytes header entries pairs faults result law some (all_read bytes mid last now header entries pairs faults has all.0 all.1 ended) exact

@@ -48,7 +48,7 @@ fn is_bad_record(slot: &[u8], format: Format) -> bool
 }
 
 /// The key in a slot that has a record.
-fn key_in(slot: &[u8], format: Format) -> &[u8]
+pub(crate) fn key_in(slot: &[u8], format: Format) -> &[u8]
     requires size { length slot.now ≡ slot_size format }
     requires limits { IsWithinLimits format }
     requires key { key_length slot.now ≤ format.key }

@@ -17,7 +17,8 @@ use lh_addr::{Root, fnv1a};
 use lh_page::{Key, PageHead};
 
 /// The bytes of a page.
-fn page_at<'a>(bytes: &'a [u8], header: &Header, root: &Root, number: u32) -> &'a [u8]
+#[inline]
+pub(crate) fn page_at<'a>(bytes: &'a [u8], header: &Header, root: &Root, number: u32) -> &'a [u8]
     requires opened { IsOpened bytes.now header.now root.now }
     requires below { number < header.now.pages }
     ensures page { result.now ≡ page bytes.now number }

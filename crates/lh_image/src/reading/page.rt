@@ -1,9 +1,11 @@
 //! The head of a page, by the version of its image.
-ghost use Rattle.std.specs.Prelude.{◌≡◌, length};
-ghost use Rattle.lh_page.specs.PageFields.{head_of};
+ghost use Rattle.std.specs.Prelude.{◌≡◌, ◌≤◌, length};
+ghost use Rattle.lh_page.specs.PageFields.{head_of, next_of, used_of};
 ghost use Rattle.lh_image.specs.Version.{page_bytes};
 
 use crate::version::Version;
+use byteorder::{ByteOrder, LittleEndian};
+use lh_page::format::HEAD;
 use lh_page::{PageHead, page_head, page2_head};
 
 /// The bytes as an array.
@@ -27,4 +29,23 @@ pub(crate) fn head_of(version: Version, bytes: &[u8]) -> PageHead
         Version::One => page_head(array_of(bytes)),
         Version::Two => page2_head(array_of(bytes)),
     }
+}
+
+/// How many records a page has, by its head.
+#[inline]
+pub(crate) fn used_of(bytes: &[u8]) -> u8
+    requires { HEAD ≤ length bytes.now }
+    ensures { result ≡ used_of bytes.now }
+{
+    bytes[1]
+}
+
+/// The next page of a page's chain, by its head.
+#[inline]
+#[tactic(auto, unfolding(lh_page::specs::PageFields::next_of))]
+pub(crate) fn next_of(bytes: &[u8]) -> u32
+    requires { HEAD ≤ length bytes.now }
+    ensures { result ≡ next_of bytes.now }
+{
+    LittleEndian::read_u32(&bytes[8..12])
 }

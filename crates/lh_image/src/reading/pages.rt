@@ -1,6 +1,7 @@
 //! The pages behind the header, one after the other.
-ghost use Rattle.std.specs.Prelude.{◌≡◌, ℕ, ◌+◌, ◌*◌, ◌<◌, ◌≤◌, List, length, drop, IfOk, IfSome, OnOk, Some};
+ghost use Rattle.std.specs.Prelude.{◌≡◌, ℕ, ◌+◌, ◌*◌, ◌<◌, ◌≤◌, List, length, drop, IfErr, IfOk, IfSome, OnOk, Some};
 ghost use Rattle.lh_image.specs.Header.{AreInRange, HasHeader};
+ghost use Rattle.lh_image.specs.Layout.{page};
 ghost use Rattle.lh_image.specs.Pages.{HaveCome, ReadsAll, ReadsTo, ReadsEnd};
 ghost use Rattle.lh_image.specs.Table.{AreWithin};
 ghost use Rattle.lh_image.specs.Version.{page_bytes, slots, version_of};
@@ -16,7 +17,38 @@ use lh_page::format::PAGE_2;
 use std::alloc::Global;
 use std::io::Read;
 
-/// Reads one page more into these bytes, keeps its records, and looks at it by itself.
+/// Takes one page more: keeps its records, and looks at it by itself.
+pub(crate) fn take_page(
+    bytes: &[u8],
+    header: &Header,
+    root: &Root,
+    number: u32,
+    table: &mut Table,
+    faults: &mut PageFaults,
+) -> Result<(), ImageFault>
+    requires size { length bytes.now ≡ page_bytes header.now.version }
+    requires room { header.now.config.capacity ≤ slots header.now.version }
+    requires number { 1 ≤ number }
+    requires sum { faults.old.sum ≤ 255 * number }
+    requires root { root.now ≡ record { initial = header.now.config.initial; buckets = header.now.buckets } }
+    requires within { AreWithin table.old.entries.items table.old.pairs.items }
+    ensures within { OnOk result (AreWithin table.new.entries.items table.new.pairs.items) }
+    ensures size { OnOk result (length table.new.entries.items ≡ length table.old.entries.items + 1) }
+    ensures sum { OnOk result (faults.new.sum ≤ faults.old.sum + 255) }
+    ensures come { (all : List ℕ) → bytes.now ≡ page all number →
+        page_bytes (version_of all) * (number + 1) ≤ length all →
+        HaveCome all header.now number table.old.entries.items table.old.pairs.items faults.old →
+        OnOk result
+        (HaveCome all header.now (number + 1) table.new.entries.items table.new.pairs.items faults.new) }
+    ensures fault { IfErr result (λ f. f ≡ ImageFault.Memory) }
+{
+    let head = head_of(header.version, bytes);
+    let has_bad_slot = table.push(header, &head, bytes)?;
+    faults.see(header, root, number, &head, has_bad_slot);
+    Ok(())
+}
+
+/// Reads one page more into these bytes, and takes it.
 fn read_page<R: Read>(
     reader: &mut R,
     bytes: &mut [u8],
@@ -42,10 +74,7 @@ fn read_page<R: Read>(
         (R.remaining reader.new) }
 {
     read_whole(reader, bytes)?;
-    let head = head_of(header.version, bytes);
-    let has_bad_slot = table.push(header, &head, bytes)?;
-    faults.see(header, root, page, &head, has_bad_slot);
-    Ok(())
+    take_page(bytes, header, root, page, table, faults)
 }
 
 /// Reads the pages behind the header.

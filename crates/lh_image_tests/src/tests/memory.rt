@@ -17,6 +17,11 @@ fn expect(rt: &impl Abort, alloc: Global, bytes: &[u8], wanted: Option<ImageFaul
         told = read_image(alloc, &mut reader_of(bytes, 1024)).err();
     }
     assert_eq!(rt; told, wanted);
+    let mut told = read_leading_image(alloc, &mut reader_of(bytes, 1024)).err();
+    if told == Some(ImageFault::Memory) {
+        told = read_leading_image(alloc, &mut reader_of(bytes, 1024)).err();
+    }
+    assert_eq!(rt; told, wanted);
 }
 
 /// A sound image, and one whose only fault is the last of the table, so that all memory is asked for.
@@ -37,6 +42,30 @@ fn refused_growth_is_told_of_version_2(rt: HostRuntime) {
     expect(&rt, rt.alloc(), &bytes, None);
     bytes[4114] = b'b';
     expect(&rt, rt.alloc(), &bytes, Some(ImageFault::Misfit(1)));
+}
+
+/// A check tells it, too, and only while it looks; the same bytes are checked then.
+#[test]
+fn refused_growth_of_a_check_is_told(rt: HostRuntime) {
+    let mut bytes = [0; 3072];
+    put_all(&mut bytes, TWO_PAGES);
+    expect_checked(&rt, rt.alloc(), &bytes, None);
+    bytes[2066] = b'a';
+    expect_checked(&rt, rt.alloc(), &bytes, Some(ImageFault::Misfit(2)));
+}
+
+/// The fault of a check of bytes that are opened, as [`expect`] has that of reading.
+fn expect_checked(rt: &impl Abort, alloc: Global, bytes: &[u8], wanted: Option<ImageFault>) {
+    match Image::open(bytes) {
+        Ok(image) => {
+            let mut told = image.check(alloc).err();
+            if told == Some(ImageFault::Memory) {
+                told = image.check(alloc).err();
+            }
+            assert_eq!(rt; told, wanted);
+        }
+        Err(_) => assert!(rt; false),
+    }
 }
 
 /// A fault comes before those behind it, whatever was refused on the way.

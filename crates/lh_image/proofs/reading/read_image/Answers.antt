@@ -1,7 +1,13 @@
 use Rattle.std.proofs.Common.{arith}
 use Rattle.std.proofs.lemmas.Result.{err_from_is_err_and}
+use Rattle.lh_image.proofs.reads.FirstPage.{header_left}
 use Rattle.lh_image.proofs.reads.Whole.{cut_told, end_told, end_left, have_all, answered, image_read}
 use Rattle.lh_image.proofs.reading.read_image.Goals as goal
+
+pub returns-in_err-header-clause-rest : goal.returns-in_err-header-clause-rest
+returns-in_err-header-clause-rest g c =
+    let p = err_from_is_err_and c.from_residual.result c.from_residual.ensures.1 in
+    rw (p.1, p.2) (header_left (g.R.Read.remaining c.args.reader.now) (g.R.Read.remaining c.read_header.new.reader) c.in_err-header.field-0.0 c.in_err-header.ensures.read)
 
 pub returns-in_err-table-clause-exact : goal.returns-in_err-table-clause-exact
 returns-in_err-table-clause-exact g c =

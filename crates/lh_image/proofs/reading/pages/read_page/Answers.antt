@@ -7,7 +7,7 @@ use Rattle.lh_image.specs.Layout.{page}
 use Rattle.lh_image.specs.Version.{page_bytes, version_of}
 use Rattle.lh_image.proofs.bytes.Header.{version_shown}
 use Rattle.lh_image.proofs.reads.Filled.{cut_behind}
-use Rattle.lh_image.proofs.reads.Steps.{come_more}
+use Rattle.lh_image.proofs.reads.Steps.{reads_more}
 use Rattle.lh_image.proofs.reading.pages.read_page.Goals as goal
 
 pub returns-in_err-read_whole-clause-read : goal.returns-in_err-read_whole-clause-read
@@ -30,10 +30,6 @@ returns-clause-read g c bytes left come =
     let filled : FillsWhole (drop (w * n) bytes) c.read_whole.new.buffer (g.R.Read.remaining c.read_whole.new.reader) = rw left at c.in_ok-read_whole.ensures.read in
     let whole : c.read_whole.new.buffer ≡ take w (drop (w * n) bytes) = filled.front ∙ ap (λ k. take k (drop (w * n) bytes)) size in
     let enough : w * (n + 1) ≤ length bytes = omega (arith, filled.enough, size, come.enough, length-drop (w * n) bytes) in
-    let place : w * n + length c.read_whole.new.buffer ≡ w * (n + 1) = omega (arith, size) in (
-      rw c.see.ensures
-          (come_more bytes c.args.header.now n c.args.table.now.entries.items c.push.new.self.entries.items c.args.table.now.pairs.items c.push.new.self.pairs.items c.args.faults.now
-          c.head_of-head.result c.in_ok-has_bad_slot.has_bad_slot c.read_whole.new.buffer c.requires.page whole c.head_of-head.ensures
-          c.in_ok-has_bad_slot.ensures.slot c.requires.within c.in_ok-has_bad_slot.ensures.pushed enough (λ i. filled.each_byte i) come),
-      filled.rest ∙ ap Some (drop-drop (length c.read_whole.new.buffer) (w * n) bytes ∙ ap (λ (k : ℕ). drop k bytes) place),
-    )
+    let place : w * n + length c.read_whole.new.buffer ≡ w * (n + 1) = omega (arith, size) in
+    reads_more bytes c.args.header.now (n + 1) c.take_page.result c.take_page.new.table.entries.items c.take_page.new.table.pairs.items c.take_page.new.faults (g.R.Read.remaining c.read_whole.new.reader)
+    (c.take_page.ensures.come bytes whole enough come) c.take_page.ensures.fault (filled.rest ∙ ap Some (drop-drop (length c.read_whole.new.buffer) (w * n) bytes ∙ ap (λ (k : ℕ). drop k bytes) place))

@@ -1,0 +1,218 @@
+//! Look-ups in images of either version that were checked, and bytes that are refused.
+use crate::tests::building::{
+    empty, listing_of, numbered, pair, six_pages, three_buckets, three_buckets_image, two_pages,
+    two_pages_image,
+};
+use crate::tests::pages::{VERSION_1, VERSION_2, falling_chain, four_pages, set, two_buckets};
+use crate::tests::streams::Sink;
+use crate::tests::version_2::{three_buckets_image_2, two_pages_image_2};
+use lh_bucket::Listing;
+use lh_image::*;
+use lh_page::{Key, Value};
+use std::alloc::{AllocGlobal, Global};
+use std::process::Abort;
+use std::test::Fail;
+
+/// The image that the bytes are, or the fault of opening or of checking them. It is asked for once more where memory
+/// was refused.
+fn checked(alloc: Global, bytes: &[u8]) -> Result<CheckedImage<'_>, ImageFault> {
+    let image = Image::open(bytes)?;
+    match image.check(alloc) {
+        Err(ImageFault::Memory) => image.check(alloc),
+        answer => answer,
+    }
+}
+
+/// The key has this value, copied and lent.
+fn expect_value(rt: &impl Abort, image: &CheckedImage<'_>, key: &Key, value: &[u8]) {
+    match image.find(key) {
+        Some(found) => assert_eq!(rt; found.bytes(), value),
+        None => assert!(rt; false),
+    }
+    match image.find_bytes(key) {
+        Some(found) => assert_eq!(rt; found, value),
+        None => assert!(rt; false),
+    }
+}
+
+/// The bytes are an image with just the records of a listing. Each of these keys is absent.
+fn expect_listing(
+    rt: &(impl Abort + AllocGlobal),
+    bytes: &[u8],
+    listing: &Listing,
+    absent: &[&[u8]],
+) -> Result<(), Fail> {
+    let image = checked(rt.alloc(), bytes)?;
+    assert_eq!(rt; image.config(), listing.config());
+    assert!(rt; image.buckets() == listing.buckets());
+    assert!(rt; image.len() == listing.len());
+    assert!(rt; image.is_empty() == (listing.len() == 0));
+    for bucket in 0..listing.buckets() {
+        for place in 0..listing.len_of(bucket) {
+            let pair = listing.pair_at(bucket, place);
+            expect_value(rt, &image, &pair.key, pair.value.bytes());
+        }
+    }
+    for key in absent {
+        let key = Key::new(*key)?;
+        assert_eq!(rt; image.find(&key), None);
+        assert!(rt; image.find_bytes(&key).is_none());
+    }
+    Ok(())
+}
+
+/// The images of both versions of a listing have just its records.
+fn expect_both(
+    rt: &(impl Abort + AllocGlobal),
+    listing: &Listing,
+    absent: &[&[u8]],
+) -> Result<(), Fail> {
+    let mut sink = Sink::new(rt.alloc(), usize::MAX, 0);
+    assert_eq!(rt; write_image(listing, &mut sink), Ok(()));
+    expect_listing(rt, sink.bytes.as_slice(), listing, absent)?;
+    let mut sink = Sink::new(rt.alloc(), usize::MAX, 0);
+    assert_eq!(rt; write_image_v1(listing, &mut sink), Ok(()));
+    expect_listing(rt, sink.bytes.as_slice(), listing, absent)
+}
+
+/// Empty buckets, keys in primary and in overflow pages, and keys that differ from one in length or in the last byte.
+#[test]
+fn worked_listings(rt: HostRuntime) -> Result<(), Fail> {
+    let alloc = rt.alloc();
+    expect_both(&rt, &empty(alloc)?, &[b"a", b"b", b"\0"])?;
+    expect_both(
+        &rt,
+        &three_buckets(alloc)?,
+        &[b"f", b"aa", b"a\0", b"1", b"\0", b"z"],
+    )?;
+    expect_both(&rt, &two_pages(alloc)?, &[b"b", b"d", b"f", b"ac"])?;
+    expect_both(&rt, &six_pages(alloc)?, &[b"c", b"f", b"g", b"h"])?;
+    let some = listing_of(alloc, [4, 2, 100, 65_536], 9, &numbered(alloc, 3)?)?;
+    expect_both(&rt, &some, &[b"\0\0\0\x03", b"\0\0\0", b"a"])
+}
+
+/// Each record of a chain of many pages, and of a file where each other bucket was split.
+#[test]
+fn long_chains(rt: HostRuntime) -> Result<(), Fail> {
+    let records = numbered(rt.alloc(), 60)?;
+    let one = listing_of(rt.alloc(), [1, 2, 200, 1], 1, &records)?;
+    expect_both(&rt, &one, &[b"\0\0\0\x3c", b"\0\0\0", b"\0\0\0\0\0"])?;
+    let some = listing_of(rt.alloc(), [2, 3, 100, 65_536], 5, &records)?;
+    expect_both(&rt, &some, &[b"\0\0\0\x3c", b"\x01\0\0\0", b"a"])
+}
+
+/// The longest key and value of each version, a key of which it is the front, and keys that differ in the last byte.
+#[test]
+fn longest_records(rt: HostRuntime) -> Result<(), Fail> {
+    let alloc = rt.alloc();
+    let mut records = Vec::new(alloc);
+    records.push(pair(&[7; 30], &[9; 40])?)?;
+    records.push(pair(&[7; 29], &[])?)?;
+    let listing = listing_of(alloc, [1, 14, 100, 1], 1, &records)?;
+    expect_both(&rt, &listing, &[&[7; 28], &[7; 31], &[7; 56]])?;
+    let mut last = [7; 56];
+    last[55] = 8;
+    let mut records = Vec::new(alloc);
+    records.push(pair(&[7; 56], &[9; 112])?)?;
+    records.push(pair(&[7; 55], &[])?)?;
+    let listing = listing_of(alloc, [1, 24, 100, 1], 1, &records)?;
+    let mut sink = Sink::new(alloc, usize::MAX, 0);
+    assert_eq!(rt; write_image(&listing, &mut sink), Ok(()));
+    let absent = [[7; 54].as_slice(), &last, &[8; 56]];
+    expect_listing(&rt, sink.bytes.as_slice(), &listing, &absent)
+}
+
+/// Overflow pages in any order are those of an image.
+#[test]
+fn falling_chains(rt: HostRuntime) -> Result<(), Fail> {
+    let bytes = falling_chain(rt.alloc(), &VERSION_2, 30)?;
+    let image = checked(rt.alloc(), &bytes)?;
+    for page in 1..=30_u32 {
+        let found = image.find(&Key::new(&page.to_be_bytes())?);
+        assert_eq!(rt; found, Some(Value::empty()));
+    }
+    assert_eq!(rt; image.find(&Key::new(b"\0\0\0\x1f")?), None);
+    let bytes = four_pages(rt.alloc(), &VERSION_1)?;
+    let image = checked(rt.alloc(), &bytes)?;
+    assert_eq!(rt; image.find(&Key::new(b"g")?), Some(Value::new(b"7")?));
+    Ok(())
+}
+
+/// Each row: a byte that is set, and the fault.
+fn expect_refused(
+    rt: &(impl Abort + AllocGlobal),
+    image: &Vec<u8>,
+    rows: &[(usize, u8, ImageFault)],
+) -> Result<(), Fail> {
+    for (at, byte, want) in rows {
+        let mut bytes = image.clone()?;
+        set(&mut bytes, *at, *byte);
+        let fault = checked(rt.alloc(), &bytes).err();
+        assert_eq!(rt; fault, Some(*want), "{at}");
+    }
+    Ok(())
+}
+
+#[test]
+fn forged_images_are_refused(rt: HostRuntime) -> Result<(), Fail> {
+    expect_refused(
+        &rt,
+        &three_buckets_image_2(rt.alloc())?,
+        &[
+            (24, 5, ImageFault::Short),
+            (4096, 2, ImageFault::Kind(1)),
+            (8196, 0, ImageFault::BucketNumber(2)),
+            (8194, 2, ImageFault::Level(2)),
+            (28, 4, ImageFault::Used(0)),
+            (12_296, 1, ImageFault::Used(3)),
+            (16_383, 1, ImageFault::Slot(3)),
+            (4171, 1, ImageFault::Slot(1)),
+            (4114, b'b', ImageFault::Misfit(1)),
+            (4114 + 170, b'a', ImageFault::Misfit(1)),
+        ],
+    )?;
+    expect_refused(
+        &rt,
+        &two_pages_image(rt.alloc())?,
+        &[
+            (1032, 9, ImageFault::Next(1)),
+            (2056, 1, ImageFault::Next(2)),
+            (2056, 2, ImageFault::Twice(2)),
+            (1032, 0, ImageFault::Never(2)),
+            (2066, b'a', ImageFault::Misfit(2)),
+        ],
+    )?;
+    for shape in [&VERSION_1, &VERSION_2] {
+        let bytes = two_buckets(rt.alloc(), shape)?;
+        let page = bytes.len() / 5;
+        expect_refused(
+            &rt,
+            &bytes,
+            &[
+                (page + 8, 4, ImageFault::Next(1)),
+                (page * 2 + 8, 0, ImageFault::Never(4)),
+            ],
+        )?;
+    }
+    Ok(())
+}
+
+/// What a look-up doesn't meet is looked at by the check.
+#[test]
+fn faults_that_no_look_up_meets(rt: HostRuntime) -> Result<(), Fail> {
+    let mut bytes = two_pages_image_2(rt.alloc())?;
+    set(&mut bytes, 8193, 0);
+    let found = Image::open(&bytes)?.find(&Key::new(b"a")?);
+    assert_eq!(rt; found, Ok(Some(Value::new(b"1")?)));
+    assert_eq!(rt;
+        checked(rt.alloc(), &bytes).err(),
+        Some(ImageFault::Used(0))
+    );
+    let mut bytes = three_buckets_image(rt.alloc())?;
+    set(&mut bytes, 4095, 1);
+    assert_eq!(rt;
+        checked(rt.alloc(), &bytes).err(),
+        Some(ImageFault::Slot(3))
+    );
+    Ok(())
+}
