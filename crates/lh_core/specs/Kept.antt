@@ -34,7 +34,11 @@ empty_at config i = record {
   pairs = [];
 }
 
--- the first buckets of a file, empty and at level 0
-pub record IsEmptyRow (config : Settings) (n : ℕ) (buckets : List Seen) : Type 0 where
+-- the first buckets of a file are these, each by its number
+pub record AreBuckets (bucket_is : ℕ → Seen) (n : ℕ) (buckets : List Seen) : Type 0 where
   pub all : length buckets ≡ n
-  pub each : (i : ℕ) → i < n → bucket_at buckets i ≡ empty_at config i
+  pub each : (i : ℕ) → i < n → bucket_at buckets i ≡ bucket_is i
+
+-- the first buckets of a file, empty and at level 0
+abbrev pub IsEmptyRow : Settings → ℕ → List Seen → Type 0
+IsEmptyRow config n buckets = AreBuckets (empty_at config) n buckets

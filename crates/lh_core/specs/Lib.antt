@@ -6,6 +6,7 @@ pub mod Holds
 pub mod Kept
 pub mod Laws
 pub mod Log
+pub mod Opened
 pub mod Rises
 pub mod Rules
 pub mod Serial

@@ -1,5 +1,5 @@
 -- Calls served one after another, and how a file grows under them
-use Rattle.std.specs.Prelude.{◌≡◌, ℕ, ◌+◌, ◌-◌, Bool, false, List, [], ◌∷◌, if◌then◌else◌}
+use Rattle.std.specs.Prelude.{◌≡◌, ◌⊎◌, ℕ, ◌+◌, ◌-◌, Bool, false, List, [], ◌∷◌, if◌then◌else◌}
 use Rattle.std.specs.FinMap.{len, empty}
 use Rattle.lh_addr.specs.Settings.{Settings, wants_split}
 use Rattle.lh_bucket.specs.declared.call.Call.{Call}
@@ -34,15 +34,24 @@ pub record IsAtRest (state : State) : Type 0 where
   pub workers : state.workers ≡ all_idle
   pub splitter : state.splitter ≡ split.Idle
 
--- Calls were served one after another: the replies are the plain map's, the file has grown as the policy wants, nobody
--- is at work, and each record stands in its bucket and nowhere else.
-pub record IsSerial (config : Settings) (calls : List Call) (told : List Reply) (world : WorldSeen) : Type 0 where
+-- Calls were served one after another on a file of so many buckets that stands for a map: the replies are the map's,
+-- the file has grown as the policy wants, nobody is at work, and each record stands in its bucket and nowhere else.
+pub record IsSerialFrom (config : Settings) (map : Records) (start : ℕ) (calls : List Call) (told : List Reply)
+    (world : WorldSeen) : Type 0 where
   pub same : world.config ≡ config
-  pub replied : told ≡ replies empty calls
-  pub size : world.state.buckets ≡ size_of config calls
+  pub replied : told ≡ replies map calls
+  pub size : world.state.buckets ≡ size_from config map start calls
   pub rest : IsAtRest world.state
-  pub placed : IsPlaced config.initial (size_of config calls) (outcome empty calls) world.buckets
-  pub levels : HasLevels config.initial (size_of config calls) world.buckets
+  pub placed : IsPlaced config.initial (size_from config map start calls) (outcome map calls) world.buckets
+  pub levels : HasLevels config.initial (size_from config map start calls) world.buckets
+
+-- they were served on an empty file, with its initial number of buckets
+abbrev pub IsSerial : Settings → List Call → List Reply → WorldSeen → Type 0
+IsSerial config calls told world = IsSerialFrom config empty config.initial calls told world
+
+-- so many records stand in the buckets of a world
+abbrev pub HasRecords : WorldSeen → ℕ → Type 0
+HasRecords world records = (map : Records) × StandsFor world map × (records ≡ len map)
 
 -- the number of records after a reply
 abbrev pub count_after : ℕ → Reply → ℕ
@@ -70,6 +79,23 @@ pub record IsServed (world : WorldSeen) (map : Records) (call : Call) (told : Re
   pub same : next.config ≡ world.config
   pub rest : IsAtRest next.state
   pub size : next.state.buckets ≡ size_after world.config (after map call) world.state.buckets (reply map call)
+  pub stands : StandsFor next (after map call)
+  pub replied : told ≡ reply map call
+  pub count : records ≡ len (after map call)
+
+-- memory ran out, and what was begun was given up: the state is as it was, and the buckets stand for the same maps
+pub record IsGivenUp (world next : WorldSeen) : Type 0 where
+  pub same : next.config ≡ world.config
+  pub state : next.state ≡ world.state
+  pub stands : (map : Records) → StandsFor world map → StandsFor next map
+
+-- a call was served, and the split that it asked for, unless memory ran out for the split
+pub record IsServedOn (world : WorldSeen) (map : Records) (call : Call) (told : Reply) (records : ℕ) (next : WorldSeen)
+    : Type 0 where
+  pub same : next.config ≡ world.config
+  pub rest : IsAtRest next.state
+  pub size : (next.state.buckets ≡ size_after world.config (after map call) world.state.buckets (reply map call))
+      ⊎ (next.state.buckets ≡ world.state.buckets)
   pub stands : StandsFor next (after map call)
   pub replied : told ≡ reply map call
   pub count : records ≡ len (after map call)

@@ -18,9 +18,13 @@ pub record State : Type 0 where
 abbrev pub all_idle : List WorkerState
 all_idle = replicate 16 Idle
 
+-- the state of a file of so many buckets, with nobody at work
+abbrev pub resting : ℕ → State
+resting buckets = record { buckets = buckets; filled = buckets; workers = all_idle; splitter = split.Idle }
+
 -- the first state of a file
 abbrev pub first : Settings → State
-first config = record { buckets = config.initial; filled = config.initial; workers = all_idle; splitter = split.Idle }
+first config = resting config.initial
 
 -- the local level of a bucket, by the number of filled buckets
 abbrev pub local_level : Settings → State → ℕ → ℕ

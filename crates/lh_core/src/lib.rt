@@ -3,7 +3,7 @@
 //!
 //! Whatever the order, the accepted acts have the replies of one plain map, and each record of that
 //! map stands in the bucket of its address: [`step`](World::step) says so at every moment, and
-//! [`run`] of whole lists of events. [`serial`] is the file with one caller.
+//! [`run`] of whole lists of events. [`serial`] is the file with one caller, and [`serial_from`] that of a listing.
 //!
 //! The twelve steps. A step that isn't allowed is refused with the first refusal of its row that applies, and changes
 //! nothing:
@@ -37,6 +37,7 @@ mod effect;
 mod event;
 pub mod laws;
 mod listing;
+mod opened;
 mod ran;
 mod row;
 mod serial_ran;
@@ -48,6 +49,7 @@ mod world;
 pub use effect::{Effect, Refusal};
 pub use event::Event;
 pub use lh_bucket::Memory;
+pub use opened::serial_from;
 pub use ran::{Ran, run};
 pub use serial_ran::{SerialRan, serial};
 pub use state::{SplitState, WorkerState};

@@ -1,11 +1,11 @@
 //! A file with one caller.
-ghost use Rattle.std.specs.Prelude.{◌≡◌, ◌+◌, ◌-◌, ◌^◌, ◌<◌, ◌≤◌, Ok, IsTrue, IfOk, OnOk};
+ghost use Rattle.std.specs.Prelude.{◌≡◌, ◌+◌, ◌-◌, ◌^◌, ◌<◌, ◌≤◌, [], length, Ok, IsTrue, IfOk, OnErr, OnOk, false, true};
 ghost use Rattle.std.specs.Result.{IsOk};
-ghost use Rattle.std.specs.FinMap.{len, empty};
-ghost use Rattle.lh_bucket.specs.PlainMap.{Records};
-ghost use Rattle.lh_core.specs.State.{first};
+ghost use Rattle.std.specs.FinMap.{len};
+ghost use Rattle.lh_bucket.specs.PlainMap.{IsInsert, Records};
+ghost use Rattle.lh_core.specs.History.{may_want_memory};
 ghost use Rattle.lh_core.specs.Rules.{allowed};
-ghost use Rattle.lh_core.specs.Serial.{IsAtRest, IsServedAlone, IsServed, IsSerial, HasGrown, grows_after, count_after};
+ghost use Rattle.lh_core.specs.Serial.{IsAtRest, IsGivenUp, IsServedAlone, IsServed, IsServedOn, IsSerial, IsSerialFrom, HasGrown, HasRecords, grows_after, count_after};
 ghost use Rattle.lh_core.specs.World.{IsStep, StandsFor};
 
 use crate::effect::{Effect, Refusal};
@@ -39,7 +39,9 @@ impl<B: Bucket> World<B> {
     /// Takes a step that the rules allow, so that only memory may run out.
     fn take(&mut self, event: Event) -> Result<Effect, Memory>
         requires { IsOk (allowed self.old.config self.old.state event) }
-        ensures { IfOk result (λ effect. IsStep self.old event (Ok effect) self.new) }
+        ensures ok { IfOk result (λ effect. IsStep self.old event (Ok effect) self.new) }
+        ensures err { OnErr result (self.new ≡ self.old) }
+        ensures wanted { OnErr result (may_want_memory self.old.state event ≡ true) }
     {
         match self.step(event) {
             Ok(effect) => Ok(effect),
@@ -49,39 +51,72 @@ impl<B: Bucket> World<B> {
         }
     }
 
-    /// Serves a call by the five steps of worker 0, where nobody else is at work.
-    fn serve_alone(&mut self, call: Call) -> Result<Reply, Memory>
-        requires { IsAtRest self.old.state }
-        ensures { IfOk result (λ reply. IsServedAlone self.old call reply self.new) }
+    /// Takes a step that the rules allow, and that takes no memory.
+    fn take_free(&mut self, event: Event) -> Effect
+        requires allowed { IsOk (allowed self.old.config self.old.state event) }
+        requires free { may_want_memory self.old.state event ≡ false }
+        ensures { IsStep self.old event (Ok result) self.new }
     {
-        // What holds of every world: by it the rules allow each of the five steps.
-        self.is_kept();
-        self.take(Event::Call(0, call))?;
-        self.take(Event::Read(0))?;
-        self.take(Event::Lock(0))?;
-        let effect = self.take(Event::Act(0))?;
-        self.take(Event::Release(0))?;
-        match effect {
-            Effect::Answered(reply) => Ok(reply),
-            // An act tells a reply.
-            _ => unreachable!(),
+        match self.take(event) {
+            Ok(effect) => effect,
+            // It takes no memory.
+            Err(Memory) => unreachable!(),
         }
     }
 
-    /// Splits once, where nobody is at work and the file may grow.
-    fn grow(&mut self) -> Result<(), Memory>
-        requires rest { IsAtRest self.old.state }
-        requires room { self.old.state.buckets < self.old.config.max }
-        ensures { OnOk result (HasGrown self.old self.new) }
+    /// Serves a call by the five steps of worker 0, where nobody else is at work. Where memory runs out,
+    /// the worker gives the call up.
+    fn serve_alone(&mut self, call: Call) -> Result<Reply, Memory>
+        requires { IsAtRest self.old.state }
+        ensures ok { IfOk result (λ reply. IsServedAlone self.old call reply self.new) }
+        ensures err { OnErr result (IsGivenUp self.old self.new) }
+        ensures insert { OnErr result (IsInsert call) }
     {
         // What holds of every world: by it the rules allow each of the five steps.
         self.is_kept();
-        self.take(Event::SplitBegin)?;
-        self.take(Event::SplitLock)?;
-        self.take(Event::SplitMove)?;
-        self.take(Event::SplitRelease)?;
-        self.take(Event::SplitPoint)?;
-        Ok(())
+        self.take_free(Event::Call(0, call));
+        self.take_free(Event::Read(0));
+        self.take_free(Event::Lock(0));
+        match self.take(Event::Act(0)) {
+            Ok(effect) => {
+                self.take_free(Event::Release(0));
+                match effect {
+                    Effect::Answered(reply) => Ok(reply),
+                    // An act tells a reply.
+                    _ => unreachable!(),
+                }
+            }
+            Err(Memory) => {
+                self.take_free(Event::Release(0));
+                Err(Memory)
+            }
+        }
+    }
+
+    /// Splits once, where nobody is at work and the file may grow. Where memory runs out, the splitter
+    /// gives the split up.
+    fn grow(&mut self) -> Result<(), Memory>
+        requires rest { IsAtRest self.old.state }
+        requires room { self.old.state.buckets < self.old.config.max }
+        ensures ok { OnOk result (HasGrown self.old self.new) }
+        ensures err { OnErr result (IsGivenUp self.old self.new) }
+    {
+        // What holds of every world: by it the rules allow each of the five steps.
+        self.is_kept();
+        self.take_free(Event::SplitBegin);
+        self.take_free(Event::SplitLock);
+        match self.take(Event::SplitMove) {
+            Ok(_) => {
+                self.take_free(Event::SplitRelease);
+                self.take_free(Event::SplitPoint);
+                Ok(())
+            }
+            Err(Memory) => {
+                self.take_free(Event::SplitRelease);
+                self.take_free(Event::SplitDrop);
+                Err(Memory)
+            }
+        }
     }
 
     /// Whether the split policy wants a split after a reply that left this number of records.
@@ -118,14 +153,49 @@ impl<B: Bucket> World<B> {
         }
     }
 
-    /// Serves calls one after another.
-    fn serve_all(&mut self, alloc: Global, calls: &[Call]) -> Result<Vec<Reply>, Memory>
-        requires first { self.old.state ≡ first self.old.config }
-        requires empty { StandsFor self.old empty }
-        ensures { IfOk result (λ replies. IsSerial self.old.config calls.now replies.items self.new) }
+    /// Serves a call of a caller who goes on where memory runs out, and splits once where the policy wants
+    /// it: the reply, and the number of records from then on, which was `records`.
+    ///
+    /// Only an insert may fail; then nothing has changed. Where memory runs out for the split alone, the
+    /// call is served, and the next record that is added asks for a split again.
+    pub fn serve(&mut self, call: Call, records: u64) -> Result<(Reply, u64), Memory>
+        requires rest { IsAtRest self.old.state }
+        requires few { records < 2 ^ 64 - 1 }
+        ensures served { (m : Records) → StandsFor self.old m → records ≡ len m →
+            IfOk result (λ p. IsServedOn self.old m call p.0 p.1 self.new) }
+        ensures rest { IsAtRest self.new.state }
+        ensures err { OnErr result (IsGivenUp self.old self.new) }
+        ensures insert { OnErr result (IsInsert call) }
+    {
+        let reply = self.serve_alone(call)?;
+        let count = count_after(records, &reply);
+        if !self.wants(&reply, count) {
+            return Ok((reply, count));
+        }
+        match self.grow() {
+            Ok(()) => Ok((reply, count)),
+            // The next record that is added asks for it again.
+            Err(Memory) => Ok((reply, count)),
+        }
+    }
+
+    /// Serves calls one after another, from this number of records on.
+    pub(crate) fn serve_all(
+        &mut self,
+        alloc: Global,
+        calls: &[Call],
+        start: u64,
+    ) -> Result<Vec<Reply>, Memory>
+        requires rest { IsAtRest self.old.state }
+        requires records { HasRecords self.old start }
+        requires room { start + length calls.now < 2 ^ 64 }
+        ensures served { (m : Records) → StandsFor self.old m → start ≡ len m →
+            IfOk result (λ replies. IsSerialFrom self.old.config m self.old.state.buckets
+            calls.now replies.items self.new) }
+        ensures unchanged { calls.now ≡ [] → OnOk result (self.new ≡ self.old) }
     {
         let mut replies = Vec::with_capacity(alloc, calls.len())?;
-        let mut records = 0_u64;
+        let mut records = start;
         for call in calls {
             let (reply, count) = self.serve_and_grow(*call, records)?;
             records = count;
@@ -150,6 +220,6 @@ pub fn serial<B: Bucket>(
     ensures { IfOk result (λ ran. IsSerial config calls.now ran.replies.items ran.world) }
 {
     let mut world = World::new(alloc, config)?;
-    let replies = world.serve_all(alloc, calls)?;
+    let replies = world.serve_all(alloc, calls, 0)?;
     Ok(SerialRan { replies, world })
 }

@@ -3,6 +3,7 @@
 mod calls;
 mod equality;
 mod memory;
+mod opened;
 mod refusing;
 mod serial;
 mod steps;

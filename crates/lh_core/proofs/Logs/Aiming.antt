@@ -18,23 +18,27 @@ use Rattle.lh_core.specs.declared.state.WorkerState.{WorkerState}
 use Rattle.lh_core.specs.declared.state.WorkerState.TheVariants.{Idle, Called, Aimed, Holding, Acted}
 use Rattle.lh_core.specs.declared.state.SplitState.{SplitState}
 use Rattle.lh_core.specs.declared.state.SplitState.TheVariants as split
-use Rattle.lh_core.specs.State.{State, first, all_idle, local_level, with_worker, with_splitter}
+use Rattle.lh_core.specs.State.{State, first, resting, all_idle, local_level, with_worker, with_splitter}
 use Rattle.lh_core.specs.Aims.{Leads}
 use Rattle.lh_core.specs.Rules.{WorkerStep, allowed, called, read, lock, rehash, act, release, at_worker, begin_split, lock_both, move_records, free_both, point, drop_split}
 use Rattle.lh_core.specs.Sound.{IsPhase, IsSound}
 use Rattle.lh_core.specs.Laws.{LinearHashing}
 use Rattle.lh_core.proofs.Logs.Steps.{err_ok, became, passed, step_at, all_at, written, unwritten}
 
--- the first state
-pub first_sound : (s : Settings) → 1 ≤ s.initial → s.initial ≤ s.max → IsSound s (first s)
-first_sound s one most = record {
+-- a file at rest
+pub resting_sound : (s : Settings) (n : ℕ) → 1 ≤ s.initial → s.initial ≤ n → n ≤ s.max → IsSound s (resting n)
+resting_sound s n one least most = record {
   some = one;
-  from_initial = omega arith;
+  from_initial = least;
   to_max = most;
   sixteen = refl;
   phase = refl;
-  aims = λ w x e. all_at (Leads s.initial s.initial) all_idle w x (All-replicate (Leads s.initial s.initial) 16 Idle tt) e;
+  aims = λ w x e. all_at (Leads s.initial n) all_idle w x (All-replicate (Leads s.initial n) 16 Idle tt) e;
 }
+
+-- the first state
+pub first_sound : (s : Settings) → 1 ≤ s.initial → s.initial ≤ s.max → IsSound s (first s)
+first_sound s one most = resting_sound s s.initial one (omega arith) most
 
 phased : (s : Settings) (n f : ℕ) (x : SplitState) → IsPhase s n f x → (f ≡ n) ⊎ (f ≡ n + 1)
 phased s n f split.Idle h = inl h

@@ -6,7 +6,7 @@ use Rattle.lh_addr.specs.Fnv.{code_of}
 use Rattle.lh_addr.specs.Settings.{Settings}
 use Rattle.lh_addr.specs.Growth.{address, level_of}
 use Rattle.lh_bucket.specs.declared.call.Call.{Call}
-use Rattle.lh_bucket.specs.Call.{is_search}
+use Rattle.lh_bucket.specs.Call.{is_insert, is_search}
 use Rattle.lh_bucket.specs.declared.call.Reply.{Reply}
 use Rattle.lh_bucket.specs.Call.{key_of}
 use Rattle.lh_bucket.specs.PlainMap.{Records, after}
@@ -23,10 +23,10 @@ use Rattle.lh_core.specs.State.{State, splitting}
 use Rattle.lh_core.specs.Holds.{is_barred, is_held, is_held_alone}
 use Rattle.lh_core.specs.Rules.{allowed, put}
 use Rattle.lh_core.specs.Log.{reply_of}
-use Rattle.lh_core.specs.History.{served_by, outline}
+use Rattle.lh_core.specs.History.{served_by, has_insert, outline}
 use Rattle.lh_core.specs.Sound.{IsPhase}
 use Rattle.lh_core.specs.Kept.{IsWorld}
-use Rattle.lh_core.specs.Serial.{IsAtRest, IsServedAlone, HasGrown}
+use Rattle.lh_core.specs.Serial.{IsAtRest, IsGivenUp, IsServedAlone, HasGrown}
 use Rattle.lh_core.specs.World.{WorldSeen, IsStep, StandsFor, reply_to, map_after}
 use Rattle.lh_core.proofs.Logs.Steps.{became, told, some_same, none_some}
 use Rattle.lh_core.proofs.Logs.Leading.{idle_filled}
@@ -92,6 +92,9 @@ module _ (s : Settings) (n : ℕ) (c : Call) where
   act_goes : allowed s (alone n (Holding c height bucket)) (event.Act 0) ≡ Ok (None, alone n (Acted c bucket))
   act_goes = ap (λ b. put (alone n (Holding c height bucket)) 0 (cond b (Err MustRehash) (Ok (None, Acted c bucket)))) (not_less height)
 
+  give_up_goes : allowed s (alone n (Holding c height bucket)) (event.Release 0) ≡ Ok (Some effect.GivenUp, alone n Idle)
+  give_up_goes = refl
+
   release_goes : allowed s (alone n (Acted c bucket)) (event.Release 0) ≡ Ok (Some effect.Released, alone n Idle)
   release_goes = refl
 
@@ -119,6 +122,27 @@ module _ (c : Call) (v0 v1 v2 : WorldSeen) (f0 f1 : Effect) (h : IsWorld v0) (r 
     pub may_act : IsOk (allowed v3.config v3.state (event.Act 0))
     may_act = may v0.config _ _ (event.Act 0) _ v3 (act_goes v0.config v0.state.buckets c) at3
 
+    -- the call that the act serves
+    serves_call : served_by v3.state (event.Act 0) ≡ Some c
+    serves_call = ap (λ a. served_by a (event.Act 0)) at3.state
+
+    pub wants_insert : has_insert (served_by v3.state (event.Act 0)) ≡ true → is_insert c ≡ true
+    wants_insert h = sym (ap has_insert serves_call) ∙ h
+
+    -- where the act was refused, the worker may give up
+    pub may_give_up : (v4 : WorldSeen) → v4 ≡ v3 → IsOk (allowed v4.config v4.state (event.Release 0))
+    may_give_up v4 e = subst (λ (v : WorldSeen). IsOk (allowed v.config v.state (event.Release 0))) (sym e) (may v0.config _ _ (event.Release 0) _ v3 (give_up_goes v0.config v0.state.buckets c) at3)
+
+    pub given_up : (v4 v5 : WorldSeen) (f3 : Effect) → v4 ≡ v3 → IsStep v4 (event.Release 0) (Ok f3) v5 → IsGivenUp v0 v5
+    given_up v4 v5 f3 e t4 =
+        let t : IsStep v3 (event.Release 0) (Ok f3) v5 = subst (λ (v : WorldSeen). IsStep v (event.Release 0) (Ok f3) v5) e t4 in
+        let at5 : At v0.config (alone v0.state.buckets Idle) v5 = goes v0.config _ _ (event.Release 0) _ v3 v5 f3 (give_up_goes v0.config v0.state.buckets c) at3 t in
+        record {
+          same = at5.same;
+          state = at5.state ∙ sym at0.state;
+          stands = λ m p. (t.follows m (t2.follows m (t1.follows m (t0.follows m p).1).1).1).1;
+        }
+
     module _ (v4 : WorldSeen) (f3 : Effect) (t3 : IsStep v3 (event.Act 0) (Ok f3) v4) where
       at4 : At v0.config (alone v0.state.buckets (Acted c (bucket v0.config v0.state.buckets c))) v4
       at4 = goes v0.config _ _ (event.Act 0) _ v3 v4 f3 (act_goes v0.config v0.state.buckets c) at3 t3
@@ -129,9 +153,6 @@ module _ (c : Call) (v0 v1 v2 : WorldSeen) (f0 f1 : Effect) (h : IsWorld v0) (r 
       pub tells_reply : outline f3 ≡ None
       tells_reply = tells v0.config _ _ (event.Act 0) _ v3 v4 f3 (act_goes v0.config v0.state.buckets c) at3 t3
 
-      serves : served_by v3.state (event.Act 0) ≡ Some c
-      serves = ap (λ a. served_by a (event.Act 0)) at3.state
-
       pub served : (v5 : WorldSeen) (f4 : Effect) (y : Reply) → f3 ≡ effect.Answered y → IsStep v4 (event.Release 0) (Ok f4) v5 → IsServedAlone v0 c y v5
       served v5 f4 y is t4 =
           let at5 : At v0.config (alone v0.state.buckets Idle) v5 = goes v0.config _ _ (event.Release 0) _ v4 v5 f4 (release_goes v0.config v0.state.buckets c) at4 t4 in
@@ -139,8 +160,8 @@ module _ (c : Call) (v0 v1 v2 : WorldSeen) (f0 f1 : Effect) (h : IsWorld v0) (r 
           record {
             same = at5.same;
             state = at5.state ∙ sym at0.state;
-            replied = λ m p. some_same (sym (ap reply_of is) ∙ (t3.follows m (to3 m p)).0 ∙ ap (reply_to m) serves);
-            stands = λ m p. (t4.follows (after m c) (subst (StandsFor v4) (ap (map_after m) serves) (t3.follows m (to3 m p)).1)).1;
+            replied = λ m p. some_same (sym (ap reply_of is) ∙ (t3.follows m (to3 m p)).0 ∙ ap (reply_to m) serves_call);
+            stands = λ m p. (t4.follows (after m c) (subst (StandsFor v4) (ap (map_after m) serves_call) (t3.follows m (to3 m p)).1)).1;
           }
 
 module _ (s : Settings) (n : ℕ) where
@@ -156,6 +177,12 @@ module _ (s : Settings) (n : ℕ) where
 
   free_goes : allowed s (waiting n (n + 1) split.LockedMoved) event.SplitRelease ≡ Ok (Some effect.Freed, waiting n (n + 1) split.Moved)
   free_goes = refl
+
+  free_unmoved_goes : allowed s (waiting n n split.Locked) event.SplitRelease ≡ Ok (Some effect.Freed, waiting n n split.Begun)
+  free_unmoved_goes = refl
+
+  drop_goes : allowed s (waiting n n split.Begun) event.SplitDrop ≡ Ok (Some effect.Dropped, waiting n n split.Idle)
+  drop_goes = refl
 
   point_goes : allowed s (waiting n (n + 1) split.Moved) event.SplitPoint ≡ Ok (Some (effect.Point (n + 1)), waiting (n + 1) (n + 1) split.Idle)
   point_goes = refl
@@ -179,3 +206,27 @@ module _ (v0 v1 : WorldSeen) (f0 : Effect) (h : IsWorld v0) (r : IsAtRest v0.sta
         rest = record { workers = ap (λ (a : State). a.workers) at5.state; splitter = ap (λ (a : State). a.splitter) at5.state };
         stands = λ m p. (t4.follows m (t3.follows m (t2.follows m (t1.follows m (t0.follows m p).1).1).1).1).1;
       }
+
+  module _ (v2 v3 : WorldSeen) (f1 : Effect) (t1 : IsStep v1 event.SplitLock (Ok f1) v2) (e : v3 ≡ v2) where
+    -- where the records were not moved
+    split3 : At v0.config (waiting v0.state.buckets v0.state.buckets split.Locked) v3
+    split3 = subst (λ v. At v0.config (waiting v0.state.buckets v0.state.buckets split.Locked) v) (sym e) (goes v0.config _ _ event.SplitLock _ v1 v2 f1 (both_goes v0.config v0.state.buckets) split1 t1)
+
+    pub may_free_unmoved : IsOk (allowed v3.config v3.state event.SplitRelease)
+    may_free_unmoved = may v0.config _ _ event.SplitRelease _ v3 (free_unmoved_goes v0.config v0.state.buckets) split3
+
+    module _ (v4 : WorldSeen) (f2 : Effect) (t2 : IsStep v3 event.SplitRelease (Ok f2) v4) where
+      split4 : At v0.config (waiting v0.state.buckets v0.state.buckets split.Begun) v4
+      split4 = goes v0.config _ _ event.SplitRelease _ v3 v4 f2 (free_unmoved_goes v0.config v0.state.buckets) split3 t2
+
+      pub may_drop : IsOk (allowed v4.config v4.state event.SplitDrop)
+      may_drop = may v0.config _ _ event.SplitDrop _ v4 (drop_goes v0.config v0.state.buckets) split4
+
+      pub split_given_up : (v5 : WorldSeen) (f3 : Effect) → IsStep v4 event.SplitDrop (Ok f3) v5 → IsGivenUp v0 v5
+      split_given_up v5 f3 t3 =
+          let at5 : At v0.config (waiting v0.state.buckets v0.state.buckets split.Idle) v5 = goes v0.config _ _ event.SplitDrop _ v4 v5 f3 (drop_goes v0.config v0.state.buckets) split4 t3 in
+          record {
+            same = at5.same;
+            state = at5.state ∙ sym (rest_alone v0.config v0.state h.sound.phase r);
+            stands = λ m p. (t3.follows m (t2.follows m (subst (λ v. StandsFor v m) (sym e) (t1.follows m (t0.follows m p).1).1)).1).1;
+          }

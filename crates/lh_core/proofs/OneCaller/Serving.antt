@@ -1,5 +1,5 @@
 -- Calls one after another, with the splits that they ask for
-use Rattle.std.proofs.Common.{◌≡◌, ℕ, ◌+◌, ◌-◌, ◌≤◌, Bool, true, false, cond, List, [], ◌∷◌, ◌++◌, Option, Some, None, length, refl, sym, ap, subst, ◌∙◌, arith, length-append}
+use Rattle.std.proofs.Common.{◌≡◌, inl, inr, ℕ, ◌+◌, ◌-◌, ◌≤◌, Bool, true, false, cond, List, [], ◌∷◌, ◌++◌, Option, Some, None, length, refl, sym, ap, subst, ◌∙◌, arith, length-append}
 use Rattle.std.specs.FinMap.{get, insert, remove, contains_key, empty, len, len-empty, len-insert, len-remove}
 use Rattle.std.specs.Ordering.{nat_cmp}
 use Rattle.std.specs.Cmp.Lexicographic.{slice_cmp, nat_list_cmp_total}
@@ -9,10 +9,12 @@ use Rattle.lh_bucket.specs.declared.call.Call.{Call}
 use Rattle.lh_bucket.specs.declared.call.Call.TheVariants.{Search, Insert, Delete, Replace}
 use Rattle.lh_bucket.specs.declared.call.Reply.{Reply}
 use Rattle.lh_bucket.specs.declared.call.Reply.TheVariants.{Absent, Inserted, Exists, Deleted, Replaced}
+use Rattle.lh_bucket.specs.Listing.{Lists, size}
 use Rattle.lh_bucket.specs.PlainMap.{Records, reply, after, replies, outcome, found}
+use Rattle.lh_core.specs.Opened.{IsOpened}
 use Rattle.lh_core.specs.State.{State, first}
 use Rattle.lh_core.specs.Kept.{IsWorld}
-use Rattle.lh_core.specs.Serial.{IsAtRest, IsServedAlone, IsServed, IsSerial, HasGrown, grows_after, size_after, size_from, size_of, count_after}
+use Rattle.lh_core.specs.Serial.{IsAtRest, IsGivenUp, IsServedAlone, IsServed, IsServedOn, IsSerial, IsSerialFrom, HasGrown, HasRecords, grows_after, size_after, size_from, count_after}
 use Rattle.lh_core.specs.World.{WorldSeen, IsPlaced, HasLevels, StandsFor}
 use Rattle.lh_core.proofs.Logs.Leading.{outcome_more, replies_more, idle_filled}
 
@@ -67,51 +69,102 @@ module _ (v u : WorldSeen) (m : Records) (c : Call) (y : Reply) (j k : ℕ) (b :
     count = counted;
   }
 
+  -- the split was given up
+  pub served_unsplit : (w : WorldSeen) → IsAtRest v.state → IsGivenUp u w → IsServedOn v m c y k w
+  served_unsplit w r g = record {
+    same = g.same ∙ h.same;
+    rest = subst IsAtRest (sym (g.state ∙ h.state)) r;
+    size = inr (ap (λ (a : State). a.buckets) (g.state ∙ h.state));
+    stands = g.stands (after m c) (h.stands m stands);
+    replied = h.replied m stands;
+    count = counted;
+  }
+
+pub served_on : (v : WorldSeen) (m : Records) (c : Call) (y : Reply) (k : ℕ) (w : WorldSeen) → IsServed v m c y k w → IsServedOn v m c y k w
+served_on v m c y k w h = record { same = h.same; rest = h.rest; size = inl h.size; stands = h.stands; replied = h.replied; count = h.count }
+
 size_more : (s : Settings) (m : Records) (n : ℕ) (cs : List Call) (c : Call) → size_from s m n (cs ++ c ∷ []) ≡ size_after s (after (outcome m cs) c) (size_from s m n cs) (reply (outcome m cs) c)
 size_more s m n [] c = refl
 size_more s m n (d ∷ cs) c = size_more s (after m d) (size_after s (after m d) n (reply m d)) cs c
 
--- what calls served one after another have come to
-pub record Served (s : Settings) (cs : List Call) (rs : List Reply) (w : WorldSeen) (k : ℕ) : Type 0 where
-  pub same : w.config ≡ s
-  pub replied : rs ≡ replies empty cs
-  pub size : w.state.buckets ≡ size_of s cs
+-- what calls served one after another have come to, from a world that stands for a map of n records
+pub record Served (v : WorldSeen) (m : Records) (n : ℕ) (cs : List Call) (rs : List Reply) (w : WorldSeen) (k : ℕ) : Type 0 where
+  pub same : w.config ≡ v.config
+  pub replied : rs ≡ replies m cs
+  pub size : w.state.buckets ≡ size_from v.config m v.state.buckets cs
   pub rest : IsAtRest w.state
-  pub stands : StandsFor w (outcome empty cs)
-  pub count : k ≡ len (outcome empty cs)
-  pub few : k ≤ length cs
+  pub stands : StandsFor w (outcome m cs)
+  pub count : k ≡ len (outcome m cs)
+  pub few : k ≤ n + length cs
+  pub unchanged : cs ≡ [] → w ≡ v
 
-pub served_none : (w : WorldSeen) → w.state ≡ first w.config → StandsFor w empty → Served w.config [] [] w 0
-served_none w h p = record {
+pub served_none : (v : WorldSeen) (m : Records) (n : ℕ) → IsAtRest v.state → StandsFor v m → n ≡ len m → Served v m n [] [] v n
+served_none v m n r p c = record {
   same = refl;
   replied = refl;
-  size = ap (λ (a : State). a.buckets) h;
-  rest = record { workers = ap (λ (a : State). a.workers) h; splitter = ap (λ (a : State). a.splitter) h };
+  size = refl;
+  rest = r;
   stands = p;
-  count = sym (len-empty (slice_cmp nat_cmp) (List ℕ));
+  count = c;
   few = omega arith;
+  unchanged = λ none. refl;
 }
 
-pub served_more : (s : Settings) (cs : List Call) (rs : List Reply) (v w : WorldSeen) (k : ℕ) (c : Call) (y : Reply) (j : ℕ) → Served s cs rs v k → j ≤ k + 1 → IsServed v (outcome empty cs) c y j w → Served s (cs ++ c ∷ []) (rs ++ y ∷ []) w j
-served_more s cs rs v w k c y j h few d = record {
+one_at_least : (cs : List Call) (c : Call) → cs ++ c ∷ [] ≡ [] → ⊥
+one_at_least [] c e = cc
+one_at_least (d ∷ cs) c e = cc
+
+pub served_more : (v : WorldSeen) (m : Records) (n : ℕ) (cs : List Call) (rs : List Reply) (u w : WorldSeen) (k : ℕ) (c : Call) (y : Reply) (j : ℕ) →
+    Served v m n cs rs u k → j ≤ k + 1 → IsServed u (outcome m cs) c y j w → Served v m n (cs ++ c ∷ []) (rs ++ y ∷ []) w j
+served_more v m n cs rs u w k c y j h few d = record {
   same = d.same ∙ h.same;
-  replied = ap (λ r. r ++ y ∷ []) h.replied ∙ ap (λ r. replies empty cs ++ r ∷ []) d.replied ∙ sym (replies_more empty cs c);
-  size = d.size ∙ ap (λ t. size_after t (after (outcome empty cs) c) v.state.buckets (reply (outcome empty cs) c)) h.same ∙ ap (λ n. size_after s (after (outcome empty cs) c) n (reply (outcome empty cs) c)) h.size ∙ sym (size_more s empty s.initial cs c);
+  replied = ap (λ r. r ++ y ∷ []) h.replied ∙ ap (λ r. replies m cs ++ r ∷ []) d.replied ∙ sym (replies_more m cs c);
+  size = d.size ∙ ap (λ t. size_after t (after (outcome m cs) c) u.state.buckets (reply (outcome m cs) c)) h.same ∙ ap (λ b. size_after v.config (after (outcome m cs) c) b (reply (outcome m cs) c)) h.size ∙ sym (size_more v.config m v.state.buckets cs c);
   rest = d.rest;
-  stands = subst (StandsFor w) (sym (outcome_more empty cs c)) d.stands;
-  count = d.count ∙ ap len (sym (outcome_more empty cs c));
+  stands = subst (StandsFor w) (sym (outcome_more m cs c)) d.stands;
+  count = d.count ∙ ap len (sym (outcome_more m cs c));
   few = omega (arith, few, h.few, length-append cs (c ∷ []));
+  unchanged = λ none. absurd (one_at_least cs c none);
 }
 
-pub served_all : (s : Settings) (cs : List Call) (rs : List Reply) (w : WorldSeen) (k : ℕ) → IsWorld w → Served s cs rs w k → IsSerial s cs rs w
-served_all s cs rs w k h d =
-    let filled : w.state.filled ≡ size_of s cs = idle_filled w.config w.state h.sound.phase d.rest.splitter ∙ d.size in
+pub served_all : (v : WorldSeen) (m : Records) (n : ℕ) (cs : List Call) (rs : List Reply) (w : WorldSeen) (k : ℕ) → IsWorld w → Served v m n cs rs w k →
+    IsSerialFrom v.config m v.state.buckets cs rs w
+served_all v m n cs rs w k h d =
+    let size = size_from v.config m v.state.buckets cs in
+    let filled : w.state.filled ≡ size = idle_filled w.config w.state h.sound.phase d.rest.splitter ∙ d.size in
     let levels : HasLevels w.config.initial w.state.filled w.buckets = record { each = λ i lt. ap (λ (x : Head). x.level) (h.row.heads i lt) } in
     record {
       same = d.same;
       replied = d.replied;
       size = d.size;
       rest = d.rest;
-      placed = subst (λ (t : Settings). IsPlaced t.initial (size_of s cs) (outcome empty cs) w.buckets) d.same (subst (λ n. IsPlaced w.config.initial n (outcome empty cs) w.buckets) filled d.stands);
-      levels = subst (λ (t : Settings). HasLevels t.initial (size_of s cs) w.buckets) d.same (subst (λ n. HasLevels w.config.initial n w.buckets) filled levels);
+      placed = subst (λ (t : Settings). IsPlaced t.initial size (outcome m cs) w.buckets) d.same (subst (λ n. IsPlaced w.config.initial n (outcome m cs) w.buckets) filled d.stands);
+      levels = subst (λ (t : Settings). HasLevels t.initial size w.buckets) d.same (subst (λ n. HasLevels w.config.initial n w.buckets) filled levels);
     }
+
+-- calls on the world of an empty file
+pub from_first : (s : Settings) (v : WorldSeen) (cs : List Call) (rs : List Reply) (w : WorldSeen) → v.config ≡ s → v.state ≡ first s →
+    IsSerialFrom v.config empty v.state.buckets cs rs w → IsSerial s cs rs w
+from_first s v cs rs w same state h =
+    subst (λ n. IsSerialFrom s empty n cs rs w) (ap (λ (a : State). a.buckets) state)
+    (subst (λ (t : Settings). IsSerialFrom t empty v.state.buckets cs rs w) same h)
+
+-- the world of an empty file is at rest, and has no records
+pub first_rests : (s : Settings) (a : State) → a ≡ first s → IsAtRest a
+first_rests s a h = record { workers = ap (λ (x : State). x.workers) h; splitter = ap (λ (x : State). x.splitter) h }
+
+pub none_empty : 0 ≡ len {R = slice_cmp nat_cmp} (empty {X = List ℕ})
+none_empty = sym (len-empty (slice_cmp nat_cmp) (List ℕ))
+
+pub no_records : (v : WorldSeen) → StandsFor v empty → HasRecords v 0
+no_records v p = (empty, p, none_empty)
+
+-- calls on the world of a listing
+pub from_opened : (l : Lists) (v : WorldSeen) (m : Records) (cs : List Call) (rs : List Reply) (w : WorldSeen) → IsOpened l v →
+    IsSerialFrom v.config m v.state.buckets cs rs w → IsSerialFrom l.config m (size l) cs rs w
+from_opened l v m cs rs w opened h =
+    subst (λ n. IsSerialFrom l.config m n cs rs w) (ap (λ (a : State). a.buckets) opened.state)
+    (subst (λ (t : Settings). IsSerialFrom t m v.state.buckets cs rs w) opened.config h)
+
+pub opened_rests : (l : Lists) (v : WorldSeen) → IsOpened l v → IsAtRest v.state
+opened_rests l v h = record { workers = ap (λ (x : State). x.workers) h.state; splitter = ap (λ (x : State). x.splitter) h.state }

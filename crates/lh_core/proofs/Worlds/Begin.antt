@@ -17,25 +17,31 @@ use Rattle.lh_bucket.specs.Records.{map_of}
 use Rattle.lh_core.specs.declared.control.Control.{Control}
 use Rattle.lh_core.specs.State.{first}
 use Rattle.lh_core.specs.Control.{IsControl, control_state, world_of}
-use Rattle.lh_core.specs.Kept.{IsRow, IsWorld, IsEmptyRow, empty_at}
+use Rattle.lh_core.specs.Kept.{AreBuckets, IsRow, IsWorld, IsEmptyRow, empty_at}
 use Rattle.lh_core.specs.Laws.{LinearHashing}
 use Rattle.lh_core.specs.Sound.{IsSound}
 use Rattle.lh_core.specs.World.{IsPlaced, HasKeysOnce, no_bucket}
 use Rattle.lh_bucket.proofs.PlainMaps.{same, get_kept}
 use Rattle.lh_core.proofs.Logs.Aiming.{first_sound}
 
-pub row_none : (s : Settings) → IsEmptyRow s 0 []
-row_none s = record { all = refl; each = λ i lt. absurd (omega (arith, lt)) }
+pub buckets_none : (is : ℕ → Seen) → AreBuckets is 0 []
+buckets_none is = record { all = refl; each = λ i lt. absurd (omega (arith, lt)) }
 
-pub row_more : (s : Settings) (n : ℕ) (row : List Seen) → IsEmptyRow s n row → IsEmptyRow s (n + 1) (row ++ empty_at s n ∷ [])
-row_more s n row h = record {
-  all = length-append row (empty_at s n ∷ []) ∙ ap (λ k. k + 1) h.all;
+pub buckets_more : (is : ℕ → Seen) (n : ℕ) (row : List Seen) → AreBuckets is n row → AreBuckets is (n + 1) (row ++ is n ∷ [])
+buckets_more is n row h = record {
+  all = length-append row (is n ∷ []) ∙ ap (λ k. k + 1) h.all;
   each = λ i lt.
       ⊎_elim
-      (λ (e : i < n). get_or-append row (empty_at s n ∷ []) no_bucket i (subst (λ k. i < k) (sym h.all) e) ∙ h.each i e)
-      (λ (e : n ≤ i). let q : n ≡ i = omega (arith, lt, e) in subst (λ k. get_or (row ++ empty_at s n ∷ []) k no_bucket ≡ empty_at s k) q (ap (λ k. get_or (row ++ empty_at s n ∷ []) k no_bucket) (sym h.all) ∙ get_or-append_seam row (empty_at s n) [] no_bucket))
+      (λ (e : i < n). get_or-append row (is n ∷ []) no_bucket i (subst (λ k. i < k) (sym h.all) e) ∙ h.each i e)
+      (λ (e : n ≤ i). let q : n ≡ i = omega (arith, lt, e) in subst (λ k. get_or (row ++ is n ∷ []) k no_bucket ≡ is k) q (ap (λ k. get_or (row ++ is n ∷ []) k no_bucket) (sym h.all) ∙ get_or-append_seam row (is n) [] no_bucket))
       (cases_lt i n);
 }
+
+pub row_none : (s : Settings) → IsEmptyRow s 0 []
+row_none s = buckets_none (empty_at s)
+
+pub row_more : (s : Settings) (n : ℕ) (row : List Seen) → IsEmptyRow s n row → IsEmptyRow s (n + 1) (row ++ empty_at s n ∷ [])
+row_more s n row h = buckets_more (empty_at s) n row h
 
 level_test : (i p l t n : ℕ) → 0 ≡ l → 0 ≡ p → t ≡ n → i < n → cond (nat_lt i p || nat_le t i) (l + 1) l ≡ 0
 level_test i p l t n a b e h = grind (arith, nat_tests)

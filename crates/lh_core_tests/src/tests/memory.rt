@@ -5,6 +5,7 @@ use lh_addr::Config;
 use lh_bucket::{Bucket, Call, Listing, Memory, PagedBucket, PlainBucket, Reply};
 use lh_core::{
     Effect, Event, Ran, Refusal, SerialRan, SplitState, WorkerState, World, run, serial,
+    serial_from,
 };
 use lh_page::Value;
 use std::alloc::Global;
@@ -216,4 +217,35 @@ fn calls_are_served<B: Bucket>(rt: &impl Abort, alloc: Global) -> Result<(), Fai
 fn refused_growth_ends_calls_one_after_another(rt: HostRuntime) -> Result<(), Fail> {
     calls_are_served::<PlainBucket>(&rt, rt.alloc())?;
     calls_are_served::<PagedBucket>(&rt, rt.alloc())
+}
+
+/// Serves calls on the file of a listing, once more where memory was refused.
+fn serial_from_again(
+    alloc: Global,
+    listing: &Listing,
+    calls: &[Call],
+) -> Result<SerialRan<PagedBucket>, Memory> {
+    match serial_from(alloc, listing, calls) {
+        Err(Memory) => serial_from(alloc, listing, calls),
+        ran => ran,
+    }
+}
+
+#[test]
+fn refused_growth_ends_calls_on_a_listing(rt: HostRuntime) -> Result<(), Fail> {
+    let alloc = rt.alloc();
+    let config = Config::new(1, 1, 100, 65536)?;
+    let ran = serial_again::<PagedBucket>(alloc, config, &[insert(b"a", b"1")?])?;
+    let listing = listed_again(&ran.world)?;
+    let calls = [insert(b"b", b"2")?, insert(b"c", b"3")?, search(b"a")?];
+    let replies = [
+        Reply::Inserted,
+        Reply::Inserted,
+        Reply::Found(Value::new(b"1")?),
+    ];
+    let ran = serial_from_again(alloc, &listing, &calls)?;
+    assert_eq!(rt; ran.replies.as_slice(), replies.as_slice());
+    assert_eq!(rt; ran.world.root().buckets(), 3);
+    assert_eq!(rt; listed_again(&ran.world)?.len(), 3);
+    Ok(())
 }

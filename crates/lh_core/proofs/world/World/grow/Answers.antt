@@ -1,8 +1,11 @@
-use Rattle.lh_core.proofs.OneCaller.Alone.{may_lock_both, grown}
+use Rattle.lh_core.proofs.OneCaller.Alone.{grown, may_lock_both, split_given_up}
 use Rattle.lh_core.proofs.world.World.grow.Goals as goal
 
-pub take-requires-2 : goal.take-requires-2
-take-requires-2 g c = may_lock_both c.args.self.now c.take.new.self c.in_ok-take.field-0 c.is_kept.ensures c.requires.rest c.requires.room c.in_ok-take.ensures
+pub take_free-requires-2-clause-allowed : goal.take_free-requires-2-clause-allowed
+take_free-requires-2-clause-allowed g c = may_lock_both c.args.self.now c.take_free.new.self c.take_free.result c.is_kept.ensures c.requires.rest c.requires.room c.take_free.ensures
 
-pub returns : goal.returns
-returns g c = grown c.args.self.now c.take.new.self c.in_ok-take.field-0 c.is_kept.ensures c.requires.rest c.requires.room c.in_ok-take.ensures c.take-2.new.self c.take-3.new.self c.take-4.new.self c.take-5.new.self c.in_ok-take-2.field-0 c.in_ok-take-3.field-0 c.in_ok-take-4.field-0 c.in_ok-take-5.field-0 c.in_ok-take-2.ensures c.in_ok-take-3.ensures c.in_ok-take-4.ensures c.in_ok-take-5.ensures
+pub returns-in-Ok-clause-ok : goal.returns-in-Ok-clause-ok
+returns-in-Ok-clause-ok g c = grown c.args.self.now c.take_free.new.self c.take_free.result c.is_kept.ensures c.requires.rest c.requires.room c.take_free.ensures c.take_free-2.new.self c.take.new.self c.take_free-in-Ok.new.self c.take_free-in-Ok-2.new.self c.take_free-2.result c.in-Ok.field-0 c.take_free-in-Ok.result c.take_free-in-Ok-2.result c.take_free-2.ensures c.in-Ok.ensures.ok c.take_free-in-Ok.ensures c.take_free-in-Ok-2.ensures
+
+pub returns-in-Err-clause-err : goal.returns-in-Err-clause-err
+returns-in-Err-clause-err g c = split_given_up c.args.self.now c.take_free.new.self c.take_free.result c.is_kept.ensures c.requires.rest c.requires.room c.take_free.ensures c.take_free-2.new.self c.take.new.self c.take_free-2.result c.take_free-2.ensures c.in-Err.ensures.err c.take_free-in-Err.new.self c.take_free-in-Err.result c.take_free-in-Err.ensures c.take_free-in-Err-2.new.self c.take_free-in-Err-2.result c.take_free-in-Err-2.ensures

@@ -1,8 +1,11 @@
-use Rattle.lh_core.proofs.OneCaller.Alone.{may_lock, served}
+use Rattle.lh_core.proofs.OneCaller.Alone.{given_up, may_lock, served}
 use Rattle.lh_core.proofs.world.World.serve_alone.Goals as goal
 
-pub take-requires-3 : goal.take-requires-3
-take-requires-3 g c = may_lock c.args.call c.args.self.now c.take.new.self c.take-2.new.self c.in_ok-take.field-0 c.in_ok-take-2.field-0 c.is_kept.ensures c.requires c.in_ok-take.ensures c.in_ok-take-2.ensures
+pub take_free-requires-3-clause-allowed : goal.take_free-requires-3-clause-allowed
+take_free-requires-3-clause-allowed g c = may_lock c.args.call c.args.self.now c.take_free.new.self c.take_free-2.new.self c.take_free.result c.take_free-2.result c.is_kept.ensures c.requires c.take_free.ensures c.take_free-2.ensures
 
-pub returns : goal.returns
-returns g c = served c.args.call c.args.self.now c.take.new.self c.take-2.new.self c.in_ok-take.field-0 c.in_ok-take-2.field-0 c.is_kept.ensures c.requires c.in_ok-take.ensures c.in_ok-take-2.ensures c.take-3.new.self c.in_ok-take-3.field-0 c.in_ok-take-3.ensures c.take-4.new.self c.in_ok-effect.effect c.in_ok-effect.ensures c.take-5.new.self c.in_ok-take-4.field-0 c.in-Answered.reply c.in-Answered.is c.in_ok-take-4.ensures
+pub returns-in-Answered-clause-ok : goal.returns-in-Answered-clause-ok
+returns-in-Answered-clause-ok g c = served c.args.call c.args.self.now c.take_free.new.self c.take_free-2.new.self c.take_free.result c.take_free-2.result c.is_kept.ensures c.requires c.take_free.ensures c.take_free-2.ensures c.take_free-3.new.self c.take_free-3.result c.take_free-3.ensures c.take.new.self c.in-Ok.effect c.in-Ok.ensures.ok c.take_free-in-Ok.new.self c.take_free-in-Ok.result c.in-Answered.reply c.in-Answered.is c.take_free-in-Ok.ensures
+
+pub returns-in-Err-clause-err : goal.returns-in-Err-clause-err
+returns-in-Err-clause-err g c = given_up c.args.call c.args.self.now c.take_free.new.self c.take_free-2.new.self c.take_free.result c.take_free-2.result c.is_kept.ensures c.requires c.take_free.ensures c.take_free-2.ensures c.take_free-3.new.self c.take_free-3.result c.take_free-3.ensures c.take.new.self c.take_free-in-Err.new.self c.take_free-in-Err.result c.in-Err.ensures.err c.take_free-in-Err.ensures
