@@ -122,6 +122,12 @@ draw_built = shape_at 7 (built program_app).subs
 abbrev migrate_built : Shape
 migrate_built = shape_at 8 (built program_app).subs
 
+abbrev query_built : Shape
+query_built = shape_at 9 (built program_app).subs
+
+abbrev apply_built : Shape
+apply_built = shape_at 10 (built program_app).subs
+
 abbrev drive_built : Shape
 drive_built = shape_at 6 (built program_app).subs
 
@@ -154,6 +160,13 @@ image-after words e =
     let row = level-row (codes "image") (codes "2") 1 2 build_built own has [] words false [] e in
     number-fits (codes "image") (codes "2") 1 2 _ row.0 row.1 row.2
 
+applied-after : (words : List Text) → level_fault apply_built [] nothing_held words false [] ≡ [] → HasImage (rows_after apply_built.rules [] words)
+applied-after words e =
+    let own : Every (IsTarget (codes "image") (codes "2") 1 2) apply_built.rules = ((λ _. refl), (unequal, tt)) in
+    let has : HasTarget (codes "image") (codes "2") 1 2 apply_built.rules = inl refl in
+    let row = level-row (codes "image") (codes "2") 1 2 apply_built own has [] words false [] e in
+    number-fits (codes "image") (codes "2") 1 2 _ row.0 row.1 row.2
+
 is_help : (t : Text) → (bytes_eq (codes "help") t || false) ≡ true → bytes_eq t (codes "help") ≡ true
 is_help t e = (bytes_eq-Decides t (codes "help")).1 (sym ((bytes_eq-Decides (codes "help") t).0 (go (bytes_eq (codes "help") t) e)))
   where
@@ -165,7 +178,7 @@ is_help t e = (bytes_eq-Decides t (codes "help")).1 (sym ((bytes_eq-Decides (cod
 abbrev pub IsEntered : Text → List Row → Type 0
 IsEntered name rows =
     (IsFileCommand name × HasSettings rows × (name ≡ codes "drive" → HasDriveNumbers rows) × (name ≡ codes "build" → HasImage rows))
-    ⊎ (IsImageCommand name × (settings_in rows ≡ None))
+    ⊎ (IsImageCommand name × (settings_in rows ≡ None) × (name ≡ codes "apply" → HasImage rows))
 
 -- of a subcommand of another name nothing is said
 other-name : {P : Type 0} (name given : Text) → bytes_eq name given ≡ false → name ≡ given → P
@@ -182,16 +195,22 @@ accepted-rows words e = entered-some (built program_app) IsEntered (
       (
         (λ t is other ws f. inl (inr (inr (inl refl)), settings-after build_built build-options ws f, other-name (codes "build") _ refl, λ _. image-after ws f)),
         (
-          (λ t is other ws f. inr (inl refl, no-settings check_built (unequal, tt) ws f)),
+          (λ t is other ws f. inr (inl refl, no-settings check_built (unequal, tt) ws f, other-name (codes "check") _ refl)),
           (
-            (λ t is other ws f. inr (inr (inl refl), no-settings dump_built (unequal, tt) ws f)),
+            (λ t is other ws f. inr (inr (inl refl), no-settings dump_built (unequal, tt) ws f, other-name (codes "dump") _ refl)),
             (
               (λ t is other ws f. inl (inr (inr (inr (inl refl))), settings-after drive_built drive-options ws f, (λ _. drive-after ws f), other-name (codes "drive") _ refl)),
               (
-                (λ t is other ws f. inr (inr (inr (inl refl)), no-settings draw_built (unequal, tt) ws f)),
+                (λ t is other ws f. inr (inr (inr (inl refl)), no-settings draw_built (unequal, tt) ws f, other-name (codes "draw") _ refl)),
                 (
-                  (λ t is other ws f. inr (inr (inr (inr refl)), no-settings migrate_built (unequal, tt) ws f)),
-                  ((λ t is other ws f. absurd (false≢true (sym other ∙ is_help t is))), tt),
+                  (λ t is other ws f. inr (inr (inr (inr (inl refl))), no-settings migrate_built (unequal, tt) ws f, other-name (codes "migrate") _ refl)),
+                  (
+                    (λ t is other ws f. inr (inr (inr (inr (inr (inl refl)))), no-settings query_built (unequal, tt) ws f, other-name (codes "query") _ refl)),
+                    (
+                      (λ t is other ws f. inr (inr (inr (inr (inr (inr refl)))), no-settings apply_built (unequal, (unequal, tt)) ws f, λ _. applied-after ws f)),
+                      ((λ t is other ws f. absurd (false≢true (sym other ∙ is_help t is))), tt),
+                    ),
+                  ),
                 ),
               ),
             ),
@@ -206,7 +225,8 @@ accepted-rows words e = entered-some (built program_app) IsEntered (
 -- whether a name is that of a subcommand which reads an image
 abbrev reads_image : Text → Bool
 reads_image name =
-    bytes_eq name (codes "check") || (bytes_eq name (codes "dump") || (bytes_eq name (codes "draw") || bytes_eq name (codes "migrate")))
+    bytes_eq name (codes "check") || (bytes_eq name (codes "dump") || (bytes_eq name (codes "draw") || (
+    bytes_eq name (codes "migrate") || (bytes_eq name (codes "query") || bytes_eq name (codes "apply")))))
 
 file-reads : (name : Text) → IsFileCommand name → reads_image name ≡ false
 file-reads name (inl is) = ap reads_image is
@@ -219,7 +239,9 @@ image-reads : (name : Text) → IsImageCommand name → reads_image name ≡ tru
 image-reads name (inl is) = ap reads_image is
 image-reads name (inr (inl is)) = ap reads_image is
 image-reads name (inr (inr (inl is))) = ap reads_image is
-image-reads name (inr (inr (inr is))) = ap reads_image is
+image-reads name (inr (inr (inr (inl is)))) = ap reads_image is
+image-reads name (inr (inr (inr (inr (inl is))))) = ap reads_image is
+image-reads name (inr (inr (inr (inr (inr is))))) = ap reads_image is
 
 -- no subcommand has settings and reads an image
 apart : (name : Text) → IsFileCommand name → IsImageCommand name → ⊥
@@ -240,6 +262,10 @@ entered-drive name rows (inr h) is = absurd (apart name (inr (inr (inr (inl is))
 pub entered-image : (name : Text) (rows : List Row) → IsEntered name rows → name ≡ codes "build" → HasImage rows
 entered-image name rows (inl h) is = h.3 is
 entered-image name rows (inr h) is = absurd (apart name (inr (inr (inl is))) h.0)
+
+pub entered-applied : (name : Text) (rows : List Row) → IsEntered name rows → name ≡ codes "apply" → HasImage rows
+entered-applied name rows (inl h) is = absurd (apart name h.0 (inr (inr (inr (inr (inr is))))))
+entered-applied name rows (inr h) is = h.2 is
 
 pub entered-none : (name : Text) (rows : List Row) → IsEntered name rows → IsImageCommand name → settings_in rows ≡ None
 entered-none name rows (inl h) is = absurd (apart name h.0 is)

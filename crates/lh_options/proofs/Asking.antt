@@ -1,11 +1,11 @@
 -- What each subcommand asks for
-use Rattle.std.proofs.Common.{◌≡◌, ◌∙◌, ◌≤◌, ◌<◌, ℕ, Bool, true, false, inl, inr, sym, ap, List, Option, None, Some, codes, if◌then◌else◌}
+use Rattle.std.proofs.Common.{◌≡◌, ◌∙◌, ◌≤◌, ◌<◌, ℕ, Bool, true, false, inl, inr, refl, sym, ap, List, Option, None, Some, codes, if◌then◌else◌}
 use Rattle.std.specs.Prelude.{option_and_then, option_map}
 use Rattle.std.specs.Str.{bytes_eq}
 use Rattle.std.proofs.lemmas.Bool.{le-ltb, lt-ltb}
 use Rattle.clap.specs.Walk.{Text}
 use Rattle.lh_addr.specs.Settings.{Settings}
-use Rattle.lh_options.specs.Options.{Answers, Asks, IsMaxBelowInitial, asked_by, drive_asked, in_order, number_given, settings_given, version_numbered}
+use Rattle.lh_options.specs.Options.{Answers, Asks, IsMaxBelowInitial, asked_by, apply_asked, drive_asked, in_order, number_given, settings_given, version_numbered}
 use Rattle.lh_options.specs.declared.options.ImageVersion.{ImageVersion}
 use Rattle.lh_options.specs.OptionSteps.{IsFileCommand}
 use Rattle.lh_options.specs.declared.options.Request.{Request}
@@ -71,6 +71,28 @@ pub migrate : (name : Text) (settings : Option Settings) (numbers : Text → Opt
 unfolding asked_by
 migrate name settings numbers n e = λ i. asked_by (n i) (e i) numbers
 
+pub query : (name : Text) (settings : Option Settings) (numbers : Text → Option ℕ) →
+    name ≡ codes "query" → settings ≡ None → asked_by name settings numbers ≡ Some request.Query
+unfolding asked_by
+query name settings numbers n e = λ i. asked_by (n i) (e i) numbers
+
+applied : (version : ImageVersion) (image : Option ℕ) → option_map version_numbered image ≡ Some version →
+    apply_asked None image ≡ Some (request.Apply version)
+applied version None f = absurd cc
+applied version (Some n) f = ap (option_map (λ v. request.Apply v)) f
+
+pub apply : (name : Text) (settings : Option Settings) (numbers : Text → Option ℕ) (version : ImageVersion) →
+    name ≡ codes "apply" → settings ≡ None → option_map version_numbered (numbers (codes "image")) ≡ Some version →
+    asked_by name settings numbers ≡ Some (request.Apply version)
+unfolding asked_by
+apply name settings numbers version named e f =
+    (λ i. asked_by (named i) (e i) numbers) ∙ applied version (numbers (codes "image")) f
+
+-- no image is asked for with settings
+pub unapplied : (s : Settings) (image : Option ℕ) → apply_asked (Some s) image ≡ None
+unapplied s None = refl
+unapplied s (Some n) = refl
+
 -- no number of threads, and nothing is asked for
 pub undriven : (name : Text) (settings : Option Settings) (numbers : Text → Option ℕ) (s : Settings) →
     name ≡ codes "drive" → settings ≡ Some s → numbers (codes "threads") ≡ None → s.initial ≤ s.max → asked_by name settings numbers ≡ None
@@ -95,20 +117,23 @@ out_of_order name (Some s) numbers (inr (inr (inr (inl n)))) below =
 out_of_order name (Some s) numbers (inr (inr (inr (inr n)))) below = (λ i. asked_by (n i) (Some s) numbers) ∙ refused s (λ x. Some (request.Replay x)) below
 
 -- one of five requests, each the same one, or none
-one_of : (a b c d e f g h k : Bool) (first second third fourth fifth : Option Request) (m r : Request) →
-    first ≡ Some m → second ≡ Some m → third ≡ Some m → fourth ≡ Some m → fifth ≡ Some m →
+one_of : (a b c d e f g h k l n : Bool) (first second third fourth fifth last : Option Request) (m r : Request) →
+    first ≡ Some m → second ≡ Some m → third ≡ Some m → fourth ≡ Some m → fifth ≡ Some m → last ≡ None →
     (if a then first else if b then second else if c then third else if d then fourth else if e then fifth
-    else if f then None else if g then None else if h then None else if k then None else None) ≡ Some r → r ≡ m
-one_of true b c d e f g h k first second third fourth fifth m r p q s t u is = let same : Some r ≡ Some m = sym is ∙ p in cc
-one_of false true c d e f g h k first second third fourth fifth m r p q s t u is = let same : Some r ≡ Some m = sym is ∙ q in cc
-one_of false false true d e f g h k first second third fourth fifth m r p q s t u is = let same : Some r ≡ Some m = sym is ∙ s in cc
-one_of false false false true e f g h k first second third fourth fifth m r p q s t u is = let same : Some r ≡ Some m = sym is ∙ t in cc
-one_of false false false false true f g h k first second third fourth fifth m r p q s t u is = let same : Some r ≡ Some m = sym is ∙ u in cc
-one_of false false false false false true g h k first second third fourth fifth m r p q s t u is = absurd cc
-one_of false false false false false false true h k first second third fourth fifth m r p q s t u is = absurd cc
-one_of false false false false false false false true k first second third fourth fifth m r p q s t u is = absurd cc
-one_of false false false false false false false false true first second third fourth fifth m r p q s t u is = absurd cc
-one_of false false false false false false false false false first second third fourth fifth m r p q s t u is = absurd cc
+    else if f then None else if g then None else if h then None else if k then None else if l then None else if n then last else None)
+    ≡ Some r → r ≡ m
+one_of true b c d e f g h k l n first second third fourth fifth last m r p q s t u w is = let same : Some r ≡ Some m = sym is ∙ p in cc
+one_of false true c d e f g h k l n first second third fourth fifth last m r p q s t u w is = let same : Some r ≡ Some m = sym is ∙ q in cc
+one_of false false true d e f g h k l n first second third fourth fifth last m r p q s t u w is = let same : Some r ≡ Some m = sym is ∙ s in cc
+one_of false false false true e f g h k l n first second third fourth fifth last m r p q s t u w is = let same : Some r ≡ Some m = sym is ∙ t in cc
+one_of false false false false true f g h k l n first second third fourth fifth last m r p q s t u w is = let same : Some r ≡ Some m = sym is ∙ u in cc
+one_of false false false false false true g h k l n first second third fourth fifth last m r p q s t u w is = absurd cc
+one_of false false false false false false true h k l n first second third fourth fifth last m r p q s t u w is = absurd cc
+one_of false false false false false false false true k l n first second third fourth fifth last m r p q s t u w is = absurd cc
+one_of false false false false false false false false true l n first second third fourth fifth last m r p q s t u w is = absurd cc
+one_of false false false false false false false false false true n first second third fourth fifth last m r p q s t u w is = absurd cc
+one_of false false false false false false false false false false true first second third fourth fifth last m r p q s t u w is = let same : Some r ≡ None = sym is ∙ w in absurd cc
+one_of false false false false false false false false false false false first second third fourth fifth last m r p q s t u w is = absurd cc
 
 -- whatever is asked for with settings out of order is refused
 pub refused_alone : (name : Text) (numbers : Text → Option ℕ) (s : Settings) (r : Request) →
@@ -117,10 +142,13 @@ unfolding asked_by
 refused_alone name numbers s r below is =
     let build : Settings → Option Request = λ x. option_map (λ n. request.Build x (version_numbered n)) (numbers (codes "image")) in
     one_of _ _ _ _ _ (bytes_eq name (codes "check")) (bytes_eq name (codes "dump")) (bytes_eq name (codes "draw")) (bytes_eq name (codes "migrate"))
+    (bytes_eq name (codes "query")) (bytes_eq name (codes "apply"))
     (in_order (Some s) (λ x. Some (request.Commands x))) (in_order (Some s) (λ x. Some (request.Steps x)))
-    (in_order (Some s) (λ x. Some (request.Replay x))) (in_order (Some s) build) (in_order (Some s) (drive_asked numbers)) request.MaxBelowInitial r
+    (in_order (Some s) (λ x. Some (request.Replay x))) (in_order (Some s) build) (in_order (Some s) (drive_asked numbers))
+    (apply_asked (Some s) (numbers (codes "image"))) request.MaxBelowInitial r
     (refused s (λ x. Some (request.Commands x)) below) (refused s (λ x. Some (request.Steps x)) below)
-    (refused s (λ x. Some (request.Replay x)) below) (refused s build below) (refused s (drive_asked numbers) below) is
+    (refused s (λ x. Some (request.Replay x)) below) (refused s build below) (refused s (drive_asked numbers) below)
+    (unapplied s (numbers (codes "image"))) is
 
 -- what accepted words ask for that name a subcommand
 pub asked_named : (words : List Text) (name : Text) (r : Request) → Asks words name → Answers words r →

@@ -127,6 +127,8 @@ refusal-answers words e request.Check among h = absurd h
 refusal-answers words e request.Dump among h = absurd h
 refusal-answers words e request.Draw among h = absurd h
 refusal-answers words e request.Migrate among h = absurd h
+refusal-answers words e request.Query among h = absurd h
+refusal-answers words e (request.Apply version) among h = absurd h
 refusal-answers words e request.MaxBelowInitial among h = absurd h
 
 -- a request that turns words away runs nothing

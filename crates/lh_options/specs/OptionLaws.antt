@@ -62,6 +62,18 @@ third_image = codes "lhash" ∷ codes "build" ∷ codes "--image" ∷ codes "3" 
 abbrev pub migrate_alone : List Text
 migrate_alone = codes "lhash" ∷ codes "migrate" ∷ []
 
+abbrev pub query_alone : List Text
+query_alone = codes "lhash" ∷ codes "query" ∷ []
+
+abbrev pub apply_alone : List Text
+apply_alone = codes "lhash" ∷ codes "apply" ∷ []
+
+abbrev pub first_image_applied : List Text
+first_image_applied = codes "lhash" ∷ codes "apply" ∷ codes "--image" ∷ codes "1" ∷ []
+
+abbrev pub apply_with_setting : List Text
+apply_with_setting = codes "lhash" ∷ codes "apply" ∷ codes "--max" ∷ codes "1" ∷ []
+
 abbrev pub check_alone : List Text
 check_alone = codes "lhash" ∷ codes "check" ∷ []
 
@@ -109,6 +121,11 @@ abbrev pub GivesBuild : List Text → Settings → ImageVersion → Type 0
 GivesBuild words s version =
     Asks words (codes "build") × (settings_given words ≡ Some s)
     × (option_map version_numbered (number_given words (codes "image")) ≡ Some version)
+
+-- the words are accepted, name `apply`, and give this version of the image
+abbrev pub GivesApply : List Text → ImageVersion → Type 0
+GivesApply words version =
+    Asks words (codes "apply") × (option_map version_numbered (number_given words (codes "image")) ≡ Some version)
 
 -- the words are accepted, name `drive`, and give these settings and these numbers of threads and of snapshots
 abbrev pub GivesDrive : List Text → Settings → ℕ → ℕ → Type 0

@@ -55,10 +55,11 @@ IsFileCommand name =
     (name ≡ codes "commands") ⊎ ((name ≡ codes "steps") ⊎ ((name ≡ codes "build") ⊎ (
     (name ≡ codes "drive") ⊎ (name ≡ codes "replay"))))
 
--- the name of a subcommand that reads an image, without options
+-- the name of a subcommand that reads an image, without the options of a file's settings
 abbrev pub IsImageCommand : Text → Type 0
 IsImageCommand name =
-    (name ≡ codes "check") ⊎ ((name ≡ codes "dump") ⊎ ((name ≡ codes "draw") ⊎ (name ≡ codes "migrate")))
+    (name ≡ codes "check") ⊎ ((name ≡ codes "dump") ⊎ ((name ≡ codes "draw") ⊎ (
+    (name ≡ codes "migrate") ⊎ ((name ≡ codes "query") ⊎ (name ≡ codes "apply")))))
 
 -- what a subcommand asks for by its rows
 abbrev pub asked_in : Text → List Row → Option Request

@@ -71,6 +71,13 @@ draw_app = new_app (codes "draw")
 abbrev pub migrate_app : App
 migrate_app = new_app (codes "migrate")
 
+abbrev pub query_app : App
+query_app = new_app (codes "query")
+
+-- but the version of an image, where they write one that a script leaves
+abbrev pub apply_app : App
+apply_app = with_image (new_app (codes "apply"))
+
 -- a command with an option for a number of threads
 abbrev pub with_threads : App → App
 with_threads app = with_rule app (option_rule (codes "threads") (codes "4") 1 64)
@@ -108,8 +115,8 @@ scripts_app =
 -- the program's command
 abbrev pub program_app : App
 program_app =
-    with_subcommand (with_subcommand (with_subcommand (with_subcommand (with_subcommand scripts_app
-    check_app.top) dump_app.top) drive_app.top) draw_app.top) migrate_app.top
+    with_subcommand (with_subcommand (with_subcommand (with_subcommand (with_subcommand (with_subcommand (with_subcommand
+    scripts_app check_app.top) dump_app.top) drive_app.top) draw_app.top) migrate_app.top) query_app.top) apply_app.top
 
 -- the whole number that a text writes in decimal digits, where it is such a text; a plus may stand first, as clap has it,
 -- though not in words that are accepted
@@ -199,6 +206,11 @@ asked_without_settings (Some s) r = None
 abbrev pub version_numbered : ℕ → ImageVersion
 version_numbered n = if n == 1 then First else Second
 
+-- an image of the version that a number says, without settings
+abbrev pub apply_asked : Option Settings → Option ℕ → Option Request
+apply_asked settings image =
+    option_and_then (λ n. asked_without_settings settings (request.Apply (version_numbered n))) image
+
 -- a run in threads with settings in order, by the numbers of threads and of snapshots
 abbrev pub drive_asked : (Text → Option ℕ) → Settings → Option Request
 drive_asked numbers s =
@@ -219,6 +231,8 @@ asked_by name settings numbers =
     else if bytes_eq name (codes "dump") then asked_without_settings settings request.Dump
     else if bytes_eq name (codes "draw") then asked_without_settings settings request.Draw
     else if bytes_eq name (codes "migrate") then asked_without_settings settings request.Migrate
+    else if bytes_eq name (codes "query") then asked_without_settings settings request.Query
+    else if bytes_eq name (codes "apply") then apply_asked settings (numbers (codes "image"))
     else None
 
 -- what words ask for that are accepted

@@ -47,6 +47,16 @@ pub const DRAW: Help = Help {
     example: "Example: lhash draw < file.lhf > file.svg",
 };
 
+pub const QUERY: Help = Help {
+    about: "Read an image and a script of commands behind it, and write the reply to each",
+    example: "Example: cat file.lhf script.txt | lhash query",
+};
+
+pub const APPLY: Help = Help {
+    about: "Read an image and a script of commands behind it, and write the resulting file as an image",
+    example: "Example: cat file.lhf script.txt | lhash apply > new.lhf",
+};
+
 pub const DRIVE: Help = Help {
     about: "Read a script of commands, run it in threads, and write totals",
     example: "Example: lhash drive --threads 8 < script.txt",

@@ -1,11 +1,14 @@
 //! What the options give, at words that are written out.
 ghost use Rattle.std.specs.Prelude.{codes};
 ghost use Rattle.lh_options.specs.OptionLaws.{
+  GivesApply,
   GivesBuild,
   GivesCommands,
   GivesDrive,
   GivesReplay,
   GivesSteps,
+  apply_alone,
+  apply_with_setting,
   build_given,
   check_alone,
   check_with_option,
@@ -13,6 +16,7 @@ ghost use Rattle.lh_options.specs.OptionLaws.{
   drive_given,
   draw_alone,
   dump_alone,
+  first_image_applied,
   first_image_given,
   help_asked,
   initial_twice,
@@ -26,6 +30,7 @@ ghost use Rattle.lh_options.specs.OptionLaws.{
   no_options,
   no_subcommand,
   program_version_asked,
+  query_alone,
   replay_given,
   Refuses,
   snapshots_given,
@@ -42,7 +47,7 @@ ghost use Rattle.lh_options.specs.declared.options.ImageVersion.TheVariants.{Fir
 
 /// The words give the options the numbers that stand in them, and an option that is left out its
 /// default. A number out of its range or with a sign, an option given twice and an unknown one are refused, and so is
-/// each option of a subcommand that reads an image.
+/// each setting of a subcommand that reads an image.
 pub fn words_give_options()
     ensures left_out { GivesCommands no_options (record { initial = 1; capacity = 14; load = 100; max = 65536 }) }
     ensures given { GivesCommands max_given (record { initial = 3; capacity = 14; load = 100; max = 7 }) }
@@ -60,7 +65,11 @@ pub fn words_give_options()
     ensures check { Asks check_alone (codes "check") }
     ensures dump { Asks dump_alone (codes "dump") }
     ensures draw { Asks draw_alone (codes "draw") }
+    ensures query { Asks query_alone (codes "query") }
+    ensures apply { GivesApply apply_alone Second }
+    ensures first_applied { GivesApply first_image_applied First }
     ensures without_options { Refuses check_with_option }
+    ensures without_settings { Refuses apply_with_setting }
     ensures none { Refuses no_subcommand }
     ensures too_small { Refuses initial_zero }
     ensures no_thread { Refuses threads_zero }

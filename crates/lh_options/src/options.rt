@@ -6,11 +6,13 @@ ghost use Rattle.std.specs.String.{string_bytes};
 ghost use Rattle.lh_addr.specs.Settings.{IsInRange};
 ghost use Rattle.clap.specs.Words.{found_of, kind_of, new_app, rows_of, rule_of};
 ghost use Rattle.lh_options.specs.Escapes.{has_no_control};
-ghost use Rattle.lh_options.specs.Options.{Answers, IsMaxBelowInitial, IsServable, all_in_digits, in_digits, number_in, build_app, drive_app, option_rule, version_numbered, root_app, scripts_app, program_app, with_settings};
+ghost use Rattle.lh_options.specs.Options.{Answers, IsMaxBelowInitial, IsServable, all_in_digits, in_digits, number_in, apply_app, build_app, drive_app, option_rule, version_numbered, root_app, scripts_app, program_app, with_settings};
 ghost use Rattle.lh_options.specs.OptionSteps.{HasNumber, HasSettings, HasDriveNumbers, HasImage, IsFileCommand, IsImageCommand, IsRefusal, IsRefusedText, Reads, asked_in, settings_in};
 
 use crate::escapes::escaped;
-use crate::help::{BUILD, CHECK, COMMANDS, DRAW, DRIVE, DUMP, Help, MIGRATE, REPLAY, STEPS};
+use crate::help::{
+    APPLY, BUILD, CHECK, COMMANDS, DRAW, DRIVE, DUMP, Help, MIGRATE, QUERY, REPLAY, STEPS,
+};
 use clap::error::ErrorKind;
 use clap::{Arg, ArgAction, ArgMatches, Command, Error};
 use lh_addr::limits::{
@@ -62,6 +64,10 @@ pub enum Request {
     Draw,
     /// The subcommand `migrate`.
     Migrate,
+    /// The subcommand `query`.
+    Query,
+    /// The subcommand `apply`, with the version of the image that its option gives.
+    Apply(ImageVersion),
     /// The subcommand `drive`, with the configuration and the numbers of threads and of snapshots that its options give.
     Drive {
         config: Config,
@@ -137,7 +143,7 @@ fn file_command<'a>(alloc: Global, name: &'a str, help: Help) -> Result<Command<
         ))
 }
 
-/// A subcommand without options, which reads an image.
+/// A subcommand that reads an image, without options yet.
 fn image_command<'a>(alloc: Global, name: &'a str, help: Help) -> Command<'a>
     ensures { Reads (new_app name.now) result }
 {
@@ -169,18 +175,33 @@ fn drive_command<'a>(alloc: Global) -> Result<Command<'a>, AllocError>
         ))
 }
 
-/// The subcommand that writes an image: a file's options, and one for the version of the image.
-fn build_command<'a>(alloc: Global) -> Result<Command<'a>, AllocError>
-    ensures { IfOk result (Reads build_app) }
+/// An option with the version of an image.
+fn image_option<'a>(alloc: Global) -> Arg<'a>
+    ensures local { result.global ≡ false }
+    ensures rule { rule_of result ≡ option_rule (codes "image") (codes "2") 1 2 }
 {
-    file_command(alloc, "build", BUILD)?.arg(option(
+    option(
         alloc,
         "image",
         "Version of the image, 1 or 2",
         "2",
         FIRST_IMAGE,
         LAST_IMAGE,
-    ))
+    )
+}
+
+/// The subcommand that writes an image: a file's options, and one for the version of the image.
+fn build_command<'a>(alloc: Global) -> Result<Command<'a>, AllocError>
+    ensures { IfOk result (Reads build_app) }
+{
+    file_command(alloc, "build", BUILD)?.arg(image_option(alloc))
+}
+
+/// The subcommand that reads an image and writes the one that a script leaves: an option for its version.
+fn apply_command<'a>(alloc: Global) -> Result<Command<'a>, AllocError>
+    ensures { IfOk result (Reads apply_app) }
+{
+    image_command(alloc, "apply", APPLY).arg(image_option(alloc))
 }
 
 /// The program's name and version, without a subcommand yet.
@@ -215,7 +236,9 @@ fn program<'a>(alloc: Global) -> Result<Command<'a>, AllocError>
         .subcommand(image_command(alloc, "dump", DUMP))?
         .subcommand(drive_command(alloc)?)?
         .subcommand(image_command(alloc, "draw", DRAW))?
-        .subcommand(image_command(alloc, "migrate", MIGRATE))
+        .subcommand(image_command(alloc, "migrate", MIGRATE))?
+        .subcommand(image_command(alloc, "query", QUERY))?
+        .subcommand(apply_command(alloc)?)
 }
 
 /// The number of an option.
@@ -301,6 +324,7 @@ fn asked(name: &str, matches: &ArgMatches<'_>) -> Request
     requires settings { IsFileCommand name.now → HasSettings (rows_of (found_of matches.now)) }
     requires drive { name.now ≡ codes "drive" → HasDriveNumbers (rows_of (found_of matches.now)) }
     requires image { name.now ≡ codes "build" → HasImage (rows_of (found_of matches.now)) }
+    requires applied { name.now ≡ codes "apply" → HasImage (rows_of (found_of matches.now)) }
     requires none { IsImageCommand name.now → settings_in (rows_of (found_of matches.now)) ≡ None }
     ensures value { asked_in name.now (rows_of (found_of matches.now)) ≡ Some result }
     ensures servable { IsServable result }
@@ -322,6 +346,8 @@ fn asked(name: &str, matches: &ArgMatches<'_>) -> Request
         "dump" => Request::Dump,
         "draw" => Request::Draw,
         "migrate" => Request::Migrate,
+        "query" => Request::Query,
+        "apply" => Request::Apply(version_in(matches)),
         "drive" => match config_of(matches) {
             Some(config) => Request::Drive {
                 config,

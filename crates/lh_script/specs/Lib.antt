@@ -4,6 +4,7 @@ pub mod FaultTexts
 pub mod Hexadecimal
 pub mod Lines
 pub mod Operands
+pub mod Requests
 pub mod Scripts
 pub mod StepTexts
 pub mod Steps

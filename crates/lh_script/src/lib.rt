@@ -1,6 +1,7 @@
 //! Scripts, and the texts of what they lead to: the tables of words and lines, both ways.
 //!
 //! `parse` reads a script of commands or of steps, whole: its statements in their order, or the first line at fault.
+//! `read_request` reads one line of a client, and `cut_line` cuts the first line off what has come.
 //! The other way, a reply, an effect, a refusal and a byte string each have a text, as what a type displays.
 //!
 //! ```text
@@ -15,12 +16,14 @@ mod fault;
 mod hexadecimal;
 mod lines;
 mod operands;
+mod requests;
 mod script;
 mod step_texts;
 mod steps;
 mod texts;
 
 pub use fault::{LineFault, ParseError, ScriptFault};
+pub use requests::{Request, cut_line, read_request};
 pub use script::{MOST_BYTES, Statement, parse};
 pub use step_texts::{EffectText, EntryText, RefusalText};
 pub use texts::{KeyText, ReplyText, SizeText, ValueText};

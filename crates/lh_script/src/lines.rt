@@ -87,7 +87,7 @@ pub fn two_words(text: &[u8]) -> Option<(&[u8], &[u8])>
 
 /// A line without the CR at its end, if there is one.
 #[tactic(auto, using(crate::proofs::Splitting::cr_stays, crate::proofs::Splitting::cr_goes))]
-fn without_cr(line: &[u8]) -> &[u8]
+pub fn without_cr(line: &[u8]) -> &[u8]
     ensures { result.now ≡ without_last_cr line.now }
 {
     let length = line.len();

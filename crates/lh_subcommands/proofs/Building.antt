@@ -1,7 +1,7 @@
 -- From the calls of a script to the image of the file that they lead to
 use Rattle.std.proofs.Common.{◌≡◌, ◌∙◌, ℕ, ◌<◌, List, Option, None, Some, IfSome, map, refl, sym, ap, subst}
-use Rattle.std.specs.Prelude.{Ok, Err, ◌==◌}
-use Rattle.std.specs.FinMap.{empty, retain_keys}
+use Rattle.std.specs.Prelude.{Result, Ok, Err, ◌==◌}
+use Rattle.std.specs.FinMap.{retain_keys}
 use Rattle.std.proofs.KnownBytes.{Keeps-refl}
 use Rattle.std.proofs.lemmas.List.{length-map}
 use Rattle.std.proofs.Math.ListN.{get_or-map}
@@ -12,9 +12,10 @@ use Rattle.lh_bucket.specs.declared.call.Call.{Call}
 use Rattle.lh_bucket.specs.declared.call.Reply.{Reply}
 use Rattle.lh_bucket.specs.Bucket.{Seen}
 use Rattle.lh_bucket.specs.Listing.{Lists, IsListing, size, list_at}
-use Rattle.lh_bucket.specs.PlainMap.{outcome}
+use Rattle.lh_bucket.specs.PlainMap.{Records, outcome}
 use Rattle.lh_bucket.specs.Records.{map_of}
-use Rattle.lh_core.specs.Serial.{IsSerial, size_of}
+use Rattle.lh_core.specs.Serial.{IsSerialFrom, size_from}
+use Rattle.lh_core.specs.Opened.{lists_in}
 use Rattle.lh_core.specs.World.{WorldSeen, no_bucket}
 use Rattle.lh_image.specs.declared.fault.WriteImageFault.{WriteImageFault}
 use Rattle.lh_image.specs.declared.fault.WriteImageFault.TheVariants.{OldCapacity, OldRecord, TooLarge, WriteFault, Memory as MemoryToWrite}
@@ -22,21 +23,22 @@ use Rattle.lh_image.specs.declared.version.Version.{Version}
 use Rattle.lh_image.specs.Canonical.{canonical}
 use Rattle.lh_image.specs.Writing.{IsWritten}
 use Rattle.lh_script.specs.Commands.{command}
-use Rattle.lh_subcommands.specs.Images.{EndsBuilding, IsLedTo, unwritten_as}
+use Rattle.lh_subcommands.specs.Images.{EndsBuilding, EndsInImage, IsLedFrom, IsLedTo, unwritten_as}
 use Rattle.lh_subcommands.specs.Run.{ReadsScript}
 use Rattle.lh_script.specs.Scripts.{script}
+use Rattle.lh_script.specs.declared.fault.ScriptFault.{ScriptFault}
 use Rattle.lh_subcommands.specs.declared.status.DeviceFault.TheVariants.{Read, Write}
 use Rattle.lh_subcommands.specs.declared.status.InputFault.TheVariants.{Script, Image, Unwritten}
 use Rattle.lh_subcommands.specs.declared.status.Status.{Status}
 use Rattle.lh_subcommands.specs.declared.status.Status.TheVariants.{Done, Input, Words, Device, Memory, NotSettled}
 
 -- the listing of a world after calls is one of the file that they lead to
-pub led_to : (settings : Settings) (calls : List Call) (told : List Reply) (world : WorldSeen) (l : Lists) →
-    IsSerial settings calls told world → l ≡ record { config = world.config; lists = map (λ b. b.pairs) world.buckets } → IsListing l →
-    IsLedTo settings calls l
-led_to settings calls told world l serial is kept =
+pub led_from : (settings : Settings) (map : Records) (start : ℕ) (calls : List Call) (told : List Reply) (world : WorldSeen) (l : Lists) →
+    IsSerialFrom settings map start calls told world → l ≡ record { config = world.config; lists = lists_in world.buckets } → IsListing l →
+    IsLedFrom settings map start calls l
+led_from settings map start calls told world l serial is kept =
     let pairs : Seen → List _ = λ b. b.pairs in
-    let buckets : size l ≡ size_of settings calls = ap (λ (x : Lists). size x) is ∙ length-map world.buckets pairs ∙ serial.placed.all in
+    let buckets : size l ≡ size_from settings map start calls = ap (λ (x : Lists). size x) is ∙ length-map world.buckets pairs ∙ serial.placed.all in
     record {
       config = ap (λ (x : Lists). x.config) is ∙ serial.same;
       buckets = buckets;
@@ -44,29 +46,33 @@ led_to settings calls told world l serial is kept =
           ap (λ (x : Lists). map_of (list_at x.lists i)) is
           ∙ ap map_of (get_or-map pairs world.buckets i no_bucket)
           ∙ serial.placed.each i (subst (λ (n : ℕ). i < n) buckets lt)
-          ∙ ap (λ (n : ℕ). retain_keys (outcome empty calls) (λ key. address settings.initial n (code_of key) == i)) (sym buckets);
+          ∙ ap (λ (n : ℕ). retain_keys (outcome map calls) (λ key. address settings.initial n (code_of key) == i)) (sym buckets);
       listing = kept;
     }
 
+-- what calls lead to
+abbrev pub Leading : Type 1
+Leading = List Call → Lists → Type 0
+
 -- a run that read no script ends without a write
-unread : (version : Version) (settings : Settings) (status : Status) (input : List ℕ) (a : Option (List ℕ)) →
-    ReadsScript {A = Call} (Err status) (script command input) → EndsBuilding version settings input status a a
-unfolding EndsBuilding
-unread version settings Done input a h = absurd h
-unread version settings (Input (Script fault)) input a h = (h, Keeps-refl a)
-unread version settings (Input (Image fault)) input a h = absurd h
-unread version settings (Input (Unwritten fault)) input a h = absurd h
-unread version settings (Words text) input a h = absurd h
-unread version settings (Device Read) input a h = Keeps-refl a
-unread version settings (Device Write) input a h = absurd h
-unread version settings Memory input a h = Keeps-refl a
-unread version settings (NotSettled fault) input a h = absurd h
+pub unmade : (LeadsTo : Leading) (version : Version) (status : Status) (given : Result (List Call) ScriptFault) (a : Option (List ℕ)) →
+    ReadsScript {A = Call} (Err status) given → EndsInImage LeadsTo version status given a a
+unmade LeadsTo version Done given a h = absurd h
+unmade LeadsTo version (Input (Script fault)) given a h = (h, Keeps-refl a)
+unmade LeadsTo version (Input (Image fault)) given a h = absurd h
+unmade LeadsTo version (Input (Unwritten fault)) given a h = absurd h
+unmade LeadsTo version (Words text) given a h = absurd h
+unmade LeadsTo version (Device Read) given a h = Keeps-refl a
+unmade LeadsTo version (Device Write) given a h = absurd h
+unmade LeadsTo version Memory given a h = Keeps-refl a
+unmade LeadsTo version (NotSettled fault) given a h = absurd h
 
 pub unbuilt : (version : Version) (settings : Settings) (status : Status) (left a : Option (List ℕ)) →
     IfSome left (λ input. ReadsScript {A = Call} (Err status) (script command input)) →
     IfSome left (λ input. EndsBuilding version settings input status a a)
+unfolding EndsBuilding
 unbuilt version settings status None a h = tt
-unbuilt version settings status (Some input) a h = unread version settings status input a h
+unbuilt version settings status (Some input) a h = unmade (IsLedTo settings) version status (script command input) a h
 
 -- a run that is out of memory ends without a write
 pub unbuilt_memory : (version : Version) (settings : Settings) (left a : Option (List ℕ)) →
@@ -87,33 +93,38 @@ abbrev pub IsScriptOf : Option (List ℕ) → List Call → Type 0
 IsScriptOf left calls = IfSome left (λ input. script command input ≡ Ok calls)
 
 -- the whole image was written
+pub made_whole : (LeadsTo : Leading) (version : Version) (calls : List Call) (l : Lists) (given : Result (List Call) ScriptFault) (before now : Option (List ℕ)) →
+    given ≡ Ok calls → LeadsTo calls l → IsWritten version l (Ok tt) before now → EndsInImage LeadsTo version Done given before now
+made_whole LeadsTo version calls l given before now is led written =
+    (calls, canonical version l, is, record { listing = l; led = led; fits = written.0; bytes = refl }, written.1)
+
 pub built_whole : (version : Version) (settings : Settings) (calls : List Call) (l : Lists) (left before now : Option (List ℕ)) →
     IsScriptOf left calls → IsLedTo settings calls l → IsWritten version l (Ok tt) before now →
     IfSome left (λ input. EndsBuilding version settings input Done before now)
 unfolding EndsBuilding
 built_whole version settings calls l None before now given led written = tt
 built_whole version settings calls l (Some input) before now given led written =
-    (calls, canonical version l, given, record { listing = l; led = led; fits = written.0; bytes = refl }, written.1)
+    made_whole (IsLedTo settings) version calls l (script command input) before now given led written
 
 -- a beginning of it was written, or nothing, since the file has no image
-failed : (version : Version) (settings : Settings) (calls : List Call) (l : Lists) (fault : WriteImageFault) (input : List ℕ)
-    (before now : Option (List ℕ)) → script command input ≡ Ok calls → IsLedTo settings calls l → IsWritten version l (Err fault) before now →
-    EndsBuilding version settings input (unwritten_as fault) before now
-unfolding EndsBuilding
-failed version settings calls l WriteFault input before now given led written =
-    (calls, canonical version l, given, record { listing = l; led = led; fits = written.0; bytes = refl }, written.1)
-failed version settings calls l MemoryToWrite input before now given led written = absurd written.0
-failed version settings calls l OldCapacity input before now given led written =
-    (calls, given, record { listing = l; led = led; refused = written.0 }, written.1)
-failed version settings calls l (OldRecord bucket place) input before now given led written =
-    (calls, given, record { listing = l; led = led; refused = written.0 }, written.1)
-failed version settings calls l TooLarge input before now given led written =
-    (calls, given, record { listing = l; led = led; refused = written.0 }, written.1)
+pub made_not : (LeadsTo : Leading) (version : Version) (calls : List Call) (l : Lists) (fault : WriteImageFault) (given : Result (List Call) ScriptFault)
+    (before now : Option (List ℕ)) → given ≡ Ok calls → LeadsTo calls l → IsWritten version l (Err fault) before now →
+    EndsInImage LeadsTo version (unwritten_as fault) given before now
+made_not LeadsTo version calls l WriteFault given before now is led written =
+    (calls, canonical version l, is, record { listing = l; led = led; fits = written.0; bytes = refl }, written.1)
+made_not LeadsTo version calls l MemoryToWrite given before now is led written = absurd written.0
+made_not LeadsTo version calls l OldCapacity given before now is led written =
+    (calls, is, record { listing = l; led = led; refused = written.0 }, written.1)
+made_not LeadsTo version calls l (OldRecord bucket place) given before now is led written =
+    (calls, is, record { listing = l; led = led; refused = written.0 }, written.1)
+made_not LeadsTo version calls l TooLarge given before now is led written =
+    (calls, is, record { listing = l; led = led; refused = written.0 }, written.1)
 
 pub built_not : (version : Version) (settings : Settings) (calls : List Call) (l : Lists) (fault : WriteImageFault) (status : Status)
     (left before now : Option (List ℕ)) → status ≡ unwritten_as fault → IsScriptOf left calls → IsLedTo settings calls l →
     IsWritten version l (Err fault) before now → IfSome left (λ input. EndsBuilding version settings input status before now)
+unfolding EndsBuilding
 built_not version settings calls l fault status None before now is given led written = tt
 built_not version settings calls l fault status (Some input) before now is given led written =
-    subst (λ (s : Status). EndsBuilding version settings input s before now) (sym is)
-    (failed version settings calls l fault input before now given led written)
+    subst (λ (s : Status). EndsInImage (IsLedTo settings) version s (script command input) before now) (sym is)
+    (made_not (IsLedTo settings) version calls l fault (script command input) before now given led written)

@@ -1,19 +1,19 @@
 -- What was read gives what the input gives.
-use Rattle.std.proofs.Common.{◌≡◌, ◌∙◌, refl, sym, inl, inr, ℕ, List, Option, None, Some, IfSome, ap, ap₂, arith}
+use Rattle.std.proofs.Common.{◌≡◌, ◌∙◌, refl, sym, inl, inr, ℕ, List, Option, None, Some, IfSome, ap, ap₂, subst, arith}
 use Rattle.std.proofs.KnownBytes.{Keeps-refl}
 use Rattle.std.specs.Io.KnownBytes.{Appends}
 use Rattle.std.specs.FinMap.{empty}
 use Rattle.std.proofs.lemmas.Bool.Decides.{nat_tests}
 use Rattle.std.specs.Prelude.{Result, Ok, Err}
 use Rattle.lh_addr.specs.Settings.{Settings}
-use Rattle.lh_bucket.specs.PlainMap.{replies}
+use Rattle.lh_bucket.specs.PlainMap.{Records, replies}
 use Rattle.lh_bucket.specs.declared.call.Call.{Call}
 use Rattle.lh_bucket.specs.declared.call.Reply.{Reply}
 use Rattle.lh_core.specs.Log.{Entry}
-use Rattle.lh_core.specs.Serial.{size_of}
+use Rattle.lh_core.specs.Serial.{size_from}
 use Rattle.lh_core.specs.declared.event.Event.{Event}
 use Rattle.lh_subcommands.specs.Devices.{IsReadOf, TakesBeginning}
-use Rattle.lh_subcommands.specs.Run.{Ends, EndsReplay, EndsSteps, EndsTelling, HaveEntries, IsPictured, IsTold, ReadsScript, commands_due, due}
+use Rattle.lh_subcommands.specs.Run.{Ends, EndsReplay, EndsSteps, EndsTelling, HaveEntries, IsPictured, IsTold, ReadsScript, commands_due, due, replies_text}
 use Rattle.lh_replay.specs.Picture.{picture_of}
 use Rattle.lh_script.specs.Commands.{command}
 use Rattle.lh_script.specs.Texts.{commands_text}
@@ -21,6 +21,7 @@ use Rattle.lh_script.specs.StepTexts.{steps_text}
 use Rattle.lh_script.specs.Steps.{step}
 use Rattle.lh_script.specs.declared.fault.ScriptFault.{ScriptFault}
 use Rattle.lh_subcommands.specs.declared.status.DeviceFault.TheVariants.{Read, Write}
+use Rattle.lh_subcommands.specs.declared.status.InputFault.{InputFault}
 use Rattle.lh_subcommands.specs.declared.status.InputFault.TheVariants.{Script, Image, Unwritten}
 use Rattle.lh_subcommands.specs.declared.status.Status.{Status}
 use Rattle.lh_subcommands.specs.declared.status.Status.TheVariants.{Done, Input, Words, Device, Memory, NotSettled}
@@ -39,23 +40,22 @@ unread (Device Write) given output a h = absurd h
 unread Memory given output a h = Keeps-refl a
 unread (NotSettled fault) given output a h = absurd h
 
--- the replies to a script's calls and the number of buckets were written
-pub answered : (settings : Settings) (left before now : Option (List ℕ)) (calls : List Call) (told : List Reply) (buckets : ℕ) →
-    IfSome left (λ input. script command input ≡ Ok calls) → Appends before now (commands_text told buckets) →
-    told ≡ replies empty calls → buckets ≡ size_of settings calls → IfSome left (λ input. Ends Done (commands_due settings input) before now)
-unfolding commands_due
-answered settings None before now calls told buckets given written replied size = tt
-answered settings (Some input) before now calls told buckets given written replied size =
-    (commands_text told buckets, ap (due (λ calls. commands_text (replies empty calls) (size_of settings calls))) given ∙ ap Ok (ap₂ commands_text (sym replied) (sym size)), written)
+-- what was told of a script's calls is what is due
+pub told_due : (settings : Settings) (map : Records) (start : ℕ) (given : Result (List Call) ScriptFault) (calls : List Call) (told : List Reply) (buckets : ℕ) →
+    given ≡ Ok calls → told ≡ replies map calls → buckets ≡ size_from settings map start calls →
+    Ok (commands_text told buckets) ≡ due (replies_text settings map start) given
+told_due settings map start given calls told buckets is replied size =
+    ap Ok (ap₂ commands_text replied size) ∙ sym (ap (due (replies_text settings map start)) is)
 
--- a beginning of them was written
-pub answered_in_part : (settings : Settings) (left before now : Option (List ℕ)) (calls : List Call) (told : List Reply) (buckets : ℕ) →
-    IfSome left (λ input. script command input ≡ Ok calls) → TakesBeginning before now (commands_text told buckets) →
-    told ≡ replies empty calls → buckets ≡ size_of settings calls → IfSome left (λ input. Ends (Device Write) (commands_due settings input) before now)
+pub answered : (settings : Settings) (status : Status) (left before now : Option (List ℕ)) (calls : List Call) (told : List Reply) (buckets : ℕ) →
+    IfSome left (λ input. script command input ≡ Ok calls) → Ends status (Ok (commands_text told buckets)) before now →
+    told ≡ replies empty calls → buckets ≡ size_from settings empty settings.initial calls →
+    IfSome left (λ input. Ends status (commands_due settings input) before now)
 unfolding commands_due
-answered_in_part settings None before now calls told buckets given written replied size = tt
-answered_in_part settings (Some input) before now calls told buckets given written replied size =
-    (commands_text told buckets, ap (due (λ calls. commands_text (replies empty calls) (size_of settings calls))) given ∙ ap Ok (ap₂ commands_text (sym replied) (sym size)), written)
+answered settings status None before now calls told buckets given ends replied size = tt
+answered settings status (Some input) before now calls told buckets given ends replied size =
+    subst (λ (d : Result (List ℕ) InputFault). Ends status d before now)
+    (told_due settings empty settings.initial (script command input) calls told buckets given replied size) ends
 
 -- a run that read no script ends without a write
 untold : {A : Type 0} (IsOutput : List A → List ℕ → Type 0) (status : Status) (given : Result (List A) ScriptFault) (a : Option (List ℕ)) →

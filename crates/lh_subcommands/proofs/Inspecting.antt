@@ -134,7 +134,7 @@ migrated listing None before now shows h = tt
 migrated listing (Some input) before now shows h = (canonical Two listing, image_due listing shows.0 input shows.1 shows.2, h.1)
 
 -- an image's listing needs no more pages than the image has
-few_pages : CensusLaw → (input : List ℕ) (l : Lists) → IsImage input l → page_total l ≤ most_pages
+pub few_pages : CensusLaw → (input : List ℕ) (l : Lists) → IsImage input l → page_total l ≤ most_pages
 few_pages census input l image =
     let pages : page_total l ≡ page_count (view_of input) = ap (λ (c : Census). c.pages) (census input l image) in
     let count : page_count (view_of input) ≡ image.0 = ap (λ h. h.pages) image.2.shown.header in

@@ -1,4 +1,6 @@
 pub mod Building
+pub mod ContinuedLaws
+pub mod Continuing
 pub mod Devices
 pub mod Ending
 pub mod Inspecting
@@ -6,4 +8,5 @@ pub mod LineLengths
 pub mod RecordLines
 pub mod ReplyLines
 pub mod Sending
+pub mod Serving
 pub mod Turns

@@ -7,9 +7,9 @@ use Rattle.lh_addr.specs.Growth.{address}
 use Rattle.lh_addr.specs.Settings.{Settings}
 use Rattle.lh_bucket.specs.declared.call.Call.{Call}
 use Rattle.lh_bucket.specs.Listing.{Lists, IsListing, size, list_at}
-use Rattle.lh_bucket.specs.PlainMap.{outcome}
+use Rattle.lh_bucket.specs.PlainMap.{Records, outcome}
 use Rattle.lh_bucket.specs.Records.{map_of}
-use Rattle.lh_core.specs.Serial.{size_of}
+use Rattle.lh_core.specs.Serial.{size_from}
 use Rattle.lh_image.specs.declared.fault.ImageFault.{ImageFault}
 use Rattle.lh_image.specs.declared.fault.ImageFault.TheVariants.{ReadFault, Memory}
 use Rattle.lh_image.specs.declared.fault.WriteImageFault.{WriteImageFault}
@@ -25,45 +25,56 @@ use Rattle.lh_draw.specs.Drawing.{drawing_of}
 use Rattle.lh_subcommands.specs.ImageTexts.{check_text, dump_text}
 use Rattle.lh_subcommands.specs.Run.{EndsTelling}
 use Rattle.lh_script.specs.Scripts.{script}
+use Rattle.lh_script.specs.declared.fault.ScriptFault.{ScriptFault}
 use Rattle.lh_subcommands.specs.declared.status.DeviceFault.TheVariants.{Read, Write}
 use Rattle.lh_subcommands.specs.declared.status.InputFault.{InputFault}
 use Rattle.lh_subcommands.specs.declared.status.InputFault.TheVariants.{Image, Unwritten}
 use Rattle.lh_subcommands.specs.declared.status.Status.{Status}
 use Rattle.lh_subcommands.specs.declared.status.Status.TheVariants.{Input, Device, Memory as NoMemory}
 
--- A listing of the file that calls lead to, as `commands` has it at its end: the settings, the number of buckets to
--- which the split policy has the file grow, and each record of the calls' outcome in the list of the bucket of its
--- address and nowhere else, once.
-pub record IsLedTo (settings : Settings) (calls : List Call) (l : Lists) : Type 0 where
+-- A listing of the file that calls lead to, from one of so many buckets that stands for a map: the settings, the number
+-- of buckets to which the split policy has the file grow, and each record of the calls' outcome in the list of the
+-- bucket of its address and nowhere else, once.
+pub record IsLedFrom (settings : Settings) (map : Records) (start : ℕ) (calls : List Call) (l : Lists) : Type 0 where
   pub config : l.config ≡ settings
-  pub buckets : size l ≡ size_of settings calls
+  pub buckets : size l ≡ size_from settings map start calls
   pub placed : (i : ℕ) → i < size l →
       map_of (list_at l.lists i)
-      ≡ retain_keys (outcome empty calls) (λ key. address settings.initial (size l) (code_of key) == i)
+      ≡ retain_keys (outcome map calls) (λ key. address settings.initial (size l) (code_of key) == i)
   pub listing : IsListing l
 
--- What `build` may write for calls: the canonical image, in a version, of a listing of the file that they lead to,
--- where it has one.
-pub record IsBuilt (version : Version) (settings : Settings) (calls : List Call) (output : List ℕ) : Type 0 where
+-- a listing of the file that calls lead to from an empty one, as `commands` has it at its end
+abbrev pub IsLedTo : Settings → List Call → Lists → Type 0
+IsLedTo settings calls l = IsLedFrom settings empty settings.initial calls l
+
+-- the canonical image, in a version, of a listing that these calls lead to, where it has one
+pub record IsImageAfter (LeadsTo : List Call → Lists → Type 0) (version : Version) (calls : List Call)
+    (output : List ℕ) : Type 0 where
   pub listing : Lists
-  pub led : IsLedTo settings calls listing
+  pub led : LeadsTo calls listing
   pub fits : FitsImage version listing
   pub bytes : output ≡ canonical version listing
 
--- the file that calls lead to has no image in a version, for this reason
-pub record HasNoImage (version : Version) (settings : Settings) (calls : List Call) (fault : WriteImageFault) :
-    Type 0 where
+-- a listing that these calls lead to has no image in a version, for this reason
+pub record HasNoImage (LeadsTo : List Call → Lists → Type 0) (version : Version) (calls : List Call)
+    (fault : WriteImageFault) : Type 0 where
   pub listing : Lists
-  pub led : IsLedTo settings calls listing
+  pub led : LeadsTo calls listing
   pub refused : IsWriteRefusal version listing fault
 
--- how `build` ends on an input: with the reason, and the writer took nothing, where the file that the script leads to
--- has no image; otherwise with the image of that file, or with the script's first fault
+-- how a run ends that writes the image of the file that a script's calls lead to: with the reason, and the writer took
+-- nothing, where that has no image; otherwise with the image, or with the script's first fault
+abbrev pub EndsInImage : (List Call → Lists → Type 0) → Version → Status → Result (List Call) ScriptFault →
+    Option (List ℕ) → Option (List ℕ) → Type 0
+EndsInImage LeadsTo version (Input (Unwritten fault)) given before now =
+    (calls : List Call) × (given ≡ Ok calls) × HasNoImage LeadsTo version calls fault × Keeps before now
+EndsInImage LeadsTo version status given before now =
+    EndsTelling (IsImageAfter LeadsTo version) status given before now
+
+-- how `build` ends on an input: with the image of the file that the script's calls lead to from an empty one
 unfoldable pub EndsBuilding : Version → Settings → List ℕ → Status → Option (List ℕ) → Option (List ℕ) → Type 0
-EndsBuilding version settings input (Input (Unwritten fault)) before now =
-    (calls : List Call) × (script command input ≡ Ok calls) × HasNoImage version settings calls fault × Keeps before now
 EndsBuilding version settings input status before now =
-    EndsTelling (IsBuilt version settings) status (script command input) before now
+    EndsInImage (IsLedTo settings) version status (script command input) before now
 
 -- what is to be written of an image, or the first fault of bytes that are none
 abbrev pub told_of : (Lists → List ℕ) → Result Lists ImageFault → Result (List ℕ) InputFault

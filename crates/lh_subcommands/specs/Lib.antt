@@ -1,7 +1,10 @@
+pub mod Continued
+pub mod ContinuedLaws
 pub mod Devices
 pub mod ImageTexts
 pub mod Images
 pub mod LongestLine
 pub mod Run
+pub mod Serve
 pub mod Status
 pub mod Unsettled

@@ -7,8 +7,9 @@ use Rattle.std.specs.Io.KnownBytes.{Keeps, Appends}
 use Rattle.lh_addr.specs.Settings.{Settings}
 use Rattle.lh_script.specs.Commands.{command}
 use Rattle.lh_subcommands.specs.Devices.{TakesBeginning}
-use Rattle.lh_bucket.specs.PlainMap.{replies}
-use Rattle.lh_core.specs.Serial.{size_of}
+use Rattle.lh_bucket.specs.declared.call.Call.{Call}
+use Rattle.lh_bucket.specs.PlainMap.{Records, replies}
+use Rattle.lh_core.specs.Serial.{size_from}
 use Rattle.lh_core.specs.Headline.{IsHeadline}
 use Rattle.lh_core.specs.Log.{Entry}
 use Rattle.lh_core.specs.World.{WorldSeen}
@@ -40,11 +41,14 @@ abbrev pub due : {A : Type 0} → (List A → List ℕ) → Result (List A) Scri
 due output (Ok statements) = Ok (output statements)
 due output (Err fault) = Err (Script fault)
 
--- what `commands` is to write for an input: the replies of one plain map to the script's calls, then the number of
--- buckets to which the split policy has the file grow
+-- what is to be written of calls on a file of so many buckets that stands for a map: the replies of the plain map, then
+-- the number of buckets to which the split policy has the file grow
+abbrev pub replies_text : Settings → Records → ℕ → List Call → List ℕ
+replies_text settings map start calls = commands_text (replies map calls) (size_from settings map start calls)
+
+-- what `commands` is to write for an input: that of the script's calls, on an empty file
 unfoldable pub commands_due : Settings → List ℕ → Result (List ℕ) InputFault
-commands_due settings input =
-    due (λ calls. commands_text (replies empty calls) (size_of settings calls)) (script command input)
+commands_due settings input = due (replies_text settings empty settings.initial) (script command input)
 
 -- a status, and what the writer took, where this is due:
 -- done, and it took just the output; a fault, the one that is due, and it took nothing;

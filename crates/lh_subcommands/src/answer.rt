@@ -1,10 +1,11 @@
 //! The subcommands `commands` and `steps`, from the bytes of a script to the bytes of the output.
-ghost use Rattle.std.specs.Prelude.{◌≡◌, IfErr, IfOk, IfSome};
+ghost use Rattle.std.specs.Prelude.{◌≡◌, IfErr, IfOk, IfSome, Ok};
 ghost use Rattle.std.specs.List.{list_any};
 ghost use Rattle.lh_core.specs.declared.event.Event.{Event as EventOf};
 ghost use Rattle.lh_script.specs.Commands.{command};
 ghost use Rattle.lh_script.specs.Scripts.{script};
 ghost use Rattle.lh_script.specs.Steps.{step};
+ghost use Rattle.lh_script.specs.Texts.{commands_text};
 ghost use Rattle.lh_subcommands.specs.Run.{Ends, EndsSteps, HaveEntries, ReadsScript, commands_due, is_want};
 
 use crate::device::{ReadError, WriteFailed, read_up_to};
@@ -12,7 +13,7 @@ use crate::output::{room, write_entries, write_replies};
 use crate::status::{DeviceFault, InputFault, Status};
 use lh_addr::Config;
 use lh_bucket::{Call, PagedBucket};
-use lh_core::{Effect, Event, Refusal, run, serial};
+use lh_core::{Effect, Event, Refusal, SerialRan, run, serial};
 use lh_script::{MOST_BYTES, ParseError, Statement, parse};
 use std::alloc::Global;
 use std::io::{Read, Write};
@@ -34,6 +35,21 @@ pub fn read_script<S: Statement, R: Read>(alloc: Global, reader: &mut R) -> Resu
     }
 }
 
+/// Writes the replies to calls that were served, and the number of buckets that they left.
+pub(crate) fn tell<W: Write>(alloc: Global, ran: &SerialRan<PagedBucket>, writer: &mut W) -> Status
+    ensures { Ends result (Ok (commands_text ran.now.replies.items ran.now.world.state.buckets))
+        (W.contents writer.old) (W.contents writer.new) }
+{
+    let buckets = ran.world.root().buckets();
+    let Ok(mut waiting) = room(alloc) else {
+        return Status::Memory;
+    };
+    match write_replies(writer, &mut waiting, ran.replies.as_slice(), buckets) {
+        Ok(()) => Status::Done,
+        Err(_) => Status::Device(DeviceFault::Write),
+    }
+}
+
 /// Reads a command script whole, answers its calls in turn from an empty file, and writes their
 /// replies and the number of buckets.
 #[tactic(auto, using(crate::proofs::Ending::unread), unfolding(crate::specs::Run::commands_due))]
@@ -50,16 +66,9 @@ pub fn answer_commands<R: Read, W: Write>(
         Ok(calls) => calls,
         Err(status) => return status,
     };
-    let Ok(ran) = serial::<PagedBucket>(alloc, config, calls.as_slice()) else {
-        return Status::Memory;
-    };
-    let buckets = ran.world.root().buckets();
-    let Ok(mut waiting) = room(alloc) else {
-        return Status::Memory;
-    };
-    match write_replies(writer, &mut waiting, ran.replies.as_slice(), buckets) {
-        Ok(()) => Status::Done,
-        Err(_) => Status::Device(DeviceFault::Write),
+    match serial::<PagedBucket>(alloc, config, calls.as_slice()) {
+        Ok(ran) => tell(alloc, &ran, writer),
+        Err(_) => Status::Memory,
     }
 }
 

@@ -33,7 +33,7 @@ fn file_after(alloc: Global, config: Config, calls: &[Call]) -> Result<Listing, 
 }
 
 /// Writes a file as an image of a version.
-fn write_in<W: Write>(
+pub(crate) fn write_in<W: Write>(
     version: Version,
     listing: &Listing,
     writer: &mut W,
@@ -48,7 +48,7 @@ fn write_in<W: Write>(
 
 /// How a run ends whose file was not written.
 #[tactic(auto, using(crate::proofs::Building::unwritten_for_file))]
-fn unwritten(fault: WriteImageFault) -> Status
+pub(crate) fn unwritten(fault: WriteImageFault) -> Status
     ensures { result ≡ unwritten_as fault }
 {
     match fault {

@@ -5,9 +5,37 @@ ghost use Rattle.lh_core.specs.Log.{Entry};
 ghost use Rattle.lh_page.specs.declared.pair.Pair.{Pair};
 ghost use Rattle.lh_script.specs.StepTexts.{entry_text};
 ghost use Rattle.lh_script.specs.Texts.{line, reply_text, size_text};
+ghost use Rattle.lh_subcommands.specs.ContinuedLaws.{ApplyLaw, MigrateLaw, QueryLaw};
 ghost use Rattle.lh_subcommands.specs.Devices.{longest_line};
 ghost use Rattle.lh_subcommands.specs.ImageTexts.{record_text};
 ghost use Rattle.lh_subcommands.specs.LongestLine.{IsEntryInLimits, IsNumber, IsRecordInLimits, IsReplyInLimits};
+
+use lh_image::laws::{an_image_leads, census_counts_pages, image_is_of_only_listing};
+
+/// `query` of an image of a listing, and a script behind it, answers what the plain map of the listing answers.
+pub fn query_answers_as_the_plain_map()
+    ensures { QueryLaw }
+{
+    an_image_leads();
+    image_is_of_only_listing();
+}
+
+/// `apply` of an image of a listing, and a script behind it, writes the canonical image of the listing that is left.
+pub fn apply_writes_what_is_left()
+    ensures { ApplyLaw }
+{
+    an_image_leads();
+    image_is_of_only_listing();
+}
+
+/// `apply` of an image and a script without calls is `migrate`.
+pub fn apply_without_calls_is_migrate()
+    ensures { MigrateLaw }
+{
+    an_image_leads();
+    image_is_of_only_listing();
+    census_counts_pages();
+}
 
 /// No line that `commands`, `steps` and `dump` write is longer than the room that is kept for one: so none wants memory
 /// after the first write.

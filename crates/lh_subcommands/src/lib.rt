@@ -4,10 +4,13 @@
 //! `commands` reads a command script, answers its calls and writes their replies. `steps` reads a step script, takes
 //! its steps and writes the effect of each; `replay` draws them. `build` reads a command script and writes the resulting
 //! file as an image; `check` reads an image and writes its counts, `dump` its records, `draw` a drawing, and `migrate`
-//! its image in version 2. What the one that works in threads shares with them stands here too.
+//! its image in version 2. `query` and `apply` read an image and behind it a command script: `query` writes the replies,
+//! and `apply` the image of the file that the calls leave. `serve` answers lines as they come. What the one
+//! that works in threads shares with them stands here too.
 #![tactic(auto)]
 
 mod answer;
+mod continued;
 mod device;
 mod draw;
 mod image_texts;
@@ -15,13 +18,16 @@ mod images;
 pub mod laws;
 mod output;
 mod replay;
+mod serve;
 mod status;
 mod unsettled;
 
 pub use answer::{answer_commands, answer_steps, read_script};
+pub use continued::{answer_apply, answer_query};
 pub use device::{WriteFailed, write_all};
 pub use draw::answer_draw;
 pub use images::{answer_build, answer_check, answer_dump, answer_migrate};
 pub use replay::answer_replay;
+pub use serve::answer_serve;
 pub use status::{DeviceFault, InputFault, Status};
 pub use unsettled::Unsettled;

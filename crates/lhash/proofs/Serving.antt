@@ -1,17 +1,24 @@
 -- What follows of a run for the words of each kind
 use Rattle.std.proofs.Common.{◌≡◌, ◌∙◌, ℕ, ◌<◌, ◌≤◌, List, Option, None, Some, IfSome, inl, inr, refl, sym, ap, subst, codes}
-use Rattle.std.specs.Prelude.{option_and_then, option_map}
+use Rattle.std.specs.Prelude.{option_and_then, option_map, Result, Ok, Err}
 use Rattle.std.specs.String.{string_bytes}
 use Rattle.std.specs.Io.KnownBytes.{Keeps}
 use Rattle.lh_addr.specs.Settings.{Settings}
+use Rattle.lh_bucket.specs.declared.call.Call.{Call}
+use Rattle.lh_bucket.specs.Listing.{Lists}
+use Rattle.lh_image.specs.declared.fault.ImageFault.{ImageFault}
+use Rattle.lh_image.specs.declared.version.Version.{Version}
+use Rattle.lh_image.specs.Reading.{leading, reading_of}
 use Rattle.lh_options.specs.Options.{Asks, AsksForHelp, IsTurned, Text, asked_by, asked_for, number_given, settings_given, subcommand_named, version_numbered}
-use Rattle.lh_options.proofs.Asking.{asked_named, build, commands, drive, refused_alone, replay, steps, undriven}
+use Rattle.lh_options.proofs.Asking.{apply, asked_named, build, commands, drive, refused_alone, replay, steps, unapplied, undriven}
 use Rattle.lh_options.specs.declared.options.Request.{Request}
 use Rattle.lh_options.specs.declared.options.Request.TheVariants as request
+use Rattle.lh_script.specs.declared.fault.ScriptFault.{ScriptFault}
 use Rattle.lhash.specs.Driving.{EndsDriving}
+use Rattle.lh_subcommands.specs.Continued.{EndsApplying, EndsLeaving, query_due, script_behind}
 use Rattle.lh_subcommands.specs.Images.{EndsBuilding, check_due, draw_due, dump_due, migrate_due}
 use Rattle.lh_subcommands.specs.Run.{EndsReplay, EndsSteps}
-use Rattle.lhash.specs.Serving.{Ending, EndsCommands, EndsTold, IsHelped, IsRun, IsTurnedAway, IsWordsOf, RefusesBelow, Serves, ServesBuild, ServesDrive, ServesFile, ServesImage, TurnsAway, below_initial, wanted_version}
+use Rattle.lhash.specs.Serving.{Ending, EndsCommands, EndsTold, IsHelped, IsRun, IsTurnedAway, IsWordsOf, RefusesBelow, Serves, ServesApply, ServesBuild, ServesDrive, ServesFile, ServesImage, TurnsAway, below_initial, wanted_version}
 use Rattle.lh_subcommands.specs.declared.status.DeviceFault.TheVariants.{Read, Write}
 use Rattle.lh_subcommands.specs.declared.status.Status.{Status}
 use Rattle.lh_subcommands.specs.declared.status.Status.TheVariants.{Done, Input, Words, Device, Memory, NotSettled}
@@ -143,6 +150,49 @@ serves_migrate words status left rest before now asks run =
     serves_alone words status left rest before now (codes "migrate") request.Migrate (EndsTold migrate_due) (settings_given words) refl
     (λ h. h) (λ input keeps. keeps) asks (λ numbers. refl) (λ s numbers. refl) run
 
+pub serves_query : ServesImage (codes "query") (EndsTold query_due)
+unfolding asked_by
+serves_query words status left rest before now asks run =
+    serves_alone words status left rest before now (codes "query") request.Query (EndsTold query_due) (settings_given words) refl
+    (λ h. h) (λ input keeps. keeps) asks (λ numbers. refl) (λ s numbers. refl) run
+
+-- an image that is not written keeps what the writer holds
+leaves_nothing : (version : Version) (file : Result Lists ImageFault) (given : Result (List Call) ScriptFault) (before now : Option (List ℕ)) →
+    Keeps before now → EndsLeaving version Memory file given before now
+leaves_nothing version (Ok l) given before now keeps = keeps
+leaves_nothing version (Err fault) given before now keeps = keeps
+
+applies_nothing : (version : Version) (input : List ℕ) (before now : Option (List ℕ)) → Keeps before now → EndsApplying version input Memory before now
+unfolding EndsApplying
+applies_nothing version input before now keeps = leaves_nothing version (reading_of (leading input)) (script_behind input) before now keeps
+
+unasked : (s : Settings) (numbers : Text → Option ℕ) → asked_by (codes "apply") (Some s) numbers ≡ None
+unfolding asked_by
+unasked s numbers = unapplied s (numbers (codes "image"))
+
+-- words that ask for the image which a script leaves give no settings, or ask for nothing
+applied : (words : List Text) (status : Status) (left rest before now : Option (List ℕ)) (n : ℕ) (settings : Option Settings) →
+    settings_given words ≡ settings → Asks words (codes "apply") → number_given words (codes "image") ≡ Some n →
+    IsRun words status left rest before now →
+    IfSome left (λ input. EndsApplying (wanted_version (version_numbered n)) input status before now)
+applied words status left rest before now n None given asks image run =
+    served words status left rest before now (codes "apply") (request.Apply (version_numbered n)) (EndsApplying (wanted_version (version_numbered n)))
+    (λ h. h) (λ input keeps. applies_nothing (wanted_version (version_numbered n)) input before now keeps) asks
+    (apply (codes "apply") _ _ (version_numbered n) refl given (ap (option_map version_numbered) image)) run
+applied words status left rest before now n (Some s) given asks image (inl run) =
+    let none : asked_by (codes "apply") (settings_given words) (number_given words) ≡ None =
+    ap (λ x. asked_by (codes "apply") x (number_given words)) given ∙ unasked s (number_given words) in
+    let some = asked_named words (codes "apply") run.0 asks run.1 in
+    let apart : Some run.0 ≡ None = sym some ∙ none in
+    absurd cc
+applied words status left rest before now n (Some s) given asks image (inr run) =
+    unwritten (EndsApplying (wanted_version (version_numbered n))) status left before now
+    (λ input keeps. applies_nothing (wanted_version (version_numbered n)) input before now keeps) run.0 run.2
+
+pub serves_apply : ServesApply
+serves_apply words status left rest before now n asks image run =
+    applied words status left rest before now n (settings_given words) refl asks image run
+
 -- what is refused for its settings
 pub refuses_below : RefusesBelow
 refuses_below words status left rest before now settings accepts given below (inl (r, inl answers, serves)) =
@@ -175,6 +225,8 @@ turned words request.Check status left rest before now is serves = absurd is
 turned words request.Dump status left rest before now is serves = absurd is
 turned words request.Draw status left rest before now is serves = absurd is
 turned words request.Migrate status left rest before now is serves = absurd is
+turned words request.Query status left rest before now is serves = absurd is
+turned words (request.Apply image) status left rest before now is serves = absurd is
 turned words request.MaxBelowInitial status left rest before now is serves = absurd is
 
 -- what is turned away

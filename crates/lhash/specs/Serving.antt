@@ -6,6 +6,7 @@ use Rattle.lh_subcommands.specs.Devices.{TakesBeginning}
 use Rattle.lh_image.specs.declared.version.Version.{Version}
 use Rattle.lh_image.specs.declared.version.Version.TheVariants.{One, Two}
 use Rattle.lhash.specs.Driving.{EndsDriving}
+use Rattle.lh_subcommands.specs.Continued.{EndsApplying, query_due}
 use Rattle.lh_subcommands.specs.Images.{EndsBuilding, check_due, draw_due, dump_due, migrate_due}
 use Rattle.lh_addr.specs.Settings.{Settings}
 use Rattle.lh_options.specs.Escapes.{has_no_control}
@@ -14,7 +15,7 @@ use Rattle.lh_subcommands.specs.Run.{Ends, EndsReplay, EndsSteps, commands_due}
 use Rattle.lh_options.specs.declared.options.ImageVersion.{ImageVersion}
 use Rattle.lh_options.specs.declared.options.ImageVersion.TheVariants.{First, Second}
 use Rattle.lh_options.specs.declared.options.Request.{Request}
-use Rattle.lh_options.specs.declared.options.Request.TheVariants.{Commands, Steps, Replay, Build, Check, Draw, Dump, Drive, Migrate, Help, Refused, MaxBelowInitial}
+use Rattle.lh_options.specs.declared.options.Request.TheVariants.{Commands, Steps, Replay, Build, Check, Draw, Dump, Drive, Migrate, Query, Apply, Help, Refused, MaxBelowInitial}
 use Rattle.lh_subcommands.specs.declared.status.DeviceFault.TheVariants.{Write}
 use Rattle.lh_subcommands.specs.declared.status.InputFault.{InputFault}
 use Rattle.lh_subcommands.specs.declared.status.Status.{Status}
@@ -57,6 +58,9 @@ Serves Check status left rest before now = IfSome left (λ input. Ends status (c
 Serves Dump status left rest before now = IfSome left (λ input. Ends status (dump_due input) before now)
 Serves Draw status left rest before now = IfSome left (λ input. Ends status (draw_due input) before now)
 Serves Migrate status left rest before now = IfSome left (λ input. Ends status (migrate_due input) before now)
+Serves Query status left rest before now = IfSome left (λ input. Ends status (query_due input) before now)
+Serves (Apply image) status left rest before now =
+    IfSome left (λ input. EndsApplying (wanted_version image) input status before now)
 Serves (Drive config threads snapshots) status left rest before now =
     IfSome left (λ input. EndsDriving config snapshots input status before now)
 Serves (Help text) status left rest before now = IsHelped (string_bytes text) status before now × Keeps left rest
@@ -67,6 +71,7 @@ Serves MaxBelowInitial status left rest before now = IsWordsOf below_initial sta
 abbrev pub is_image_written : Request → Bool
 is_image_written (Build config image) = true
 is_image_written Migrate = true
+is_image_written (Apply image) = true
 is_image_written _ = false
 
 -- whether what the words ask for has an image written
@@ -138,6 +143,13 @@ abbrev pub ServesImage : Text → Ending → Type 0
 ServesImage name EndsWith =
     (words : List Text) (status : Status) (left rest before now : Option (List ℕ)) →
     Asks words name → IsRun words status left rest before now → IfSome left (λ input. EndsWith input status before now)
+
+-- a run for words that ask for `apply`, and give the number of a version, ends so
+abbrev pub ServesApply : Type 0
+ServesApply =
+    (words : List Text) (status : Status) (left rest before now : Option (List ℕ)) (n : ℕ) →
+    Asks words (codes "apply") → number_given words (codes "image") ≡ Some n → IsRun words status left rest before now →
+    IfSome left (λ input. EndsApplying (wanted_version (version_numbered n)) input status before now)
 
 -- a run for words that give settings out of order refuses them
 abbrev pub RefusesBelow : Type 0

@@ -1,9 +1,10 @@
 //! What follows of a run for the words that it was given, by the subcommand that they name. Each law is the contract of
 //! a function that does nothing.
 ghost use Rattle.std.specs.Prelude.{codes};
+ghost use Rattle.lh_subcommands.specs.Continued.{query_due};
 ghost use Rattle.lh_subcommands.specs.Images.{check_due, draw_due, dump_due, migrate_due};
 ghost use Rattle.lh_subcommands.specs.Run.{EndsReplay, EndsSteps};
-ghost use Rattle.lhash.specs.Serving.{EndsCommands, EndsTold, RefusesBelow, ServesBuild, ServesDrive, ServesFile, ServesImage, TurnsAway};
+ghost use Rattle.lhash.specs.Serving.{EndsCommands, EndsTold, RefusesBelow, ServesApply, ServesBuild, ServesDrive, ServesFile, ServesImage, TurnsAway};
 
 /// Words that ask for `commands` have the replies of one plain map to the script's calls written, and the number of
 /// buckets that the split policy gives; or the run ends at the script's first fault, with nothing written.
@@ -51,6 +52,19 @@ pub fn draw_is_served()
 /// Words that ask for `migrate` have the image of version 2 written of the listing that the input is an image of.
 pub fn migrate_is_served()
     ensures { ServesImage (codes "migrate") (EndsTold migrate_due) }
+{}
+
+/// Words that ask for `query` have the replies written of the plain map of the image's listing to the calls of the script
+/// behind it, and the number of buckets that the split policy gives; or the run ends at the image's fault, or else at the
+/// script's first one, with nothing written.
+pub fn query_is_served()
+    ensures { ServesImage (codes "query") (EndsTold query_due) }
+{}
+
+/// Words that ask for `apply` have the image written, in the version that they give, of the file that the calls of the
+/// script behind the input's image leave; or the reason why it has none.
+pub fn apply_is_served()
+    ensures { ServesApply }
 {}
 
 /// Words whose `--max` is less than their `--initial` are refused, with nothing read and nothing written.

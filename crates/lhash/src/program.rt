@@ -7,8 +7,8 @@ use crate::drive::answer_drive;
 use lh_image::Version;
 use lh_options::{ImageVersion, Request, request_of};
 use lh_subcommands::{
-    DeviceFault, Status, answer_build, answer_check, answer_commands, answer_draw, answer_dump,
-    answer_migrate, answer_replay, answer_steps, write_all,
+    DeviceFault, Status, answer_apply, answer_build, answer_check, answer_commands, answer_draw,
+    answer_dump, answer_migrate, answer_query, answer_replay, answer_steps, write_all,
 };
 use std::alloc::{AllocError, Global};
 use std::io::{Read, Write};
@@ -68,6 +68,8 @@ fn serve<A: Threads + Wait + Sync, R: Read, W: Write>(
         Request::Dump => answer_dump(alloc, reader, writer),
         Request::Draw => answer_draw(alloc, reader, writer),
         Request::Migrate => answer_migrate(alloc, reader, writer),
+        Request::Query => answer_query(alloc, reader, writer),
+        Request::Apply(version) => answer_apply(alloc, version_of(version), reader, writer),
         Request::Drive {
             config,
             threads,
@@ -88,6 +90,7 @@ pub fn asks_for_image<'a>(alloc: Global, words: &'a [&'a str]) -> Result<bool, A
     match request_of(alloc, words)? {
         Request::Build(..) => Ok(true),
         Request::Migrate => Ok(true),
+        Request::Apply(_) => Ok(true),
         _ => Ok(false),
     }
 }

@@ -14,10 +14,7 @@ fn answer(rt: &(impl Abort + AllocGlobal), words: &[&str]) -> Result<String, All
         }
         Request::Build(config, version) => {
             let settings = settings(rt, &config)?;
-            let version = match version {
-                ImageVersion::First => "version 1",
-                ImageVersion::Second => "version 2",
-            };
+            let version = text_of(version);
             format!(in alloc; "{settings}, {version}")
         }
         Request::Drive {
@@ -32,6 +29,11 @@ fn answer(rt: &(impl Abort + AllocGlobal), words: &[&str]) -> Result<String, All
         Request::Dump => String::from_str(alloc, "dump"),
         Request::Draw => String::from_str(alloc, "draw"),
         Request::Migrate => String::from_str(alloc, "migrate"),
+        Request::Query => String::from_str(alloc, "query"),
+        Request::Apply(version) => {
+            let version = text_of(version);
+            format!(in alloc; "apply, {version}")
+        }
         Request::Help(text) => {
             assert!(rt;
                 text.as_str().starts_with("Usage: lhash")
@@ -41,6 +43,13 @@ fn answer(rt: &(impl Abort + AllocGlobal), words: &[&str]) -> Result<String, All
         }
         Request::Refused(text) => format!(in alloc; "refused: {text}"),
         Request::MaxBelowInitial => String::from_str(alloc, "max is below initial"),
+    }
+}
+
+fn text_of(version: ImageVersion) -> &'static str {
+    match version {
+        ImageVersion::First => "version 1",
+        ImageVersion::Second => "version 2",
     }
 }
 
@@ -302,6 +311,42 @@ fn an_image_is_of_version_1_or_2(rt: HostRuntime) -> Result<(), AllocError> {
         &rt,
         ["lhash", "commands", "--image=2"].as_slice(),
         "refused: unexpected argument '--image' found",
+    )
+}
+
+#[test]
+fn what_goes_on_from_an_image_takes_no_settings(rt: HostRuntime) -> Result<(), AllocError> {
+    gives(&rt, ["lhash", "query"].as_slice(), "query")?;
+    gives(
+        &rt,
+        ["lhash", "query", "--image=2"].as_slice(),
+        "refused: unexpected argument '--image' found",
+    )?;
+    gives(&rt, ["lhash", "apply"].as_slice(), "apply, version 2")?;
+    gives(
+        &rt,
+        ["lhash", "apply", "--image", "1"].as_slice(),
+        "apply, version 1",
+    )?;
+    gives(
+        &rt,
+        ["lhash", "apply", "--image=3"].as_slice(),
+        "refused: invalid value '3' for '--image <image>': 3 is not in 1..=2",
+    )?;
+    gives(
+        &rt,
+        ["lhash", "apply", "--image=+1"].as_slice(),
+        "refused: a number may have no sign",
+    )?;
+    gives(
+        &rt,
+        ["lhash", "apply", "--image=1", "--image=1"].as_slice(),
+        "refused: the argument '--image <image>' cannot be used multiple times",
+    )?;
+    gives(
+        &rt,
+        ["lhash", "apply", "--capacity=2"].as_slice(),
+        "refused: unexpected argument '--capacity' found",
     )
 }
 

@@ -1,4 +1,5 @@
 //! Readers and writers that fail at each of their turns, or that give and take little, of every subcommand.
+use crate::tests::images::continued::behind;
 use crate::tests::images::{FIVE, FIVE_CENSUS, FIVE_RECORDS, FIVE_WORDS, built, inserts};
 use crate::tests::support::{Sink, Source, ran};
 use lhash::run;
@@ -234,6 +235,54 @@ fn each_failed_turn_ends_migrate(rt: HostRuntime) -> Result<(), Fail> {
     fails_at_each_read(&rt, &migrate, &new, 1_024, &new)?;
     fails_at_each_write(&rt, &migrate, &old, 64, 257, &new)?;
     fails_at_each_write(&rt, &migrate, &old, 4_096, 5, &new)
+}
+
+/// Four pages of version 1, and a script behind them.
+#[test]
+fn each_failed_turn_ends_what_goes_on_from_an_image(rt: HostRuntime) -> Result<(), Fail> {
+    let script = "search 61\ninsert 66 36\ninsert 67 37\n";
+    let input = behind(&rt, &built(&rt, FIVE_WORDS, FIVE)?, script)?;
+    let query = ["lhash", "query"];
+    let replies = b"found 31\ninserted\ninserted\nbuckets 4\n";
+    for at_once in [7, 1_024] {
+        fails_at_each_read(&rt, &query, &input, at_once, replies)?;
+    }
+    let writes = replies.len().saturating_add(1);
+    fails_at_each_write(&rt, &query, &input, 1, writes, replies)?;
+    let apply = ["lhash", "apply"];
+    let (_, left, _) = ran(&rt, &apply, &input)?;
+    assert_eq!(rt; left.len(), 20_480);
+    for at_once in [7, 1_024] {
+        fails_at_each_read(&rt, &apply, &input, at_once, &left)?;
+    }
+    fails_at_each_write(&rt, &apply, &input, 64, 321, &left)?;
+    fails_at_each_write(&rt, &apply, &input, 4_096, 6, &left)
+}
+
+/// The faults of an image come before a read that fails behind it, and that before a fault of the script.
+#[test]
+fn a_failed_read_stands_between_image_and_script(rt: HostRuntime) -> Result<(), Fail> {
+    let image = built(&rt, FIVE_WORDS, FIVE)?;
+    let mut forged = behind(&rt, &image, "")?;
+    // The level of the first bucket.
+    if let Some(level) = forged.get_mut(1_026) {
+        *level = 7;
+    }
+    for (image, code) in [(&image, 3), (&forged, 1)] {
+        let input = behind(&rt, image, "frob\n")?;
+        for words in [["lhash", "query"], ["lhash", "apply"]] {
+            let mut source = Source {
+                bytes: &input,
+                at_once: 1_024,
+                reads: 0,
+                failing_read: 5,
+            };
+            let mut output = Vec::new(rt.alloc());
+            let status = run(&rt, words.as_slice(), &mut source, &mut output);
+            assert!(rt; status.code() == code && output.is_empty());
+        }
+    }
+    Ok(())
 }
 
 /// The first three faults of an image come before a read that fails.

@@ -5,6 +5,7 @@ use std::sync::Wait;
 use std::test::Fail;
 use std::thread::Threads;
 
+pub mod continued;
 mod forged;
 mod opened;
 mod second;
@@ -270,10 +271,11 @@ fn turned_away(
 
 #[test]
 fn what_reads_an_image_takes_no_options(rt: HostRuntime) -> Result<(), Fail> {
-    for subcommand in ["check", "dump", "draw", "migrate"] {
+    for subcommand in ["check", "dump", "draw", "migrate", "query", "apply"] {
         for option in ["--max=1", "--initial=1", "extra"] {
             turned_away(&rt, &["lhash", subcommand, option])?;
         }
     }
-    Ok(())
+    turned_away(&rt, &["lhash", "query", "--image=1"])?;
+    turned_away(&rt, &["lhash", "apply", "--image=3"])
 }

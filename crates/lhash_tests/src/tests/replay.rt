@@ -13,19 +13,19 @@ const OLD_ROOT: &str =
 <text x='16' y='38'>a straight arrow is the move of a split, and a triangle the step of its pointer</text>
 <g transform='translate(48 64)'><path stroke='#cccccc' d='M0 -8v332'/><text x='8' font-weight='bold'>splitter</text></g>
 <g transform='translate(336 64)'><path stroke='#cccccc' d='M0 -8v332'/><text x='8' font-weight='bold'>place 0</text></g>
-<g transform='translate(0 72)'><text x='36' y='16' text-anchor='end' fill='#777777'>1</text><g transform='translate(336 0)'><text x='8' y='16' fill='#333333'>insert: called</text></g></g>
-<g transform='translate(0 96)'><text x='36' y='16' text-anchor='end' fill='#777777'>2</text><g transform='translate(336 0)'><text x='8' y='16' fill='#333333'>read: aim 0 0</text></g></g>
-<g transform='translate(0 120)'><text x='36' y='16' text-anchor='end' fill='#777777'>3</text><g transform='translate(48 0)'><text x='8' y='16' fill='#333333'>split-begin: begun 0 1</text></g></g>
-<g transform='translate(0 144)'><text x='36' y='16' text-anchor='end' fill='#777777'>4</text><g transform='translate(48 0)'><rect fill='#f8e2b3' x='148' y='2' width='54' height='68'/><text transform='translate(148 16)' x='6' font-weight='bold'>0</text><rect fill='#f8e2b3' x='206' y='2' width='54' height='68'/><text transform='translate(206 16)' x='6' font-weight='bold'>1</text><text x='8' y='16' fill='#333333'>split-lock: both 0 1</text></g></g>
-<g transform='translate(0 168)'><text x='36' y='16' text-anchor='end' fill='#777777'>5</text><g transform='translate(48 0)'><path d='M188 12h32m-6 -5l6 5l-6 5' fill='none' stroke='#333333' stroke-width='2'/><text x='8' y='16' fill='#333333'>split-move: moved 0 1</text></g></g>
-<g transform='translate(0 192)'><text x='36' y='16' text-anchor='end' fill='#777777'>6</text><g transform='translate(48 0)'><text x='8' y='16' fill='#333333'>split-release: freed</text></g></g>
-<g transform='translate(0 216)'><text x='36' y='16' text-anchor='end' fill='#777777'>7</text><g transform='translate(48 0)'><path d='M204 4l8 14h-16z'/><text x='8' y='16' fill='#333333'>split-point: point 2</text></g></g>
-<g transform='translate(0 240)'><text x='36' y='16' text-anchor='end' fill='#777777'>8</text><g transform='translate(336 0)'><rect fill='#b3d5e8' x='148' y='2' width='112' height='68'/><text transform='translate(148 16)' x='6' font-weight='bold'>0</text><text x='8' y='16' fill='#333333'>lock: locked 0 1</text></g></g>
-<g transform='translate(0 264)'><text x='36' y='16' text-anchor='end' fill='#777777'>9</text><g transform='translate(336 0)'><text x='8' y='16' fill='#d55e00'>act: refused C3</text></g></g>
-<g transform='translate(0 288)'><text x='36' y='16' text-anchor='end' fill='#777777'>10</text><g transform='translate(336 0)'><path d='M264 12c16 0 16 24 6 24' fill='none' stroke='#d55e00' stroke-width='2'/><path transform='translate(262 24)' d='M0 12l8 -4v8z' fill='#d55e00'/><text x='8' y='16' fill='#333333'>rehash: aim 1 1</text></g></g>
-<g transform='translate(0 312)'><text x='36' y='16' text-anchor='end' fill='#777777'>11</text><g transform='translate(336 0)'><rect fill='#b3d5e8' x='148' y='2' width='112' height='68'/><text transform='translate(148 16)' x='6' font-weight='bold'>1</text><text x='8' y='16' fill='#333333'>lock: locked 1 1</text></g></g>
-<g transform='translate(0 336)'><text x='36' y='16' text-anchor='end' fill='#777777'>12</text><g transform='translate(336 0)'><text x='8' y='16' fill='#333333'>act: inserted</text></g></g>
-<g transform='translate(0 360)'><text x='36' y='16' text-anchor='end' fill='#777777'>13</text><g transform='translate(336 0)'><text x='8' y='16' fill='#333333'>release: released</text></g></g>
+<g transform='translate(0 72)'><text x='36' y='16' text-anchor='end' fill='#757575'>1</text><g transform='translate(336 0)'><text x='8' y='16' fill='#333333'>insert: called</text></g></g>
+<g transform='translate(0 96)'><text x='36' y='16' text-anchor='end' fill='#757575'>2</text><g transform='translate(336 0)'><text x='8' y='16' fill='#333333'>read: aim 0 0</text></g></g>
+<g transform='translate(0 120)'><text x='36' y='16' text-anchor='end' fill='#757575'>3</text><g transform='translate(48 0)'><text x='8' y='16' fill='#333333'>split-begin: begun 0 1</text></g></g>
+<g transform='translate(0 144)'><text x='36' y='16' text-anchor='end' fill='#757575'>4</text><g transform='translate(48 0)'><rect fill='#f8e2b3' x='148' y='2' width='54' height='68'/><text transform='translate(148 16)' x='6' font-weight='bold'>0</text><rect fill='#f8e2b3' x='206' y='2' width='54' height='68'/><text transform='translate(206 16)' x='6' font-weight='bold'>1</text><text x='8' y='16' fill='#333333'>split-lock: both 0 1</text></g></g>
+<g transform='translate(0 168)'><text x='36' y='16' text-anchor='end' fill='#757575'>5</text><g transform='translate(48 0)'><path d='M188 12h32m-6 -5l6 5l-6 5' fill='none' stroke='#333333' stroke-width='2'/><text x='8' y='16' fill='#333333'>split-move: moved 0 1</text></g></g>
+<g transform='translate(0 192)'><text x='36' y='16' text-anchor='end' fill='#757575'>6</text><g transform='translate(48 0)'><text x='8' y='16' fill='#333333'>split-release: freed</text></g></g>
+<g transform='translate(0 216)'><text x='36' y='16' text-anchor='end' fill='#757575'>7</text><g transform='translate(48 0)'><path d='M204 4l8 14h-16z'/><text x='8' y='16' fill='#333333'>split-point: point 2</text></g></g>
+<g transform='translate(0 240)'><text x='36' y='16' text-anchor='end' fill='#757575'>8</text><g transform='translate(336 0)'><rect fill='#b3d5e8' x='148' y='2' width='112' height='68'/><text transform='translate(148 16)' x='6' font-weight='bold'>0</text><text x='8' y='16' fill='#333333'>lock: locked 0 1</text></g></g>
+<g transform='translate(0 264)'><text x='36' y='16' text-anchor='end' fill='#757575'>9</text><g transform='translate(336 0)'><text x='8' y='16' fill='#b85000'>act: refused C3</text></g></g>
+<g transform='translate(0 288)'><text x='36' y='16' text-anchor='end' fill='#757575'>10</text><g transform='translate(336 0)'><path d='M264 12c16 0 16 24 6 24' fill='none' stroke='#b85000' stroke-width='2'/><path transform='translate(262 24)' d='M0 12l8 -4v8z' fill='#b85000'/><text x='8' y='16' fill='#333333'>rehash: aim 1 1</text></g></g>
+<g transform='translate(0 312)'><text x='36' y='16' text-anchor='end' fill='#757575'>11</text><g transform='translate(336 0)'><rect fill='#b3d5e8' x='148' y='2' width='112' height='68'/><text transform='translate(148 16)' x='6' font-weight='bold'>1</text><text x='8' y='16' fill='#333333'>lock: locked 1 1</text></g></g>
+<g transform='translate(0 336)'><text x='36' y='16' text-anchor='end' fill='#757575'>12</text><g transform='translate(336 0)'><text x='8' y='16' fill='#333333'>act: inserted</text></g></g>
+<g transform='translate(0 360)'><text x='36' y='16' text-anchor='end' fill='#757575'>13</text><g transform='translate(336 0)'><text x='8' y='16' fill='#333333'>release: released</text></g></g>
 </svg>
 ";
 
@@ -141,7 +141,7 @@ const MANY_PARTS: [(&str, usize); 28] = [
     (", steps 153</title>", 1),
     ("<g transform='translate(0 ", 153),
     (
-        "fill='#777777'>153</text><g transform='translate(336 0)'>",
+        "fill='#757575'>153</text><g transform='translate(336 0)'>",
         1,
     ),
     (

@@ -1,5 +1,5 @@
 use Rattle.std.proofs.Common.{inl, inr}
-use Rattle.lh_options.proofs.Asking.{build, check, commands, drive, draw, dump, migrate, out_of_order, replay, steps}
+use Rattle.lh_options.proofs.Asking.{apply, build, check, commands, drive, draw, dump, migrate, out_of_order, query, replay, steps}
 use Rattle.lh_options.proofs.options.asked.Goals as goal
 
 pub returns-in-Some-clause-value : goal.returns-in-Some-clause-value
@@ -31,7 +31,14 @@ pub returns-in-draw-clause-value : goal.returns-in-draw-clause-value
 returns-in-draw-clause-value c = draw _ _ _ c.in-draw.is (c.requires.none (inr (inr (inl c.in-draw.is))))
 
 pub returns-in-migrate-clause-value : goal.returns-in-migrate-clause-value
-returns-in-migrate-clause-value c = migrate _ _ _ c.in-migrate.is (c.requires.none (inr (inr (inr c.in-migrate.is))))
+returns-in-migrate-clause-value c = migrate _ _ _ c.in-migrate.is (c.requires.none (inr (inr (inr (inl c.in-migrate.is)))))
+
+pub returns-in-query-clause-value : goal.returns-in-query-clause-value
+returns-in-query-clause-value c = query _ _ _ c.in-query.is (c.requires.none (inr (inr (inr (inr (inl c.in-query.is))))))
+
+pub returns-in-apply-clause-value : goal.returns-in-apply-clause-value
+returns-in-apply-clause-value c =
+    apply _ _ _ _ c.in-apply.is (c.requires.none (inr (inr (inr (inr (inr c.in-apply.is)))))) c.version_in-in-apply.ensures
 
 pub returns-in-Some-config_of-3-clause-value : goal.returns-in-Some-config_of-3-clause-value
 returns-in-Some-config_of-3-clause-value c =

@@ -1,5 +1,5 @@
 use Rattle.std.proofs.lemmas.Result.{IfOk-weaker}
-use Rattle.lh_options.specs.Options.{check_app, draw_app, drive_app, dump_app, migrate_app, scripts_app}
+use Rattle.lh_options.specs.Options.{apply_app, check_app, draw_app, drive_app, dump_app, migrate_app, query_app, scripts_app}
 use Rattle.lh_options.proofs.CommandShapes.{subcommand-reads}
 use Rattle.lh_options.proofs.options.program.Goals as goal
 
@@ -9,4 +9,6 @@ returns c =
     let second = subcommand-reads _ _ _ _ dump_app c.in_ok-subcommand-2.ensures first c.image_command-2.ensures in
     let third = subcommand-reads _ _ _ _ drive_app c.in_ok-subcommand-3.ensures second c.in_ok-drive_command.ensures in
     let fourth = subcommand-reads _ _ _ _ draw_app c.in_ok-subcommand-4.ensures third c.image_command-3.ensures in
-    IfOk-weaker c.subcommand-5.result _ _ (λ m h. subcommand-reads _ _ m _ migrate_app h fourth c.image_command-4.ensures) c.subcommand-5.ensures
+    let fifth = subcommand-reads _ _ _ _ migrate_app c.in_ok-subcommand-5.ensures fourth c.image_command-4.ensures in
+    let sixth = subcommand-reads _ _ _ _ query_app c.in_ok-subcommand-6.ensures fifth c.image_command-5.ensures in
+    IfOk-weaker c.subcommand-7.result _ _ (λ m h. subcommand-reads _ _ m _ apply_app h sixth c.in_ok-apply_command.ensures) c.subcommand-7.ensures

@@ -1,7 +1,7 @@
 use Rattle.std.proofs.Common.{◌≡◌, ◌∙◌, Bool, true, false, not, map, refl, sym, rules}
 use Rattle.std.proofs.lemmas.Result.{IfOk-weaker}
 use Rattle.clap.specs.Words.{found_of, rows_of}
-use Rattle.lh_options.proofs.Accepted.{entered-drive, entered-image, entered-named, entered-none, entered-settings}
+use Rattle.lh_options.proofs.Accepted.{entered-applied, entered-drive, entered-image, entered-named, entered-none, entered-settings}
 use Rattle.lh_options.proofs.Requests.{asked-answers, entered-from, failed-from, refusal-answers, refusal-servable, signed-answers, signed-servable}
 use Rattle.lh_options.proofs.options.request_of.Goals as goal
 
@@ -40,6 +40,13 @@ asked-requires-clause-image c =
     let entered = entered-from _ c.in-Ok.matches words c.in-Some.name.now (rows_of (found_of c.in-Some.matches.now))
     c.in_ok-program.ensures.0 c.in-Ok.ensures.kinds c.in-Ok.ensures.matches c.in-Some.ensures.name c.in-Some.ensures.rows in
     entered-image _ _ entered.asked
+
+pub asked-requires-clause-applied : goal.asked-requires-clause-applied
+asked-requires-clause-applied c =
+    let words = map (λ s. s.now) c.args.words.now in
+    let entered = entered-from _ c.in-Ok.matches words c.in-Some.name.now (rows_of (found_of c.in-Some.matches.now))
+    c.in_ok-program.ensures.0 c.in-Ok.ensures.kinds c.in-Ok.ensures.matches c.in-Some.ensures.name c.in-Some.ensures.rows in
+    entered-applied _ _ entered.asked
 
 pub asked-requires-clause-none : goal.asked-requires-clause-none
 asked-requires-clause-none c =

@@ -39,3 +39,9 @@ returns-in-Replay g c = served_as c.in-Replay.is _ _ _ _ _ c.answer_replay.ensur
 
 pub returns-in-Steps : goal.returns-in-Steps
 returns-in-Steps g c = served_as c.in-Steps.is _ _ _ _ _ search
+
+pub returns-in-Query : goal.returns-in-Query
+returns-in-Query g c = served_as c.in-Query.is _ _ _ _ _ c.answer_query.ensures
+
+pub returns-in-Apply : goal.returns-in-Apply
+returns-in-Apply g c = served_as c.in-Apply.is _ _ _ _ _ (rw c.version_of-in-Apply.ensures at c.answer_apply.ensures)

@@ -1,0 +1,26 @@
+-- The lines of a client: the calls of a command script, and what else may be asked.
+use Rattle.std.specs.Prelude.{ℕ, if◌then◌else◌, List, [], ◌∷◌, Result, Ok, Err, codes}
+use Rattle.lh_script.specs.Commands.{call_alone}
+use Rattle.lh_script.specs.Lines.{is_word}
+use Rattle.lh_script.specs.Operands.{◌>>=◌}
+use Rattle.lh_script.specs.Scripts.{Reading, unless_skipped}
+use Rattle.lh_script.specs.declared.fault.LineFault.{LineFault}
+use Rattle.lh_script.specs.declared.fault.LineFault.TheVariants.{WordCount}
+use Rattle.lh_script.specs.declared.requests.Request.{Request}
+use Rattle.lh_script.specs.declared.requests.Request.TheVariants as ask
+
+-- a request behind which no word stands
+unfoldable pub if_alone : Request → List (List ℕ) → Result Request LineFault
+if_alone request [] = Ok request
+if_alone request (word ∷ rest) = Err WordCount
+
+-- a request by the first word of its line and the words behind it
+unfoldable pub request_of : List ℕ → List (List ℕ) → Result Request LineFault
+request_of word rest =
+    if is_word word (codes "buckets") then if_alone ask.Buckets rest
+    else (if is_word word (codes "records") then if_alone ask.Records rest
+    else (call_alone word rest >>= λ call. Ok (ask.Call call)))
+
+-- a line that isn't skipped is a request
+unfoldable pub request : Reading Request
+request words = unless_skipped request_of words

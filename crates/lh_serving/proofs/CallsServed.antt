@@ -1,0 +1,59 @@
+-- A call that was served, or for which there was no memory
+use Rattle.std.proofs.Common.{◌≡◌, ◌⊎◌, inl, inr, ℕ, ◌-◌, ◌^◌, ◌≤◌, refl, sym, ap, subst, ◌∙◌, arith}
+use Rattle.std.specs.FinMap.{empty, len, len-empty}
+use Rattle.std.specs.Ordering.{nat_cmp}
+use Rattle.std.specs.Cmp.Lexicographic.{slice_cmp}
+use Rattle.std.specs.Prelude.{List}
+use Rattle.lh_addr.specs.Settings.{Settings}
+use Rattle.lh_bucket.specs.declared.call.Call.{Call}
+use Rattle.lh_bucket.specs.declared.call.Reply.{Reply}
+use Rattle.lh_bucket.specs.PlainMap.{IsInsert, after, reply}
+use Rattle.lh_core.specs.State.{State, first}
+use Rattle.lh_core.specs.Serial.{IsAtRest, IsGivenUp, IsServedOn, size_after}
+use Rattle.lh_core.specs.World.{StandsFor, WorldSeen}
+use Rattle.lh_serving.specs.Answers.{AnswersCall, FileSeen, IsAfter, MayWant, Shows, first_file}
+use Rattle.lh_serving.specs.declared.answer.Answer.TheVariants as answer
+use Rattle.lh_serving.specs.declared.answer.Fault.TheVariants as fault
+
+-- the size of a file whose configuration and size are these
+sized : (s t : Settings) (v : WorldSeen) (file : FileSeen) (c : Call) (n : ℕ) → v.config ≡ s → v.state.buckets ≡ file.size →
+    (n ≡ size_after v.config (after file.map c) v.state.buckets (reply file.map c)) ⊎ (n ≡ v.state.buckets) →
+    (n ≡ size_after s (after file.map c) file.size (reply file.map c)) ⊎ (n ≡ file.size)
+sized s t v file c n same size (inl e) = inl (e ∙ ap (λ x. size_after x (after file.map c) v.state.buckets (reply file.map c)) same ∙ ap (λ k. size_after s (after file.map c) k (reply file.map c)) size)
+sized s t v file c n same size (inr e) = inr (e ∙ size)
+
+pub called : (s : Settings) (v w : WorldSeen) (n m : ℕ) (c : Call) (y : Reply) (file : FileSeen) → Shows s v n file → IsServedOn v file.map c y m w →
+    (next : FileSeen) × AnswersCall s file c (answer.Reply y) next × Shows s w m next
+called s v w n m c y file h d = (
+  record { map = after file.map c; size = w.state.buckets },
+  (d.replied, record { map = refl; size = sized s s v file c w.state.buckets h.same h.size d.size }),
+  record { same = d.same ∙ h.same; rest = d.rest; stands = d.stands; count = d.count; size = refl },
+)
+
+pub refused : (s : Settings) (v w : WorldSeen) (n : ℕ) (c : Call) (file : FileSeen) → Shows s v n file → IsGivenUp v w → IsInsert c →
+    (next : FileSeen) × AnswersCall s file c (answer.Fault fault.Memory) next × Shows s w n next
+refused s v w n c file h g i = (
+  file,
+  (refl, inl i),
+  record {
+    same = g.same ∙ h.same;
+    rest = subst IsAtRest (sym g.state) h.rest;
+    stands = g.stands file.map h.stands;
+    count = h.count;
+    size = ap (λ (a : State). a.buckets) g.state ∙ h.size;
+  },
+)
+
+pub uncounted : (s : Settings) (v : WorldSeen) (n : ℕ) (c : Call) (file : FileSeen) → Shows s v n file → 2 ^ 64 - 1 ≤ n →
+    (next : FileSeen) × AnswersCall s file c (answer.Fault fault.Memory) next × Shows s v n next
+uncounted s v n c file h le = (file, (refl, inr (let e = h.count in omega (arith, e, le))), h)
+
+-- an empty file shows none
+pub shows_first : (s : Settings) (v : WorldSeen) → v.config ≡ s → v.state ≡ first s → StandsFor v empty → Shows s v 0 (first_file s)
+shows_first s v e f p = record {
+  same = e;
+  rest = record { workers = ap (λ (a : State). a.workers) f; splitter = ap (λ (a : State). a.splitter) f };
+  stands = p;
+  count = sym (len-empty (slice_cmp nat_cmp) (List ℕ));
+  size = ap (λ (a : State). a.buckets) f;
+}

@@ -1,0 +1,27 @@
+-- How a client's answers read
+use Rattle.std.specs.Prelude.{ℕ, List, [], ◌++◌, Option, None, Some, codes}
+use Rattle.std.specs.Fmt.{decimal}
+use Rattle.lh_script.specs.FaultTexts.{line_fault_text}
+use Rattle.lh_script.specs.Texts.{line, reply_text, size_text}
+use Rattle.lh_serving.specs.declared.answer.Answer.{Answer}
+use Rattle.lh_serving.specs.declared.answer.Answer.TheVariants as answer
+use Rattle.lh_serving.specs.declared.answer.Fault.{Fault}
+use Rattle.lh_serving.specs.declared.answer.Fault.TheVariants as fault
+
+-- why a line was not served
+abbrev pub fault_text : Fault → List ℕ
+fault_text (fault.Line f) = line_fault_text f
+fault_text fault.TooLong = codes "line too long"
+fault_text fault.Memory = codes "no memory"
+
+-- an answer, without its LF
+abbrev pub answer_text : Answer → List ℕ
+answer_text (answer.Reply reply) = reply_text reply
+answer_text (answer.Buckets buckets) = size_text buckets
+answer_text (answer.Records records) = codes "records " ++ decimal records
+answer_text (answer.Fault f) = codes "fault " ++ fault_text f
+
+-- an answer as a line, where there is one
+abbrev pub told : Option Answer → List ℕ
+told None = []
+told (Some a) = line (answer_text a)

@@ -1,0 +1,74 @@
+//! The answers to a client's lines, and how they read.
+ghost use Rattle.std.specs.Prelude.{◌≡◌, ◌++◌, OnOk, Some};
+ghost use Rattle.std.specs.String.{string_bytes};
+ghost use Rattle.lh_serving.specs.Texts.{answer_text, fault_text, told};
+
+use lh_bucket::{Memory, Reply};
+use lh_script::{LineFault, ReplyText, SizeText};
+use std::fmt;
+
+/// Why a line is not served. The file is as it was.
+#[derive(Clone, Copy, Debug, PartialEq, Eq)]
+pub enum Fault {
+    /// It is no request.
+    Line(LineFault),
+    /// It has more bytes than a line may have.
+    TooLong,
+    /// There was no memory for its record.
+    Memory,
+}
+
+/// The answer to a line.
+#[derive(Clone, Copy, Debug, PartialEq, Eq)]
+pub enum Answer {
+    /// The reply to a call.
+    Reply(Reply),
+    /// The number of buckets.
+    Buckets(u32),
+    /// The number of records.
+    Records(u64),
+    /// The line was not served.
+    Fault(Fault),
+}
+
+impl fmt::Display for Fault {
+    ghost output = { λ fault. Some (fault_text fault) };
+
+    fn fmt<W: fmt::Write>(&self, f: &mut fmt::Formatter<W>) -> fmt::Result {
+        match self {
+            Fault::Line(fault) => write!(f, "{fault}"),
+            Fault::TooLong => write!(f, "line too long"),
+            Fault::Memory => write!(f, "no memory"),
+        }
+    }
+}
+
+/// An answer as one line of a text, without the line's end.
+#[derive(Clone, Copy)]
+pub struct AnswerText<'a>(pub &'a Answer);
+
+impl fmt::Display for AnswerText<'_> {
+    ghost output = { λ text. Some (answer_text text.0.now) };
+
+    fn fmt<W: fmt::Write>(&self, f: &mut fmt::Formatter<W>) -> fmt::Result {
+        match self.0 {
+            Answer::Reply(reply) => write!(f, "{}", ReplyText(reply)),
+            Answer::Buckets(buckets) => write!(f, "{}", SizeText(*buckets)),
+            Answer::Records(records) => write!(f, "records {records}"),
+            Answer::Fault(fault) => write!(f, "fault {fault}"),
+        }
+    }
+}
+
+/// Adds an answer, if there is one, to those that wait.
+pub fn put(waiting: &mut String, answer: Option<Answer>) -> Result<(), Memory>
+    ensures { OnOk result (string_bytes waiting.new ≡ string_bytes waiting.old ++ told answer) }
+{
+    let Some(answer) = answer else {
+        return Ok(());
+    };
+    if waiting.writeln(AnswerText(&answer)).is_err() {
+        return Err(Memory);
+    }
+    Ok(())
+}

@@ -1,0 +1,3 @@
+//! Conversations from bytes to bytes.
+mod conversations;
+mod turns;

@@ -1,0 +1,114 @@
+//! Lines in whatever pieces they come.
+ghost use Rattle.std.specs.Prelude.{◌≡◌, IfOk, vec_len};
+
+use lh_addr::Config;
+use lh_serving::{Conversation, LONGEST_LINE};
+use std::alloc::{AllocError, Global};
+use std::process::Abort;
+use std::test::Fail;
+
+/// Each kind of line: calls, what else may be asked, one that ends in CR and LF, an empty line, a comment, and lines at
+/// fault.
+const LINES: &[u8] = b"insert 61 31\nsearch 61\r\n\n# none\nfrob\nrecords\nreplace 61 32\nbuckets\n\
+    search 61 62\nsearch 6\ninsert - 31\nsearch 61\ndelete 61\nrecords 1\nrecords\n";
+
+/// The answers to these lines.
+const ANSWERS: &[u8] = b"inserted\nfound 31\nfault unknown word\nrecords 1\nreplaced\nbuckets 1\n\
+    fault wrong number of words\nfault bad hexadecimal\nfault key length 0\nfound 32\ndeleted\n\
+    fault wrong number of words\nrecords 0\n";
+
+fn conversation(alloc: Global) -> Result<Conversation, Fail> {
+    match Conversation::new(alloc, Config::default()) {
+        Ok(talk) => Ok(talk),
+        Err(_) => Err(Fail::from("no conversation")),
+    }
+}
+
+/// Hears all of some bytes.
+fn hear(talk: &mut Conversation, bytes: &[u8]) -> Result<(), Fail> {
+    let mut rest = bytes;
+    for _ in 0..bytes.len() {
+        if rest.is_empty() {
+            break;
+        }
+        match talk.hear(rest) {
+            Ok(behind) => rest = behind,
+            Err(_) => return Err(Fail::from("no room")),
+        }
+    }
+    Ok(())
+}
+
+/// A text of one byte, again and again.
+fn repeated(alloc: Global, byte: u8, count: usize) -> Result<Vec<u8>, AllocError>
+    ensures { IfOk result (λ text. vec_len text ≡ count) }
+{
+    let mut text = Vec::new(alloc);
+    text.resize(count, byte)?;
+    Ok(text)
+}
+
+#[test]
+fn lines_cut_anywhere_have_the_same_answers(rt: HostRuntime) -> Result<(), Fail> {
+    for cut in 0..=LINES.len() {
+        let mut talk = conversation(rt.alloc())?;
+        hear(&mut talk, &LINES[..cut])?;
+        hear(&mut talk, &LINES[cut..])?;
+        assert!(rt; *talk.waiting() == *ANSWERS, "cut at {cut}");
+    }
+    Ok(())
+}
+
+#[test]
+fn lines_that_come_byte_by_byte_have_the_same_answers(rt: HostRuntime) -> Result<(), Fail> {
+    let mut talk = conversation(rt.alloc())?;
+    for place in 0..LINES.len() {
+        hear(&mut talk, &LINES[place..place + 1])?;
+    }
+    assert_eq!(rt; talk.waiting(), ANSWERS);
+    Ok(())
+}
+
+#[test]
+fn a_line_is_answered_with_its_lf(rt: HostRuntime) -> Result<(), Fail> {
+    let mut talk = conversation(rt.alloc())?;
+    hear(&mut talk, b"insert 61 31")?;
+    assert_eq!(rt; talk.waiting(), b"".as_slice());
+    hear(&mut talk, b"\nrecords\nrec")?;
+    assert_eq!(rt; talk.waiting(), b"inserted\nrecords 1\n".as_slice());
+    talk.note_told();
+    assert_eq!(rt; talk.waiting(), b"".as_slice());
+    hear(&mut talk, b"ords\n")?;
+    assert_eq!(rt; talk.waiting(), b"records 1\n".as_slice());
+    Ok(())
+}
+
+/// A line of this many bytes, of which the first is `#`, has this answer, however it is cut; and so has the next line.
+fn is_answered(rt: &(impl Abort + AllocGlobal), length: usize, answer: &[u8]) -> Result<(), Fail> {
+    let line = repeated(rt.alloc(), b'#', length)?;
+    for at_once in [1, 100, 1_000, 10_000] {
+        let mut talk = conversation(rt.alloc())?;
+        let mut rest = line.as_slice();
+        for _ in 0..length {
+            let count = rest.len().min(at_once);
+            hear(&mut talk, &rest[..count])?;
+            rest = &rest[count..];
+        }
+        hear(&mut talk, b"\nrecords\n")?;
+        assert!(rt;
+            talk.waiting().starts_with(answer),
+            "{length} bytes, {at_once} at once"
+        );
+        let behind = &talk.waiting()[answer.len().min(talk.waiting().len())..];
+        assert_eq!(rt; behind, b"records 0\n".as_slice());
+    }
+    Ok(())
+}
+
+#[test]
+fn a_line_has_1024_bytes_at_most(rt: HostRuntime) -> Result<(), Fail> {
+    assert!(rt; LONGEST_LINE == 1_024);
+    is_answered(&rt, 1_024, b"")?;
+    is_answered(&rt, 1_025, b"fault line too long\n")?;
+    is_answered(&rt, 9_000, b"fault line too long\n")
+}

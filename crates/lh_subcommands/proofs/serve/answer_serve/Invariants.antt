@@ -1,0 +1,12 @@
+use Rattle.std.proofs.Common.{◌≡◌, ℕ, List, []}
+use Rattle.std.specs.Io.KnownBytes.{Consumes}
+use Rattle.lh_subcommands.specs.Serve.{IsTelling}
+use Rattle.lh_subcommands.proofs.serve.answer_serve.Given as goal
+
+-- at each read all that was heard is answered, and nothing waits
+abbrev pub invariant-turns : goal.invariant-turns
+invariant-turns g l = record {
+  heard : (bytes : List ℕ) × Consumes (g.R.Read.remaining l.fn.reader) (g.R.Read.remaining l.reader) bytes
+      × IsTelling l.fn.config l.talk (g.W.Write.contents l.fn.writer) (g.W.Write.contents l.writer) bytes;
+  told : l.talk.waiting ≡ [];
+}

@@ -1,0 +1,33 @@
+-- What `query` and `apply` do where their input is an image of a listing and a script behind it
+use Rattle.std.specs.Prelude.{◌≡◌, ℕ, List, [], ◌++◌, Option, Ok}
+use Rattle.lh_bucket.specs.Listing.{Lists, size}
+use Rattle.lh_core.specs.Opened.{records_of}
+use Rattle.lh_image.specs.Image.{IsImage}
+use Rattle.lh_image.specs.declared.version.Version.{Version}
+use Rattle.lh_image.specs.declared.version.Version.TheVariants.{Two}
+use Rattle.lh_script.specs.Commands.{command}
+use Rattle.lh_script.specs.Scripts.{script}
+use Rattle.lh_subcommands.specs.Continued.{EndsApplying, IsLeft, query_due}
+use Rattle.lh_subcommands.specs.Images.{EndsInImage, migrate_due}
+use Rattle.lh_subcommands.specs.Run.{Ends, due, replies_text}
+use Rattle.lh_subcommands.specs.declared.status.Status.{Status}
+
+-- `query` answers what the plain map of the listing answers to the script's calls, or the script's first fault.
+abbrev pub QueryLaw : Type 0
+QueryLaw =
+    (image text : List ℕ) (l : Lists) → IsImage image l →
+    query_due (image ++ text) ≡ due (replies_text l.config (records_of l) (size l)) (script command text)
+
+-- `apply` writes the canonical image of the listing that the script's calls leave, or ends at the script's first fault.
+abbrev pub ApplyLaw : Type 0
+ApplyLaw =
+    (version : Version) (image text : List ℕ) (l : Lists) (status : Status) (before now : Option (List ℕ)) →
+    IsImage image l → EndsApplying version (image ++ text) status before now →
+    EndsInImage (IsLeft l) version status (script command text) before now
+
+-- `apply` of a script without calls ends as `migrate` does for the image alone.
+abbrev pub MigrateLaw : Type 0
+MigrateLaw =
+    (image text : List ℕ) (l : Lists) (status : Status) (before now : Option (List ℕ)) →
+    IsImage image l → script command text ≡ Ok [] → EndsApplying Two (image ++ text) status before now →
+    Ends status (migrate_due image) before now

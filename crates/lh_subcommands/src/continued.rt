@@ -1,0 +1,88 @@
+//! The subcommands that read an image, and behind its last page a script of calls: `query` tells their replies, and
+//! `apply` writes the image of the file that they leave.
+ghost use Rattle.std.specs.Prelude.{◌≡◌, IfOk, IfSome};
+ghost use Rattle.lh_image.specs.Reading.{leading, reading_of};
+ghost use Rattle.lh_subcommands.specs.Continued.{EndsApplying, IsLeft, ReadsContinued, query_due, script_behind};
+ghost use Rattle.lh_subcommands.specs.Run.{Ends};
+
+use crate::answer::{read_script, tell};
+use crate::images::{unreadable, unwritten, write_in};
+use crate::status::Status;
+use lh_bucket::{Call, Listing};
+use lh_core::{Memory, serial_from};
+use lh_image::{Version, read_leading_image};
+use std::alloc::Global;
+use std::io::{Read, Write};
+
+/// A file, and the calls that are to be served on it.
+#[derive(Drop)]
+pub(crate) struct Continued {
+    pub(crate) listing: Listing,
+    pub(crate) calls: Vec<Call>,
+}
+
+/// Reads an image and the script behind it whole, or says how the run ends.
+fn read_continued<R: Read>(alloc: Global, reader: &mut R) -> Result<Continued, Status>
+    ensures { IfSome (R.remaining reader.old) (λ input.
+        ReadsContinued result (reading_of (leading input)) (script_behind input)) }
+{
+    let listing = match read_leading_image(alloc, reader) {
+        Ok(listing) => listing,
+        Err(fault) => return Err(unreadable(fault)),
+    };
+    match read_script(alloc, reader) {
+        Ok(calls) => Ok(Continued { listing, calls }),
+        Err(status) => Err(status),
+    }
+}
+
+/// Reads an image and a script of calls behind it, answers them in turn from the image's file, and writes their replies
+/// and the number of buckets.
+pub fn answer_query<R: Read, W: Write>(alloc: Global, reader: &mut R, writer: &mut W) -> Status
+    ensures { IfSome (R.remaining reader.old) (λ input.
+        Ends result (query_due input) (W.contents writer.old) (W.contents writer.new)) }
+{
+    let read = match read_continued(alloc, reader) {
+        Ok(read) => read,
+        Err(status) => return status,
+    };
+    match serial_from(alloc, &read.listing, read.calls.as_slice()) {
+        Ok(ran) => tell(alloc, &ran, writer),
+        Err(_) => Status::Memory,
+    }
+}
+
+/// The file that calls leave of another one.
+fn file_left(alloc: Global, file: &Listing, calls: &[Call]) -> Result<Listing, Memory>
+    ensures { IfOk result (IsLeft file.now calls.now) }
+{
+    let ran = serial_from(alloc, file, calls)?;
+    let left = ran.world.listing()?;
+    // In a listing each record is at home, and no key stands twice.
+    let _ = left.buckets();
+    Ok(left)
+}
+
+/// Reads an image and a script of calls behind it, answers them in turn from the image's file, and writes the file that
+/// they leave as an image of a version.
+pub fn answer_apply<R: Read, W: Write>(
+    alloc: Global,
+    version: Version,
+    reader: &mut R,
+    writer: &mut W,
+) -> Status
+    ensures { IfSome (R.remaining reader.old) (λ input.
+        EndsApplying version input result (W.contents writer.old) (W.contents writer.new)) }
+{
+    let read = match read_continued(alloc, reader) {
+        Ok(read) => read,
+        Err(status) => return status,
+    };
+    let Ok(left) = file_left(alloc, &read.listing, read.calls.as_slice()) else {
+        return Status::Memory;
+    };
+    match write_in(version, &left, writer) {
+        Ok(()) => Status::Done,
+        Err(fault) => unwritten(fault),
+    }
+}

@@ -1,0 +1,226 @@
+//! Images with a script behind them, whose calls `query` answers and `apply` makes.
+use super::{CHAIN, CHAIN_WORDS, FIVE, FIVE_WORDS, HOLE, UNSORTED, UNSORTED_WORDS, built, told};
+use crate::tests::support::ran;
+use std::process::Abort;
+use std::sync::Wait;
+use std::test::Fail;
+use std::thread::Threads;
+
+const QUERY: &[&str] = &["lhash", "query"];
+
+const APPLY: &[&str] = &["lhash", "apply"];
+
+const APPLY_FIRST: &[&str] = &["lhash", "apply", "--image", "1"];
+
+/// An image, and a script behind it.
+pub fn behind(rt: &impl AllocGlobal, image: &[u8], script: &str) -> Result<Vec<u8>, Fail> {
+    let mut input = Vec::new(rt.alloc());
+    input.extend_from_slice(image)?;
+    input.extend_from_slice(script.as_bytes())?;
+    Ok(input)
+}
+
+/// The replies to a script behind an image.
+fn answers(
+    rt: &(impl Abort + AllocGlobal + Threads + Wait + Sync),
+    image: &[u8],
+    script: &str,
+    replies: &str,
+) -> Result<(), Fail> {
+    told(rt, QUERY, &behind(rt, image, script)?, replies.as_bytes())
+}
+
+/// The image that `apply` writes of an image and a script behind it.
+fn applied(
+    rt: &(impl Abort + AllocGlobal + Threads + Wait + Sync),
+    words: &[&str],
+    image: &[u8],
+    script: &str,
+) -> Result<Vec<u8>, Fail> {
+    let (code, written, text) = ran(rt, words, &behind(rt, image, script)?)?;
+    assert!(rt; code == 0 && text.is_empty(), "{text}");
+    Ok(written)
+}
+
+/// Both `query` and `apply` refuse an input, and write nothing.
+fn refused(
+    rt: &(impl Abort + AllocGlobal + Threads + Wait + Sync),
+    image: &[u8],
+    script: &str,
+    fault: &str,
+) -> Result<(), Fail> {
+    let input = behind(rt, image, script)?;
+    for words in [QUERY, APPLY, APPLY_FIRST] {
+        refused_by(rt, words, &input, fault)?;
+    }
+    Ok(())
+}
+
+fn refused_by(
+    rt: &(impl Abort + AllocGlobal + Threads + Wait + Sync),
+    words: &[&str],
+    input: &[u8],
+    fault: &str,
+) -> Result<(), Fail> {
+    let (code, written, text) = ran(rt, words, input)?;
+    assert_eq!(rt; text.as_str(), fault);
+    assert!(rt; code == 1 && written.is_empty());
+    Ok(())
+}
+
+/// The load is above its threshold with the seventh record, so the file grows to four buckets.
+#[test]
+fn query_goes_on_from_the_image(rt: HostRuntime) -> Result<(), Fail> {
+    let image = built(&rt, FIVE_WORDS, FIVE)?;
+    let script = "search 61\ninsert 62 39\nreplace 65 -\nsearch 65\ndelete 63\nsearch 63\n";
+    let replies = "found 31\nexists\nreplaced\nfound -\ndeleted\nabsent\nbuckets 3\n";
+    answers(&rt, &image, script, replies)?;
+    let script = "insert 66 36\ninsert 67 37\nsearch 67\n";
+    let replies = "inserted\ninserted\nfound 37\nbuckets 4\n";
+    answers(&rt, &image, script, replies)?;
+    answers(&rt, &image, "", "buckets 3\n")?;
+    answers(&rt, &image, "# nothing", "buckets 3\n")?;
+    let empty = built(&rt, FIVE_WORDS, "")?;
+    answers(&rt, &empty, "search 61\n", "absent\nbuckets 1\n")
+}
+
+/// It is the image's configuration that counts: this file has one bucket, whatever comes.
+#[test]
+fn query_has_the_configuration_of_the_image(rt: HostRuntime) -> Result<(), Fail> {
+    let image = built(&rt, CHAIN_WORDS, CHAIN)?;
+    let script = "insert 68 -\ninsert 69 -\ninsert 6a -\nsearch 67\n";
+    let replies = "inserted\ninserted\ninserted\nfound 34\nbuckets 1\n";
+    answers(&rt, &image, script, replies)
+}
+
+/// The image of a script's first part, with the second part behind it, is applied: what is left, in version 1.
+fn left_after(
+    rt: &(impl Abort + AllocGlobal + Threads + Wait + Sync),
+    words: &[&str],
+    first: &[u8],
+    second: &[u8],
+) -> Result<Vec<u8>, Fail> {
+    let (code, mut input, _) = ran(rt, words, first)?;
+    assert!(rt; code == 0);
+    input.extend_from_slice(second)?;
+    let (code, left, _) = ran(rt, APPLY_FIRST, &input)?;
+    assert!(rt; code == 0);
+    Ok(left)
+}
+
+/// Wherever a script is cut behind a line, its two parts lead to the image of the whole.
+fn cut_everywhere(
+    rt: &(impl Abort + AllocGlobal + Threads + Wait + Sync),
+    words: &[&str],
+    script: &str,
+) -> Result<(), Fail> {
+    let whole = built(rt, words, script)?;
+    let script = script.as_bytes();
+    for cut in 0..=script.len() {
+        let (first, second) = script.split_at(cut);
+        if first.last() == Some(&b'\n') {
+            let left = left_after(rt, words, first, second)?;
+            assert!(rt; *left.as_slice() == *whole.as_slice(), "cut at {cut}");
+        }
+    }
+    Ok(())
+}
+
+#[test]
+fn apply_leads_on_to_the_image_of_all_calls(rt: HostRuntime) -> Result<(), Fail> {
+    cut_everywhere(&rt, FIVE_WORDS, FIVE)?;
+    cut_everywhere(&rt, CHAIN_WORDS, HOLE)?;
+    cut_everywhere(&rt, UNSORTED_WORDS, UNSORTED)?;
+    let words = ["lhash", "build", "--initial=2", "--capacity=1", "--image=1"];
+    cut_everywhere(&rt, words.as_slice(), UNSORTED)
+}
+
+/// Without a call it is the same file: `apply` writes what `migrate` writes.
+#[test]
+fn apply_of_an_empty_script_is_migrate(rt: HostRuntime) -> Result<(), Fail> {
+    for (words, script) in [
+        (FIVE_WORDS, FIVE),
+        (CHAIN_WORDS, CHAIN),
+        (UNSORTED_WORDS, UNSORTED),
+    ] {
+        let first = built(&rt, words, script)?;
+        let (code, second, _) = ran(&rt, &["lhash", "migrate"], &first)?;
+        assert!(rt; code == 0 && second.starts_with(b"LHF2"));
+        for image in [&first, &second] {
+            for empty in ["", "\n\n", "# nothing\n"] {
+                told(&rt, APPLY, &behind(&rt, image, empty)?, &second)?;
+                told(&rt, APPLY_FIRST, &behind(&rt, image, empty)?, &first)?;
+            }
+        }
+    }
+    Ok(())
+}
+
+/// The image's faults come first, then those of the script, whose lines are counted from its beginning.
+#[test]
+fn faults_of_the_image_come_before_those_of_the_script(rt: HostRuntime) -> Result<(), Fail> {
+    let image = built(&rt, FIVE_WORDS, FIVE)?;
+    refused(&rt, &image, "frob\n", "line 1: unknown word")?;
+    refused(
+        &rt,
+        &image,
+        "search 61\r\n\n# x\nsearch 6\n",
+        "line 4: bad hexadecimal",
+    )?;
+    refused(&rt, &image, "\0", "line 1: unknown word")?;
+    refused(&rt, b"", "frob\n", "image I1")?;
+    assert!(rt; image.len() > 4_095);
+    refused(&rt, &image[..1_023], "", "image I4")?;
+    refused(&rt, &image[..4_095], "", "image I4")?;
+    let mut forged = behind(&rt, &image, "")?;
+    // The level of the first bucket.
+    if let Some(level) = forged.get_mut(1_026) {
+        *level = 7;
+    }
+    refused(&rt, &forged, "frob\n", "image I8 at page 1")?;
+    refused(&rt, &forged, "", "image I8 at page 1")
+}
+
+/// A script behind an image may be as long as any other.
+#[test]
+fn a_script_behind_an_image_may_be_too_long(rt: HostRuntime) -> Result<(), Fail> {
+    let mut input = Vec::new(rt.alloc());
+    input.extend_from_slice(&built(&rt, FIVE_WORDS, FIVE)?)?;
+    let script = input.len();
+    input.resize(script.saturating_add(16_777_216), b'\n')?;
+    told(&rt, QUERY, &input, b"buckets 3\n")?;
+    input.push(b'\n')?;
+    refused_by(&rt, QUERY, &input, "script too long")?;
+    refused_by(&rt, APPLY, &input, "script too long")
+}
+
+/// What the calls leave may have no image of version 1; a fault of the script comes before.
+#[test]
+fn what_is_left_may_have_no_image_of_version_1(rt: HostRuntime) -> Result<(), Fail> {
+    let image = built(&rt, FIVE_WORDS, FIVE)?;
+    let key = "6161616161616161616161616161616161616161616161616161616161616161";
+    let script = format!(in rt.alloc(); "insert {key} 31\n")?;
+    let input = behind(&rt, &image, script.as_str())?;
+    let (code, left, _) = ran(&rt, APPLY, &input)?;
+    assert!(rt; code == 0 && left.starts_with(b"LHF2"));
+    let (code, written, text) = ran(&rt, APPLY_FIRST, &input)?;
+    assert!(rt; code == 1 && written.is_empty());
+    assert!(rt; text.as_str().starts_with("image V2 at bucket "));
+    let script = format!(in rt.alloc(); "insert {key} 31\nfrob\n")?;
+    refused(&rt, &image, script.as_str(), "line 2: unknown word")?;
+    let wide = built(&rt, &["lhash", "build", "--capacity=15"], FIVE)?;
+    refused_by(&rt, APPLY_FIRST, &wide, "image V1")
+}
+
+/// The greatest number of pages: one record more than may stand in an image.
+#[test]
+fn what_is_left_may_be_too_large(rt: HostRuntime) -> Result<(), Fail> {
+    let image = built(&rt, &["lhash", "build", "--capacity=1"], "")?;
+    let script = super::inserts(&rt, 1_048_576)?;
+    refused_by(
+        &rt,
+        APPLY,
+        &behind(&rt, &image, script.as_str())?,
+        "image too large",
+    )
+}
