@@ -7,6 +7,7 @@ stand close in time. The tables of a size give the median over the rounds, of sp
 import argparse
 import json
 import os
+import shlex
 import statistics
 import subprocess
 import sys
@@ -15,12 +16,14 @@ import time
 
 HERE = os.path.dirname(os.path.abspath(__file__))
 # Those that keep a file come last; within a group the order is that of the table.
-PEERS = ["null", "lh_bench", "lh_lent", "lh_traced", "lh_image1", "twin", "twin_nostamp", "twin_tags", "rust_shard", "rust_shard_sip", "dashmap_fnv", "dashmap", "absl_shard", "libcuckoo", "tbb", "urcu_sized", "urcu",
-         "std_shard", "std_onelock", "kc_stash", "kc_hash", "tc_hash", "lmdb", "tdb", "gdbm", "bdb_hash"]
+PEERS = ["null", "lh_bench", "lh_lent", "lh_shards1", "lh_shards16", "lh_traced", "lh_image1", "twin", "twin_nostamp", "twin_tags", "rust_shard", "rust_shard_sip", "dashmap_fnv", "dashmap", "absl_shard", "libcuckoo", "tbb", "urcu_sized", "urcu",
+         "std_shard", "std_onelock", "kc_stash", "kc_hash", "tc_hash", "lmdb", "tinycdb", "tdb", "gdbm", "bdb_hash"]
 FILE = "../../crates/lh_bench/out/lh_bench"
-PROGRAM = {"libcuckoo": "cuckoo", "bdb_hash": "bdb", "lh_bench": FILE, "lh_lent": FILE, "lh_traced": FILE, "lh_image1": FILE}
-WORDS = {"lh_lent": ["--lent"], "lh_traced": ["--traced"], "lh_image1": ["--image", "1"]}
-ONLY = {"lh_image1": {"W5"}}  # the workloads of a peer, where it has not all
+# The words that make another contestant of lh_bench.
+WORDS = {"lh_bench": [], "lh_lent": ["--lent"], "lh_shards1": ["--shards", "1"], "lh_shards16": ["--shards", "16"],
+         "lh_traced": ["--traced"], "lh_image1": ["--image", "1"]}
+PROGRAM = {"libcuckoo": "cuckoo", "bdb_hash": "bdb", **{name: FILE for name in WORDS}}
+ONLY = {"lh_image1": {"W5", "W10"}}  # the workloads of a peer, where it has not all
 UNRANKED = {"null"}
 REFERENCE = "std_onelock"  # its digests at one thread are those due
 # What the picture shows, and under which names.
@@ -42,9 +45,8 @@ def numbers(text):
     return [int(x) for x in text.split(",")]
 
 
-def run(name, path, workload, threads, records, args):
-    words = [path, "--workload", workload, "--threads", str(threads), "--records", str(records),
-             "--seed", str(args.seed), *WORDS.get(name, [])]
+def run(name, program, workload, threads, records, args):
+    words = [*program, "--workload", workload, "--threads", str(threads), "--records", str(records), "--seed", str(args.seed)]
     with tempfile.TemporaryDirectory(dir=args.dir, prefix="bench-") as scratch:
         start = time.time()
         try:
@@ -61,11 +63,11 @@ def run(name, path, workload, threads, records, args):
 
 
 def measure(args, contestants):
-    paths = {p: os.path.join(HERE, "build", PROGRAM.get(p, p)) for p in PEERS}
-    paths = {p: f for p, f in paths.items() if os.access(f, os.X_OK)}
+    programs = {p: [os.path.join(HERE, "build", PROGRAM.get(p, p)), *WORDS.get(p, [])] for p in PEERS}
+    programs = {p: words for p, words in programs.items() if os.access(words[0], os.X_OK)}
     if args.peers:
-        paths = {p: f for p, f in paths.items() if p in args.peers.split(",")}
-    paths.update(contestants)
+        programs = {p: words for p, words in programs.items() if p in args.peers.split(",")}
+    programs.update(contestants)
     shapes = [(n, w, t) for n in numbers(args.records) for w in args.workloads.split(",")
               for t in (numbers(args.threads or THREADS[w]) if w in THREADS else [1])]
     rows, left_out, first = [], set(), 0
@@ -74,10 +76,10 @@ def measure(args, contestants):
     with open(args.out, "a" if args.append else "w") as out:
         for turn in range(first, first + args.rounds):
             for n, w, t in shapes:
-                for name, path in paths.items():
+                for name, program in programs.items():
                     if (name, n, w, t) in left_out or w not in ONLY.get(name, {w}):
                         continue
-                    row = run(name, path, w, t, n, args)
+                    row = run(name, program, w, t, n, args)
                     row.update(records=n, round=turn)
                     if row["check"] != "ok" or row["whole_s"] > args.long:
                         left_out.add((name, n, w, t))
@@ -224,7 +226,7 @@ def table(rows, to):
         return
     good = [r for r in rows if r["check"] == "ok"]
     names = [p for p in names if any(r["peer"] == p for r in rows)]
-    shapes = sorted({(r["workload"], r["threads"]) for r in good})
+    shapes = sorted({(r["workload"], r["threads"]) for r in good}, key=lambda s: (int(s[0][1:]), s[1]))
     best = fastest(good, to)
     due = digests_due(good)
 
@@ -277,13 +279,21 @@ def table(rows, to):
             rs = picked(n, ("W5", 1))
             print("%-15s%9s%9s" % (n, median([r["write_s"] for r in rs], "%.2f"),
                                    median([r["read_s"] for r in rs], "%.2f")))
+    images = [n for n in names if picked(n, ("W10", 1))]
+    if images:
+        print("\nW10, nanoseconds of processor time a look-up (median)\n%-15s%9s%9s%9s" % ("peer", "found", "absent", "B/record"))
+        for n in images:
+            rs = picked(n, ("W10", 1))
+            print("%-15s" % n + "".join("%9s" % median([r[half] / (r["ops"] / 2) * 1e9 for r in rs], "%.0f")
+                                        for half in ("found_cpu_s", "absent_cpu_s")) + "%9s" % per_record("file_bytes", "W10")(n))
 
 
 def main():
     a = argparse.ArgumentParser(description=__doc__, formatter_class=argparse.RawDescriptionHelpFormatter)
-    a.add_argument("--contestant", action="append", default=[], metavar="NAME=PATH", help="one more program")
+    a.add_argument("--contestant", action="append", default=[], metavar="NAME=PROGRAM",
+                   help="one more program, with words of its own behind it if need be: 'lh_lent16=/path/lh_bench --lent --shards 16'")
     a.add_argument("--peers", default="", help="only these, with commas between them")
-    a.add_argument("--workloads", default="W1,W2,W3,W4,W5,W7,W8,W9,W11,W12,W13")
+    a.add_argument("--workloads", default="W1,W2,W3,W4,W5,W7,W8,W9,W10,W11,W12,W13")
     a.add_argument("--threads", help="of W3, W4, W7 to W9 and W11 to W13; 1,2,4, 1,4 or 1,3 if nothing is said")
     a.add_argument("--records", default="3000,10000,1000000", help="the sizes, of which 3000 and 10000 lie in caches")
     a.add_argument("--seed", type=int, default=1)
@@ -306,8 +316,9 @@ def main():
             args.records, args.rounds = "3000,10000,100000", 1
         contestants = {}
         for c in args.contestant:
-            name, _, path = c.rpartition("=")
-            contestants[name or os.path.basename(path)] = os.path.abspath(path)
+            name, _, program = c.partition("=") if "=" in c else ("", "", c)
+            path, *words = shlex.split(program)
+            contestants[name or os.path.basename(path)] = [os.path.abspath(path), *words]
         rows = measure(args, contestants)
     tables(rows, args.to)
     if args.svg:

@@ -12,7 +12,7 @@ set -u
 cd "$(dirname "$0")"
 
 PACKAGES="g++ make pkg-config python3 libtbb-dev liburcu-dev libcuckoo-dev libabsl-dev libdb5.3-dev \
-  libkyotocabinet-dev libtokyocabinet-dev libgdbm-dev liblmdb-dev libtdb-dev librust-dashmap-dev"
+  libkyotocabinet-dev libtokyocabinet-dev libgdbm-dev liblmdb-dev libcdb-dev libtdb-dev librust-dashmap-dev"
 if [ -n "${INSTALL:-}" ]; then
   command -v cargo >/dev/null || PACKAGES="$PACKAGES cargo rustc"
   apt-get update -qq

@@ -1,22 +1,21 @@
-//! One who calls a file.
-ghost use Rattle.std.specs.Prelude.{◌≡◌};
-ghost use Rattle.lh_file.specs.FileState.{IsOf};
+//! One who calls a table.
 
 use crate::contents::Contents;
 use crate::meter::Laps;
 use crate::order::Order;
 use crate::starter::Starter;
 use crate::streams::{Step, Stream};
+use crate::table::Table;
 use crate::tally::Tally;
 use lh_bucket::Reply;
-use lh_file::{FileFault, Hand, HashFile, Mode, NoGate, Room};
+use lh_file::FileFault;
 use std::rt::Clock;
 use std::sync::Wait;
 
-/// A hand, and what was answered to it.
+/// A table, and what it answered.
 #[derive(Drop)]
-pub struct Caller {
-    pub hand: Hand,
+pub struct Caller<T> {
+    pub table: T,
     pub contents: Contents,
     /// Whether its calls are those without an answer, which lend values.
     pub lends: bool,
@@ -28,29 +27,18 @@ fn either(is_first: bool, first: Reply, second: Reply) -> Reply {
     if is_first { first } else { second }
 }
 
-impl Caller {
-    pub fn new(hand: Hand, order: &Order) -> Caller
-        ensures { result.hand ≡ hand }
-    {
+impl<T: Table> Caller<T> {
+    pub fn new(table: T, order: &Order) -> Caller<T> {
         Caller {
-            hand,
+            table,
             contents: order.contents(),
             lends: order.lends,
             tally: Tally::new(),
         }
     }
 
-    fn search<M: Mode, J: Room, R: Wait>(
-        &mut self,
-        rt: &R,
-        file: &HashFile<NoGate, M, J>,
-        record: u64,
-        is_there: bool,
-    )
-        requires { IsOf file.now.state self.old.hand }
-        ensures { IsOf file.now.state self.new.hand }
-    {
-        let Ok(answer) = file.search(rt, &mut self.hand, self.contents.key(record)) else {
+    fn search<R: Wait>(&mut self, rt: &R, record: u64, is_there: bool) {
+        let Ok(answer) = self.table.search(rt, self.contents.key(record)) else {
             self.tally.note_wrong();
             return;
         };
@@ -65,19 +53,10 @@ impl Caller {
         }
     }
 
-    fn insert<M: Mode, J: Room, R: Wait>(
-        &mut self,
-        rt: &R,
-        file: &HashFile<NoGate, M, J>,
-        record: u64,
-        is_new: bool,
-    )
-        requires { IsOf file.now.state self.old.hand }
-        ensures { IsOf file.now.state self.new.hand }
-    {
+    fn insert<R: Wait>(&mut self, rt: &R, record: u64, is_new: bool) {
         let key = self.contents.key(record);
         let value = self.contents.value(record);
-        let Ok(answer) = file.insert(rt, &mut self.hand, key, value) else {
+        let Ok(answer) = self.table.insert(rt, key, value) else {
             self.tally.note_wrong();
             return;
         };
@@ -88,54 +67,25 @@ impl Caller {
         }
     }
 
-    fn delete<M: Mode, J: Room, R: Wait>(
-        &mut self,
-        rt: &R,
-        file: &HashFile<NoGate, M, J>,
-        record: u64,
-    )
-        requires { IsOf file.now.state self.old.hand }
-        ensures { IsOf file.now.state self.new.hand }
-    {
-        match file.delete(rt, &mut self.hand, self.contents.key(record)) {
+    fn delete<R: Wait>(&mut self, rt: &R, record: u64) {
+        match self.table.delete(rt, self.contents.key(record)) {
             Ok(answer) => self.tally.note(&answer.reply()),
             Err(_) => self.tally.note_wrong(),
         }
     }
 
-    fn replace<M: Mode, J: Room, R: Wait>(
-        &mut self,
-        rt: &R,
-        file: &HashFile<NoGate, M, J>,
-        record: u64,
-        length: u8,
-    )
-        requires { IsOf file.now.state self.old.hand }
-        ensures { IsOf file.now.state self.new.hand }
-    {
+    fn replace<R: Wait>(&mut self, rt: &R, record: u64, length: u8) {
         let key = self.contents.key(record);
         let value = self.contents.other_value(record, length);
-        match file.replace(rt, &mut self.hand, key, value) {
+        match self.table.replace(rt, key, value) {
             Ok(answer) => self.tally.note(&answer.reply()),
             Err(_) => self.tally.note_wrong(),
         }
     }
 
     /// Searches for a record, and compares its value where that stands.
-    fn look_at<M: Mode, J: Room, R: Wait>(
-        &mut self,
-        rt: &R,
-        file: &HashFile<NoGate, M, J>,
-        record: u64,
-        is_there: bool,
-    )
-        requires { IsOf file.now.state self.old.hand }
-        ensures { IsOf file.now.state self.new.hand }
-    {
-        let contents = self.contents;
-        let key = contents.key(record);
-        let due = |bytes: &[u8]| contents.are_bytes(bytes, record);
-        match file.with_value(rt, &mut self.hand, &key, due) {
+    fn look_at<R: Wait>(&mut self, rt: &R, record: u64, is_there: bool) {
+        match self.table.compare(rt, self.contents, record) {
             Ok(Some(is_due)) => {
                 self.tally.note_found();
                 if !is_due {
@@ -153,57 +103,33 @@ impl Caller {
     }
 
     /// Makes a call that changes something, without an answer.
-    fn change<M: Mode, J: Room, R: Wait>(
-        &mut self,
-        rt: &R,
-        file: &HashFile<NoGate, M, J>,
-        step: Step,
-    ) -> Result<Reply, FileFault>
-        requires { IsOf file.now.state self.old.hand }
-        ensures { IsOf file.now.state self.new.hand }
-    {
+    fn change<R: Wait>(&mut self, rt: &R, step: Step) -> Result<Reply, FileFault> {
         let contents = self.contents;
-        let hand = &mut self.hand;
+        let table = &mut self.table;
         Ok(match step {
             Step::Insert { record, .. } => {
                 let (key, value) = (contents.key(record), contents.value(record));
-                either(
-                    file.put(rt, hand, &key, &value)?,
-                    Reply::Inserted,
-                    Reply::Exists,
-                )
+                either(table.put(rt, &key, &value)?, Reply::Inserted, Reply::Exists)
             }
             Step::Replace { record, length } => {
                 let (key, value) = (contents.key(record), contents.other_value(record, length));
-                either(
-                    file.set(rt, hand, &key, &value)?,
-                    Reply::Replaced,
-                    Reply::Absent,
-                )
+                either(table.set(rt, &key, &value)?, Reply::Replaced, Reply::Absent)
             }
             Step::Delete { record } | Step::Search { record, .. } => {
                 let key = contents.key(record);
-                either(file.remove(rt, hand, &key)?, Reply::Deleted, Reply::Absent)
+                either(table.remove(rt, &key)?, Reply::Deleted, Reply::Absent)
             }
         })
     }
 
     /// Makes a call without an answer. One that fails counts as wrong.
-    fn take_lent<M: Mode, J: Room, R: Wait>(
-        &mut self,
-        rt: &R,
-        file: &HashFile<NoGate, M, J>,
-        step: Step,
-    )
-        requires { IsOf file.now.state self.old.hand }
-        ensures { IsOf file.now.state self.new.hand }
-    {
+    fn take_lent<R: Wait>(&mut self, rt: &R, step: Step) {
         if let Step::Search { record, is_there } = step {
-            self.look_at(rt, file, record, is_there);
+            self.look_at(rt, record, is_there);
             return;
         }
         let is_new = matches!(step, Step::Insert { is_new: true, .. });
-        match self.change(rt, file, step) {
+        match self.change(rt, step) {
             Ok(reply) => {
                 self.tally.note(&reply);
                 if is_new && !matches!(reply, Reply::Inserted) {
@@ -216,51 +142,40 @@ impl Caller {
 
     /// Makes a call. One that is not answered counts as wrong.
     #[inline]
-    fn take<M: Mode, J: Room, R: Wait>(&mut self, rt: &R, file: &HashFile<NoGate, M, J>, step: Step)
-        requires { IsOf file.now.state self.old.hand }
-        ensures { IsOf file.now.state self.new.hand }
-    {
+    fn take<R: Wait>(&mut self, rt: &R, step: Step) {
         if self.lends {
-            self.take_lent(rt, file, step);
+            self.take_lent(rt, step);
             return;
         }
         match step {
-            Step::Search { record, is_there } => self.search(rt, file, record, is_there),
-            Step::Insert { record, is_new } => self.insert(rt, file, record, is_new),
-            Step::Delete { record } => self.delete(rt, file, record),
-            Step::Replace { record, length } => self.replace(rt, file, record, length),
+            Step::Search { record, is_there } => self.search(rt, record, is_there),
+            Step::Insert { record, is_new } => self.insert(rt, record, is_new),
+            Step::Delete { record } => self.delete(rt, record),
+            Step::Replace { record, length } => self.replace(rt, record, length),
         }
     }
 }
 
 /// Makes this many calls of a stream.
-pub fn play<S: Stream, M: Mode, J: Room, R: Wait>(
+pub fn play<S: Stream, T: Table, R: Wait>(
     rt: &R,
-    file: &HashFile<NoGate, M, J>,
-    mut caller: Caller,
+    mut caller: Caller<T>,
     mut stream: S,
     calls: u64,
-) -> Caller
-    requires { IsOf file.now.state caller.hand }
-    ensures { IsOf file.now.state result.hand }
-{
+) -> Caller<T> {
     for _ in 0..calls {
-        caller.take(rt, file, stream.next());
+        caller.take(rt, stream.next());
     }
     caller
 }
 
 /// Makes calls of a stream until all are to end, and times each from the end of the one before.
-pub fn play_to_end<S: Stream, M: Mode, J: Room, R: Wait + Clock>(
+pub fn play_to_end<S: Stream, T: Table, R: Wait + Clock>(
     rt: &R,
-    file: &HashFile<NoGate, M, J>,
-    mut caller: Caller,
+    mut caller: Caller<T>,
     mut stream: S,
     starter: &Starter,
-) -> Caller
-    requires { IsOf file.now.state caller.hand }
-    ensures { IsOf file.now.state result.hand }
-{
+) -> Caller<T> {
     let Ok(mut laps) = Laps::start(rt) else {
         caller.tally.note_wrong();
         return caller;
@@ -270,7 +185,7 @@ pub fn play_to_end<S: Stream, M: Mode, J: Room, R: Wait + Clock>(
             break;
         }
         let step = stream.next();
-        caller.take(rt, file, step);
+        caller.take(rt, step);
         match laps.next(rt) {
             Ok(time) => caller.tally.note_time(step.is_search(), time),
             Err(_) => caller.tally.note_wrong(),

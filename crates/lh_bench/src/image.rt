@@ -4,16 +4,18 @@ ghost use Rattle.lh_file.specs.FileState.{IsOf};
 
 use crate::caller::{Caller, play};
 use crate::meter::{Spent, Stopwatch};
+use crate::on_file::OnFile;
 use crate::order::Order;
 use crate::report::Outcome;
 use crate::streams::Searches;
+use crate::table::Table;
 use crate::workloads::{empty_file, load};
 use anyhow::Result;
 use lh_bucket::Listing;
 use lh_file::{Hand, HashFile, NoGate};
 use lh_image::{Version, read_image, write_image, write_image_v1};
 use std::fs;
-use std::io::{BufReader, BufWriter};
+use std::io::{BufReader, BufWriter, Write};
 use std::os::unix::fs::MetadataExt;
 use std::rt::{Clock, Files};
 use std::sync::Wait;
@@ -24,17 +26,22 @@ const PATH: &str = "lh_bench.lhf";
 const BUFFER: usize = 1 << 17;
 
 /// Writes an image of a listing.
-fn write_listing<R: Files + AllocGlobal>(
+pub fn write_listing<W: Write>(listing: &Listing, version: Version, writer: &mut W) -> Result<()> {
+    match version {
+        Version::One => write_image_v1(listing, writer)?,
+        Version::Two => write_image(listing, writer)?,
+    }
+    Ok(())
+}
+
+/// The same, to the file.
+fn write_to_file<R: Files + AllocGlobal>(
     rt: &R,
     listing: &Listing,
     version: Version,
 ) -> Result<()> {
     let mut writer = BufWriter::with_capacity(rt.alloc(), BUFFER, fs::create(rt, PATH)?)?;
-    match version {
-        Version::One => write_image_v1(listing, &mut writer)?,
-        Version::Two => write_image(listing, &mut writer)?,
-    }
-    Ok(())
+    write_listing(listing, version, &mut writer)
 }
 
 /// Inserts the records into an empty file, and writes a snapshot of it. Answers how long that took, and whether all were
@@ -46,9 +53,9 @@ where
 {
     let (file, hand) = empty_file(rt.alloc(), false)?;
     let watch = Stopwatch::start(rt)?;
-    let mut caller = load(rt, &file, hand, order, 1);
-    let listing = file.snapshot(rt, &mut caller.hand)?.into_known_listing();
-    write_listing(rt, &listing, order.image)?;
+    let mut caller = load(rt, OnFile::new(&file, hand), order, 1);
+    let listing = caller.table.snapshot(rt)?.into_known_listing();
+    write_to_file(rt, &listing, order.image)?;
     let spent = watch.stop(rt)?;
     Ok((spent, caller.tally.inserted == order.records))
 }
@@ -75,8 +82,8 @@ where
         record: 0,
         are_there: true,
     };
-    let caller = Caller::new(hand, order);
-    let caller = play(rt, &file, caller, stream, order.records);
+    let caller = Caller::new(OnFile::new(&file, hand), order);
+    let caller = play(rt, caller, stream, order.records);
     let reading = watch.stop(rt)?;
     fs::remove_file(rt, PATH)?;
     let is_due = is_written && caller.tally.found == order.records;

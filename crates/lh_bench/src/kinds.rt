@@ -1,45 +1,40 @@
-//! The workloads on files of either kind, untraced and traced.
+//! The workloads on tables of each kind: an untraced file, a traced one, and several as one.
 ghost use Rattle.std.specs.Prelude.{true};
 ghost use Rattle.lh_file.specs.Buckets.Rooms.{IsRoomOf};
-ghost use Rattle.lh_file.specs.FileState.{IsOf};
 
 use crate::meter::resident_bytes;
+use crate::on_file::OnFile;
+use crate::on_shards::OnShards;
 use crate::order::{Order, Workload};
 use crate::replacing::replaces;
 use crate::report::Outcome;
+use crate::table::Table;
 use crate::workloads::{empty_file, inserts, searches, settings, shared};
 use anyhow::Result;
 use lh_bucket::Listing;
-use lh_file::{Hand, HashFile, Mode, NoGate, Opening, Room};
+use lh_file::{NoGate, Opening, Room};
+use lh_shards::Shards;
 use std::marker::Brand;
 use std::rt::{Clock, Files};
 use std::sync::Wait;
 use std::thread::Threads;
 use std::time::CpuClock;
 
-/// Runs a workload on an empty file. The process had this many bytes of memory before that was made.
-fn run_on<M, J, R>(
-    rt: &R,
-    file: &HashFile<NoGate, M, J>,
-    hand: Hand,
-    order: &Order,
-    before: u64,
-) -> Result<Outcome>
+/// Runs a workload on an empty table. The process had this many bytes of memory before that was made.
+fn run_on<T, R>(rt: &R, table: T, order: &Order, before: u64) -> Result<Outcome>
 where
-    M: Mode + Send + Sync,
-    J: Room + Send + Sync,
+    T: Table + Send,
     R: Threads + Wait + Sync + Clock + CpuClock + Files + AllocGlobal,
-    requires { IsOf file.now.state hand }
 {
     let mut outcome = match order.workload {
-        Workload::Inserts => inserts(rt, file, hand, order, before)?,
-        Workload::Searches => searches(rt, file, hand, order)?,
-        Workload::Replaces => replaces(rt, file, hand, order)?,
-        Workload::MostlySearches => shared(rt, file, hand, order, 0, 1)?,
+        Workload::Inserts => inserts(rt, table, order, before)?,
+        Workload::Searches => searches(rt, table, order)?,
+        Workload::Replaces => replaces(rt, table, order)?,
+        Workload::MostlySearches => shared(rt, table, order, 0, 1)?,
         Workload::OneKey | Workload::Skewed | Workload::Misses => {
-            shared(rt, file, hand, order, order.records, 1)?
+            shared(rt, table, order, order.records, 1)?
         }
-        _ => shared(rt, file, hand, order, order.records, 2)?,
+        _ => shared(rt, table, order, order.records, 2)?,
     };
     outcome.looks.peak_bytes = outcome.looks.peak_bytes.saturating_sub(before);
     Ok(outcome)
@@ -52,7 +47,17 @@ where
 {
     let before = resident_bytes(rt);
     let (file, hand) = empty_file(rt.alloc(), false)?;
-    run_on(rt, &file, hand, order, before)
+    run_on(rt, OnFile::new(&file, hand), order, before)
+}
+
+/// Runs a workload on this many untraced files as one.
+pub fn run_sharded<R>(rt: &R, order: &Order, shards: u32) -> Result<Outcome>
+where
+    R: Threads + Wait + Sync + Clock + CpuClock + Files + AllocGlobal,
+{
+    let before = resident_bytes(rt);
+    let (shards, hands) = Shards::create(rt.alloc(), settings()?, shards, false)?;
+    run_on(rt, OnShards::new(&shards, hands), order, before)
 }
 
 /// Runs a workload on a traced file whose table is named.
@@ -68,7 +73,7 @@ where
     requires { IsRoomOf true J.named J.table opening.table }
 {
     let (file, hand) = opening.file::<J>()?;
-    run_on(rt, &file, hand, order, before)
+    run_on(rt, OnFile::new(&file, hand), order, before)
 }
 
 /// Runs a workload on a traced file.

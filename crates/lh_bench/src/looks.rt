@@ -1,11 +1,10 @@
-//! Looks at all records of a file: snapshots, and scans.
-ghost use Rattle.lh_file.specs.FileState.{IsOf};
+//! Looks at all records of a table: snapshots, and scans.
 
 use crate::meter::{Laps, peak_bytes};
 use crate::order::{Order, Workload};
+use crate::table::Table;
 use anyhow::Result;
 use lh_bucket::Reply;
-use lh_file::{Hand, HashFile, Mode, NoGate, Room, Scan};
 use lh_page::{Pair, Value};
 use std::rt::{Clock, Files};
 use std::sync::Wait;
@@ -18,13 +17,13 @@ const SECOND: u64 = 1_000_000_000;
 
 /// How many records were met, and the sum of the first bytes of their values.
 #[derive(Clone, Copy, PartialEq, Eq)]
-struct Met {
+pub struct Met {
     records: u64,
     sum: u64,
 }
 
 impl Met {
-    const NONE: Met = Met { records: 0, sum: 0 };
+    pub const NONE: Met = Met { records: 0, sum: 0 };
 
     fn note(&mut self, value: &Value) {
         let first = value.bytes().first().copied().unwrap_or(0);
@@ -32,7 +31,7 @@ impl Met {
         self.sum = self.sum.wrapping_add(first as u64);
     }
 
-    fn note_all(&mut self, pairs: &[Pair]) {
+    pub fn note_all(&mut self, pairs: &[Pair]) {
         for pair in pairs {
             self.note(&pair.value);
         }
@@ -88,36 +87,9 @@ impl Looks {
     }
 }
 
-/// What a scan meets.
-fn scan<M: Mode, J: Room, R: Wait + AllocGlobal>(
-    rt: &R,
-    file: &HashFile<NoGate, M, J>,
-    hand: &mut Hand,
-) -> Result<Met>
-    requires { IsOf file.now.state hand.old }
-    ensures { IsOf file.now.state hand.new }
-{
-    let mut met = Met::NONE;
-    let mut scan = Scan::new(rt.alloc(), file)?;
-    for _ in rt.forever() {
-        let Some(copy) = scan.next(rt, file, hand)? else {
-            break;
-        };
-        met.note_all(&copy.pairs);
-    }
-    Ok(met)
-}
-
 /// What a snapshot has.
-fn read_snapshot<M: Mode, J: Room, R: Wait>(
-    rt: &R,
-    file: &HashFile<NoGate, M, J>,
-    hand: &mut Hand,
-) -> Result<Met>
-    requires { IsOf file.now.state hand.old }
-    ensures { IsOf file.now.state hand.new }
-{
-    let listing = file.snapshot(rt, hand)?.into_listing()?;
+fn read_snapshot<T: Table, R: Wait>(rt: &R, table: &mut T) -> Result<Met> {
+    let listing = table.snapshot(rt)?.into_listing()?;
     let mut met = Met::NONE;
     for bucket in 0..listing.buckets() {
         met.note_all(listing.pairs_of(bucket));
@@ -126,18 +98,10 @@ fn read_snapshot<M: Mode, J: Room, R: Wait>(
 }
 
 /// What searches for all records find.
-fn found<M: Mode, J: Room, R: Wait>(
-    rt: &R,
-    file: &HashFile<NoGate, M, J>,
-    hand: &mut Hand,
-    order: &Order,
-) -> Met
-    requires { IsOf file.now.state hand.old }
-    ensures { IsOf file.now.state hand.new }
-{
+fn found<T: Table, R: Wait>(rt: &R, table: &mut T, order: &Order) -> Met {
     let mut met = Met::NONE;
     for record in 0..order.records.wrapping_mul(2) {
-        if let Ok(answer) = file.search(rt, hand, order.contents().key(record)) {
+        if let Ok(answer) = table.search(rt, order.contents().key(record)) {
             if let Reply::Found(value) = answer.reply() {
                 met.note(&value);
             }
@@ -146,60 +110,48 @@ fn found<M: Mode, J: Room, R: Wait>(
     met
 }
 
-/// Whether a look at a file that nobody changes meets just what searches find.
-pub fn sees_all<M: Mode, J: Room, R: Wait + AllocGlobal>(
+/// Whether a look at a table that nobody changes meets just what searches find.
+pub fn sees_all<T: Table, R: Wait + AllocGlobal>(
     rt: &R,
-    file: &HashFile<NoGate, M, J>,
-    hand: &mut Hand,
+    table: &mut T,
     order: &Order,
-) -> Result<bool>
-    requires { IsOf file.now.state hand.old }
-    ensures { IsOf file.now.state hand.new }
-{
+) -> Result<bool> {
     let met = match order.workload {
-        Workload::Snapshots => read_snapshot(rt, file, hand)?,
-        _ => scan(rt, file, hand)?,
+        Workload::Snapshots => read_snapshot(rt, table)?,
+        _ => table.scan(rt)?,
     };
-    Ok(met == found(rt, file, hand, order))
+    Ok(met == found(rt, table, order))
 }
 
 /// Looks once: what was met, and in how many nanoseconds. A snapshot's records are counted, and not read.
-fn look<M: Mode, J: Room, R: Wait + Clock + AllocGlobal>(
+fn look<T: Table, R: Wait + Clock + AllocGlobal>(
     rt: &R,
-    file: &HashFile<NoGate, M, J>,
-    hand: &mut Hand,
+    table: &mut T,
     workload: Workload,
-) -> Result<(Met, u64)>
-    requires { IsOf file.now.state hand.old }
-    ensures { IsOf file.now.state hand.new }
-{
+) -> Result<(Met, u64)> {
     let mut laps = Laps::start(rt)?;
     if let Workload::Snapshots = workload {
-        let copy = file.snapshot(rt, hand)?;
+        let copy = table.snapshot(rt)?;
         let time = laps.next(rt)?;
         let records = copy.records();
         return Ok((Met { records, sum: 0 }, time));
     }
-    let met = scan(rt, file, hand)?;
+    let met = table.scan(rt)?;
     Ok((met, laps.next(rt)?))
 }
 
 /// Looks one after another, for a second at least.
-pub fn take_looks<M: Mode, J: Room, R: Wait + Clock + Files + AllocGlobal>(
+pub fn take_looks<T: Table, R: Wait + Clock + Files + AllocGlobal>(
     rt: &R,
-    file: &HashFile<NoGate, M, J>,
-    hand: &mut Hand,
+    table: &mut T,
     order: &Order,
-) -> Result<Looks>
-    requires { IsOf file.now.state hand.old }
-    ensures { IsOf file.now.state hand.new }
-{
+) -> Result<Looks> {
     let mut times = Vec::new(rt.alloc());
     let mut looks = Looks::NONE;
     let mut laps = Laps::start(rt)?;
     let mut passed = 0_u64;
     for _ in rt.forever() {
-        let (met, time) = look(rt, file, hand, order.workload)?;
+        let (met, time) = look(rt, table, order.workload)?;
         looks.note(met, order.records);
         times.push(time)?;
         passed = passed.saturating_add(laps.next(rt)?);

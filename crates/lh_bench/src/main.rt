@@ -5,9 +5,10 @@
 //! lh_bench --workload W3 --threads 4 --records 1000000 --seed 1
 //! ```
 //!
-//! With `--traced` the file is traced, and the line says so. `--workload all` runs on both kinds then. With `--lent` the
-//! calls are those without an answer, and a value is compared where it is lent. With `--image 1` the image of W5 is one of
-//! version 1, which has room for its records too.
+//! With `--shards 16` the table is 16 files as one, and the line says so. With `--traced` the file is traced, and the
+//! line says so. `--workload all` runs on both kinds then. With `--lent` the calls are those without an answer, and a
+//! value is compared where it is lent. With `--image 1` the image of W5 and W10 is one of version 1, which has room for
+//! its records too.
 #![tactic(auto)]
 
 mod caller;
@@ -16,9 +17,12 @@ mod crew;
 mod image;
 mod kinds;
 mod lengths;
+mod look_ups;
 mod looks;
 mod meter;
 mod numbers;
+mod on_file;
+mod on_shards;
 mod order;
 mod replacing;
 mod report;
@@ -27,6 +31,7 @@ mod splits;
 mod starter;
 mod steps;
 mod streams;
+mod table;
 mod tally;
 mod units;
 mod workloads;
@@ -48,8 +53,12 @@ where
 {
     match order.workload {
         Workload::Image => image::write_and_read(rt, order),
+        Workload::LookUps => look_ups::look_up_all(rt, order),
         _ if order.traced => kinds::run_traced(rt, order),
-        _ => kinds::run_untraced(rt, order),
+        _ => match order.shards {
+            Some(shards) => kinds::run_sharded(rt, order, shards),
+            None => kinds::run_untraced(rt, order),
+        },
     }
 }
 
@@ -70,8 +79,7 @@ fn run_one<R>(rt: &R, order: &Order, form: Form) -> Result<()>
 where
     R: Runtime + AllocGlobal + CpuClock + Threads + Wait + Sync,
 {
-    let is_alone = order.threads == 1 || order.workload.is_shared();
-    if !is_alone || order.traced && !order.workload.may_trace() {
+    if !order.is_possible() {
         return Ok(unsupported(rt)?);
     }
     match order.workload {
@@ -104,7 +112,7 @@ where
         },
         form,
     )?;
-    if order.traced && order.workload.may_trace() {
+    if order.traced && order.may_trace() {
         run_one(rt, order, form)?;
     }
     Ok(())

@@ -12,6 +12,11 @@ pub struct Spent {
 }
 
 impl Spent {
+    pub const NONE: Spent = Spent {
+        wall: 0,
+        processor: 0,
+    };
+
     pub fn with(self, other: Spent) -> Spent {
         Spent {
             wall: self.wall.saturating_add(other.wall),

@@ -5,6 +5,7 @@ use crate::report::Form;
 use clap::builder::ValueParser;
 use clap::{Arg, ArgAction, ArgMatches, Command, Error};
 use lh_image::Version;
+use lh_shards::MOST_SHARDS;
 use std::alloc::Global;
 
 /// What is measured.
@@ -28,6 +29,8 @@ pub enum Workload {
     Misses,
     /// As mixed, with keys of 50 bytes and values of 100.
     LongRecords,
+    /// Look-ups in the bytes of an image: of records that are there, and of others.
+    LookUps,
     /// Snapshots, one after another, while other threads make mixed calls.
     Snapshots,
     /// Scans, one after another, while other threads make mixed calls.
@@ -45,7 +48,7 @@ pub enum Workload {
 }
 
 impl Workload {
-    pub const MEASURED: [Workload; 12] = [
+    pub const MEASURED: [Workload; 13] = [
         Workload::Inserts,
         Workload::Searches,
         Workload::MostlySearches,
@@ -55,6 +58,7 @@ impl Workload {
         Workload::Skewed,
         Workload::Misses,
         Workload::LongRecords,
+        Workload::LookUps,
         Workload::Snapshots,
         Workload::Scans,
         Workload::Readings,
@@ -72,6 +76,7 @@ impl Workload {
             Workload::Skewed => "W7",
             Workload::Misses => "W8",
             Workload::LongRecords => "W9",
+            Workload::LookUps => "W10",
             Workload::Snapshots => "W11",
             Workload::Scans => "W12",
             Workload::Readings => "W13",
@@ -93,6 +98,7 @@ impl Workload {
             "W7" => Workload::Skewed,
             "W8" => Workload::Misses,
             "W9" => Workload::LongRecords,
+            "W10" => Workload::LookUps,
             "W11" => Workload::Snapshots,
             "W12" => Workload::Scans,
             "W13" => Workload::Readings,
@@ -112,6 +118,7 @@ impl Workload {
             Workload::Skewed => 7,
             Workload::Misses => 8,
             Workload::LongRecords => 9,
+            Workload::LookUps => 10,
             _ => 4,
         }
     }
@@ -151,8 +158,17 @@ impl Workload {
     pub fn may_trace(self) -> bool {
         !matches!(
             self,
-            Workload::Image | Workload::Steps | Workload::Settling | Workload::All
+            Workload::Image
+                | Workload::LookUps
+                | Workload::Steps
+                | Workload::Settling
+                | Workload::All
         )
+    }
+
+    /// Whether it may run on several files as one: it does where no image is written and nobody looks at all records.
+    pub fn may_shard(self) -> bool {
+        self.may_trace() && !self.times_calls()
     }
 }
 
@@ -163,6 +179,8 @@ pub struct Order {
     pub threads: u64,
     pub records: u64,
     pub seed: u64,
+    /// How many files the table has, where it is not a file itself.
+    pub shards: Option<u32>,
     /// Whether the file is traced. Where all workloads are asked for: whether they run on such a file too.
     pub traced: bool,
     /// Whether its calls are those without an answer, which lend values.
@@ -182,6 +200,7 @@ impl Order {
             Workload::Image => self.records.wrapping_mul(2),
             Workload::MostlySearches => self.records.wrapping_mul(20),
             Workload::Searches | Workload::Replaces => self.records.max(LEAST),
+            Workload::LookUps => self.records.max(LEAST).wrapping_mul(2),
             _ => self.records.wrapping_mul(4).max(LEAST),
         }
     }
@@ -200,9 +219,22 @@ impl Order {
         }
     }
 
+    /// Whether it can be run so.
+    pub fn is_possible(&self) -> bool {
+        let may_share = self.threads == 1 || self.workload.is_shared();
+        let may_trace = !self.traced || self.may_trace();
+        let may_shard = self.shards.is_none() || self.workload.may_shard();
+        may_share && may_trace && may_shard
+    }
+
+    /// Whether it can be run on a traced file.
+    pub fn may_trace(&self) -> bool {
+        self.workload.may_trace() && self.shards.is_none()
+    }
+
     /// Whether an image is written of another version than a program writes that isn't asked for one.
     pub fn has_old_image(&self) -> bool {
-        self.workload == Workload::Image && self.image == Version::One
+        matches!(self.workload, Workload::Image | Workload::LookUps) && self.image == Version::One
     }
 
     /// How its keys and values are made.
@@ -222,9 +254,9 @@ pub enum Asked {
     Told(Error),
 }
 
-const WORDS: [&str; 16] = [
-    "W1", "W2", "W3", "W4", "W5", "W6", "W7", "W8", "W9", "W11", "W12", "W13", "hot", "steps",
-    "settle", "all",
+const WORDS: [&str; 17] = [
+    "W1", "W2", "W3", "W4", "W5", "W6", "W7", "W8", "W9", "W10", "W11", "W12", "W13", "hot",
+    "steps", "settle", "all",
 ];
 
 fn number<'a>(
@@ -266,6 +298,11 @@ fn command<'a>(alloc: Global) -> Result<Command<'a>, Error> {
     let threads = ValueParser::Unsigned(1, 64);
     let records = ValueParser::Unsigned(1, 1_000_000_000);
     let seed = ValueParser::Unsigned(0, u64::MAX);
+    let shards = Arg::new(alloc, "shards")
+        .long("shards")
+        .help("Run on this many files as one, and not on a file")
+        .action(ArgAction::Set)
+        .value_parser(ValueParser::Unsigned(1, MOST_SHARDS as u64));
     let image = ValueParser::Unsigned(1, 2);
     Ok(
         Command::new(alloc, "lh_bench")
@@ -274,7 +311,14 @@ fn command<'a>(alloc: Global) -> Result<Command<'a>, Error> {
             .arg(number(alloc, "threads", "Threads", "1", threads))?
             .arg(number(alloc, "records", "Records", "1000", records))?
             .arg(number(alloc, "seed", "Seed of the streams", "1", seed))?
-            .arg(number(alloc, "image", "Version of W5's image", "2", image))?
+            .arg(number(
+                alloc,
+                "image",
+                "Version of the image in W5 and W10",
+                "2",
+                image,
+            ))?
+            .arg(shards)?
             .arg(traced)?
             .arg(lent)?
             .arg(counts)?,
@@ -287,6 +331,7 @@ fn order_of(matches: &ArgMatches<'_>) -> Order {
         threads: matches.get_one("threads").unwrap_or(1),
         records: matches.get_one("records").unwrap_or(1),
         seed: matches.get_one("seed").unwrap_or(1),
+        shards: matches.get_one("shards"),
         traced: matches.get_flag("traced"),
         lends: matches.get_flag("lent"),
         image: match matches.get_one("image") {

@@ -1,5 +1,4 @@
 //! Replaces of records by values of other lengths.
-ghost use Rattle.lh_file.specs.FileState.{IsOf};
 
 use crate::caller::{Caller, play};
 use crate::contents::Contents;
@@ -7,10 +6,10 @@ use crate::meter::Stopwatch;
 use crate::order::Order;
 use crate::report::Outcome;
 use crate::streams::Replaces;
+use crate::table::Table;
 use crate::workloads::load;
 use anyhow::Result;
 use lh_bucket::Reply;
-use lh_file::{Hand, HashFile, Mode, NoGate, Room};
 use std::alloc::Global;
 use std::rt::Clock;
 use std::sync::Wait;
@@ -43,18 +42,15 @@ fn is_last_given(reply: &Reply, contents: Contents, record: u64, length: u8) -> 
 }
 
 /// Whether each record has the value that it was last given.
-fn are_last_given<M: Mode, J: Room, R: Wait>(
+fn are_last_given<T: Table, R: Wait>(
     rt: &R,
-    file: &HashFile<NoGate, M, J>,
-    mut hand: Hand,
+    table: &mut T,
     contents: Contents,
     lengths: &[u8],
-) -> bool
-    requires { IsOf file.now.state hand }
-{
+) -> bool {
     for (place, length) in lengths.iter().enumerate() {
         let record = place as u64;
-        let is_due = match file.search(rt, &mut hand, contents.key(record)) {
+        let is_due = match table.search(rt, contents.key(record)) {
             Ok(answer) => is_last_given(&answer.reply(), contents, record, *length),
             Err(_) => false,
         };
@@ -66,22 +62,19 @@ fn are_last_given<M: Mode, J: Room, R: Wait>(
 }
 
 /// Replaces of records that are there.
-pub fn replaces<M: Mode, J: Room, R: Wait + Clock + CpuClock + AllocGlobal>(
+pub fn replaces<T: Table, R: Wait + Clock + CpuClock + AllocGlobal>(
     rt: &R,
-    file: &HashFile<NoGate, M, J>,
-    hand: Hand,
+    table: T,
     order: &Order,
-) -> Result<Outcome>
-    requires { IsOf file.now.state hand }
-{
+) -> Result<Outcome> {
     let lengths = last_lengths(rt.alloc(), order)?;
-    let loaded = load(rt, file, hand, order, 1);
-    let caller = Caller::new(loaded.hand, order);
+    let loaded = load(rt, table, order, 1);
+    let caller = Caller::new(loaded.table, order);
     let watch = Stopwatch::start(rt)?;
-    let caller = play(rt, file, caller, Replaces::new(order), order.calls());
+    let mut caller = play(rt, caller, Replaces::new(order), order.calls());
     let spent = watch.stop(rt)?;
     let tally = caller.tally;
     let is_due = tally.replaced == order.calls()
-        && are_last_given(rt, file, caller.hand, order.contents(), lengths.as_slice());
+        && are_last_given(rt, &mut caller.table, order.contents(), lengths.as_slice());
     Ok(Outcome::new(order.calls(), spent, tally, is_due))
 }

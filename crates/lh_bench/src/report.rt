@@ -3,7 +3,7 @@
 use crate::lengths::Lengths;
 use crate::looks::Looks;
 use crate::meter::Spent;
-use crate::order::Order;
+use crate::order::{Order, Workload};
 use crate::tally::Tally;
 use crate::units::Seconds;
 use std::io;
@@ -26,6 +26,9 @@ pub struct Outcome {
     /// Nanoseconds that it took to write the file, and to read and search it.
     pub write: u64,
     pub read: u64,
+    /// What look-ups in an image took, of records that are there and of others.
+    pub found: Spent,
+    pub absent: Spent,
     pub resident_bytes: u64,
     pub file_bytes: u64,
     /// The buckets of the file at the end, where they are told.
@@ -43,6 +46,8 @@ impl Outcome {
             tally,
             write: 0,
             read: 0,
+            found: Spent::NONE,
+            absent: Spent::NONE,
             resident_bytes: 0,
             file_bytes: 0,
             buckets: 0,
@@ -76,6 +81,9 @@ impl Outcome {
         print!(rt;
             "{{\"workload\":\"{workload}\",\"threads\":{threads},\"records\":{records},\"seed\":{seed}"
         )?;
+        if let Some(shards) = order.shards {
+            print!(rt; ",\"shards\":{shards}")?;
+        }
         if order.traced {
             print!(rt; ",\"traced\":true")?;
         }
@@ -97,6 +105,7 @@ impl Outcome {
         }
         match form {
             Form::Line if times_calls => self.print_lengths(rt)?,
+            Form::Line if order.workload == Workload::LookUps => self.print_look_ups(rt)?,
             _ => {}
         }
         let digest = self.tally.digest;
@@ -134,6 +143,16 @@ impl Outcome {
     fn print_lengths(&self, rt: &impl Print) -> io::Result<()> {
         print_lengths_of(rt, "write", "writes", &self.tally.writes)?;
         print_lengths_of(rt, "search", "searches", &self.tally.searches)
+    }
+
+    fn print_look_ups(&self, rt: &impl Print) -> io::Result<()> {
+        let (found, absent) = (Seconds(self.found.wall), Seconds(self.absent.wall));
+        print!(rt; ",\"found_s\":{found},\"absent_s\":{absent}")?;
+        let (found, absent) = (
+            Seconds(self.found.processor),
+            Seconds(self.absent.processor),
+        );
+        print!(rt; ",\"found_cpu_s\":{found},\"absent_cpu_s\":{absent}")
     }
 
     fn print_counts(&self, rt: &impl Print) -> io::Result<()> {

@@ -1,4 +1,4 @@
-//! The workloads on a file in memory, which is empty at first.
+//! The workloads on a table in memory, which is empty at first.
 ghost use Rattle.std.specs.Prelude.{IfOk};
 ghost use Rattle.lh_file.specs.FileState.{IsOf};
 
@@ -10,10 +10,11 @@ use crate::order::{Order, Workload};
 use crate::report::Outcome;
 use crate::starter::Starter;
 use crate::streams::{Inserts, Picks, Searches};
+use crate::table::Table;
 use crate::tally::Tally;
 use anyhow::{Result, bail};
 use lh_addr::Config;
-use lh_file::{Hand, HashFile, Mode, NoGate, Room};
+use lh_file::{Hand, HashFile, NoGate};
 use std::alloc::Global;
 use std::rt::{Clock, Files};
 use std::sync::Wait;
@@ -36,78 +37,52 @@ pub fn empty_file(alloc: Global, recording: bool) -> Result<(HashFile<NoGate>, H
 }
 
 /// The inserts of each `stride`th record.
-pub fn load<M: Mode, J: Room, R: Wait>(
-    rt: &R,
-    file: &HashFile<NoGate, M, J>,
-    hand: Hand,
-    order: &Order,
-    stride: u64,
-) -> Caller
-    requires { IsOf file.now.state hand }
-    ensures { IsOf file.now.state result.hand }
-{
+pub fn load<T: Table, R: Wait>(rt: &R, table: T, order: &Order, stride: u64) -> Caller<T> {
     let stream = Inserts { record: 0, stride };
-    let caller = Caller::new(hand, order);
-    play(rt, file, caller, stream, order.records)
+    let caller = Caller::new(table, order);
+    play(rt, caller, stream, order.records)
 }
 
-/// Inserts. The process had this many bytes of memory before the file was made.
-pub fn inserts<M: Mode, J: Room, R>(
-    rt: &R,
-    file: &HashFile<NoGate, M, J>,
-    hand: Hand,
-    order: &Order,
-    before: u64,
-) -> Result<Outcome>
+/// Inserts. The process had this many bytes of memory before the table was made.
+pub fn inserts<T: Table, R>(rt: &R, table: T, order: &Order, before: u64) -> Result<Outcome>
 where
     R: Wait + Clock + CpuClock + Files + AllocGlobal,
-    requires { IsOf file.now.state hand }
 {
     let watch = Stopwatch::start(rt)?;
-    let mut caller = load(rt, file, hand, order, 1);
+    let mut caller = load(rt, table, order, 1);
     let spent = watch.stop(rt)?;
     let tally = caller.tally;
     let is_due = tally.inserted == order.records;
     Ok(Outcome {
-        buckets: file.buckets(&mut caller.hand),
+        buckets: caller.table.buckets(),
         resident_bytes: resident_bytes(rt).saturating_sub(before),
         ..Outcome::new(order.records, spent, tally, is_due)
     })
 }
 
 /// Searches for records that are there.
-pub fn searches<M: Mode, J: Room, R: Wait + Clock + CpuClock>(
+pub fn searches<T: Table, R: Wait + Clock + CpuClock>(
     rt: &R,
-    file: &HashFile<NoGate, M, J>,
-    hand: Hand,
+    table: T,
     order: &Order,
-) -> Result<Outcome>
-    requires { IsOf file.now.state hand }
-{
-    let loaded = load(rt, file, hand, order, 1);
-    let caller = Caller::new(loaded.hand, order);
+) -> Result<Outcome> {
+    let loaded = load(rt, table, order, 1);
+    let caller = Caller::new(loaded.table, order);
     let watch = Stopwatch::start(rt)?;
-    let caller = play(rt, file, caller, Picks::new(order), order.calls());
+    let caller = play(rt, caller, Picks::new(order), order.calls());
     let spent = watch.stop(rt)?;
     let is_due = caller.tally.found == order.calls();
     Ok(Outcome::new(order.calls(), spent, caller.tally, is_due))
 }
 
 /// How many of the first `2 * records` records are there.
-fn records_there<M: Mode, J: Room, R: Wait>(
-    rt: &R,
-    file: &HashFile<NoGate, M, J>,
-    hand: Hand,
-    order: &Order,
-) -> Tally
-    requires { IsOf file.now.state hand }
-{
+fn records_there<T: Table, R: Wait>(rt: &R, table: T, order: &Order) -> Tally {
     let stream = Searches {
         record: 0,
         are_there: false,
     };
-    let caller = Caller::new(hand, order);
-    play(rt, file, caller, stream, order.records.wrapping_mul(2)).tally
+    let caller = Caller::new(table, order);
+    play(rt, caller, stream, order.records.wrapping_mul(2)).tally
 }
 
 /// Whether as many searches met their record as are due, where that is known.
@@ -119,22 +94,19 @@ fn are_met(workload: Workload, tally: &Tally, calls: u64) -> bool {
     }
 }
 
-/// What came of threads that shared a file, which had this many records before.
-fn outcome_of<M: Mode, J: Room, R: Wait + AllocGlobal>(
+/// What came of threads that shared a table, which had this many records before.
+fn outcome_of<T: Table, R: Wait + AllocGlobal>(
     rt: &R,
-    file: &HashFile<NoGate, M, J>,
-    shift: Shift,
+    shift: Shift<T>,
     order: &Order,
     before: u64,
-) -> Outcome
-    requires { IsOf file.now.state shift.hand }
-{
+) -> Outcome {
     let tally = shift.tally;
-    let mut hand = shift.hand;
-    let buckets = file.buckets(&mut hand);
+    let mut table = shift.table;
+    let buckets = table.buckets();
     let are_seen = !order.workload.has_looks()
-        || matches!(sees_all(rt, file, &mut hand, order), Ok(true));
-    let there = records_there(rt, file, hand, order);
+        || matches!(sees_all(rt, &mut table, order), Ok(true));
+    let there = records_there(rt, table, order);
     let due = before
         .wrapping_add(tally.inserted)
         .wrapping_sub(tally.deleted);
@@ -150,23 +122,14 @@ fn outcome_of<M: Mode, J: Room, R: Wait + AllocGlobal>(
     }
 }
 
-/// Calls of several threads, in a file that has this many records before them: each `stride`th from the first on.
-pub fn shared<M, J, R>(
-    rt: &R,
-    file: &HashFile<NoGate, M, J>,
-    hand: Hand,
-    order: &Order,
-    records: u64,
-    stride: u64,
-) -> Result<Outcome>
+/// Calls of several threads, in a table that has this many records before them: each `stride`th from the first on.
+pub fn shared<T, R>(rt: &R, table: T, order: &Order, records: u64, stride: u64) -> Result<Outcome>
 where
-    M: Mode + Send + Sync,
-    J: Room + Send + Sync,
+    T: Table + Send,
     R: Threads + Wait + Sync + Clock + CpuClock + Files + AllocGlobal,
-    requires { IsOf file.now.state hand }
 {
     let first = Order { records, ..*order };
-    let loaded = load(rt, file, hand, &first, stride);
-    let shift = play_in_threads(rt, &Starter::new(), file, loaded.hand, *order)?;
-    Ok(outcome_of(rt, file, shift, order, records))
+    let loaded = load(rt, table, &first, stride);
+    let shift = play_in_threads(rt, &Starter::new(), loaded.table, *order)?;
+    Ok(outcome_of(rt, shift, order, records))
 }

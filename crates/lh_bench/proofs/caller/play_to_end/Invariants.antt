@@ -1,5 +1,0 @@
-use Rattle.lh_file.specs.FileState.{IsOf}
-use Rattle.lh_bench.proofs.caller.play_to_end.Given as goal
-
-abbrev pub invariant-loop : goal.invariant-loop
-invariant-loop g l = IsOf l.file.state l.caller.hand

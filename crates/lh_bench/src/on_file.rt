@@ -1,0 +1,126 @@
+//! The workloads' calls on a file.
+ghost use Rattle.std.specs.Prelude.{◌≡◌};
+ghost use Rattle.lh_file.specs.FileState.{IsOf};
+
+use crate::contents::Contents;
+use crate::looks::Met;
+use crate::table::{CALLS, Table};
+use anyhow::Result;
+use lh_bucket::Answer;
+use lh_file::{Closed, FileFault, Hand, HashFile, Mode, NoGate, Room, Scan};
+use lh_page::{Key, Value};
+use std::marker::Model;
+use std::sync::Wait;
+
+/// A file, and a hand of it.
+#[derive(Drop)]
+pub struct OnFile<'a, M: Mode, J: Room> {
+    file: &'a HashFile<NoGate, M, J>,
+    hand: Hand,
+}
+
+impl<'a, M: Mode, J: Room> Model for OnFile<'a, M, J> {
+    ghost use Rattle.lh_file.specs.FileState.{IsOf};
+    ghost use Rattle.lh_file.specs.Words.HandState.{HandState};
+
+    ghost Value = { HandState };
+
+    ghost view = { λ own. own.hand };
+
+    ghost invariant = { λ own. IsOf own.file.now.state own.hand };
+}
+
+impl<'a, M: Mode, J: Room> OnFile<'a, M, J> {
+    pub fn new(file: &'a HashFile<NoGate, M, J>, hand: Hand) -> OnFile<'a, M, J>
+        requires { IsOf file.now.state hand }
+        ensures { result ≡ hand }
+    {
+        OnFile { file, hand }
+    }
+}
+
+/// What a scan meets.
+fn met_by_scan<M: Mode, J: Room, R: Wait + AllocGlobal>(
+    rt: &R,
+    file: &HashFile<NoGate, M, J>,
+    hand: &mut Hand,
+) -> Result<Met>
+    requires { IsOf file.now.state hand.old }
+    ensures { IsOf file.now.state hand.new }
+{
+    let mut met = Met::NONE;
+    let mut scan = Scan::new(rt.alloc(), file)?;
+    for _ in rt.forever() {
+        let Some(copy) = scan.next(rt, file, hand)? else {
+            break;
+        };
+        met.note_all(&copy.pairs);
+    }
+    Ok(met)
+}
+
+impl<'a, M: Mode, J: Room> Table for OnFile<'a, M, J> {
+    #[inline(always)]
+    fn search<R: Wait>(&mut self, rt: &R, key: Key) -> Result<Answer, FileFault> {
+        self.file.search(rt, &mut self.hand, key)
+    }
+
+    #[inline(always)]
+    fn insert<R: Wait>(&mut self, rt: &R, key: Key, value: Value) -> Result<Answer, FileFault> {
+        self.file.insert(rt, &mut self.hand, key, value)
+    }
+
+    #[inline(always)]
+    fn delete<R: Wait>(&mut self, rt: &R, key: Key) -> Result<Answer, FileFault> {
+        self.file.delete(rt, &mut self.hand, key)
+    }
+
+    #[inline(always)]
+    fn replace<R: Wait>(&mut self, rt: &R, key: Key, value: Value) -> Result<Answer, FileFault> {
+        self.file.replace(rt, &mut self.hand, key, value)
+    }
+
+    #[inline(always)]
+    fn compare<R: Wait>(
+        &mut self,
+        rt: &R,
+        contents: Contents,
+        record: u64,
+    ) -> Result<Option<bool>, FileFault> {
+        let key = contents.key(record);
+        let due = |bytes: &[u8]| contents.are_bytes(bytes, record);
+        self.file.with_value(rt, &mut self.hand, &key, due)
+    }
+
+    #[inline(always)]
+    fn put<R: Wait>(&mut self, rt: &R, key: &Key, value: &Value) -> Result<bool, FileFault> {
+        self.file.put(rt, &mut self.hand, key, value)
+    }
+
+    #[inline(always)]
+    fn set<R: Wait>(&mut self, rt: &R, key: &Key, value: &Value) -> Result<bool, FileFault> {
+        self.file.set(rt, &mut self.hand, key, value)
+    }
+
+    #[inline(always)]
+    fn remove<R: Wait>(&mut self, rt: &R, key: &Key) -> Result<bool, FileFault> {
+        self.file.remove(rt, &mut self.hand, key)
+    }
+
+    fn divide(&mut self) -> Result<OnFile<'a, M, J>> {
+        let hand = self.file.split_hand(&mut self.hand, CALLS)?;
+        Ok(OnFile::new(self.file, hand))
+    }
+
+    fn buckets(&mut self) -> u32 {
+        self.file.buckets(&mut self.hand)
+    }
+
+    fn snapshot<R: Wait>(&mut self, rt: &R) -> Result<Closed> {
+        Ok(self.file.snapshot(rt, &mut self.hand)?)
+    }
+
+    fn scan<R: Wait + AllocGlobal>(&mut self, rt: &R) -> Result<Met> {
+        met_by_scan(rt, self.file, &mut self.hand)
+    }
+}

@@ -1,0 +1,52 @@
+//! What the workloads call.
+ghost use Rattle.std.specs.Prelude.{IfOk};
+ghost use Rattle.lh_settling.specs.ClosedFile.{IsWhole};
+
+use crate::contents::Contents;
+use crate::looks::Met;
+use anyhow::Result;
+use lh_bucket::Answer;
+use lh_file::{Closed, FileFault};
+use lh_page::{Key, Value};
+use std::sync::Wait;
+
+/// A table that threads share, as one of them calls it: a file or several as one, and the caller's hand.
+pub trait Table: Drop {
+    fn search<R: Wait>(&mut self, rt: &R, key: Key) -> Result<Answer, FileFault>;
+
+    fn insert<R: Wait>(&mut self, rt: &R, key: Key, value: Value) -> Result<Answer, FileFault>;
+
+    fn delete<R: Wait>(&mut self, rt: &R, key: Key) -> Result<Answer, FileFault>;
+
+    fn replace<R: Wait>(&mut self, rt: &R, key: Key, value: Value) -> Result<Answer, FileFault>;
+
+    /// Whether the value of a record is the one due, compared where it stands, or none where its key is absent.
+    fn compare<R: Wait>(
+        &mut self,
+        rt: &R,
+        contents: Contents,
+        record: u64,
+    ) -> Result<Option<bool>, FileFault>;
+
+    fn put<R: Wait>(&mut self, rt: &R, key: &Key, value: &Value) -> Result<bool, FileFault>;
+
+    fn set<R: Wait>(&mut self, rt: &R, key: &Key, value: &Value) -> Result<bool, FileFault>;
+
+    fn remove<R: Wait>(&mut self, rt: &R, key: &Key) -> Result<bool, FileFault>;
+
+    /// The same table, for another thread.
+    fn divide(&mut self) -> Result<Self>;
+
+    /// How many buckets it has, or 0 where it doesn't tell.
+    fn buckets(&mut self) -> u32;
+
+    /// All records at one moment.
+    fn snapshot<R: Wait>(&mut self, rt: &R) -> Result<Closed>
+        ensures { IfOk result IsWhole };
+
+    /// What a scan meets.
+    fn scan<R: Wait + AllocGlobal>(&mut self, rt: &R) -> Result<Met>;
+}
+
+/// How many calls each thread may make: more than there will be.
+pub const CALLS: u64 = 1 << 40;
