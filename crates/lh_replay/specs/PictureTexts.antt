@@ -68,7 +68,7 @@ told_text (Err refusal) = refusal_text refusal
 -- an event and what was told of it, a refusal in a colour of its own
 unfoldable pub words_text : Words → List ℕ
 words_text w =
-    codes "<text x='8' y='16' fill='" ++ (if_accepted w.entry (codes "#333333") (codes "#d55e00") ++ (codes "'>" ++ (
+    codes "<text x='8' y='16' fill='" ++ (if_accepted w.entry (codes "#333333") (codes "#b85000") ++ (codes "'>" ++ (
     event_word w.event ++ (codes ": " ++ (told_text w.entry ++ codes "</text>")))))
 
 -- the colour of what a worker holds, and of what the splitter holds
@@ -99,8 +99,8 @@ shape_text (shape.BothHeld old new height) =
     ++ held_text (record { left = 206; width = 54; bucket = new; height = height; is_split = true })
 shape_text (shape.Way down) =
     codes "<path d='M264 12c16 0 16 " ++ (decimal down ++ (codes " 6 " ++ (decimal down ++ (
-    codes "' fill='none' stroke='#d55e00' stroke-width='2'/><path transform='translate(262 " ++ (
-    decimal down ++ codes ")' d='M0 12l8 -4v8z' fill='#d55e00'/>")))))
+    codes "' fill='none' stroke='#b85000' stroke-width='2'/><path transform='translate(262 " ++ (
+    decimal down ++ codes ")' d='M0 12l8 -4v8z' fill='#b85000'/>")))))
 shape_text shape.Moved = codes "<path d='M188 12h32m-6 -5l6 5l-6 5' fill='none' stroke='#333333' stroke-width='2'/>"
 shape_text shape.Pointed = codes "<path d='M204 4l8 14h-16z'/>"
 
@@ -108,7 +108,7 @@ shape_text shape.Pointed = codes "<path d='M204 4l8 14h-16z'/>"
 unfoldable pub step_text : Step → List ℕ
 step_text s =
     codes "<g transform='translate(0 " ++ (decimal s.top ++ (
-    codes ")'><text x='36' y='16' text-anchor='end' fill='#777777'>" ++ (decimal s.number ++ (
+    codes ")'><text x='36' y='16' text-anchor='end' fill='#757575'>" ++ (decimal s.number ++ (
     codes "</text><g transform='translate(" ++ (decimal s.left ++ (codes " 0)'>" ++ (
     shape_text s.shape ++ (words_text s.words ++ codes "</g></g>\n"))))))))
 

@@ -110,7 +110,7 @@ impl fmt::Display for Step {
         } = *self;
         write!(
             f,
-            "<g transform='translate(0 {top})'><text x='36' y='16' text-anchor='end' fill='#777777'>{number}</text><g transform='translate({left} 0)'>{shape}{words}</g></g>\n"
+            "<g transform='translate(0 {top})'><text x='36' y='16' text-anchor='end' fill='#757575'>{number}</text><g transform='translate({left} 0)'>{shape}{words}</g></g>\n"
         )
     }
 }

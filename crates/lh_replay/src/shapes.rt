@@ -126,7 +126,7 @@ impl fmt::Display for Shape {
             }
             Shape::Way { down } => write!(
                 f,
-                "<path d='M264 12c16 0 16 {down} 6 {down}' fill='none' stroke='#d55e00' stroke-width='2'/><path transform='translate(262 {down})' d='M0 12l8 -4v8z' fill='#d55e00'/>"
+                "<path d='M264 12c16 0 16 {down} 6 {down}' fill='none' stroke='#b85000' stroke-width='2'/><path transform='translate(262 {down})' d='M0 12l8 -4v8z' fill='#b85000'/>"
             ),
             Shape::Moved => write!(
                 f,

@@ -70,7 +70,7 @@ impl fmt::Display for Words {
         let Words { event, entry } = *self;
         let word = EventWord { event };
         let told = Told { entry };
-        let ink = if entry.is_ok() { "#333333" } else { "#d55e00" };
+        let ink = if entry.is_ok() { "#333333" } else { "#b85000" };
         write!(f, "<text x='8' y='16' fill='{ink}'>{word}: {told}</text>")
     }
 }
