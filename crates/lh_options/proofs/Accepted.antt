@@ -108,6 +108,17 @@ replay-options = record {
   max = ((unequal, (unequal, (unequal, ((λ _. refl), (unequal, tt))))), inr (inr (inr (inl refl))));
 }
 
+abbrev serve_built : Shape
+serve_built = shape_at 11 (built program_app).subs
+
+serve-options : HasOptions serve_built
+serve-options = record {
+  initial = (((λ _. refl), (unequal, (unequal, (unequal, (unequal, tt))))), inl refl);
+  capacity = ((unequal, ((λ _. refl), (unequal, (unequal, (unequal, tt))))), inr (inl refl));
+  load = ((unequal, (unequal, ((λ _. refl), (unequal, (unequal, tt))))), inr (inr (inl refl)));
+  max = ((unequal, (unequal, (unequal, ((λ _. refl), (unequal, tt))))), inr (inr (inr (inl refl))));
+}
+
 build-options : HasOptions build_built
 build-options = record {
   initial = (((λ _. refl), (unequal, (unequal, (unequal, (unequal, (unequal, tt)))))), inl refl);
@@ -191,7 +202,7 @@ accepted-rows words e = entered-some (built program_app) IsEntered (
   (
     (λ t is other ws f. inl (inr (inl refl), settings-after steps_built steps-options ws f, other-name (codes "steps") _ refl, other-name (codes "steps") _ refl)),
     (
-      (λ t is other ws f. inl (inr (inr (inr (inr refl))), settings-after replay_built replay-options ws f, other-name (codes "replay") _ refl, other-name (codes "replay") _ refl)),
+      (λ t is other ws f. inl (inr (inr (inr (inr (inl refl)))), settings-after replay_built replay-options ws f, other-name (codes "replay") _ refl, other-name (codes "replay") _ refl)),
       (
         (λ t is other ws f. inl (inr (inr (inl refl)), settings-after build_built build-options ws f, other-name (codes "build") _ refl, λ _. image-after ws f)),
         (
@@ -208,7 +219,10 @@ accepted-rows words e = entered-some (built program_app) IsEntered (
                     (λ t is other ws f. inr (inr (inr (inr (inr (inl refl)))), no-settings query_built (unequal, tt) ws f, other-name (codes "query") _ refl)),
                     (
                       (λ t is other ws f. inr (inr (inr (inr (inr (inr refl)))), no-settings apply_built (unequal, (unequal, tt)) ws f, λ _. applied-after ws f)),
-                      ((λ t is other ws f. absurd (false≢true (sym other ∙ is_help t is))), tt),
+                      (
+                        (λ t is other ws f. inl (inr (inr (inr (inr (inr refl)))), settings-after serve_built serve-options ws f, other-name (codes "serve") _ refl, other-name (codes "serve") _ refl)),
+                        ((λ t is other ws f. absurd (false≢true (sym other ∙ is_help t is))), tt),
+                      ),
                     ),
                   ),
                 ),
@@ -233,7 +247,8 @@ file-reads name (inl is) = ap reads_image is
 file-reads name (inr (inl is)) = ap reads_image is
 file-reads name (inr (inr (inl is))) = ap reads_image is
 file-reads name (inr (inr (inr (inl is)))) = ap reads_image is
-file-reads name (inr (inr (inr (inr is)))) = ap reads_image is
+file-reads name (inr (inr (inr (inr (inl is))))) = ap reads_image is
+file-reads name (inr (inr (inr (inr (inr is))))) = ap reads_image is
 
 image-reads : (name : Text) → IsImageCommand name → reads_image name ≡ true
 image-reads name (inl is) = ap reads_image is

@@ -30,6 +30,11 @@ pub replay : (name : Text) (settings : Option Settings) (numbers : Text → Opti
 unfolding asked_by
 replay name settings numbers s n e within = (λ i. asked_by (n i) (e i) numbers) ∙ passed_on s (λ x. Some (request.Replay x)) within
 
+pub serve : (name : Text) (settings : Option Settings) (numbers : Text → Option ℕ) (s : Settings) →
+    name ≡ codes "serve" → settings ≡ Some s → s.initial ≤ s.max → asked_by name settings numbers ≡ Some (request.Serve s)
+unfolding asked_by
+serve name settings numbers s n e within = (λ i. asked_by (n i) (e i) numbers) ∙ passed_on s (λ x. Some (request.Serve x)) within
+
 built : (s : Settings) (version : ImageVersion) (image : Option ℕ) → option_map version_numbered image ≡ Some version →
     option_map (λ n. request.Build s (version_numbered n)) image ≡ Some (request.Build s version)
 built s version None f = absurd cc
@@ -114,41 +119,42 @@ out_of_order name (Some s) numbers (inr (inl n)) below = (λ i. asked_by (n i) (
 out_of_order name (Some s) numbers (inr (inr (inl n))) below = (λ i. asked_by (n i) (Some s) numbers) ∙ refused s (λ x. option_map (λ n. request.Build x (version_numbered n)) (numbers (codes "image"))) below
 out_of_order name (Some s) numbers (inr (inr (inr (inl n)))) below =
     (λ i. asked_by (n i) (Some s) numbers) ∙ refused s (drive_asked numbers) below
-out_of_order name (Some s) numbers (inr (inr (inr (inr n)))) below = (λ i. asked_by (n i) (Some s) numbers) ∙ refused s (λ x. Some (request.Replay x)) below
+out_of_order name (Some s) numbers (inr (inr (inr (inr (inl n))))) below = (λ i. asked_by (n i) (Some s) numbers) ∙ refused s (λ x. Some (request.Replay x)) below
+out_of_order name (Some s) numbers (inr (inr (inr (inr (inr n))))) below = (λ i. asked_by (n i) (Some s) numbers) ∙ refused s (λ x. Some (request.Serve x)) below
 
--- one of five requests, each the same one, or none
-one_of : (a b c d e f g h k l n : Bool) (first second third fourth fifth last : Option Request) (m r : Request) →
-    first ≡ Some m → second ≡ Some m → third ≡ Some m → fourth ≡ Some m → fifth ≡ Some m → last ≡ None →
-    (if a then first else if b then second else if c then third else if d then fourth else if e then fifth
-    else if f then None else if g then None else if h then None else if k then None else if l then None else if n then last else None)
-    ≡ Some r → r ≡ m
-one_of true b c d e f g h k l n first second third fourth fifth last m r p q s t u w is = let same : Some r ≡ Some m = sym is ∙ p in cc
-one_of false true c d e f g h k l n first second third fourth fifth last m r p q s t u w is = let same : Some r ≡ Some m = sym is ∙ q in cc
-one_of false false true d e f g h k l n first second third fourth fifth last m r p q s t u w is = let same : Some r ≡ Some m = sym is ∙ s in cc
-one_of false false false true e f g h k l n first second third fourth fifth last m r p q s t u w is = let same : Some r ≡ Some m = sym is ∙ t in cc
-one_of false false false false true f g h k l n first second third fourth fifth last m r p q s t u w is = let same : Some r ≡ Some m = sym is ∙ u in cc
-one_of false false false false false true g h k l n first second third fourth fifth last m r p q s t u w is = absurd cc
-one_of false false false false false false true h k l n first second third fourth fifth last m r p q s t u w is = absurd cc
-one_of false false false false false false false true k l n first second third fourth fifth last m r p q s t u w is = absurd cc
-one_of false false false false false false false false true l n first second third fourth fifth last m r p q s t u w is = absurd cc
-one_of false false false false false false false false false true n first second third fourth fifth last m r p q s t u w is = absurd cc
-one_of false false false false false false false false false false true first second third fourth fifth last m r p q s t u w is = let same : Some r ≡ None = sym is ∙ w in absurd cc
-one_of false false false false false false false false false false false first second third fourth fifth last m r p q s t u w is = absurd cc
+-- whatever each part of a choice leads to, where it leads to something, is m
+chosen : (b : Bool) (x y : Option Request) (m r : Request) → (x ≡ Some r → r ≡ m) → (y ≡ Some r → r ≡ m) →
+    (if b then x else y) ≡ Some r → r ≡ m
+chosen true x y m r first second is = first is
+chosen false x y m r first second is = second is
+
+is_just : (x : Option Request) (m r : Request) → x ≡ Some m → x ≡ Some r → r ≡ m
+is_just x m r e is = let same : Some r ≡ Some m = sym is ∙ e in cc
+
+is_none : (x : Option Request) (m r : Request) → x ≡ None → x ≡ Some r → r ≡ m
+is_none x m r e is = let same : Some r ≡ None = sym is ∙ e in cc
 
 -- whatever is asked for with settings out of order is refused
 pub refused_alone : (name : Text) (numbers : Text → Option ℕ) (s : Settings) (r : Request) →
     s.max < s.initial → asked_by name (Some s) numbers ≡ Some r → r ≡ request.MaxBelowInitial
 unfolding asked_by
-refused_alone name numbers s r below is =
-    let build : Settings → Option Request = λ x. option_map (λ n. request.Build x (version_numbered n)) (numbers (codes "image")) in
-    one_of _ _ _ _ _ (bytes_eq name (codes "check")) (bytes_eq name (codes "dump")) (bytes_eq name (codes "draw")) (bytes_eq name (codes "migrate"))
-    (bytes_eq name (codes "query")) (bytes_eq name (codes "apply"))
-    (in_order (Some s) (λ x. Some (request.Commands x))) (in_order (Some s) (λ x. Some (request.Steps x)))
-    (in_order (Some s) (λ x. Some (request.Replay x))) (in_order (Some s) build) (in_order (Some s) (drive_asked numbers))
-    (apply_asked (Some s) (numbers (codes "image"))) request.MaxBelowInitial r
-    (refused s (λ x. Some (request.Commands x)) below) (refused s (λ x. Some (request.Steps x)) below)
-    (refused s (λ x. Some (request.Replay x)) below) (refused s build below) (refused s (drive_asked numbers) below)
-    (unapplied s (numbers (codes "image"))) is
+refused_alone name numbers s r below =
+    let m : Request = request.MaxBelowInitial in
+    let turned : (ask : Settings → Option Request) → in_order (Some s) ask ≡ Some r → r ≡ m =
+    λ ask. is_just (in_order (Some s) ask) m r (refused s ask below) in
+    chosen (bytes_eq name (codes "commands")) _ _ m r (turned (λ x. Some (request.Commands x))) (
+    chosen (bytes_eq name (codes "steps")) _ _ m r (turned (λ x. Some (request.Steps x))) (
+    chosen (bytes_eq name (codes "replay")) _ _ m r (turned (λ x. Some (request.Replay x))) (
+    chosen (bytes_eq name (codes "build")) _ _ m r (turned (λ x. option_map (λ n. request.Build x (version_numbered n)) (numbers (codes "image")))) (
+    chosen (bytes_eq name (codes "drive")) _ _ m r (turned (drive_asked numbers)) (
+    chosen (bytes_eq name (codes "check")) _ _ m r (is_none None m r refl) (
+    chosen (bytes_eq name (codes "dump")) _ _ m r (is_none None m r refl) (
+    chosen (bytes_eq name (codes "draw")) _ _ m r (is_none None m r refl) (
+    chosen (bytes_eq name (codes "migrate")) _ _ m r (is_none None m r refl) (
+    chosen (bytes_eq name (codes "query")) _ _ m r (is_none None m r refl) (
+    chosen (bytes_eq name (codes "apply")) _ _ m r (is_none (apply_asked (Some s) (numbers (codes "image"))) m r (unapplied s (numbers (codes "image")))) (
+    chosen (bytes_eq name (codes "serve")) _ _ m r (turned (λ x. Some (request.Serve x))) (
+    is_none None m r refl))))))))))))
 
 -- what accepted words ask for that name a subcommand
 pub asked_named : (words : List Text) (name : Text) (r : Request) → Asks words name → Answers words r →

@@ -121,6 +121,7 @@ refusal-answers words e (request.Refused text) (inr among) h = inr (λ a. none-a
 refusal-answers words e (request.Commands config) among h = absurd h
 refusal-answers words e (request.Steps config) among h = absurd h
 refusal-answers words e (request.Replay config) among h = absurd h
+refusal-answers words e (request.Serve config) among h = absurd h
 refusal-answers words e (request.Build config version) among h = absurd h
 refusal-answers words e (request.Drive config threads snapshots) among h = absurd h
 refusal-answers words e request.Check among h = absurd h

@@ -17,6 +17,9 @@ steps_given = codes "lhash" ∷ codes "steps" ∷ codes "--capacity=2" ∷ codes
 abbrev pub replay_given : List Text
 replay_given = codes "lhash" ∷ codes "replay" ∷ codes "--max=9" ∷ codes "--initial=9" ∷ []
 
+abbrev pub serve_given : List Text
+serve_given = codes "lhash" ∷ codes "serve" ∷ codes "--initial=2" ∷ codes "--capacity" ∷ codes "1" ∷ []
+
 abbrev pub no_subcommand : List Text
 no_subcommand = codes "lhash" ∷ []
 
@@ -115,6 +118,10 @@ GivesSteps words s = Asks words (codes "steps") × (settings_given words ≡ Som
 -- the words are accepted, name `replay`, and give these settings
 abbrev pub GivesReplay : List Text → Settings → Type 0
 GivesReplay words s = Asks words (codes "replay") × (settings_given words ≡ Some s)
+
+-- the words are accepted, name `serve`, and give these settings
+abbrev pub GivesServe : List Text → Settings → Type 0
+GivesServe words s = Asks words (codes "serve") × (settings_given words ≡ Some s)
 
 -- the words are accepted, name `build`, and give these settings and this version of the image
 abbrev pub GivesBuild : List Text → Settings → ImageVersion → Type 0

@@ -53,7 +53,7 @@ settings_in rows = settings_from
 abbrev pub IsFileCommand : Text → Type 0
 IsFileCommand name =
     (name ≡ codes "commands") ⊎ ((name ≡ codes "steps") ⊎ ((name ≡ codes "build") ⊎ (
-    (name ≡ codes "drive") ⊎ (name ≡ codes "replay"))))
+    (name ≡ codes "drive") ⊎ ((name ≡ codes "replay") ⊎ (name ≡ codes "serve")))))
 
 -- the name of a subcommand that reads an image, without the options of a file's settings
 abbrev pub IsImageCommand : Text → Type 0

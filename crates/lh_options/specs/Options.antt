@@ -78,6 +78,9 @@ query_app = new_app (codes "query")
 abbrev pub apply_app : App
 apply_app = with_image (new_app (codes "apply"))
 
+abbrev pub serve_app : App
+serve_app = with_settings (new_app (codes "serve"))
+
 -- a command with an option for a number of threads
 abbrev pub with_threads : App → App
 with_threads app = with_rule app (option_rule (codes "threads") (codes "4") 1 64)
@@ -115,8 +118,9 @@ scripts_app =
 -- the program's command
 abbrev pub program_app : App
 program_app =
-    with_subcommand (with_subcommand (with_subcommand (with_subcommand (with_subcommand (with_subcommand (with_subcommand
-    scripts_app check_app.top) dump_app.top) drive_app.top) draw_app.top) migrate_app.top) query_app.top) apply_app.top
+    with_subcommand (with_subcommand (with_subcommand (with_subcommand (with_subcommand (with_subcommand (with_subcommand (
+    with_subcommand scripts_app check_app.top) dump_app.top) drive_app.top) draw_app.top) migrate_app.top) query_app.top)
+    apply_app.top) serve_app.top
 
 -- the whole number that a text writes in decimal digits, where it is such a text; a plus may stand first, as clap has it,
 -- though not in words that are accepted
@@ -233,6 +237,7 @@ asked_by name settings numbers =
     else if bytes_eq name (codes "migrate") then asked_without_settings settings request.Migrate
     else if bytes_eq name (codes "query") then asked_without_settings settings request.Query
     else if bytes_eq name (codes "apply") then apply_asked settings (numbers (codes "image"))
+    else if bytes_eq name (codes "serve") then in_order settings (λ s. Some (request.Serve s))
     else None
 
 -- what words ask for that are accepted

@@ -57,6 +57,11 @@ pub const APPLY: Help = Help {
     example: "Example: cat file.lhf script.txt | lhash apply > new.lhf",
 };
 
+pub const SERVE: Help = Help {
+    about: "Answer each line of a client as it comes, until its input ends",
+    example: "Example: lhash serve < requests.txt",
+};
+
 pub const DRIVE: Help = Help {
     about: "Read a script of commands, run it in threads, and write totals",
     example: "Example: lhash drive --threads 8 < script.txt",

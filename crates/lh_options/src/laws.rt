@@ -6,6 +6,7 @@ ghost use Rattle.lh_options.specs.OptionLaws.{
   GivesCommands,
   GivesDrive,
   GivesReplay,
+  GivesServe,
   GivesSteps,
   apply_alone,
   apply_with_setting,
@@ -33,6 +34,7 @@ ghost use Rattle.lh_options.specs.OptionLaws.{
   query_alone,
   replay_given,
   Refuses,
+  serve_given,
   snapshots_given,
   snapshots_over_limit,
   snapshots_with_minus,
@@ -67,6 +69,7 @@ pub fn words_give_options()
     ensures draw { Asks draw_alone (codes "draw") }
     ensures query { Asks query_alone (codes "query") }
     ensures apply { GivesApply apply_alone Second }
+    ensures serve { GivesServe serve_given (record { initial = 2; capacity = 1; load = 100; max = 65536 }) }
     ensures first_applied { GivesApply first_image_applied First }
     ensures without_options { Refuses check_with_option }
     ensures without_settings { Refuses apply_with_setting }

@@ -11,7 +11,7 @@ ghost use Rattle.lh_options.specs.OptionSteps.{HasNumber, HasSettings, HasDriveN
 
 use crate::escapes::escaped;
 use crate::help::{
-    APPLY, BUILD, CHECK, COMMANDS, DRAW, DRIVE, DUMP, Help, MIGRATE, QUERY, REPLAY, STEPS,
+    APPLY, BUILD, CHECK, COMMANDS, DRAW, DRIVE, DUMP, Help, MIGRATE, QUERY, REPLAY, SERVE, STEPS,
 };
 use clap::error::ErrorKind;
 use clap::{Arg, ArgAction, ArgMatches, Command, Error};
@@ -74,6 +74,8 @@ pub enum Request {
         threads: u32,
         snapshots: u32,
     },
+    /// The subcommand `serve`, with the configuration that its options give.
+    Serve(Config),
     /// Help or the version, and its text.
     Help(String),
     /// Words that are refused, and why, in one line.
@@ -238,7 +240,8 @@ fn program<'a>(alloc: Global) -> Result<Command<'a>, AllocError>
         .subcommand(image_command(alloc, "draw", DRAW))?
         .subcommand(image_command(alloc, "migrate", MIGRATE))?
         .subcommand(image_command(alloc, "query", QUERY))?
-        .subcommand(apply_command(alloc)?)
+        .subcommand(apply_command(alloc)?)?
+        .subcommand(file_command(alloc, "serve", SERVE)?)
 }
 
 /// The number of an option.
@@ -354,6 +357,10 @@ fn asked(name: &str, matches: &ArgMatches<'_>) -> Request
                 threads: number(matches, "threads"),
                 snapshots: number(matches, "snapshots"),
             },
+            None => Request::MaxBelowInitial,
+        },
+        "serve" => match config_of(matches) {
+            Some(config) => Request::Serve(config),
             None => Request::MaxBelowInitial,
         },
         "replay" => match config_of(matches) {

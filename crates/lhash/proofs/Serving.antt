@@ -10,7 +10,7 @@ use Rattle.lh_image.specs.declared.fault.ImageFault.{ImageFault}
 use Rattle.lh_image.specs.declared.version.Version.{Version}
 use Rattle.lh_image.specs.Reading.{leading, reading_of}
 use Rattle.lh_options.specs.Options.{Asks, AsksForHelp, IsTurned, Text, asked_by, asked_for, number_given, settings_given, subcommand_named, version_numbered}
-use Rattle.lh_options.proofs.Asking.{apply, asked_named, build, commands, drive, refused_alone, replay, steps, unapplied, undriven}
+use Rattle.lh_options.proofs.Asking.{apply, asked_named, build, commands, drive, refused_alone, replay, serve, steps, unapplied, undriven}
 use Rattle.lh_options.specs.declared.options.Request.{Request}
 use Rattle.lh_options.specs.declared.options.Request.TheVariants as request
 use Rattle.lh_script.specs.declared.fault.ScriptFault.{ScriptFault}
@@ -18,7 +18,8 @@ use Rattle.lhash.specs.Driving.{EndsDriving}
 use Rattle.lh_subcommands.specs.Continued.{EndsApplying, EndsLeaving, query_due, script_behind}
 use Rattle.lh_subcommands.specs.Images.{EndsBuilding, check_due, draw_due, dump_due, migrate_due}
 use Rattle.lh_subcommands.specs.Run.{EndsReplay, EndsSteps}
-use Rattle.lhash.specs.Serving.{Ending, EndsCommands, EndsTold, IsHelped, IsRun, IsTurnedAway, IsWordsOf, RefusesBelow, Serves, ServesApply, ServesBuild, ServesDrive, ServesFile, ServesImage, TurnsAway, below_initial, wanted_version}
+use Rattle.lh_subcommands.specs.Serve.{EndsServing}
+use Rattle.lhash.specs.Serving.{Ending, EndsCommands, EndsTold, IsHelped, IsRun, IsTurnedAway, IsWordsOf, RefusesBelow, Serves, ServesApply, ServesBuild, ServesClient, ServesDrive, ServesFile, ServesImage, TurnsAway, below_initial, wanted_version}
 use Rattle.lh_subcommands.specs.declared.status.DeviceFault.TheVariants.{Read, Write}
 use Rattle.lh_subcommands.specs.declared.status.Status.{Status}
 use Rattle.lh_subcommands.specs.declared.status.Status.TheVariants.{Done, Input, Words, Device, Memory, NotSettled}
@@ -77,6 +78,22 @@ unfolding EndsReplay
 serves_replay words status left rest before now settings asks given within run =
     served words status left rest before now (codes "replay") (request.Replay settings) (EndsReplay settings)
     (λ h. h) (λ input keeps. keeps) asks (replay (codes "replay") _ _ settings refl given within) run
+
+-- a conversation that did not begin, with nothing read and nothing written
+unserved : (settings : Settings) (status : Status) (left rest before now : Option (List ℕ)) → status ≡ Memory → Keeps left rest →
+    Keeps before now → IfSome left (λ input. EndsServing settings input status rest before now)
+unserved settings status None rest before now is unread keeps = tt
+unserved settings status (Some input) rest before now is unread keeps =
+    subst (λ (s : Status). EndsServing settings input s rest before now) (sym is) (unread, keeps)
+
+pub serves_client : ServesClient
+serves_client words status left rest before now settings asks given within (inl run) =
+    let is = serve (codes "serve") _ _ settings refl given within in
+    let same : Some run.0 ≡ Some (request.Serve settings) = sym (asked_named words (codes "serve") run.0 asks run.1) ∙ is in
+    let one : run.0 ≡ request.Serve settings = cc in
+    subst (λ (x : Request). Serves x status left rest before now) one run.2
+serves_client words status left rest before now settings asks given within (inr run) =
+    unserved settings status left rest before now run.0 run.1 run.2
 
 pub serves_build : ServesBuild
 unfolding EndsBuilding
@@ -219,6 +236,7 @@ turned words (request.Refused text) status left rest before now is serves =
 turned words (request.Commands config) status left rest before now is serves = absurd is
 turned words (request.Steps config) status left rest before now is serves = absurd is
 turned words (request.Replay config) status left rest before now is serves = absurd is
+turned words (request.Serve config) status left rest before now is serves = absurd is
 turned words (request.Build config image) status left rest before now is serves = absurd is
 turned words (request.Drive config threads snapshots) status left rest before now is serves = absurd is
 turned words request.Check status left rest before now is serves = absurd is

@@ -12,10 +12,11 @@ use Rattle.lh_addr.specs.Settings.{Settings}
 use Rattle.lh_options.specs.Escapes.{has_no_control}
 use Rattle.lh_options.specs.Options.{Accepts, Answers, Asks, AsksForHelp, IsRefused, Text, number_given, settings_given, version_numbered}
 use Rattle.lh_subcommands.specs.Run.{Ends, EndsReplay, EndsSteps, commands_due}
+use Rattle.lh_subcommands.specs.Serve.{EndsServing}
 use Rattle.lh_options.specs.declared.options.ImageVersion.{ImageVersion}
 use Rattle.lh_options.specs.declared.options.ImageVersion.TheVariants.{First, Second}
 use Rattle.lh_options.specs.declared.options.Request.{Request}
-use Rattle.lh_options.specs.declared.options.Request.TheVariants.{Commands, Steps, Replay, Build, Check, Draw, Dump, Drive, Migrate, Query, Apply, Help, Refused, MaxBelowInitial}
+use Rattle.lh_options.specs.declared.options.Request.TheVariants.{Commands, Steps, Replay, Build, Check, Draw, Dump, Drive, Migrate, Query, Apply, Serve, Help, Refused, MaxBelowInitial}
 use Rattle.lh_subcommands.specs.declared.status.DeviceFault.TheVariants.{Write}
 use Rattle.lh_subcommands.specs.declared.status.InputFault.{InputFault}
 use Rattle.lh_subcommands.specs.declared.status.Status.{Status}
@@ -63,6 +64,8 @@ Serves (Apply image) status left rest before now =
     IfSome left (λ input. EndsApplying (wanted_version image) input status before now)
 Serves (Drive config threads snapshots) status left rest before now =
     IfSome left (λ input. EndsDriving config snapshots input status before now)
+Serves (Serve config) status left rest before now =
+    IfSome left (λ input. EndsServing config input status rest before now)
 Serves (Help text) status left rest before now = IsHelped (string_bytes text) status before now × Keeps left rest
 Serves (Refused text) status left rest before now = (status ≡ Words text) × Keeps left rest × Keeps before now
 Serves MaxBelowInitial status left rest before now = IsWordsOf below_initial status × Keeps left rest × Keeps before now
@@ -121,6 +124,13 @@ ServesFile name EndsWith =
     (words : List Text) (status : Status) (left rest before now : Option (List ℕ)) (settings : Settings) →
     Asks words name → settings_given words ≡ Some settings → settings.initial ≤ settings.max →
     IsRun words status left rest before now → IfSome left (λ input. EndsWith settings input status before now)
+
+-- a run for words that ask for `serve`, and give settings in order, ends by them
+abbrev pub ServesClient : Type 0
+ServesClient =
+    (words : List Text) (status : Status) (left rest before now : Option (List ℕ)) (settings : Settings) →
+    Asks words (codes "serve") → settings_given words ≡ Some settings → settings.initial ≤ settings.max →
+    IsRun words status left rest before now → IfSome left (λ input. EndsServing settings input status rest before now)
 
 -- a run for words that ask for `build`, and give settings in order and the number of a version, ends by them
 abbrev pub ServesBuild : Type 0

@@ -4,7 +4,7 @@ ghost use Rattle.std.specs.Prelude.{codes};
 ghost use Rattle.lh_subcommands.specs.Continued.{query_due};
 ghost use Rattle.lh_subcommands.specs.Images.{check_due, draw_due, dump_due, migrate_due};
 ghost use Rattle.lh_subcommands.specs.Run.{EndsReplay, EndsSteps};
-ghost use Rattle.lhash.specs.Serving.{EndsCommands, EndsTold, RefusesBelow, ServesApply, ServesBuild, ServesDrive, ServesFile, ServesImage, TurnsAway};
+ghost use Rattle.lhash.specs.Serving.{EndsCommands, EndsTold, RefusesBelow, ServesApply, ServesBuild, ServesClient, ServesDrive, ServesFile, ServesImage, TurnsAway};
 
 /// Words that ask for `commands` have the replies of one plain map to the script's calls written, and the number of
 /// buckets that the split policy gives; or the run ends at the script's first fault, with nothing written.
@@ -65,6 +65,13 @@ pub fn query_is_served()
 /// script behind the input's image leave; or the reason why it has none.
 pub fn apply_is_served()
     ensures { ServesApply }
+{}
+
+/// Words that ask for `serve` have each line of the input answered by one plain map, in its order: all of them, where the
+/// run is done; where a read fails, just those that had come by then; and a beginning of such answers where a write
+/// fails.
+pub fn serve_is_served()
+    ensures { ServesClient }
 {}
 
 /// Words whose `--max` is less than their `--initial` are refused, with nothing read and nothing written.

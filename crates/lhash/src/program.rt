@@ -8,7 +8,7 @@ use lh_image::Version;
 use lh_options::{ImageVersion, Request, request_of};
 use lh_subcommands::{
     DeviceFault, Status, answer_apply, answer_build, answer_check, answer_commands, answer_draw,
-    answer_dump, answer_migrate, answer_query, answer_replay, answer_steps, write_all,
+    answer_dump, answer_migrate, answer_query, answer_replay, answer_serve, answer_steps, write_all,
 };
 use std::alloc::{AllocError, Global};
 use std::io::{Read, Write};
@@ -75,6 +75,7 @@ fn serve<A: Threads + Wait + Sync, R: Read, W: Write>(
             threads,
             snapshots,
         } => answer_drive(rt, alloc, config, threads, snapshots, reader, writer),
+        Request::Serve(config) => answer_serve(alloc, config, reader, writer),
         Request::Help(text) => write_help(writer, text.as_str()),
         Request::Refused(text) => Status::Words(text),
         Request::MaxBelowInitial => refuse(alloc, "max is less than initial"),

@@ -4,7 +4,7 @@ use Rattle.std.proofs.lemmas.Bool.{false≢true}
 use Rattle.clap.proofs.OnLiterals.{clap_on_literals}
 use Rattle.clap.specs.Walk.{is_empty}
 use Rattle.clap.specs.declared.error.kind.ErrorKind.TheVariants as kind
-use Rattle.lh_options.specs.OptionLaws.{GivesApply, GivesBuild, GivesCommands, GivesDrive, GivesReplay, GivesSteps, Refuses, apply_alone, apply_with_setting, build_given, check_alone, check_with_option, draw_alone, drive_alone, drive_given, dump_alone, first_image_applied, first_image_given, help_asked, image_with_plus, initial_twice, initial_zero, max_below_initial, max_given, max_over_limit, max_with_plus, migrate_alone, no_options, no_subcommand, program_version_asked, query_alone, replay_given, snapshots_given, snapshots_over_limit, snapshots_with_minus, steps_given, third_image, threads_over_limit, threads_zero, unknown_option}
+use Rattle.lh_options.specs.OptionLaws.{GivesApply, GivesBuild, GivesCommands, GivesDrive, GivesReplay, GivesServe, GivesSteps, Refuses, apply_alone, apply_with_setting, build_given, check_alone, check_with_option, draw_alone, drive_alone, drive_given, dump_alone, first_image_applied, first_image_given, help_asked, image_with_plus, initial_twice, initial_zero, max_below_initial, max_given, max_over_limit, max_with_plus, migrate_alone, no_options, no_subcommand, program_version_asked, query_alone, replay_given, snapshots_given, snapshots_over_limit, snapshots_with_minus, steps_given, third_image, threads_over_limit, threads_zero, unknown_option, serve_given}
 use Rattle.lh_options.specs.declared.options.ImageVersion.TheVariants.{First, Second}
 use Rattle.lh_options.specs.Options.{Accepts, Asks, AsksForHelp, settings_given, subcommand_named}
 use Rattle.lh_options.proofs.laws.words_give_options.Goals as goal
@@ -76,6 +76,10 @@ apply = (((refl, refl), refl), refl)
 first_applied : GivesApply first_image_applied First
 unfolding clap_on_literals Accepts subcommand_named
 first_applied = (((refl, refl), refl), refl)
+
+serve : GivesServe serve_given (record { initial = 2; capacity = 1; load = 100; max = 65536 })
+unfolding clap_on_literals Accepts settings_given subcommand_named
+serve = (((refl, refl), refl), refl)
 
 without_settings : Refuses apply_with_setting
 unfolding clap_on_literals Accepts
@@ -160,6 +164,7 @@ returns c = record {
   query = query;
   apply = apply;
   first_applied = first_applied;
+  serve = serve;
   without_options = without_options;
   without_settings = without_settings;
   none = none;

@@ -1,5 +1,5 @@
 use Rattle.std.proofs.Common.{inl, inr}
-use Rattle.lh_options.proofs.Asking.{apply, build, check, commands, drive, draw, dump, migrate, out_of_order, query, replay, steps}
+use Rattle.lh_options.proofs.Asking.{apply, build, check, commands, drive, draw, dump, migrate, out_of_order, query, replay, serve, steps}
 use Rattle.lh_options.proofs.options.asked.Goals as goal
 
 pub returns-in-Some-clause-value : goal.returns-in-Some-clause-value
@@ -47,9 +47,16 @@ returns-in-Some-config_of-3-clause-value c =
 pub returns-in-None-config_of-3-clause-value : goal.returns-in-None-config_of-3-clause-value
 returns-in-None-config_of-3-clause-value c = out_of_order _ _ _ (inr (inr (inr (inl c.in-drive.is)))) c.in-None-config_of-3.ensures.none
 
+pub returns-in-Some-config_of-5-clause-value : goal.returns-in-Some-config_of-5-clause-value
+returns-in-Some-config_of-5-clause-value c =
+    replay _ _ _ _ c.in-replay.is c.in-Some-config_of-5.ensures.some c.in-Some-config_of-5.ensures.in_range.max.0
+
+pub returns-in-None-config_of-5-clause-value : goal.returns-in-None-config_of-5-clause-value
+returns-in-None-config_of-5-clause-value c = out_of_order _ _ _ (inr (inr (inr (inr (inl c.in-replay.is))))) c.in-None-config_of-5.ensures.none
+
 pub returns-in-Some-config_of-4-clause-value : goal.returns-in-Some-config_of-4-clause-value
 returns-in-Some-config_of-4-clause-value c =
-    replay _ _ _ _ c.in-replay.is c.in-Some-config_of-4.ensures.some c.in-Some-config_of-4.ensures.in_range.max.0
+    serve _ _ _ _ c.in-serve.is c.in-Some-config_of-4.ensures.some c.in-Some-config_of-4.ensures.in_range.max.0
 
 pub returns-in-None-config_of-4-clause-value : goal.returns-in-None-config_of-4-clause-value
-returns-in-None-config_of-4-clause-value c = out_of_order _ _ _ (inr (inr (inr (inr c.in-replay.is)))) c.in-None-config_of-4.ensures.none
+returns-in-None-config_of-4-clause-value c = out_of_order _ _ _ (inr (inr (inr (inr (inr c.in-serve.is))))) c.in-None-config_of-4.ensures.none

@@ -1,5 +1,5 @@
 use Rattle.std.proofs.lemmas.Result.{IfOk-weaker}
-use Rattle.lh_options.specs.Options.{apply_app, check_app, draw_app, drive_app, dump_app, migrate_app, query_app, scripts_app}
+use Rattle.lh_options.specs.Options.{apply_app, check_app, draw_app, drive_app, dump_app, migrate_app, query_app, scripts_app, serve_app}
 use Rattle.lh_options.proofs.CommandShapes.{subcommand-reads}
 use Rattle.lh_options.proofs.options.program.Goals as goal
 
@@ -11,4 +11,5 @@ returns c =
     let fourth = subcommand-reads _ _ _ _ draw_app c.in_ok-subcommand-4.ensures third c.image_command-3.ensures in
     let fifth = subcommand-reads _ _ _ _ migrate_app c.in_ok-subcommand-5.ensures fourth c.image_command-4.ensures in
     let sixth = subcommand-reads _ _ _ _ query_app c.in_ok-subcommand-6.ensures fifth c.image_command-5.ensures in
-    IfOk-weaker c.subcommand-7.result _ _ (λ m h. subcommand-reads _ _ m _ apply_app h sixth c.in_ok-apply_command.ensures) c.subcommand-7.ensures
+    let seventh = subcommand-reads _ _ _ _ apply_app c.in_ok-subcommand-7.ensures sixth c.in_ok-apply_command.ensures in
+    IfOk-weaker c.subcommand-8.result _ _ (λ m h. subcommand-reads _ _ m _ serve_app h seventh c.in_ok-file_command.ensures) c.subcommand-8.ensures

@@ -40,6 +40,9 @@ returns-in-Replay g c = served_as c.in-Replay.is _ _ _ _ _ c.answer_replay.ensur
 pub returns-in-Steps : goal.returns-in-Steps
 returns-in-Steps g c = served_as c.in-Steps.is _ _ _ _ _ search
 
+pub returns-in-Serve : goal.returns-in-Serve
+returns-in-Serve g c = served_as c.in-Serve.is _ _ _ _ _ c.answer_serve.ensures
+
 pub returns-in-Query : goal.returns-in-Query
 returns-in-Query g c = served_as c.in-Query.is _ _ _ _ _ c.answer_query.ensures
 
