@@ -8,7 +8,8 @@ use lh_image::Version;
 use lh_options::{ImageVersion, Request, request_of};
 use lh_subcommands::{
     DeviceFault, Status, answer_apply, answer_build, answer_check, answer_commands, answer_draw,
-    answer_dump, answer_migrate, answer_query, answer_replay, answer_serve, answer_steps, write_all,
+    answer_dump, answer_migrate, answer_query, answer_replay, answer_serve, answer_steps,
+    write_all,
 };
 use std::alloc::{AllocError, Global};
 use std::io::{Read, Write};

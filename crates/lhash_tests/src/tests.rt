@@ -5,6 +5,7 @@ mod draw;
 mod drive;
 mod images;
 mod replay;
+mod serve;
 mod steps;
 mod support;
 mod words;

@@ -169,9 +169,10 @@ fn faults_of_the_image_come_before_those_of_the_script(rt: HostRuntime) -> Resul
     )?;
     refused(&rt, &image, "\0", "line 1: unknown word")?;
     refused(&rt, b"", "frob\n", "image I1")?;
-    assert!(rt; image.len() > 4_095);
-    refused(&rt, &image[..1_023], "", "image I4")?;
-    refused(&rt, &image[..4_095], "", "image I4")?;
+    for cut in [1_023, 4_095] {
+        let (head, _) = image.split_at(image.len().min(cut));
+        refused(&rt, head, "", "image I4")?;
+    }
     let mut forged = behind(&rt, &image, "")?;
     // The level of the first bucket.
     if let Some(level) = forged.get_mut(1_026) {

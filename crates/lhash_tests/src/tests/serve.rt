@@ -1,0 +1,92 @@
+//! `serve`, from words and bytes to bytes and a status.
+use crate::tests::support::{Sink, Source, fails, ran, writes};
+use lhash::run;
+use std::process::Abort;
+use std::sync::Wait;
+use std::test::Fail;
+use std::thread::Threads;
+
+const SERVE: [&str; 4] = ["lhash", "serve", "--capacity", "1"];
+
+const COMMANDS: [&str; 4] = ["lhash", "commands", "--capacity", "1"];
+
+const CALLS: &str =
+    "insert 61 31\ninsert 62 -\n# no request\ninsert 61 32\nreplace 62 3233\nsearch 62\n\ndelete 61\nsearch 61\ninsert 63 33\ninsert 64 34\n";
+
+/// How many bytes a read or a write takes in the tests of devices.
+const AT_ONCE: usize = 5;
+
+#[test]
+fn serve_has_the_replies_of_commands(rt: HostRuntime) -> Result<(), Fail> {
+    let (code, replies, _) = ran(&rt, COMMANDS.as_slice(), CALLS.as_bytes())?;
+    assert_eq!(rt; code, 0);
+    let mut input = Vec::new(rt.alloc());
+    input.extend_from_slice(CALLS.as_bytes())?;
+    input.extend_from_slice(b"buckets\n")?;
+    let (code, answers, text) = ran(&rt, SERVE.as_slice(), &input)?;
+    assert_eq!(rt; text.as_str(), "");
+    assert_eq!(rt; code, 0);
+    assert_eq!(rt; answers, replies);
+    Ok(())
+}
+
+#[test]
+fn a_line_at_fault_is_answered_and_changes_nothing(rt: HostRuntime) -> Result<(), Fail> {
+    let words = ["lhash", "serve", "--initial=3"];
+    let input = "insert 61 31\nfrob\ninsert 6 31\nbuckets 3\nrecords\nbuckets\nrecor";
+    let answers =
+        "inserted\nfault unknown word\nfault bad hexadecimal\nfault wrong number of words\nrecords 1\nbuckets 3\n";
+    writes(&rt, words.as_slice(), input, answers)?;
+    let words = ["lhash", "serve", "--initial", "3", "--max", "2"];
+    fails(
+        &rt,
+        words.as_slice(),
+        "records\n",
+        2,
+        "max is less than initial",
+    )
+}
+
+/// A failed read ends the run when the lines that had come by then are answered.
+fn read_fails(
+    rt: &(impl Abort + AllocGlobal + Threads + Wait + Sync),
+    failing_read: usize,
+) -> Result<(), Fail> {
+    let mut source = Source {
+        bytes: CALLS.as_bytes(),
+        at_once: AT_ONCE,
+        reads: 0,
+        failing_read,
+    };
+    let mut output = Vec::new(rt.alloc());
+    let status = run(rt, SERVE.as_slice(), &mut source, &mut output);
+    assert_eq!(rt; status.code(), 3);
+    let came = CALLS.len().saturating_sub(source.bytes.len());
+    let (heard, _) = CALLS.as_bytes().split_at(came.min(CALLS.len()));
+    let (_, answers, _) = ran(rt, SERVE.as_slice(), heard)?;
+    assert_eq!(rt; output, answers, "read {failing_read}");
+    Ok(())
+}
+
+#[test]
+fn a_failed_read_ends_a_conversation(rt: HostRuntime) -> Result<(), Fail> {
+    for failing_read in 1..=CALLS.len() / AT_ONCE + 1 {
+        read_fails(&rt, failing_read)?;
+    }
+    Ok(())
+}
+
+#[test]
+fn a_failed_write_ends_a_conversation(rt: HostRuntime) -> Result<(), Fail> {
+    let (_, answers, _) = ran(&rt, SERVE.as_slice(), CALLS.as_bytes())?;
+    for failing_write in 1..=answers.len() / AT_ONCE + 1 {
+        let mut input = CALLS.as_bytes();
+        let mut sink = Sink::new(rt.alloc(), AT_ONCE, failing_write);
+        let status = run(&rt, SERVE.as_slice(), &mut input, &mut sink);
+        assert!(rt;
+            status.code() == 3 && answers.starts_with(&sink.bytes),
+            "write {failing_write}"
+        );
+    }
+    Ok(())
+}
