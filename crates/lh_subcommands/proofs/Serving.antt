@@ -1,9 +1,9 @@
 -- A client that is told what it is due.
 use Rattle.std.proofs.Common.{◌≡◌, ℕ, List, [], ◌∷◌, ◌++◌, Option, None, Some, IfSome, length, refl, sym, ap, subst, ◌∙◌, append_assoc, append-nil, arith}
 use Rattle.std.specs.Io.KnownBytes.{Appends, Consumes, IsAtEnd, Keeps}
-use Rattle.std.proofs.KnownBytes.{Appends-trans, Appends-kept, Appends-nil, Consumes-trans, Consumes-nil, Keeps-refl}
+use Rattle.std.proofs.KnownBytes.{Appends-trans, Appends-nil, Consumes-trans, Keeps-refl}
 use Rattle.lh_addr.specs.Settings.{Settings}
-use Rattle.lh_serving.specs.Conversations.{ConversationSeen, IsAnswered, IsAt, answers_of}
+use Rattle.lh_serving.specs.Conversations.{ConversationSeen, IsAnswered, IsAt}
 use Rattle.lh_subcommands.specs.Devices.{TakesBeginning}
 use Rattle.lh_subcommands.specs.Serve.{Breaks, EndsServing, HasTold, IsCutShort, IsTelling}
 use Rattle.lh_subcommands.specs.declared.status.DeviceFault.{DeviceFault}

@@ -1,4 +1,4 @@
-use Rattle.std.proofs.Common.{◌≡◌, ◌+◌, ◌++◌, ◌∷◌, ◌∙◌, [], arith, length, take}
+use Rattle.std.proofs.Common.{◌≡◌, ◌+◌, ◌++◌, ◌∷◌, ◌∙◌, [], arith, take}
 use Rattle.std.proofs.lemmas.List.{length-take, take_all}
 use Rattle.lh_bucket.specs.PlainMap.{outcome}
 use Rattle.lh_core.proofs.Logs.Running.{taken}

@@ -1,4 +1,4 @@
-use Rattle.std.proofs.Common.{◌≡◌, length, ap, arith}
+use Rattle.std.proofs.Common.{length, ap, arith}
 use Rattle.std.specs.Prelude.{sum_by}
 use Rattle.lh_file.specs.Words.HandState.{HandState}
 use Rattle.lh_file.proofs.OfWords.Joining.{same_all, same_then}

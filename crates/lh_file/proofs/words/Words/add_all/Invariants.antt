@@ -1,5 +1,5 @@
 -- The hands so far are added, and there is room for the others.
-use Rattle.std.proofs.Common.{◌≡◌, ◌≤◌, All, length}
+use Rattle.std.proofs.Common.{◌≤◌, All, length}
 use Rattle.std.specs.Prelude.{sum_by, fold}
 use Rattle.std.specs.Vec.Iter.{into_iter_items}
 use Rattle.lh_file.specs.FileState.{IsOf, MayBeJoined}

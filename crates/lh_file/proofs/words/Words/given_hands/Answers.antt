@@ -1,6 +1,5 @@
 use Rattle.std.proofs.Common.{◌≡◌, ◌*◌, ◌-◌, ap, rules, arith}
 use Rattle.lh_file.specs.Words.HandState.{HandState, seeing}
-use Rattle.lh_file.specs.declared.words.view.View.{View}
 use Rattle.lh_file.proofs.words.Words.given_hands.Goals as goal
 
 pub loop-thread-init : goal.loop-thread-init
