@@ -1,13 +1,12 @@
 -- Empty listings are the parts of the empty map.
-use Rattle.std.proofs.Common.{zero, suc, ◌≡◌, ℕ, ◌==◌, Bool, true, false, cond, List, [], length, Option, Some, None, refl, sym, ap, ◌∙◌, subst}
+use Rattle.std.proofs.Common.{zero, suc, ◌≡◌, ℕ, ◌==◌, Bool, true, false, cond, List, [], length, Option, None, refl, sym, ap, ◌∙◌, subst}
 use Rattle.std.specs.FinMap.{empty, get, get-empty}
-use Rattle.std.specs.List.{All, slice_get}
+use Rattle.std.specs.List.{All}
 use Rattle.std.specs.Ordering.{nat_cmp}
 use Rattle.std.specs.Cmp.Lexicographic.{slice_cmp}
 use Rattle.std.specs.Prelude.{replicate}
 use Rattle.std.proofs.lemmas.Option.{get_or_from_slice_get, slice_get_within}
 use Rattle.lh_addr.specs.Settings.{Settings}
-use Rattle.lh_page.specs.declared.pair.Pair.{Pair}
 use Rattle.lh_bucket.specs.Listing.{Lists, all_of}
 use Rattle.lh_bucket.specs.PlainMap.{Records}
 use Rattle.lh_bucket.specs.Records.{map_of}

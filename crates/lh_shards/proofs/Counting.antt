@@ -2,11 +2,10 @@
 use Rattle.std.proofs.Common.{zero, suc, ◌≡◌, ℕ, ◌+◌, ◌<◌, ◌≤◌, List, [], ◌∷◌, ◌++◌, length, set, Some, refl, sym, ap, ◌∙◌, subst, ⊎_elim, arith}
 use Rattle.std.specs.List.{slice_get}
 use Rattle.std.proofs.lemmas.List.{length_push}
-use Rattle.std.proofs.lemmas.Option.{same_Some, none-some, slice_get_within}
+use Rattle.std.proofs.lemmas.Option.{same_Some, slice_get_within}
 use Rattle.lh_file.specs.FileState.{FileState}
 use Rattle.lh_file.specs.Words.Calls.{IsBuckets}
 use Rattle.lh_file.specs.Words.HandState.{HandState}
-use Rattle.lh_file.specs.declared.words.view.View.{View}
 use Rattle.lh_shards.specs.Counts.{AreAnswered}
 use Rattle.lh_shards.specs.Hands.{AreOf, IsOfShard}
 use Rattle.lh_shards.proofs.Passing.{HandFact, Passed, passed_next, passed_as}

@@ -1,8 +1,8 @@
 -- One hand more has given calls to a new one
-use Rattle.std.proofs.Common.{zero, suc, ◌≡◌, ◌≢◌, ℕ, ◌+◌, ◌<◌, ◌≤◌, ◌⊎◌, List, [], ◌∷◌, ◌++◌, length, map, set, get_or, Some, refl, sym, ap, ◌∙◌, subst, ⊎_elim, arith}
+use Rattle.std.proofs.Common.{suc, ◌≡◌, ◌≢◌, ℕ, ◌+◌, ◌<◌, ◌≤◌, List, [], ◌∷◌, ◌++◌, length, map, set, get_or, Some, refl, sym, ap, ◌∙◌, subst, ⊎_elim, arith}
 use Rattle.std.specs.List.{slice_get}
 use Rattle.std.proofs.lemmas.Option.{same_Some, slice_get_within, slice_get_read}
-use Rattle.lh_file.specs.FileState.{FileState, IsOf}
+use Rattle.lh_file.specs.FileState.{FileState}
 use Rattle.lh_file.specs.Words.HandState.{HandState, IsBranch}
 use Rattle.lh_file.specs.declared.words.view.View.{View}
 use Rattle.lh_shards.specs.Dividing.{HasGiven, EachPair}

@@ -1,12 +1,11 @@
 -- Every merge of the shards' histories is a history of the whole map
-use Rattle.std.proofs.Common.{suc, zero, ◌≡◌, ◌≢◌, ℕ, ◌<◌, ◌⊎◌, Bool, true, false, cond, eqb, List, [], ◌∷◌, length, map, set, Option, Some, None, refl, sym, ap, ◌∙◌, subst, inl, inr, ⊎_elim, arith}
-use borrow.Author.Tests.{eq-eqb, eqb-false}
+use Rattle.std.proofs.Common.{◌≡◌, ◌≢◌, ℕ, ◌<◌, false, eqb, List, [], ◌∷◌, length, set, Some, refl, sym, ap, ◌∙◌, subst, ⊎_elim}
+use borrow.Author.Tests.{eq-eqb}
 use lib.ListN.{length-set}
-use Rattle.std.specs.FinMap.{get}
 use Rattle.std.specs.List.{slice_get}
 use Rattle.std.proofs.lemmas.Bool.Decides.{eqb_tells}
 use Rattle.std.proofs.lemmas.List.Elements.{All-head, All-tail}
-use Rattle.std.proofs.lemmas.Option.{same_Some, none-some, slice_get_within}
+use Rattle.std.proofs.lemmas.Option.{same_Some, slice_get_within}
 use Rattle.lh_bucket.specs.PlainMap.{Records, reply, replies, after, outcome, key_of}
 use Rattle.lh_bucket.specs.declared.call.Reply.{Reply}
 use Rattle.lh_settling.specs.Acts.{calls_of, replies_of}

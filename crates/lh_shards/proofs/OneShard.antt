@@ -1,6 +1,6 @@
 -- A call on one shard leaves hands of all
-use Rattle.std.proofs.Common.{◌≡◌, ℕ, ◌<◌, ◌⊎◌, Bool, true, false, List, [], ◌∷◌, ◌++◌, length, map, set, get_or, Option, Result, Some, None, Ok, Err, refl, sym, ap, ◌∙◌, subst, ⊎_elim, arith}
-use Rattle.std.specs.List.{slice_get, All}
+use Rattle.std.proofs.Common.{◌≡◌, ℕ, ◌<◌, Bool, true, false, List, [], ◌∷◌, ◌++◌, length, map, set, get_or, Result, Some, Ok, Err, refl, sym, ap, ◌∙◌, subst, ⊎_elim, arith}
+use Rattle.std.specs.List.{slice_get}
 use Rattle.std.proofs.lemmas.List.Elements.{All-append, All-push}
 use Rattle.std.proofs.lemmas.List.{map_push}
 use Rattle.std.proofs.lemmas.Option.{same_Some, slice_get_read, slice_get_within}
@@ -8,7 +8,7 @@ use Rattle.lh_bucket.specs.Answer.{Answered}
 use Rattle.lh_bucket.specs.PlainMap.{key_of}
 use Rattle.lh_bucket.specs.declared.call.Call.{Call}
 use Rattle.lh_bucket.specs.declared.call.Reply.{Reply}
-use Rattle.lh_file.specs.Calls.Served.{Makes, Serves, HasServed, HasLooked}
+use Rattle.lh_file.specs.Calls.Served.{Makes, Serves, HasServed}
 use Rattle.lh_addr.specs.Settings.{Settings}
 use Rattle.lh_file.specs.FileState.{FileState, IsOf, IsOpened}
 use Rattle.lh_file.specs.HashFile.{Shared}

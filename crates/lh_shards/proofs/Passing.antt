@@ -1,5 +1,5 @@
 -- Hands that a loop goes over, one shard after another
-use Rattle.std.proofs.Common.{suc, ◌≡◌, ◌≢◌, ℕ, ◌+◌, ◌<◌, ◌≤◌, List, length, set, Some, sym, ◌∙◌, subst, ⊎_elim, arith}
+use Rattle.std.proofs.Common.{suc, ◌≡◌, ◌≢◌, ℕ, ◌+◌, ◌≤◌, List, length, set, Some, sym, ◌∙◌, subst, ⊎_elim, arith}
 use lib.ListN.{length-set}
 use Rattle.std.specs.List.{slice_get}
 use Rattle.std.proofs.lemmas.Option.{same_Some}

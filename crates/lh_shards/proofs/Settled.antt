@@ -1,5 +1,5 @@
 -- Settled shards are one map.
-use Rattle.std.proofs.Common.{◌≡◌, ℕ, ◌<◌, List, length, map, Some, refl, sym, ap, ◌∙◌, subst, arith}
+use Rattle.std.proofs.Common.{◌≡◌, ℕ, ◌<◌, List, length, map, Some, sym, ap, ◌∙◌, subst, arith}
 use Rattle.std.specs.List.{slice_get}
 use Rattle.std.specs.Option.{option_map}
 use Rattle.std.proofs.lemmas.List.Sorted.{All-permutation}
@@ -14,7 +14,7 @@ use Rattle.lh_shards.specs.Closing.{AreShards}
 use Rattle.lh_shards.specs.Hands.{AreAtHome}
 use Rattle.lh_shards.specs.Number.{home_of}
 use Rattle.lh_shards.specs.OneMap.{IsPart, IsLegalFrom}
-use Rattle.lh_shards.specs.Settling.{AreSettled, AreParts, IsFirstDue, MakeOneMap}
+use Rattle.lh_shards.specs.Settling.{AreSettled, IsFirstDue, MakeOneMap}
 use Rattle.lh_shards.specs.declared.closed_shard.ClosedShard.{ClosedShard}
 use Rattle.lh_shards.specs.declared.fault.ShardFault.{ShardFault}
 use Rattle.lh_shards.proofs.Merging.{one_map_law}

@@ -1,5 +1,5 @@
 -- Listings whose records stand in their own shards are the parts of the map of them all.
-use Rattle.std.proofs.Common.{zero, suc, ◌≡◌, ◌≢◌, ℕ, ◌+◌, ◌<◌, ◌==◌, ◌⊎◌, Bool, true, false, cond, eqb, List, [], ◌∷◌, ◌++◌, length, Option, Some, None, refl, sym, ap, ◌∙◌, subst, ⊎_elim, arith}
+use Rattle.std.proofs.Common.{zero, suc, ◌≡◌, ◌≢◌, ℕ, ◌+◌, ◌<◌, ◌==◌, Bool, true, false, cond, eqb, List, [], ◌∷◌, ◌++◌, length, Option, Some, None, refl, sym, ap, ◌∙◌, subst, ⊎_elim, arith}
 use Rattle.std.specs.FinMap.{get, get-empty, get-insert}
 use Rattle.std.specs.List.{slice_get}
 use Rattle.std.specs.Ordering.{nat_cmp, eq_by_cmp}
@@ -10,12 +10,10 @@ use Rattle.std.proofs.lemmas.Option.{none-some, same_Some}
 use Rattle.std.proofs.lemmas.Slice.Eq.{bytes_eq-Decides}
 use Rattle.lh_page.specs.Records.{key_at}
 use Rattle.lh_page.specs.declared.pair.Pair.{Pair}
-use Rattle.lh_bucket.specs.Listing.{Lists, EachPlace, all_of, list_at}
-use Rattle.lh_bucket.specs.PlainMap.{Records}
+use Rattle.lh_bucket.specs.Listing.{Lists, EachPlace, all_of}
 use Rattle.lh_bucket.specs.Records.{map_of}
 use Rattle.lh_settling.specs.Settled.{map_in}
 use Rattle.lh_shards.specs.Number.{home_of}
-use Rattle.lh_shards.specs.OneMap.{IsPart}
 use Rattle.lh_shards.specs.Opening.{AreHome, IsHomeIn, records_of, whole_of}
 use Rattle.lh_shards.specs.Settling.{AreParts}
 

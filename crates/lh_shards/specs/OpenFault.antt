@@ -1,5 +1,5 @@
 -- When shards are not opened, and why
-use Rattle.std.specs.Prelude.{ℕ, List, length}
+use Rattle.std.specs.Prelude.{List, length}
 use Rattle.lh_bucket.specs.Listing.{Lists}
 use Rattle.lh_shards.specs.Hands.{IsCount}
 use Rattle.lh_shards.specs.Opening.{AreAlike, IsFirstAway, IsFirstOther}

@@ -1,7 +1,4 @@
 -- The first hands so far have room for the acts of the second ones, and the others are as they were.
-use Rattle.std.proofs.Common.{◌≡◌, ◌≤◌, length, Some}
-use Rattle.std.specs.List.{slice_get}
-use Rattle.lh_file.specs.Words.HandState.{HandState, IsSame}
 use Rattle.lh_shards.proofs.Joins.{HasRoom}
 use Rattle.lh_shards.proofs.Passing.{Passed}
 use Rattle.lh_shards.proofs.joining.make_room.Given as goal

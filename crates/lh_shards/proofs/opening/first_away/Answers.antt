@@ -1,5 +1,5 @@
 -- The first record that is away in a listing is the first of all, where the listings before it are home.
-use Rattle.std.proofs.Common.{◌≡◌, ℕ, ◌<◌, length, Some, refl, arith}
+use Rattle.std.proofs.Common.{◌≡◌, ℕ, length, Some, refl, arith}
 use Rattle.std.specs.List.{slice_get}
 use Rattle.std.proofs.lemmas.Option.{slice_get_read, slice_get_within}
 use Rattle.lh_bucket.specs.Listing.{Lists, EachPlace}

@@ -9,7 +9,7 @@ use Rattle.lh_file.specs.HashFile.{Shared}
 use Rattle.lh_file.specs.Words.HandState.{HandState}
 use Rattle.lh_settling.specs.declared.act.ActLine.{ActLine}
 use Rattle.lh_shards.specs.Closing.{IsClosedBy}
-use Rattle.lh_shards.specs.Hands.{AreAtHome, IsOfShard}
+use Rattle.lh_shards.specs.Hands.{AreAtHome}
 use Rattle.lh_shards.specs.declared.closed_shard.ClosedShard.{ClosedShard}
 use Rattle.lh_shards.proofs.Places.{EachThree, there, left_next, three_next}
 use Rattle.lh_shards.proofs.shards.Shards.close.Given.{Over}

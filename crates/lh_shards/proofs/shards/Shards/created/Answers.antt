@@ -1,5 +1,5 @@
 -- A file and its first hand more, and what stands there at the end
-use Rattle.std.proofs.Common.{◌≡◌, ◌+◌, ◌∷◌, ◌++◌, [], ℕ, List, length, map, sym, ap, ◌∙◌, subst, arith}
+use Rattle.std.proofs.Common.{◌≡◌, ◌+◌, ◌∷◌, ◌++◌, [], List, length, map, sym, ap, ◌∙◌, subst, arith}
 use Rattle.std.proofs.lemmas.List.{length_push}
 use Rattle.lh_file.specs.FileState.{IsOpened}
 use Rattle.lh_file.specs.HashFile.{Shared}

@@ -3,7 +3,6 @@ use Rattle.std.proofs.Common.{suc, ◌≡◌, ℕ, ◌+◌, ◌<◌, ◌≤◌, 
 use Rattle.std.specs.List.{slice_get}
 use Rattle.std.specs.Vec.Iter.{into_iter_items, into_iter_len}
 use Rattle.std.proofs.lemmas.List.{drop_all, length_push}
-use Rattle.lh_file.specs.FileState.{FileState}
 use Rattle.lh_file.specs.HashFile.{Shared}
 use Rattle.lh_file.specs.Words.HandState.{HandState, IsJoined}
 use Rattle.lh_shards.specs.Hands.{IsOfShard}
