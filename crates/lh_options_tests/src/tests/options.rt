@@ -17,6 +17,10 @@ fn answer(rt: &(impl Abort + AllocGlobal), words: &[&str]) -> Result<String, All
             let version = text_of(version);
             format!(in alloc; "{settings}, {version}")
         }
+        Request::Serve(config) => {
+            let settings = settings(rt, &config)?;
+            format!(in alloc; "{settings}, serve")
+        }
         Request::Drive {
             config,
             threads,
@@ -347,6 +351,25 @@ fn what_goes_on_from_an_image_takes_no_settings(rt: HostRuntime) -> Result<(), A
         &rt,
         ["lhash", "apply", "--capacity=2"].as_slice(),
         "refused: unexpected argument '--capacity' found",
+    )
+}
+
+#[test]
+fn serve_takes_the_settings_alone(rt: HostRuntime) -> Result<(), AllocError> {
+    gives(
+        &rt,
+        ["lhash", "serve", "--initial=2", "--load", "50"].as_slice(),
+        "2 14 50 65536, serve",
+    )?;
+    gives(
+        &rt,
+        ["lhash", "serve", "--initial=8", "--max=7"].as_slice(),
+        "max is below initial",
+    )?;
+    gives(
+        &rt,
+        ["lhash", "serve", "--image=2"].as_slice(),
+        "refused: unexpected argument '--image' found",
     )
 }
 
