@@ -4,7 +4,7 @@ use Rattle.std.specs.Prelude.{find, option_and_then}
 use Rattle.std.specs.Str.{bytes_eq}
 use Rattle.std.proofs.lemmas.Bool.{false≢true}
 use Rattle.std.proofs.lemmas.Slice.Eq.{bytes_eq-Decides}
-use Rattle.clap.specs.Walk.{Row, Text, nothing_held, row_text, rows_after}
+use Rattle.clap.specs.Walk.{Row, Rule, Text, nothing_held, row_text, rows_after}
 use Rattle.clap.specs.Simple.{Shape, argument_words, built, subcommand_of}
 use Rattle.clap.specs.Faults.{fault_of, level_fault}
 use Rattle.lh_addr.specs.Limits.{most_initial, most_capacity, least_load, most_load, most_buckets}
@@ -15,14 +15,14 @@ use Rattle.lh_options.proofs.RowLemmas.{Every, FitsHere, HasTarget, IsTarget, fi
 use Rattle.lh_options.proofs.NumberLemmas.{number-fits}
 use Rattle.lh_options.proofs.Unlike.{unlike}
 
--- the four options are among the rules of the subcommand, each alone with its name
-pub record HasOptions (s : Shape) : Type 0 where
-  pub initial : Every (IsTarget (codes "initial") (codes "1") 1 most_initial) s.rules × HasTarget (codes "initial") (codes "1") 1 most_initial s.rules
-  pub capacity : Every (IsTarget (codes "capacity") (codes "14") 1 most_capacity) s.rules × HasTarget (codes "capacity") (codes "14") 1 most_capacity s.rules
-  pub load : Every (IsTarget (codes "load") (codes "100") least_load most_load) s.rules × HasTarget (codes "load") (codes "100") least_load most_load s.rules
-  pub max : Every (IsTarget (codes "max") (codes "65536") 1 most_buckets) s.rules × HasTarget (codes "max") (codes "65536") 1 most_buckets s.rules
+-- the four options are among these rules, each alone with its name
+pub record HasOptions (rules : List Rule) : Type 0 where
+  pub initial : Every (IsTarget (codes "initial") (codes "1") 1 most_initial) rules × HasTarget (codes "initial") (codes "1") 1 most_initial rules
+  pub capacity : Every (IsTarget (codes "capacity") (codes "14") 1 most_capacity) rules × HasTarget (codes "capacity") (codes "14") 1 most_capacity rules
+  pub load : Every (IsTarget (codes "load") (codes "100") least_load most_load) rules × HasTarget (codes "load") (codes "100") least_load most_load rules
+  pub max : Every (IsTarget (codes "max") (codes "65536") 1 most_buckets) rules × HasTarget (codes "max") (codes "65536") 1 most_buckets rules
 
-settings-after : (s : Shape) → HasOptions s → (words : List Text) → level_fault s [] nothing_held words false [] ≡ [] → HasSettings (rows_after s.rules [] words)
+settings-after : (s : Shape) → HasOptions s.rules → (words : List Text) → level_fault s [] nothing_held words false [] ≡ [] → HasSettings (rows_after s.rules [] words)
 settings-after s h words e =
     let initial = level-row (codes "initial") (codes "1") 1 most_initial s h.initial.0 h.initial.1 [] words false [] e in
     let capacity = level-row (codes "capacity") (codes "14") 1 most_capacity s h.capacity.0 h.capacity.1 [] words false [] e in
@@ -84,24 +84,9 @@ dump_built = shape_at 5 (built program_app).subs
 unequal : {P : Type 0} → false ≡ true → P
 unequal h = absurd (false≢true h)
 
-commands-options : HasOptions commands_built
-commands-options = record {
-  initial = (((λ _. refl), (unequal, (unequal, (unequal, (unequal, tt))))), inl refl);
-  capacity = ((unequal, ((λ _. refl), (unequal, (unequal, (unequal, tt))))), inr (inl refl));
-  load = ((unequal, (unequal, ((λ _. refl), (unequal, (unequal, tt))))), inr (inr (inl refl)));
-  max = ((unequal, (unequal, (unequal, ((λ _. refl), (unequal, tt))))), inr (inr (inr (inl refl))));
-}
-
-steps-options : HasOptions steps_built
-steps-options = record {
-  initial = (((λ _. refl), (unequal, (unequal, (unequal, (unequal, tt))))), inl refl);
-  capacity = ((unequal, ((λ _. refl), (unequal, (unequal, (unequal, tt))))), inr (inl refl));
-  load = ((unequal, (unequal, ((λ _. refl), (unequal, (unequal, tt))))), inr (inr (inl refl)));
-  max = ((unequal, (unequal, (unequal, ((λ _. refl), (unequal, tt))))), inr (inr (inr (inl refl))));
-}
-
-replay-options : HasOptions replay_built
-replay-options = record {
+-- the subcommands with the four options alone have the same rules
+file-options : HasOptions commands_built.rules
+file-options = record {
   initial = (((λ _. refl), (unequal, (unequal, (unequal, (unequal, tt))))), inl refl);
   capacity = ((unequal, ((λ _. refl), (unequal, (unequal, (unequal, tt))))), inr (inl refl));
   load = ((unequal, (unequal, ((λ _. refl), (unequal, (unequal, tt))))), inr (inr (inl refl)));
@@ -111,15 +96,7 @@ replay-options = record {
 abbrev serve_built : Shape
 serve_built = shape_at 11 (built program_app).subs
 
-serve-options : HasOptions serve_built
-serve-options = record {
-  initial = (((λ _. refl), (unequal, (unequal, (unequal, (unequal, tt))))), inl refl);
-  capacity = ((unequal, ((λ _. refl), (unequal, (unequal, (unequal, tt))))), inr (inl refl));
-  load = ((unequal, (unequal, ((λ _. refl), (unequal, (unequal, tt))))), inr (inr (inl refl)));
-  max = ((unequal, (unequal, (unequal, ((λ _. refl), (unequal, tt))))), inr (inr (inr (inl refl))));
-}
-
-build-options : HasOptions build_built
+build-options : HasOptions build_built.rules
 build-options = record {
   initial = (((λ _. refl), (unequal, (unequal, (unequal, (unequal, (unequal, tt)))))), inl refl);
   capacity = ((unequal, ((λ _. refl), (unequal, (unequal, (unequal, (unequal, tt)))))), inr (inl refl));
@@ -142,7 +119,7 @@ apply_built = shape_at 10 (built program_app).subs
 abbrev drive_built : Shape
 drive_built = shape_at 6 (built program_app).subs
 
-drive-options : HasOptions drive_built
+drive-options : HasOptions drive_built.rules
 drive-options = record {
   initial = (((λ _. refl), (unequal, (unequal, (unequal, (unequal, (unequal, (unequal, tt))))))), inl refl);
   capacity = ((unequal, ((λ _. refl), (unequal, (unequal, (unequal, (unequal, (unequal, tt))))))), inr (inl refl));
@@ -198,11 +175,11 @@ other-name name given other is = absurd (unlike name given other is)
 -- accepted words name such a subcommand
 pub accepted-rows : (words : List Text) → fault_of program_app words ≡ [] → (e : Text × List Row) × (subcommand_of program_app words ≡ Some e) × IsEntered e.0 e.1
 accepted-rows words e = entered-some (built program_app) IsEntered (
-  (λ t is other ws f. inl (inl refl, settings-after commands_built commands-options ws f, other-name (codes "commands") _ refl, other-name (codes "commands") _ refl)),
+  (λ t is other ws f. inl (inl refl, settings-after commands_built file-options ws f, other-name (codes "commands") _ refl, other-name (codes "commands") _ refl)),
   (
-    (λ t is other ws f. inl (inr (inl refl), settings-after steps_built steps-options ws f, other-name (codes "steps") _ refl, other-name (codes "steps") _ refl)),
+    (λ t is other ws f. inl (inr (inl refl), settings-after steps_built file-options ws f, other-name (codes "steps") _ refl, other-name (codes "steps") _ refl)),
     (
-      (λ t is other ws f. inl (inr (inr (inr (inr (inl refl)))), settings-after replay_built replay-options ws f, other-name (codes "replay") _ refl, other-name (codes "replay") _ refl)),
+      (λ t is other ws f. inl (inr (inr (inr (inr (inl refl)))), settings-after replay_built file-options ws f, other-name (codes "replay") _ refl, other-name (codes "replay") _ refl)),
       (
         (λ t is other ws f. inl (inr (inr (inl refl)), settings-after build_built build-options ws f, other-name (codes "build") _ refl, λ _. image-after ws f)),
         (
@@ -220,7 +197,7 @@ accepted-rows words e = entered-some (built program_app) IsEntered (
                     (
                       (λ t is other ws f. inr (inr (inr (inr (inr (inr refl)))), no-settings apply_built (unequal, (unequal, tt)) ws f, λ _. applied-after ws f)),
                       (
-                        (λ t is other ws f. inl (inr (inr (inr (inr (inr refl)))), settings-after serve_built serve-options ws f, other-name (codes "serve") _ refl, other-name (codes "serve") _ refl)),
+                        (λ t is other ws f. inl (inr (inr (inr (inr (inr refl)))), settings-after serve_built file-options ws f, other-name (codes "serve") _ refl, other-name (codes "serve") _ refl)),
                         ((λ t is other ws f. absurd (false≢true (sym other ∙ is_help t is))), tt),
                       ),
                     ),
