@@ -5,6 +5,7 @@ pub mod History
 pub mod Holds
 pub mod Kept
 pub mod Laws
+pub mod Listed
 pub mod Log
 pub mod Opened
 pub mod Rises

@@ -49,7 +49,7 @@ mod world;
 pub use effect::{Effect, Refusal};
 pub use event::Event;
 pub use lh_bucket::Memory;
-pub use opened::serial_from;
+pub use opened::{count_before, serial_from};
 pub use ran::{Ran, run};
 pub use serial_ran::{SerialRan, serial};
 pub use state::{SplitState, WorkerState};

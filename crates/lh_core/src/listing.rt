@@ -1,8 +1,10 @@
 //! The listing of a world.
 ghost use Rattle.std.specs.Prelude.{◌≡◌, ℕ, ◌<◌, map, length, IfOk, OnOk};
 ghost use Rattle.lh_bucket.specs.Bucket.{IsKept};
+ghost use Rattle.lh_bucket.specs.PlainMap.{Records};
 ghost use Rattle.lh_core.specs.declared.state.SplitState.TheVariants as split;
-ghost use Rattle.lh_core.specs.World.{bucket_at};
+ghost use Rattle.lh_core.specs.Listed.{IsListed};
+ghost use Rattle.lh_core.specs.World.{StandsFor, bucket_at};
 
 use crate::laws::linear_hashing;
 use crate::world::World;
@@ -28,8 +30,10 @@ impl<B: Bucket> World<B> {
     /// bucket in the order of their places. A worker that has a call doesn't stand in the way.
     pub fn listing(&self) -> Result<Listing, Memory>
         requires { self.now.state.splitter ≡ split.Idle }
-        ensures { IfOk result (λ listing. listing
+        ensures lists { IfOk result (λ listing. listing
             ≡ record { config = self.now.config; lists = map (λ b. b.pairs) self.now.buckets }) }
+        ensures listed { (map : Records) → StandsFor self.now map →
+            IfOk result (IsListed self.now.config map self.now.state.buckets) }
     {
         // Its law: a code has one address.
         linear_hashing();

@@ -1,5 +1,5 @@
 -- The image that is written: overflow pages in the order of bucket and place
-use Rattle.std.specs.Prelude.{ℕ, zero, suc, ◌+◌, ◌-◌, ◌≤◌, List, [], ◌++◌, length, slice_index_or, ◌==◌, if◌then◌else◌}
+use Rattle.std.specs.Prelude.{◌≡◌, ℕ, zero, suc, ◌+◌, ◌-◌, ◌*◌, ◌≤◌, List, [], ◌++◌, length, slice_index_or, ◌==◌, if◌then◌else◌}
 use Rattle.std.specs.List.{range_with_len, flat_map}
 use Rattle.lh_addr.specs.Growth.{level_of}
 use Rattle.lh_page.specs.declared.page.Page.{Page}
@@ -12,7 +12,7 @@ use Rattle.lh_image.specs.declared.version.Version.{Version}
 use Rattle.lh_image.specs.Fitting.{FitsVersion}
 use Rattle.lh_image.specs.Image.{IsImage, header_for}
 use Rattle.lh_image.specs.Layout.{most_pages, header_text}
-use Rattle.lh_image.specs.Version.{format_of}
+use Rattle.lh_image.specs.Version.{format_of, page_bytes}
 
 -- the records of the pages of bucket i
 abbrev pub pages_in : Lists → ℕ → List (List Pair)
@@ -62,6 +62,12 @@ canonical version l =
     header_text (header_for version l (page_total l))
     ++ (flat_map (λ i. text_in version l i 0) (range_with_len 0 (size l))
     ++ flat_map (overflow_text version l) (range_with_len 0 (size l)))
+
+-- What is written in a version for which the listing is fit has the bytes of its pages.
+abbrev pub LengthLaw : Type 0
+LengthLaw =
+    (version : Version) (l : Lists) → IsListing l → FitsVersion version l → page_total l ≤ most_pages →
+    length (canonical version l) ≡ page_bytes version * page_total l
 
 -- What is written in a version for which the listing is fit is an image of the listing.
 abbrev pub CanonicalLaw : Type 0

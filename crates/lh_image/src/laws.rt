@@ -1,6 +1,6 @@
 //! Laws over the definitions of `specs/`, each the contract of a function that does nothing: a caller whose proof
 //! needs a law calls it.
-ghost use Rattle.lh_image.specs.Canonical.{CanonicalLaw};
+ghost use Rattle.lh_image.specs.Canonical.{CanonicalLaw, LengthLaw};
 ghost use Rattle.lh_image.specs.Chains.{ChainLaw, PathsLaw};
 ghost use Rattle.lh_image.specs.Counted.{CensusLaw};
 ghost use Rattle.lh_image.specs.FirstFault.{FirstFaultLaw, NoFaultLaw};
@@ -55,6 +55,16 @@ pub fn census_counts_pages()
 /// What is written is an image of the listing.
 pub fn what_is_written_is_an_image()
     ensures { CanonicalLaw }
+{
+    pages_are_packed();
+    pages_are_pieces();
+    a_page_is_its_bytes();
+    pages_read_back();
+}
+
+/// What is written has the bytes of its pages.
+pub fn written_images_have_their_pages()
+    ensures { LengthLaw }
 {
     pages_are_packed();
     pages_are_pieces();

@@ -4,6 +4,7 @@
 //! ```text
 //! write_image(&listing, &mut writer)?;              // the listing as bytes of version 2
 //! write_image_v1(&listing, &mut writer)?;           // or of version 1, if its records are short enough
+//! image_len(&listing)?                              // how many bytes of version 2 that are
 //! let listing = read_image(alloc, &mut reader)?;    // exactly the images, and each fault by its place
 //! read_leading_image(alloc, &mut reader)?           // of an image that other bytes follow, which are left to be read
 //! check_image(alloc, &mut reader)?.longest          // pages of the longest chain
@@ -31,4 +32,4 @@ pub use fault::{ImageFault, WriteImageFault};
 pub use image::Image;
 pub use reading::{read_image, read_leading_image};
 pub use version::Version;
-pub use writing::{write_image, write_image_v1};
+pub use writing::{image_len, write_image, write_image_v1};

@@ -1,10 +1,10 @@
 //! Writing an image, page by page.
-ghost use Rattle.std.specs.Prelude.{◌≡◌, ◌+◌, ◌-◌, ◌<◌, ◌≤◌, IfErr, IfOk};
+ghost use Rattle.std.specs.Prelude.{◌≡◌, ◌+◌, ◌-◌, ◌<◌, ◌≤◌, IfErr, IfOk, length};
 ghost use Rattle.std.specs.List.{range_with_len, flat_map};
 ghost use Rattle.lh_bucket.specs.Listing.{IsListing, size};
 ghost use Rattle.lh_image.specs.Canonical.{canonical, page_count_in, page_total, overflow_before, overflow_text, text_in};
 ghost use Rattle.lh_image.specs.Fitting.{FitsVersion};
-ghost use Rattle.lh_image.specs.Writing.{IsNotOld, IsSent, IsWritten};
+ghost use Rattle.lh_image.specs.Writing.{FitsImage, IsNotOld, IsSent, IsWriteRefusal, IsWritten};
 ghost use Rattle.lh_image.specs.Layout.{most_pages};
 ghost use Rattle.lh_image.specs.declared.version.Version.{Version};
 
@@ -13,6 +13,7 @@ pub(crate) mod listing_pages;
 mod sending;
 
 use crate::fault::WriteImageFault;
+use crate::laws::written_images_have_their_pages;
 use crate::limits::MAX_PAGES;
 use crate::version::Version;
 use crate::writing::fitting::first_too_long;
@@ -187,6 +188,18 @@ fn write_version<W: Write>(
         return Err(WriteImageFault::WriteFault);
     }
     Ok(())
+}
+
+/// How many bytes the image of version 2 of a listing has, where it isn't too large for one.
+pub fn image_len(listing: &Listing) -> Result<u64, WriteImageFault>
+    ensures ok { IfOk result (λ n. FitsImage Version.Two listing.now × (n ≡ length (canonical Version.Two listing.now))) }
+    ensures err { IfErr result (IsWriteRefusal Version.Two listing.now) }
+    ensures not_old { IfErr result IsNotOld }
+{
+    // Its law: the image has its pages, one behind the other.
+    written_images_have_their_pages();
+    let pages = image_pages(listing)?;
+    Ok(u64::from(pages) * Version::Two.page_bytes() as u64)
 }
 
 /// Writes a listing as an image of version 2: the header, the primary page of each bucket, and the overflow

@@ -19,7 +19,8 @@ unfoldable pub request_of : List ℕ → List (List ℕ) → Result Request Line
 request_of word rest =
     if is_word word (codes "buckets") then if_alone ask.Buckets rest
     else (if is_word word (codes "records") then if_alone ask.Records rest
-    else (call_alone word rest >>= λ call. Ok (ask.Call call)))
+    else (if is_word word (codes "image") then if_alone ask.Image rest
+    else (call_alone word rest >>= λ call. Ok (ask.Call call))))
 
 -- a line that isn't skipped is a request
 unfoldable pub request : Reading Request

@@ -20,6 +20,8 @@ pub enum Request {
     Buckets,
     /// The number of records.
     Records,
+    /// The file as an image.
+    Image,
 }
 
 /// A request, where a text has no word.
@@ -42,6 +44,8 @@ fn request_of_line(word: &[u8], rest: &[u8]) -> Result<Request, LineFault>
         only(Request::Buckets, rest)
     } else if is_name(word, b"records".as_slice()) {
         only(Request::Records, rest)
+    } else if is_name(word, b"image".as_slice()) {
+        only(Request::Image, rest)
     } else {
         let ((), call) = read_call(Ok(()), word, rest)?;
         Ok(Request::Call(call))

@@ -7,32 +7,35 @@ use Rattle.std.specs.Prelude.{List}
 use Rattle.lh_addr.specs.Settings.{Settings}
 use Rattle.lh_bucket.specs.declared.call.Call.{Call}
 use Rattle.lh_bucket.specs.declared.call.Reply.{Reply}
-use Rattle.lh_bucket.specs.PlainMap.{IsInsert, after, reply}
+use Rattle.lh_bucket.specs.Listing.{Lists}
+use Rattle.lh_bucket.specs.PlainMap.{IsInsert, Records, after, reply}
+use Rattle.lh_core.specs.Listed.{IsListed}
+use Rattle.lh_core.specs.Opened.{IsOpened, records_of}
 use Rattle.lh_core.specs.State.{State, first}
 use Rattle.lh_core.specs.Serial.{IsAtRest, IsGivenUp, IsServedOn, size_after}
 use Rattle.lh_core.specs.World.{StandsFor, WorldSeen}
-use Rattle.lh_serving.specs.Answers.{AnswersCall, FileSeen, IsAfter, MayWant, Shows, first_file}
+use Rattle.lh_serving.specs.Answers.{AnswersCall, FileSeen, Shows, file_of, first_file}
 use Rattle.lh_serving.specs.declared.answer.Answer.TheVariants as answer
 use Rattle.lh_serving.specs.declared.answer.Fault.TheVariants as fault
 
 -- the size of a file whose configuration and size are these
-sized : (s t : Settings) (v : WorldSeen) (file : FileSeen) (c : Call) (n : ℕ) → v.config ≡ s → v.state.buckets ≡ file.size →
+sized : (v : WorldSeen) (file : FileSeen) (c : Call) (n : ℕ) → v.config ≡ file.settings → v.state.buckets ≡ file.size →
     (n ≡ size_after v.config (after file.map c) v.state.buckets (reply file.map c)) ⊎ (n ≡ v.state.buckets) →
-    (n ≡ size_after s (after file.map c) file.size (reply file.map c)) ⊎ (n ≡ file.size)
-sized s t v file c n same size (inl e) = inl (e ∙ ap (λ x. size_after x (after file.map c) v.state.buckets (reply file.map c)) same ∙ ap (λ k. size_after s (after file.map c) k (reply file.map c)) size)
-sized s t v file c n same size (inr e) = inr (e ∙ size)
+    (n ≡ size_after file.settings (after file.map c) file.size (reply file.map c)) ⊎ (n ≡ file.size)
+sized v file c n same size (inl e) = inl (e ∙ ap (λ x. size_after x (after file.map c) v.state.buckets (reply file.map c)) same ∙ ap (λ k. size_after file.settings (after file.map c) k (reply file.map c)) size)
+sized v file c n same size (inr e) = inr (e ∙ size)
 
-pub called : (s : Settings) (v w : WorldSeen) (n m : ℕ) (c : Call) (y : Reply) (file : FileSeen) → Shows s v n file → IsServedOn v file.map c y m w →
-    (next : FileSeen) × AnswersCall s file c (answer.Reply y) next × Shows s w m next
-called s v w n m c y file h d = (
-  record { map = after file.map c; size = w.state.buckets },
-  (d.replied, record { map = refl; size = sized s s v file c w.state.buckets h.same h.size d.size }),
+pub called : (v w : WorldSeen) (n m : ℕ) (c : Call) (y : Reply) (file : FileSeen) → Shows v n file → IsServedOn v file.map c y m w →
+    (next : FileSeen) × AnswersCall file c (answer.Reply y) next × Shows w m next
+called v w n m c y file h d = (
+  record { settings = file.settings; map = after file.map c; size = w.state.buckets },
+  (d.replied, record { settings = refl; map = refl; size = sized v file c w.state.buckets h.same h.size d.size }),
   record { same = d.same ∙ h.same; rest = d.rest; stands = d.stands; count = d.count; size = refl },
 )
 
-pub refused : (s : Settings) (v w : WorldSeen) (n : ℕ) (c : Call) (file : FileSeen) → Shows s v n file → IsGivenUp v w → IsInsert c →
-    (next : FileSeen) × AnswersCall s file c (answer.Fault fault.Memory) next × Shows s w n next
-refused s v w n c file h g i = (
+pub refused : (v w : WorldSeen) (n : ℕ) (c : Call) (file : FileSeen) → Shows v n file → IsGivenUp v w → IsInsert c →
+    (next : FileSeen) × AnswersCall file c (answer.Fault fault.Memory) next × Shows w n next
+refused v w n c file h g i = (
   file,
   (refl, inl i),
   record {
@@ -44,12 +47,12 @@ refused s v w n c file h g i = (
   },
 )
 
-pub uncounted : (s : Settings) (v : WorldSeen) (n : ℕ) (c : Call) (file : FileSeen) → Shows s v n file → 2 ^ 64 - 1 ≤ n →
-    (next : FileSeen) × AnswersCall s file c (answer.Fault fault.Memory) next × Shows s v n next
-uncounted s v n c file h le = (file, (refl, inr (let e = h.count in omega (arith, e, le))), h)
+pub uncounted : (v : WorldSeen) (n : ℕ) (c : Call) (file : FileSeen) → Shows v n file → 2 ^ 64 - 1 ≤ n →
+    (next : FileSeen) × AnswersCall file c (answer.Fault fault.Memory) next × Shows v n next
+uncounted v n c file h le = (file, (refl, inr (let e = h.count in omega (arith, e, le))), h)
 
 -- an empty file shows none
-pub shows_first : (s : Settings) (v : WorldSeen) → v.config ≡ s → v.state ≡ first s → StandsFor v empty → Shows s v 0 (first_file s)
+pub shows_first : (s : Settings) (v : WorldSeen) → v.config ≡ s → v.state ≡ first s → StandsFor v empty → Shows v 0 (first_file s)
 shows_first s v e f p = record {
   same = e;
   rest = record { workers = ap (λ (a : State). a.workers) f; splitter = ap (λ (a : State). a.splitter) f };
@@ -57,3 +60,20 @@ shows_first s v e f p = record {
   count = sym (len-empty (slice_cmp nat_cmp) (List ℕ));
   size = ap (λ (a : State). a.buckets) f;
 }
+
+-- an opened one its listing
+pub shows_opened : (l : Lists) (v : WorldSeen) (n : ℕ) → IsOpened l v → n ≡ len (records_of l) → Shows v n (file_of l)
+shows_opened l v n o e = record {
+  same = o.config;
+  rest = record { workers = ap (λ (a : State). a.workers) o.state; splitter = ap (λ (a : State). a.splitter) o.state };
+  stands = o.stands;
+  count = e;
+  size = ap (λ (a : State). a.buckets) o.state;
+}
+
+-- a listing of a world is one of the file that it shows
+pub copied : (v : WorldSeen) (n : ℕ) (file : FileSeen) (l : Lists) → Shows v n file → ((m : Records) → StandsFor v m → IsListed v.config m v.state.buckets l) →
+    IsListed file.settings file.map file.size l
+copied v n file l h f =
+    subst (λ k. IsListed file.settings file.map k l) h.size
+    (subst (λ s. IsListed s file.map v.state.buckets l) h.same (f file.map h.stands))

@@ -1,29 +1,41 @@
 -- What a client is answered: the replies of one plain map
-use Rattle.std.specs.Prelude.{◌≡◌, ◌⊎◌, ℕ, ◌-◌, ◌^◌, ◌≤◌, List, Option, None, Some, Result, Ok, Err}
+use Rattle.std.specs.Prelude.{◌≡◌, ◌⊎◌, ℕ, ◌-◌, ◌^◌, ◌≤◌, List, [], ◌++◌, length, Option, None, Some, Result, Ok, Err}
 use Rattle.std.specs.FinMap.{empty, len}
 use Rattle.lh_addr.specs.Settings.{Settings}
 use Rattle.lh_bucket.specs.declared.call.Call.{Call}
+use Rattle.lh_bucket.specs.Listing.{Lists, size}
 use Rattle.lh_bucket.specs.PlainMap.{IsInsert, Records, after, reply}
+use Rattle.lh_core.specs.Listed.{IsListed}
+use Rattle.lh_core.specs.Opened.{records_of}
 use Rattle.lh_core.specs.Serial.{IsAtRest, size_after}
 use Rattle.lh_core.specs.World.{StandsFor, WorldSeen}
+use Rattle.lh_image.specs.Canonical.{canonical}
+use Rattle.lh_image.specs.Writing.{FitsImage, IsWriteRefusal}
+use Rattle.lh_image.specs.declared.version.Version.TheVariants.{Two}
 use Rattle.lh_script.specs.Lines.{without_last_cr, words}
 use Rattle.lh_script.specs.Requests.{request}
 use Rattle.lh_script.specs.declared.fault.LineFault.{LineFault}
 use Rattle.lh_script.specs.declared.requests.Request.{Request}
 use Rattle.lh_script.specs.declared.requests.Request.TheVariants as ask
+use Rattle.lh_serving.specs.Texts.{told}
 use Rattle.lh_serving.specs.declared.answer.Answer.{Answer}
 use Rattle.lh_serving.specs.declared.answer.Answer.TheVariants as answer
 use Rattle.lh_serving.specs.declared.answer.Fault.{Fault}
 use Rattle.lh_serving.specs.declared.answer.Fault.TheVariants as fault
 
--- a file as its client sees it: its records, and how many buckets it has
+-- a file as its client sees it: its configuration, its records, and how many buckets it has
 pub record FileSeen : Type 0 where
+  pub settings : Settings
   pub map : Records
   pub size : ℕ
 
 -- the empty file of a configuration
 abbrev pub first_file : Settings → FileSeen
-first_file settings = record { map = empty; size = settings.initial }
+first_file settings = record { settings = settings; map = empty; size = settings.initial }
+
+-- the file of a listing
+abbrev pub file_of : Lists → FileSeen
+file_of l = record { settings = l.config; map = records_of l; size = size l }
 
 -- a line that is no request is a fault
 abbrev pub in_line : Result (Option Request) LineFault → Result (Option Request) Fault
@@ -37,9 +49,10 @@ asked_by (Some line) = in_line (request (words (without_last_cr line)))
 
 -- the file after a call: the records are the plain map's; the buckets are as many as the split policy gives, or as
 -- before where memory ran out for a split
-pub record IsAfter (settings : Settings) (file : FileSeen) (call : Call) (next : FileSeen) : Type 0 where
+pub record IsAfter (file : FileSeen) (call : Call) (next : FileSeen) : Type 0 where
+  pub settings : next.settings ≡ file.settings
   pub map : next.map ≡ after file.map call
-  pub size : (next.size ≡ size_after settings (after file.map call) file.size (reply file.map call))
+  pub size : (next.size ≡ size_after file.settings (after file.map call) file.size (reply file.map call))
       ⊎ (next.size ≡ file.size)
 
 -- memory may run out for an insert, and for any call where 64 bits count no more records
@@ -47,26 +60,40 @@ abbrev pub MayWant : FileSeen → Call → Type 0
 MayWant file call = IsInsert call ⊎ (2 ^ 64 - 1 ≤ len file.map)
 
 -- how a call is answered: by the plain map's reply, or that memory ran out, and then nothing changes
-abbrev pub AnswersCall : Settings → FileSeen → Call → Answer → FileSeen → Type 0
-AnswersCall settings file call (answer.Reply given) next =
-    (given ≡ reply file.map call) × IsAfter settings file call next
-AnswersCall settings file call (answer.Fault fault.Memory) next = (next ≡ file) × MayWant file call
-AnswersCall settings file call _ next = ⊥
+abbrev pub AnswersCall : FileSeen → Call → Answer → FileSeen → Type 0
+AnswersCall file call (answer.Reply given) next = (given ≡ reply file.map call) × IsAfter file call next
+AnswersCall file call (answer.Fault fault.Memory) next = (next ≡ file) × MayWant file call
+AnswersCall file call _ next = ⊥
 
--- how what a line asks for is answered: nothing by nothing, a fault by its name, and neither changes anything
-abbrev pub Answers : Settings → FileSeen → Result (Option Request) Fault → Option Answer → FileSeen → Type 0
-Answers settings file (Ok None) given next = (given ≡ None) × (next ≡ file)
-Answers settings file (Ok (Some (ask.Call call))) given next =
-    (a : Answer) × (given ≡ Some a) × AnswersCall settings file call a next
-Answers settings file (Ok (Some ask.Buckets)) given next =
-    (given ≡ Some (answer.Buckets file.size)) × (next ≡ file)
-Answers settings file (Ok (Some ask.Records)) given next =
-    (given ≡ Some (answer.Records (len file.map))) × (next ≡ file)
-Answers settings file (Err f) given next = (given ≡ Some (answer.Fault f)) × (next ≡ file)
+-- an image of a file is written: a line with its length, and the canonical image of version 2 of a listing of the file
+pub record IsImaged (file : FileSeen) (said : List ℕ) : Type 0 where
+  pub listing : Lists
+  pub listed : IsListed file.settings file.map file.size listing
+  pub fits : FitsImage Two listing
+  pub text : said ≡ told (Some (answer.Image (length (canonical Two listing)))) ++ canonical Two listing
+
+-- why none is: memory ran out, or the file is too large for one
+abbrev pub IsUnimaged : FileSeen → Fault → Type 0
+IsUnimaged file fault.Memory = Unit {0}
+IsUnimaged file (fault.Image f) =
+    (l : Lists) × IsListed file.settings file.map file.size l × IsWriteRefusal Two l f
+IsUnimaged file _ = ⊥
+
+-- the bytes that answer what a line asks for: nothing is answered by none, a fault by its name, and neither changes
+-- anything
+abbrev pub Answers : FileSeen → Result (Option Request) Fault → List ℕ → FileSeen → Type 0
+Answers file (Ok None) said next = (said ≡ []) × (next ≡ file)
+Answers file (Ok (Some (ask.Call call))) said next =
+    (a : Answer) × (said ≡ told (Some a)) × AnswersCall file call a next
+Answers file (Ok (Some ask.Buckets)) said next = (said ≡ told (Some (answer.Buckets file.size))) × (next ≡ file)
+Answers file (Ok (Some ask.Records)) said next = (said ≡ told (Some (answer.Records (len file.map)))) × (next ≡ file)
+Answers file (Ok (Some ask.Image)) said next =
+    (IsImaged file said ⊎ ((f : Fault) × (said ≡ told (Some (answer.Fault f))) × IsUnimaged file f)) × (next ≡ file)
+Answers file (Err f) said next = (said ≡ told (Some (answer.Fault f))) × (next ≡ file)
 
 -- a world at rest, with the number of its records, is this file
-pub record Shows (settings : Settings) (world : WorldSeen) (records : ℕ) (file : FileSeen) : Type 0 where
-  pub same : world.config ≡ settings
+pub record Shows (world : WorldSeen) (records : ℕ) (file : FileSeen) : Type 0 where
+  pub same : world.config ≡ file.settings
   pub rest : IsAtRest world.state
   pub stands : StandsFor world file.map
   pub count : records ≡ len file.map

@@ -10,6 +10,7 @@ conversation_seen talk = record {
   records = talk.records;
   part = talk.part;
   waiting = string_bytes talk.waiting;
+  image = talk.image;
 }
 
 -- nobody is at work between two lines

@@ -1,6 +1,10 @@
 -- How a client's answers read
 use Rattle.std.specs.Prelude.{ℕ, List, [], ◌++◌, Option, None, Some, codes}
 use Rattle.std.specs.Fmt.{decimal}
+use Rattle.lh_bucket.specs.Listing.{Lists}
+use Rattle.lh_image.specs.Canonical.{canonical}
+use Rattle.lh_image.specs.Texts.{write_image_fault_text}
+use Rattle.lh_image.specs.declared.version.Version.TheVariants.{Two}
 use Rattle.lh_script.specs.FaultTexts.{line_fault_text}
 use Rattle.lh_script.specs.Texts.{line, reply_text, size_text}
 use Rattle.lh_serving.specs.declared.answer.Answer.{Answer}
@@ -13,15 +17,22 @@ abbrev pub fault_text : Fault → List ℕ
 fault_text (fault.Line f) = line_fault_text f
 fault_text fault.TooLong = codes "line too long"
 fault_text fault.Memory = codes "no memory"
+fault_text (fault.Image f) = write_image_fault_text f
 
 -- an answer, without its LF
 abbrev pub answer_text : Answer → List ℕ
 answer_text (answer.Reply reply) = reply_text reply
 answer_text (answer.Buckets buckets) = size_text buckets
 answer_text (answer.Records records) = codes "records " ++ decimal records
+answer_text (answer.Image bytes) = codes "image " ++ decimal bytes
 answer_text (answer.Fault f) = codes "fault " ++ fault_text f
 
 -- an answer as a line, where there is one
 abbrev pub told : Option Answer → List ℕ
 told None = []
 told (Some a) = line (answer_text a)
+
+-- an image that is written, where one is
+abbrev pub image_text : Option Lists → List ℕ
+image_text None = []
+image_text (Some l) = canonical Two l

@@ -4,6 +4,7 @@ ghost use Rattle.std.specs.String.{string_bytes};
 ghost use Rattle.lh_serving.specs.Texts.{answer_text, fault_text, told};
 
 use lh_bucket::{Memory, Reply};
+use lh_image::WriteImageFault;
 use lh_script::{LineFault, ReplyText, SizeText};
 use std::fmt;
 
@@ -14,8 +15,10 @@ pub enum Fault {
     Line(LineFault),
     /// It has more bytes than a line may have.
     TooLong,
-    /// There was no memory for its record.
+    /// There was no memory for its record, or for a copy of the file.
     Memory,
+    /// The file has no image.
+    Image(WriteImageFault),
 }
 
 /// The answer to a line.
@@ -27,6 +30,8 @@ pub enum Answer {
     Buckets(u32),
     /// The number of records.
     Records(u64),
+    /// The file's image of version 2 comes next, of so many bytes.
+    Image(u64),
     /// The line was not served.
     Fault(Fault),
 }
@@ -39,6 +44,7 @@ impl fmt::Display for Fault {
             Fault::Line(fault) => write!(f, "{fault}"),
             Fault::TooLong => write!(f, "line too long"),
             Fault::Memory => write!(f, "no memory"),
+            Fault::Image(fault) => write!(f, "{fault}"),
         }
     }
 }
@@ -55,6 +61,7 @@ impl fmt::Display for AnswerText<'_> {
             Answer::Reply(reply) => write!(f, "{}", ReplyText(reply)),
             Answer::Buckets(buckets) => write!(f, "{}", SizeText(*buckets)),
             Answer::Records(records) => write!(f, "records {records}"),
+            Answer::Image(bytes) => write!(f, "image {bytes}"),
             Answer::Fault(fault) => write!(f, "fault {fault}"),
         }
     }

@@ -1,15 +1,16 @@
 //! A conversation with a client, from bytes to bytes.
-ghost use Rattle.std.specs.Prelude.{◌≡◌, ◌<◌, ◌++◌, ℕ, List, [], IfOk, length};
-ghost use Rattle.lh_addr.specs.Settings.{Settings};
-ghost use Rattle.lh_serving.specs.Answers.{asked_by};
-ghost use Rattle.lh_serving.specs.Conversations.{IsAt};
+ghost use Rattle.std.specs.Prelude.{◌≡◌, ◌<◌, ◌++◌, ℕ, List, None, [], IfOk, length, option_map};
+ghost use Rattle.std.specs.Bool.{OnTrue};
+ghost use Rattle.lh_core.specs.Serial.{IsAtRest};
+ghost use Rattle.lh_serving.specs.Answers.{FileSeen, Shows, asked_by, file_of, first_file};
+ghost use Rattle.lh_serving.specs.Conversations.{IsAt, IsQuiet, pending};
 
 use crate::answer::{Fault, put};
 use crate::part::Part;
 use crate::serving::answer_to;
 use lh_addr::Config;
-use lh_bucket::{Memory, PagedBucket};
-use lh_core::World;
+use lh_bucket::{Listing, Memory, PagedBucket};
+use lh_core::{World, count_before};
 use lh_script::{Request, cut_line, read_request};
 use std::alloc::Global;
 use std::marker::Model;
@@ -17,13 +18,15 @@ use std::marker::Model;
 /// How much room there is for answers that wait, before more memory is taken for them.
 const ROOM: usize = 66_000;
 
-/// A file, what has come of its client's next line, and the answers that the client wasn't told yet.
+/// A file, what has come of its client's next line, the answers that the client wasn't told yet, and the file whose image
+/// is to be told behind them.
 #[derive(Drop)]
 pub struct Conversation {
     world: World<PagedBucket>,
     records: u64,
     part: Part,
     waiting: String,
+    image: Option<Listing>,
 }
 
 impl Model for Conversation {
@@ -52,30 +55,50 @@ fn asked(part: &Part) -> Result<Option<Request>, Fault>
 }
 
 impl Conversation {
-    /// A conversation over an empty file, before anything was said.
-    pub fn new(alloc: Global, config: Config) -> Result<Conversation, Memory>
-        ensures begun { IfOk result (λ talk. IsAt config talk [] []) }
-        ensures quiet { IfOk result (λ talk. talk.waiting ≡ []) }
+    /// A conversation over a file with so many records, before anything was said.
+    fn over(alloc: Global, world: World<PagedBucket>, records: u64) -> Result<Conversation, Memory>
+        requires { IsAtRest world.state }
+        ensures begun { (start : FileSeen) → Shows world records start → IfOk result (λ talk. IsAt start talk [] []) }
+        ensures quiet { IfOk result IsQuiet }
     {
         let part = Part::new(alloc)?;
         let waiting = String::with_capacity(alloc, ROOM)?;
-        let world = World::new(alloc, config)?;
         Ok(Conversation {
             world,
-            records: 0,
+            records,
             part,
             waiting,
+            image: None,
         })
+    }
+
+    /// A conversation over an empty file, before anything was said.
+    pub fn new(alloc: Global, config: Config) -> Result<Conversation, Memory>
+        ensures begun { IfOk result (λ talk. IsAt (first_file config) talk [] []) }
+        ensures quiet { IfOk result IsQuiet }
+    {
+        Conversation::over(alloc, World::new(alloc, config)?, 0)
+    }
+
+    /// A conversation over the file of a listing, before anything was said.
+    pub fn open_from(alloc: Global, listing: &Listing) -> Result<Conversation, Memory>
+        ensures begun { IfOk result (λ talk. IsAt (file_of listing.now) talk [] []) }
+        ensures quiet { IfOk result IsQuiet }
+    {
+        let records = count_before(listing, 0)?;
+        Conversation::over(alloc, World::open_from(alloc, listing)?, records)
     }
 
     /// Hears bytes of the client up to the first LF, or all of them where there is none: what is behind it. A line that
     /// is complete then is answered, and the answer waits. In whatever pieces the bytes come, the answers are the same.
     ///
-    /// It fails where there is no memory for an answer to wait; with less than 65,536 bytes waiting there is.
+    /// An image that waits has to be told first. It fails where there is no memory for an answer to wait; with less than
+    /// 65,536 bytes waiting there is.
     pub fn hear<'a>(&mut self, bytes: &'a [u8]) -> Result<&'a [u8], Memory>
-        ensures heard { (settings : Settings) (heard answers : List ℕ) → IsAt settings self.old heard answers →
+        requires { self.old.image ≡ None }
+        ensures heard { (start : FileSeen) (heard answers : List ℕ) → IsAt start self.old heard answers →
             IfOk result (λ behind. (taken : List ℕ) × (bytes.now ≡ taken ++ behind.now)
-            × IsAt settings self.new (heard ++ taken) answers) }
+            × IsAt start self.new (heard ++ taken) answers) }
         ensures shorter { 0 < length bytes.now → IfOk result (λ behind. length behind.now < length bytes.now) }
     {
         match cut_line(bytes) {
@@ -86,27 +109,43 @@ impl Conversation {
             Some((line, behind)) => {
                 self.part.add(line);
                 let asked = asked(&self.part);
-                let answer = answer_to(&mut self.world, &mut self.records, asked);
+                let said = answer_to(&mut self.world, &mut self.records, asked);
                 self.part.clear();
-                put(&mut self.waiting, answer)?;
+                put(&mut self.waiting, said.answer)?;
+                self.image = said.image;
                 Ok(behind)
             }
         }
     }
 
-    /// The answers that wait.
+    /// The lines that wait to be told.
     pub fn waiting(&self) -> &[u8]
         ensures { result.now ≡ self.now.waiting }
     {
         self.waiting.as_bytes()
     }
 
+    /// The file whose image is to be told behind them, if one waits.
+    pub fn image(&self) -> Option<&Listing>
+        ensures { option_map (λ l. l.now) result ≡ self.now.image }
+    {
+        self.image.as_ref()
+    }
+
+    /// Whether nothing waits to be told.
+    pub fn is_quiet(&self) -> bool
+        ensures { OnTrue result (IsQuiet self.now) }
+    {
+        self.waiting.is_empty() && self.image.is_none()
+    }
+
     /// The client was told all that waited.
     pub fn note_told(&mut self)
-        ensures told { (settings : Settings) (heard answers : List ℕ) → IsAt settings self.old heard answers →
-            IsAt settings self.new heard (answers ++ self.old.waiting) }
-        ensures quiet { self.new.waiting ≡ [] }
+        ensures told { (start : FileSeen) (heard answers : List ℕ) → IsAt start self.old heard answers →
+            IsAt start self.new heard (answers ++ pending self.old) }
+        ensures quiet { IsQuiet self.new }
     {
         self.waiting.clear();
+        self.image = None;
     }
 }

@@ -1,19 +1,39 @@
 //! What a client asks for, served by a world.
-ghost use Rattle.lh_addr.specs.Settings.{Settings};
+ghost use Rattle.std.specs.Prelude.{◌≡◌, ◌++◌, ℕ, IfErr, IfOk, None, Some};
 ghost use Rattle.lh_core.specs.Serial.{IsAtRest};
-ghost use Rattle.lh_serving.specs.Answers.{Answers, AnswersCall, FileSeen, Shows};
+ghost use Rattle.lh_serving.specs.Answers.{Answers, AnswersCall, FileSeen, IsImaged, IsUnimaged, Shows};
+ghost use Rattle.lh_serving.specs.Texts.{image_text, told};
+ghost use Rattle.lh_serving.specs.declared.answer.Answer.TheVariants as answer;
 
 use crate::answer::{Answer, Fault};
-use lh_bucket::{Call, Memory, PagedBucket};
+use lh_bucket::{Call, Listing, Memory, PagedBucket};
 use lh_core::World;
+use lh_image::image_len;
 use lh_script::Request;
+
+/// What is said of a line: an answer, if it asks for anything, and behind that the image of a file, if it asks for one.
+#[derive(Drop)]
+pub struct Said {
+    pub answer: Option<Answer>,
+    pub image: Option<Listing>,
+}
+
+/// An answer that no image follows.
+fn only(answer: Answer) -> Said
+    ensures { result ≡ record { answer = Some answer; image = None } }
+{
+    Said {
+        answer: Some(answer),
+        image: None,
+    }
+}
 
 /// Serves a call. Where there is no memory for it, nothing changes.
 fn serve_call(world: &mut World<PagedBucket>, records: &mut u64, call: Call) -> Answer
     requires { IsAtRest world.old.state }
     ensures rest { IsAtRest world.new.state }
-    ensures answered { (settings : Settings) (file : FileSeen) → Shows settings world.old records.old file →
-        (next : FileSeen) × AnswersCall settings file call result next × Shows settings world.new records.new next }
+    ensures answered { (file : FileSeen) → Shows world.old records.old file →
+        (next : FileSeen) × AnswersCall file call result next × Shows world.new records.new next }
 {
     let count = *records;
     if count == u64::MAX {
@@ -28,22 +48,49 @@ fn serve_call(world: &mut World<PagedBucket>, records: &mut u64, call: Call) -> 
     }
 }
 
-/// The answer to what a line asks for, if it asks for anything.
+/// A copy of the file, and how many bytes its image has.
+fn imaged(world: &World<PagedBucket>) -> Result<(Listing, u64), Fault>
+    requires { IsAtRest world.now.state }
+    ensures ok { (records : ℕ) (file : FileSeen) → Shows world.now records file →
+        IfOk result (λ it. IsImaged file (told (Some (answer.Image it.1)) ++ image_text (Some it.0))) }
+    ensures err { (records : ℕ) (file : FileSeen) → Shows world.now records file → IfErr result (IsUnimaged file) }
+{
+    let Ok(listing) = world.listing() else {
+        return Err(Fault::Memory);
+    };
+    match image_len(&listing) {
+        Ok(len) => Ok((listing, len)),
+        Err(fault) => Err(Fault::Image(fault)),
+    }
+}
+
+/// What is said of a line, by what it asks for.
 pub fn answer_to(
     world: &mut World<PagedBucket>,
     records: &mut u64,
     asked: Result<Option<Request>, Fault>,
-) -> Option<Answer>
+) -> Said
     requires { IsAtRest world.old.state }
     ensures rest { IsAtRest world.new.state }
-    ensures answered { (settings : Settings) (file : FileSeen) → Shows settings world.old records.old file →
-        (next : FileSeen) × Answers settings file asked result next × Shows settings world.new records.new next }
+    ensures answered { (file : FileSeen) → Shows world.old records.old file →
+        (next : FileSeen) × Answers file asked (told result.answer ++ image_text result.image) next
+        × Shows world.new records.new next }
 {
     match asked {
-        Ok(None) => None,
-        Ok(Some(Request::Call(call))) => Some(serve_call(world, records, call)),
-        Ok(Some(Request::Buckets)) => Some(Answer::Buckets(world.root().buckets())),
-        Ok(Some(Request::Records)) => Some(Answer::Records(*records)),
-        Err(fault) => Some(Answer::Fault(fault)),
+        Ok(None) => Said {
+            answer: None,
+            image: None,
+        },
+        Ok(Some(Request::Call(call))) => only(serve_call(world, records, call)),
+        Ok(Some(Request::Buckets)) => only(Answer::Buckets(world.root().buckets())),
+        Ok(Some(Request::Records)) => only(Answer::Records(*records)),
+        Ok(Some(Request::Image)) => match imaged(world) {
+            Ok((listing, len)) => Said {
+                answer: Some(Answer::Image(len)),
+                image: Some(listing),
+            },
+            Err(fault) => only(Answer::Fault(fault)),
+        },
+        Err(fault) => only(Answer::Fault(fault)),
     }
 }

@@ -1,14 +1,12 @@
 -- What the subcommands for images do: which image `build` and `migrate` write, and what `check` and `dump` tell of one
-use Rattle.std.specs.Prelude.{◌≡◌, ℕ, ◌<◌, List, Option, Result, Ok, Err, ◌==◌}
-use Rattle.std.specs.FinMap.{empty, retain_keys}
+use Rattle.std.specs.Prelude.{◌≡◌, ℕ, List, Option, Result, Ok, Err}
+use Rattle.std.specs.FinMap.{empty}
 use Rattle.std.specs.Io.KnownBytes.{Keeps}
-use Rattle.lh_addr.specs.Fnv.{code_of}
-use Rattle.lh_addr.specs.Growth.{address}
 use Rattle.lh_addr.specs.Settings.{Settings}
 use Rattle.lh_bucket.specs.declared.call.Call.{Call}
-use Rattle.lh_bucket.specs.Listing.{Lists, IsListing, size, list_at}
+use Rattle.lh_bucket.specs.Listing.{Lists}
 use Rattle.lh_bucket.specs.PlainMap.{Records, outcome}
-use Rattle.lh_bucket.specs.Records.{map_of}
+use Rattle.lh_core.specs.Listed.{IsListed}
 use Rattle.lh_core.specs.Serial.{size_from}
 use Rattle.lh_image.specs.declared.fault.ImageFault.{ImageFault}
 use Rattle.lh_image.specs.declared.fault.ImageFault.TheVariants.{ReadFault, Memory}
@@ -32,16 +30,10 @@ use Rattle.lh_subcommands.specs.declared.status.InputFault.TheVariants.{Image, U
 use Rattle.lh_subcommands.specs.declared.status.Status.{Status}
 use Rattle.lh_subcommands.specs.declared.status.Status.TheVariants.{Input, Device, Memory as NoMemory}
 
--- A listing of the file that calls lead to, from one of so many buckets that stands for a map: the settings, the number
--- of buckets to which the split policy has the file grow, and each record of the calls' outcome in the list of the
--- bucket of its address and nowhere else, once.
-pub record IsLedFrom (settings : Settings) (map : Records) (start : ℕ) (calls : List Call) (l : Lists) : Type 0 where
-  pub config : l.config ≡ settings
-  pub buckets : size l ≡ size_from settings map start calls
-  pub placed : (i : ℕ) → i < size l →
-      map_of (list_at l.lists i)
-      ≡ retain_keys (outcome map calls) (λ key. address settings.initial (size l) (code_of key) == i)
-  pub listing : IsListing l
+-- a listing of the file that calls lead to, from one of so many buckets that stands for a map: with the number of
+-- buckets to which the split policy has the file grow, and the records of the calls' outcome
+abbrev pub IsLedFrom : Settings → Records → ℕ → List Call → Lists → Type 0
+IsLedFrom settings map start calls l = IsListed settings (outcome map calls) (size_from settings map start calls) l
 
 -- a listing of the file that calls lead to from an empty one, as `commands` has it at its end
 abbrev pub IsLedTo : Settings → List Call → Lists → Type 0

@@ -6,5 +6,6 @@ pub mod Images
 pub mod LongestLine
 pub mod Run
 pub mod Serve
+pub mod ServeLaws
 pub mod Status
 pub mod Unsettled

@@ -1,13 +1,19 @@
 //! The subcommand `serve`: each line of the input is answered by a line of the output, while both stay open.
-ghost use Rattle.std.specs.Prelude.{◌≡◌, ◌<◌, ◌≤◌, ◌++◌, ℕ, List, Option, [], false, IfErr, IfOk, IfSome, OnErr, OnOk, length, take};
+ghost use Rattle.std.specs.Prelude.{◌≡◌, ◌<◌, ◌≤◌, ◌++◌, ℕ, List, None, Option, [], false, IfErr, IfOk, IfSome, Ok, OnErr, OnOk, Some, length, take};
 ghost use Rattle.std.specs.Io.{ReadsAtMost};
-ghost use Rattle.std.specs.Io.KnownBytes.{Consumes, IsAtEnd, Keeps, ReadConsumes};
-ghost use Rattle.lh_addr.specs.Settings.{Settings};
-ghost use Rattle.lh_subcommands.specs.Serve.{Breaks, EndsServing, IsCutShort, IsTelling};
+ghost use Rattle.std.specs.Io.KnownBytes.{Appends, Consumes, IsAtEnd, Keeps, ReadConsumes};
+ghost use Rattle.lh_bucket.specs.Listing.{Lists};
+ghost use Rattle.lh_image.specs.Reading.{following, leading, reading_of};
+ghost use Rattle.lh_serving.specs.Answers.{FileSeen, file_of, first_file};
+ghost use Rattle.lh_serving.specs.Conversations.{IsAt, IsQuiet, pending};
+ghost use Rattle.lh_subcommands.specs.Devices.{TakesBeginning};
+ghost use Rattle.lh_subcommands.specs.Serve.{Breaks, EndsServing, EndsServingFrom, IsCutShort, IsTelling, IsUnopened};
 
 use crate::device::{WriteFailed, write_all};
+use crate::images::unreadable;
 use crate::status::{DeviceFault, Status};
 use lh_addr::Config;
+use lh_image::{read_leading_image, write_image};
 use lh_serving::Conversation;
 use std::alloc::{AllocError, Global};
 use std::io::{Read, Write};
@@ -32,7 +38,7 @@ fn listen<R: Read>(
     talk: &Conversation,
     chunk: &mut [u8],
 ) -> Result<usize, DeviceFault>
-    requires told { talk.now.waiting ≡ [] }
+    requires told { IsQuiet talk.now }
     requires room { 0 < length chunk.old }
     ensures bytes { IfOk result (λ n. (n ≤ length chunk.new)
         × Consumes (R.remaining reader.old) (R.remaining reader.new) (take n chunk.new)
@@ -45,34 +51,50 @@ fn listen<R: Read>(
     }
 }
 
-/// Writes the answers that wait, if any do, and flushes them.
-fn tell<W: Write>(writer: &mut W, talk: &mut Conversation) -> Result<(), WriteFailed>
-    ensures told { OnOk result (talk.new.waiting ≡ []) }
-    ensures ok { (settings : Settings) (before : Option (List ℕ)) (heard : List ℕ) →
-        IsTelling settings talk.old before (W.contents writer.old) heard →
-        OnOk result (IsTelling settings talk.new before (W.contents writer.new) heard) }
-    ensures err { (settings : Settings) (before : Option (List ℕ)) (heard : List ℕ) →
-        IsTelling settings talk.old before (W.contents writer.old) heard →
-        OnErr result (IsCutShort settings before (W.contents writer.new) heard) }
+/// Writes what waits, and flushes it.
+fn write_pending<W: Write>(writer: &mut W, talk: &Conversation) -> Result<(), WriteFailed>
+    ensures ok { OnOk result (Appends (W.contents writer.old) (W.contents writer.new) (pending talk.now)) }
+    ensures err { OnErr result (TakesBeginning (W.contents writer.old) (W.contents writer.new) (pending talk.now)) }
 {
-    if talk.waiting().is_empty() {
+    write_all(writer, talk.waiting())?;
+    let Some(listing) = talk.image() else {
+        return Ok(());
+    };
+    match write_image(listing, writer) {
+        Ok(()) => Ok(()),
+        Err(_) => Err(WriteFailed),
+    }
+}
+
+/// Tells what waits, if anything does.
+fn tell<W: Write>(writer: &mut W, talk: &mut Conversation) -> Result<(), WriteFailed>
+    ensures told { OnOk result (IsQuiet talk.new) }
+    ensures ok { (start : FileSeen) (before : Option (List ℕ)) (heard : List ℕ) →
+        IsTelling start talk.old before (W.contents writer.old) heard →
+        OnOk result (IsTelling start talk.new before (W.contents writer.new) heard) }
+    ensures err { (start : FileSeen) (before : Option (List ℕ)) (heard : List ℕ) →
+        IsTelling start talk.old before (W.contents writer.old) heard →
+        OnErr result (IsCutShort start before (W.contents writer.new) heard) }
+{
+    if talk.is_quiet() {
         return Ok(());
     }
-    write_all(writer, talk.waiting())?;
+    write_pending(writer, talk)?;
     talk.note_told();
     Ok(())
 }
 
-/// Tells the answers that wait, where they are enough.
+/// Tells what waits, where it is enough; an image always is.
 fn tell_enough<W: Write>(writer: &mut W, talk: &mut Conversation) -> Result<(), WriteFailed>
-    ensures ok { (settings : Settings) (before : Option (List ℕ)) (heard : List ℕ) →
-        IsTelling settings talk.old before (W.contents writer.old) heard →
-        OnOk result (IsTelling settings talk.new before (W.contents writer.new) heard) }
-    ensures err { (settings : Settings) (before : Option (List ℕ)) (heard : List ℕ) →
-        IsTelling settings talk.old before (W.contents writer.old) heard →
-        OnErr result (IsCutShort settings before (W.contents writer.new) heard) }
+    ensures image { OnOk result (talk.new.image ≡ None) }
+    ensures ok { (start : FileSeen) (before : Option (List ℕ)) (heard : List ℕ) →
+        IsTelling start talk.old before (W.contents writer.old) heard →
+        OnOk result (IsTelling start talk.new before (W.contents writer.new) heard) }
+    ensures err { (start : FileSeen) (before : Option (List ℕ)) (heard : List ℕ) →
+        IsTelling start talk.old before (W.contents writer.old) heard →
+        OnErr result (IsCutShort start before (W.contents writer.new) heard) }
 {
-    if talk.waiting().len() < TOLD_AT_ONCE {
+    if talk.waiting().len() < TOLD_AT_ONCE && talk.image().is_none() {
         return Ok(());
     }
     tell(writer, talk)
@@ -85,15 +107,17 @@ fn answer_first<'a, W: Write>(
     talk: &mut Conversation,
     bytes: &'a [u8],
 ) -> Result<&'a [u8], WriteFailed>
-    requires { 0 < length bytes.now }
+    requires some { 0 < length bytes.now }
+    requires image { talk.old.image ≡ None }
     ensures shorter { IfOk result (λ behind. length behind.now < length bytes.now) }
-    ensures ok { (settings : Settings) (before : Option (List ℕ)) (heard : List ℕ) →
-        IsTelling settings talk.old before (W.contents writer.old) heard →
+    ensures image { OnOk result (talk.new.image ≡ None) }
+    ensures ok { (start : FileSeen) (before : Option (List ℕ)) (heard : List ℕ) →
+        IsTelling start talk.old before (W.contents writer.old) heard →
         IfOk result (λ behind. (taken : List ℕ) × (bytes.now ≡ taken ++ behind.now)
-        × IsTelling settings talk.new before (W.contents writer.new) (heard ++ taken)) }
-    ensures err { (settings : Settings) (before : Option (List ℕ)) (heard : List ℕ) →
-        IsTelling settings talk.old before (W.contents writer.old) heard →
-        OnErr result (IsCutShort settings before (W.contents writer.new) (heard ++ bytes.now)) }
+        × IsTelling start talk.new before (W.contents writer.new) (heard ++ taken)) }
+    ensures err { (start : FileSeen) (before : Option (List ℕ)) (heard : List ℕ) →
+        IsTelling start talk.old before (W.contents writer.old) heard →
+        OnErr result (IsCutShort start before (W.contents writer.new) (heard ++ bytes.now)) }
 {
     let Ok(behind) = talk.hear(bytes) else {
         return Err(WriteFailed);
@@ -108,13 +132,14 @@ fn answer_all<W: Write>(
     talk: &mut Conversation,
     bytes: &[u8],
 ) -> Result<(), WriteFailed>
-    ensures told { OnOk result (talk.new.waiting ≡ []) }
-    ensures ok { (settings : Settings) (before : Option (List ℕ)) (heard : List ℕ) →
-        IsTelling settings talk.old before (W.contents writer.old) heard →
-        OnOk result (IsTelling settings talk.new before (W.contents writer.new) (heard ++ bytes.now)) }
-    ensures err { (settings : Settings) (before : Option (List ℕ)) (heard : List ℕ) →
-        IsTelling settings talk.old before (W.contents writer.old) heard →
-        OnErr result (IsCutShort settings before (W.contents writer.new) (heard ++ bytes.now)) }
+    requires { talk.old.image ≡ None }
+    ensures told { OnOk result (IsQuiet talk.new) }
+    ensures ok { (start : FileSeen) (before : Option (List ℕ)) (heard : List ℕ) →
+        IsTelling start talk.old before (W.contents writer.old) heard →
+        OnOk result (IsTelling start talk.new before (W.contents writer.new) (heard ++ bytes.now)) }
+    ensures err { (start : FileSeen) (before : Option (List ℕ)) (heard : List ℕ) →
+        IsTelling start talk.old before (W.contents writer.old) heard →
+        OnErr result (IsCutShort start before (W.contents writer.new) (heard ++ bytes.now)) }
 {
     let mut rest = bytes;
     while !rest.is_empty() {
@@ -130,18 +155,18 @@ fn take_turn<R: Read, W: Write>(
     talk: &mut Conversation,
     chunk: &mut [u8],
 ) -> Result<bool, DeviceFault>
-    requires told { talk.old.waiting ≡ [] }
+    requires told { IsQuiet talk.old }
     requires room { 0 < length chunk.old }
-    ensures told { OnOk result (talk.new.waiting ≡ []) }
-    ensures ok { (settings : Settings) (before : Option (List ℕ)) (heard : List ℕ) →
-        IsTelling settings talk.old before (W.contents writer.old) heard →
+    ensures told { OnOk result (IsQuiet talk.new) }
+    ensures ok { (start : FileSeen) (before : Option (List ℕ)) (heard : List ℕ) →
+        IsTelling start talk.old before (W.contents writer.old) heard →
         IfOk result (λ more. (bytes : List ℕ) × Consumes (R.remaining reader.old) (R.remaining reader.new) bytes
-        × IsTelling settings talk.new before (W.contents writer.new) (heard ++ bytes)
+        × IsTelling start talk.new before (W.contents writer.new) (heard ++ bytes)
         × (more ≡ false → IsAtEnd (R.remaining reader.new))) }
-    ensures err { (settings : Settings) (before : Option (List ℕ)) (heard : List ℕ) →
-        IsTelling settings talk.old before (W.contents writer.old) heard →
+    ensures err { (start : FileSeen) (before : Option (List ℕ)) (heard : List ℕ) →
+        IsTelling start talk.old before (W.contents writer.old) heard →
         IfErr result (λ fault. (bytes : List ℕ) × Consumes (R.remaining reader.old) (R.remaining reader.new) bytes
-        × Breaks settings fault before (W.contents writer.new) heard bytes) }
+        × Breaks start fault before (W.contents writer.new) heard bytes) }
 {
     let Ok(count) = listen(reader, talk, chunk) else {
         return Err(DeviceFault::Read);
@@ -155,20 +180,18 @@ fn take_turn<R: Read, W: Write>(
     }
 }
 
-/// Answers each line of the input, from an empty file of this configuration, until the input ends. At each read just
-/// the answers to the complete lines before it have been written, and flushed.
-pub fn answer_serve<R: Read, W: Write>(
+/// Answers each line of the input until it ends. At each read just the answers to the complete lines before it have been
+/// written, and flushed.
+fn converse<R: Read, W: Write>(
     alloc: Global,
-    config: Config,
+    mut talk: Conversation,
     reader: &mut R,
     writer: &mut W,
 ) -> Status
-    ensures { IfSome (R.remaining reader.old) (λ input. EndsServing config input result
-        (R.remaining reader.new) (W.contents writer.old) (W.contents writer.new)) }
+    requires { IsQuiet talk }
+    ensures { (start : FileSeen) → IsAt start talk [] [] → IfSome (R.remaining reader.old) (λ input.
+        EndsServing start input result (R.remaining reader.new) (W.contents writer.old) (W.contents writer.new)) }
 {
-    let Ok(mut talk) = Conversation::new(alloc, config) else {
-        return Status::Memory;
-    };
     let Ok(mut chunk) = room_to_listen(alloc) else {
         return Status::Memory;
     };
@@ -182,4 +205,51 @@ pub fn answer_serve<R: Read, W: Write>(
     }
     // There are no more reads than can be counted.
     Status::Device(DeviceFault::Read)
+}
+
+/// Answers each line of the input, from an empty file of this configuration.
+pub fn answer_serve<R: Read, W: Write>(
+    alloc: Global,
+    config: Config,
+    reader: &mut R,
+    writer: &mut W,
+) -> Status
+    ensures { IfSome (R.remaining reader.old) (λ input. EndsServing (first_file config) input result
+        (R.remaining reader.new) (W.contents writer.old) (W.contents writer.new)) }
+{
+    match Conversation::new(alloc, config) {
+        Ok(talk) => converse(alloc, talk, reader, writer),
+        Err(_) => Status::Memory,
+    }
+}
+
+/// A conversation over the file of the image that the input begins with, or how the run ends.
+fn opened<R: Read>(alloc: Global, reader: &mut R) -> Result<Conversation, Status>
+    ensures quiet { IfOk result IsQuiet }
+    ensures ok { IfSome (R.remaining reader.old) (λ input. IfOk result (λ talk.
+        (l : Lists) × (reading_of (leading input) ≡ Ok l) × IsAt (file_of l) talk [] [])) }
+    ensures rest { IfSome (R.remaining reader.old) (λ input.
+        OnOk result (R.remaining reader.new ≡ Some (following input))) }
+    ensures err { IfSome (R.remaining reader.old) (λ input.
+        IfErr result (λ status. IsUnopened status (reading_of (leading input)))) }
+{
+    let listing = match read_leading_image(alloc, reader) {
+        Ok(listing) => listing,
+        Err(fault) => return Err(unreadable(fault)),
+    };
+    match Conversation::open_from(alloc, &listing) {
+        Ok(talk) => Ok(talk),
+        Err(_) => Err(Status::Memory),
+    }
+}
+
+/// Answers each line behind the image that the input begins with, from the image's file.
+pub fn answer_serve_from<R: Read, W: Write>(alloc: Global, reader: &mut R, writer: &mut W) -> Status
+    ensures { IfSome (R.remaining reader.old) (λ input. EndsServingFrom input result
+        (R.remaining reader.new) (W.contents writer.old) (W.contents writer.new)) }
+{
+    match opened(alloc, reader) {
+        Ok(talk) => converse(alloc, talk, reader, writer),
+        Err(status) => status,
+    }
 }

@@ -4,7 +4,8 @@ use Rattle.std.specs.Ordering.{nat_cmp, eq_by_cmp}
 use Rattle.std.specs.Cmp.Lexicographic.{slice_cmp, nat_list_cmp_total, texts_ties}
 use Rattle.std.specs.Str.{bytes_eq}
 use Rattle.std.specs.List.{IsDistinct}
-use Rattle.std.specs.FinMap.{find, contains_key, get-from_entries}
+use Rattle.std.specs.FinMap.{find, contains_key, get-from_entries, retain_keys}
+use Rattle.std.specs.Prelude.{◌==◌}
 use Rattle.std.proofs.Math.ListN.{get_or-map}
 use Rattle.std.proofs.lemmas.List.{length-map, get_or_past, map-append, get_or-map as get_or-map-at}
 use Rattle.std.proofs.lemmas.Bool.{cases_lt, false≢true}
@@ -18,12 +19,14 @@ use Rattle.lh_bucket.specs.declared.listing.ListingFault.{ListingFault}
 use Rattle.lh_bucket.specs.declared.listing.ListingFault.TheVariants.{Shape, Misplaced, Twice, Memory}
 use Rattle.lh_bucket.specs.Bucket.{Head, Seen, HasOwnKeys, IsKept}
 use Rattle.lh_bucket.specs.Records.{map_of, entry_of}
-use Rattle.lh_bucket.specs.Listing.{IsShape, list_at}
+use Rattle.lh_bucket.specs.Listing.{IsListing, IsShape, Lists, list_at, size}
+use Rattle.lh_bucket.specs.PlainMap.{Records}
 use Rattle.lh_bucket.specs.ListingFault.{IsFaultOf}
 use Rattle.lh_core.specs.declared.state.SplitState.TheVariants as split
 use Rattle.lh_core.specs.Kept.{IsWorld, head_at}
 use Rattle.lh_core.specs.Laws.{LinearHashing}
-use Rattle.lh_core.specs.World.{WorldSeen, bucket_at, no_bucket}
+use Rattle.lh_core.specs.Listed.{IsListed}
+use Rattle.lh_core.specs.World.{StandsFor, WorldSeen, bucket_at, no_bucket}
 use Rattle.lh_core.proofs.Logs.Leading.{idle_filled}
 use Rattle.lh_core.proofs.Logs.Running.{taken}
 
@@ -68,6 +71,22 @@ kept_more seen bs n b lt at kept before i below =
     let same : n ≡ i = omega (arith, below, e) in
     subst (λ k. IsKept (bucket_at (map seen bs) k)) same (subst IsKept (sym (get_or-map-at seen bs n b no_bucket lt ∙ ap seen (sym at))) kept))
     (cases_lt i n)
+
+-- what the listing of a file has in each list
+pub listed : (w : WorldSeen) → IsWorld w → w.state.splitter ≡ split.Idle → (m : Records) (l : Lists) → StandsFor w m →
+    l ≡ record { config = w.config; lists = map (λ (b : Seen). b.pairs) w.buckets } → size l ≡ w.state.buckets → IsListing l → IsListed w.config m w.state.buckets l
+listed w h idle m l stands is many keeps =
+    let full : w.state.filled ≡ w.state.buckets = idle_filled w.config w.state h.sound.phase idle in
+    record {
+      config = ap (λ (x : Lists). x.config) is;
+      buckets = many;
+      placed = λ i lt.
+          ap (λ (x : Lists). map_of (list_at x.lists i)) is
+          ∙ ap map_of (get_or-map (λ (b : Seen). b.pairs) w.buckets i no_bucket)
+          ∙ stands.each i (subst (λ n. i < n) (many ∙ sym full) lt)
+          ∙ ap (λ (n : ℕ). retain_keys m (λ key. address w.config.initial n (code_of key) == i)) (full ∙ sym many);
+      listing = keeps;
+    }
 
 module _ (g : LinearHashing) (w : WorldSeen) (h : IsWorld w) (idle : w.state.splitter ≡ split.Idle) (kept : (i : ℕ) → i < length w.buckets → IsKept (bucket_at w.buckets i)) where
   abbrev lists : List (List Pair)

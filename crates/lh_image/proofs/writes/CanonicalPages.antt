@@ -14,7 +14,7 @@ use Rattle.lh_page.specs.PageFields.{page_of}
 use Rattle.lh_page.specs.PageLaws.{PageTextLaw, ReadBackLaw}
 use Rattle.lh_page.specs.PageTable.{IsPage, IsWritable, page_text, kind_byte}
 use Rattle.lh_bucket.specs.Listing.{Lists, IsListing, size, list_at}
-use Rattle.lh_image.specs.Canonical.{canonical, page_count_in, pages_in, page_in, page_total, page_number, text_in, overflow_text, overflow_before, CanonicalLaw}
+use Rattle.lh_image.specs.Canonical.{canonical, page_count_in, pages_in, page_in, page_total, page_number, text_in, overflow_text, overflow_before, CanonicalLaw, LengthLaw}
 use Rattle.lh_image.specs.Chains.{IsPath, IsCovered, stands_in}
 use Rattle.lh_image.specs.declared.version.Version.{Version}
 use Rattle.lh_image.specs.Fitting.{FitsVersion}
@@ -261,6 +261,9 @@ module _ (packing : PackingLaw) (pieces : PiecesLaw) (texts : PageTextLaw) (back
         (subst (λ g. IsPage (format_of v) (text_in v l r.0 r.1) g × IsWritable (format_of v) g) (sym (shown r.0 r.1 r.2 r.3)) (is_page r.0 r.1 r.2 r.3, writable r.0 r.1 r.2 r.3))));
     shown = shows;
   }
+
+pub canonical_length : PackingLaw → PiecesLaw → PageTextLaw → ReadBackLaw → LengthLaw
+canonical_length packing pieces texts back v l listing fit few = whole packing pieces texts back v l listing fit few
 
 pub canonical_image : PackingLaw → PiecesLaw → PageTextLaw → ReadBackLaw → CanonicalLaw
 canonical_image packing pieces texts back v l listing fit few =

@@ -7,8 +7,9 @@ use Rattle.lh_bucket.specs.Listing.{Lists}
 use Rattle.lh_bucket.specs.ListingFault.{IsFaultOf}
 use Rattle.lh_core.specs.declared.state.SplitState.TheVariants as split
 use Rattle.lh_core.specs.Control.{world_of}
-use Rattle.lh_core.specs.World.{WorldSeen, bucket_at}
-use Rattle.lh_core.proofs.Records.Listed.{no_fault}
+use Rattle.lh_core.specs.Listed.{IsListed}
+use Rattle.lh_core.specs.World.{StandsFor, WorldSeen, bucket_at}
+use Rattle.lh_core.proofs.Records.Listed.{listed, no_fault}
 use Rattle.lh_core.proofs.world.World.listing.Goals as goal
 
 pub unreachable-requires : goal.unreachable-requires
@@ -22,8 +23,8 @@ unreachable-requires g c =
     no_fault c.linear_hashing.ensures (world_of c.self.inside.control row) c.self.invariant.1 idle kept c.in-Err.fault c.in_default.not-Memory
     (subst (λ (n : ℕ). IsFaultOf c.self.inside.control.config n (map (λ (b : Seen). b.pairs) row) c.in-Err.fault) c.buckets.ensures.value (subst (λ (ls : List (List Pair)). IsFaultOf c.self.inside.control.config c.buckets.result ls c.in-Err.fault) same c.in-Err.ensures.err))
 
-pub returns-in-Ok : goal.returns-in-Ok
-returns-in-Ok g c =
+pub returns-in-Ok-clause-lists : goal.returns-in-Ok-clause-lists
+returns-in-Ok-clause-lists g c =
     let seen = g.B.Bucket.seen in
     let row : List Seen = map seen c.self.inside.buckets.items in
     let same : map (λ v. v.items) c.in_ok-lists.lists.items ≡ map (λ (b : Seen). b.pairs) row = c.in_ok-lists.ensures.lists ∙ ap (map (λ b. (seen b).pairs)) c.deref.ensures.value ∙ sym (map-map (λ (b : Seen). b.pairs) seen c.self.inside.buckets.items) in
@@ -31,3 +32,13 @@ returns-in-Ok g c =
     let made : (ls : List (List Pair)) → Lists = λ ls. record { config = config; lists = ls } in
     let viewed : WorldSeen → Lists = λ w. record { config = w.config; lists = map (λ (b : Seen). b.pairs) w.buckets } in
     c.in-Ok.ensures.ok ∙ ap made same ∙ ap viewed c.self.view_is
+
+pub returns-in-Ok-clause-listed : goal.returns-in-Ok-clause-listed
+returns-in-Ok-clause-listed g c =
+    let seen = g.B.Bucket.seen in
+    let row : List Seen = map seen c.self.inside.buckets.items in
+    let w : WorldSeen = world_of c.self.inside.control row in
+    let idle : c.self.inside.control.splitter ≡ split.Idle = ap (λ (w : WorldSeen). w.state.splitter) c.self.view_is ∙ c.requires in
+    λ m h.
+    subst (λ (w : WorldSeen). IsListed w.config m w.state.buckets c.in-Ok.listing) c.self.view_is
+    (listed w c.self.invariant.1 idle m c.in-Ok.listing (subst (λ (w : WorldSeen). StandsFor w m) (sym c.self.view_is) h) (c.in-Ok.ensures.ok ∙ ap (λ (ls : List (List Pair)). record { config = c.self.inside.control.config; lists = ls }) (c.in_ok-lists.ensures.lists ∙ ap (map (λ b. (seen b).pairs)) c.deref.ensures.value ∙ sym (map-map (λ (b : Seen). b.pairs) seen c.self.inside.buckets.items))) (c.in-Ok.ensures.buckets ∙ c.buckets.ensures.value) c.in-Ok.ensures.kept)

@@ -1,0 +1,40 @@
+-- What `serve` and `commands` answer to the same calls
+use Rattle.std.specs.Prelude.{◌≡◌, ◌≢◌, ℕ, ◌≤◌, List, [], ◌∷◌, ◌++◌, Option, Some, None, Result, Ok, length}
+use Rattle.std.specs.FinMap.{empty}
+use Rattle.lh_addr.specs.Settings.{Settings}
+use Rattle.lh_bucket.specs.declared.call.Call.{Call}
+use Rattle.lh_core.specs.Serial.{size_from}
+use Rattle.lh_script.specs.Commands.{command}
+use Rattle.lh_script.specs.Scripts.{script}
+use Rattle.lh_script.specs.Texts.{line, size_text}
+use Rattle.lh_script.specs.declared.requests.Request.{Request}
+use Rattle.lh_script.specs.declared.requests.Request.TheVariants as ask
+use Rattle.lh_serving.specs.Answers.{asked_by, first_file}
+use Rattle.lh_serving.specs.Conversations.{IsAnswered, Turn}
+use Rattle.lh_serving.specs.Parts.{kept}
+use Rattle.lh_serving.specs.Texts.{told}
+use Rattle.lh_serving.specs.declared.answer.Answer.TheVariants as answer
+use Rattle.lh_serving.specs.declared.answer.Fault.{Fault}
+use Rattle.lh_serving.specs.declared.answer.Fault.TheVariants as fault
+use Rattle.lh_subcommands.specs.Run.{commands_due}
+
+-- a line asks for nothing, or for a call for which memory didn't run out
+abbrev pub IsCalled : Result (Option Request) Fault → List ℕ → Type 0
+IsCalled (Ok None) said = Unit {0}
+IsCalled (Ok (Some (ask.Call call))) said = said ≢ told (Some (answer.Fault fault.Memory))
+IsCalled _ said = ⊥
+
+-- so does each line
+abbrev pub AreCalled : List Turn → Type 0
+AreCalled [] = Unit {0}
+AreCalled (turn ∷ turns) = AreCalled turns × IsCalled (asked_by (kept turn.said)) turn.answer
+
+-- Where each line of an input is complete and asks for nothing or a call, and memory didn't run out, `commands` has the
+-- answers of `serve` written, and then the number of buckets: so the script that `commands` makes of it has no fault.
+abbrev pub SameRepliesLaw : Type 0
+SameRepliesLaw =
+    (settings : Settings) (input answers : List ℕ) (h : IsAnswered (first_file settings) input answers) →
+    h.rest ≡ [] → AreCalled h.turns → length input ≤ 16777216 →
+    (calls : List Call) × (script command input ≡ Ok calls)
+    × (commands_due settings input
+    ≡ Ok (answers ++ line (size_text (size_from settings empty settings.initial calls))))
