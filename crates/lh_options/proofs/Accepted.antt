@@ -96,6 +96,14 @@ file-options = record {
 abbrev serve_built : Shape
 serve_built = shape_at 11 (built program_app).subs
 
+serve-options : HasOptions serve_built.rules
+serve-options = record {
+  initial = (((λ _. refl), (unequal, (unequal, (unequal, (unequal, (unequal, tt)))))), inl refl);
+  capacity = ((unequal, ((λ _. refl), (unequal, (unequal, (unequal, (unequal, tt)))))), inr (inl refl));
+  load = ((unequal, (unequal, ((λ _. refl), (unequal, (unequal, (unequal, tt)))))), inr (inr (inl refl)));
+  max = ((unequal, (unequal, (unequal, ((λ _. refl), (unequal, (unequal, tt)))))), inr (inr (inr (inl refl))));
+}
+
 build-options : HasOptions build_built.rules
 build-options = record {
   initial = (((λ _. refl), (unequal, (unequal, (unequal, (unequal, (unequal, tt)))))), inl refl);
@@ -197,7 +205,7 @@ accepted-rows words e = entered-some (built program_app) IsEntered (
                     (
                       (λ t is other ws f. inr (inr (inr (inr (inr (inr refl)))), no-settings apply_built (unequal, (unequal, tt)) ws f, λ _. applied-after ws f)),
                       (
-                        (λ t is other ws f. inl (inr (inr (inr (inr (inr refl)))), settings-after serve_built file-options ws f, other-name (codes "serve") _ refl, other-name (codes "serve") _ refl)),
+                        (λ t is other ws f. inl (inr (inr (inr (inr (inr refl)))), settings-after serve_built serve-options ws f, other-name (codes "serve") _ refl, other-name (codes "serve") _ refl)),
                         ((λ t is other ws f. absurd (false≢true (sym other ∙ is_help t is))), tt),
                       ),
                     ),

@@ -23,7 +23,7 @@ use Rattle.lh_addr.specs.Settings.{Settings}
 use Rattle.lh_addr.specs.Config.{IsFirstOutOfRange}
 use Rattle.lh_addr.specs.declared.config.Range.{Range}
 use Rattle.lh_addr.specs.declared.config.Range.TheVariants.{Max}
-use Rattle.lh_options.specs.Options.{Accepts, Answers, AsksForHelp, IsRefused, IsServable, all_in_digits, asked_by, asked_for, number_in, numeral_value, program_app, settings_from, settings_given, subcommand_named, write_digits}
+use Rattle.lh_options.specs.Options.{Accepts, Answers, AsksForHelp, IsRefused, IsServable, all_in_digits, asked_by, asked_for, image_begins, number_in, numeral_value, program_app, setting_typed_in, settings_from, settings_given, settings_typed, subcommand_named, typed_in, write_digits}
 use Rattle.lh_options.specs.OptionSteps.{HasNumber, IsRefusal, IsRefusedText, asked_in, settings_in}
 use Rattle.lh_options.specs.declared.options.Request.{Request}
 use Rattle.lh_options.specs.declared.options.Request.TheVariants as request
@@ -104,7 +104,13 @@ asked-is : (words : List Text) (name : Text) (rows : List Row) → subcommand_of
 unfolding subcommand_named
 asked-is words name rows is =
     let named : subcommand_named words ≡ Some name = ap (option_map (λ s. s.0)) is in
-    λ i. option_and_then (λ n. asked_by n (settings-at words name rows is i) (λ o. option_and_then (λ s. number_in s.1 o) (is i))) (named i)
+    let begins : image_begins words ≡ typed_in rows (codes "from_image") =
+    ap (λ (o : Option (Text × List Row)). option_map_or (λ s. typed_in s.1 (codes "from_image")) o false) is in
+    let typed : settings_typed words ≡ setting_typed_in rows =
+    ap (λ (o : Option (Text × List Row)). option_map_or (λ s. setting_typed_in s.1) o false) is in
+    λ i. option_and_then
+    (λ n. asked_by n (settings-at words name rows is i) (λ o. option_and_then (λ s. number_in s.1 o) (is i)) (begins i) (typed i))
+    (named i)
 
 -- one of some kinds, where there is none
 none-among : (k : ErrorKind) (kinds : Kinds) → IsAmong k kinds → kinds ≡ [] → ⊥
@@ -130,7 +136,9 @@ refusal-answers words e request.Draw among h = absurd h
 refusal-answers words e request.Migrate among h = absurd h
 refusal-answers words e request.Query among h = absurd h
 refusal-answers words e (request.Apply version) among h = absurd h
+refusal-answers words e request.ServeImage among h = absurd h
 refusal-answers words e request.MaxBelowInitial among h = absurd h
+refusal-answers words e request.SettingsBesideImage among h = absurd h
 
 -- a request that turns words away runs nothing
 pub refusal-servable : (k : ErrorKind) (r : Request) → IsRefusal k r → IsServable r

@@ -1,9 +1,9 @@
 -- Words that are written out, and what they give
-use Rattle.std.specs.Prelude.{◌≡◌, ℕ, List, [], ◌∷◌, Some, codes, option_map}
+use Rattle.std.specs.Prelude.{◌≡◌, ℕ, Bool, true, false, List, [], ◌∷◌, Some, codes, option_map}
 use Rattle.clap.specs.Walk.{Text}
 use Rattle.lh_addr.specs.Settings.{Settings}
 use Rattle.lh_options.specs.declared.options.ImageVersion.{ImageVersion}
-use Rattle.lh_options.specs.Options.{Accepts, Asks, number_given, settings_given, version_numbered}
+use Rattle.lh_options.specs.Options.{Accepts, Asks, image_begins, number_given, settings_given, settings_typed, version_numbered}
 
 abbrev pub no_options : List Text
 no_options = codes "lhash" ∷ codes "commands" ∷ []
@@ -19,6 +19,18 @@ replay_given = codes "lhash" ∷ codes "replay" ∷ codes "--max=9" ∷ codes "-
 
 abbrev pub serve_given : List Text
 serve_given = codes "lhash" ∷ codes "serve" ∷ codes "--initial=2" ∷ codes "--capacity" ∷ codes "1" ∷ []
+
+abbrev pub image_served : List Text
+image_served = codes "lhash" ∷ codes "serve" ∷ codes "--image" ∷ []
+
+abbrev pub max_beside_image : List Text
+max_beside_image = codes "lhash" ∷ codes "serve" ∷ codes "--image" ∷ codes "--max" ∷ codes "7" ∷ []
+
+abbrev pub image_served_twice : List Text
+image_served_twice = codes "lhash" ∷ codes "serve" ∷ codes "--image" ∷ codes "--image" ∷ []
+
+abbrev pub commands_with_image : List Text
+commands_with_image = codes "lhash" ∷ codes "commands" ∷ codes "--image" ∷ []
 
 abbrev pub no_subcommand : List Text
 no_subcommand = codes "lhash" ∷ []
@@ -119,9 +131,14 @@ GivesSteps words s = Asks words (codes "steps") × (settings_given words ≡ Som
 abbrev pub GivesReplay : List Text → Settings → Type 0
 GivesReplay words s = Asks words (codes "replay") × (settings_given words ≡ Some s)
 
--- the words are accepted, name `serve`, and give these settings
+-- the words are accepted, name `serve`, and give these settings, and no image that the input begins with
 abbrev pub GivesServe : List Text → Settings → Type 0
-GivesServe words s = Asks words (codes "serve") × (settings_given words ≡ Some s)
+GivesServe words s = Asks words (codes "serve") × (settings_given words ≡ Some s) × (image_begins words ≡ false)
+
+-- the words are accepted, name `serve`, and say that the input begins with an image; and whether they give a setting
+abbrev pub GivesServeImage : List Text → Bool → Type 0
+GivesServeImage words typed =
+    Asks words (codes "serve") × (image_begins words ≡ true) × (settings_typed words ≡ typed)
 
 -- the words are accepted, name `build`, and give these settings and this version of the image
 abbrev pub GivesBuild : List Text → Settings → ImageVersion → Type 0

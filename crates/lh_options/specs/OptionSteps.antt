@@ -11,7 +11,7 @@ use Rattle.clap.specs.declared.error.kind.ErrorKind.TheVariants as kind
 use Rattle.lh_addr.specs.Limits.{most_initial, most_capacity, least_load, most_load, most_buckets}
 use Rattle.lh_addr.specs.Settings.{Settings}
 use Rattle.lh_options.specs.Escapes.{has_no_control}
-use Rattle.lh_options.specs.Options.{IsShown, asked_by, most_snapshots, number_in, settings_from}
+use Rattle.lh_options.specs.Options.{IsShown, asked_by, most_snapshots, number_in, serve_asked, setting_typed_in, settings_from, typed_in}
 use Rattle.lh_options.specs.declared.options.Request.{Request}
 use Rattle.lh_options.specs.declared.options.Request.TheVariants as request
 
@@ -63,7 +63,12 @@ IsImageCommand name =
 
 -- what a subcommand asks for by its rows
 abbrev pub asked_in : Text → List Row → Option Request
-asked_in name rows = asked_by name (settings_in rows) (number_in rows)
+asked_in name rows =
+    asked_by name (settings_in rows) (number_in rows) (typed_in rows (codes "from_image")) (setting_typed_in rows)
+
+-- what `serve` asks for by its rows
+abbrev pub serve_asked_in : List Row → Option Request
+serve_asked_in rows = serve_asked (settings_in rows) (typed_in rows (codes "from_image")) (setting_typed_in rows)
 
 -- what a request says of the kind of clap's error
 abbrev pub IsRefusal : ErrorKind → Request → Type 0

@@ -1,6 +1,6 @@
 -- The command line: the program's command, the numbers that the words give its options,
 -- and what a request says of the words
-use Rattle.std.specs.Prelude.{◌≡◌, ◌⊎◌, ◌<◌, ◌≤◌, ℕ, List, [], ◌∷◌, Option, Some, None, codes, pos, false, true, nat_lt, Bool, ◌&&◌, ◌==◌, option_map, option_and_then, if◌then◌else◌}
+use Rattle.std.specs.Prelude.{◌≡◌, ◌⊎◌, ◌<◌, ◌≤◌, ℕ, List, [], ◌∷◌, Option, Some, None, codes, pos, false, true, nat_lt, Bool, ◌&&◌, ◌||◌, ◌==◌, find, option_map, option_and_then, if◌then◌else◌}
 use Rattle.std.specs.Char.{is_ascii_digit}
 use Rattle.std.specs.List.{list_all}
 use Rattle.std.specs.Option.{option_map_or}
@@ -11,8 +11,10 @@ use Rattle.clap.specs.ValueTests.{is_numeral}
 pub use Rattle.clap.specs.Walk.{Text}
 use Rattle.clap.specs.Words.{App, Row, Rule, fault_of, first_of, new_app, new_rule, one_of, subcommand_of, with_rule, with_subcommand}
 use Rattle.clap.specs.Kinds.{IsAmong}
-use Rattle.clap.specs.declared.builder.action.ArgAction.TheVariants.{Set}
+use Rattle.clap.specs.declared.builder.action.ArgAction.TheVariants.{Set, SetTrue}
 use Rattle.clap.specs.declared.builder.value_parser.ValueParser.TheVariants as parser
+use Rattle.clap.specs.declared.parser.matches.ValueSource.{ValueSource}
+use Rattle.clap.specs.declared.parser.matches.ValueSource.TheVariants.{CommandLine}
 use Rattle.clap.specs.declared.error.kind.ErrorKind.{ErrorKind}
 use Rattle.clap.specs.declared.error.kind.ErrorKind.TheVariants as kind
 use Rattle.lh_addr.specs.Limits.{most_initial, most_capacity, least_load, most_load, most_buckets}
@@ -31,6 +33,10 @@ option_rule name default least most = record (new_rule name) {
   defaults = default ∷ [];
   parser = Some (parser.Signed (pos least) (pos most));
 }
+
+-- a flag, which has no value
+abbrev pub flag_rule : Text → Text → Rule
+flag_rule id name = record (new_rule id) { long = Some name; action = Some SetTrue }
 
 -- a command with the options of a file's settings
 abbrev pub with_settings : App → App
@@ -78,8 +84,9 @@ query_app = new_app (codes "query")
 abbrev pub apply_app : App
 apply_app = with_image (new_app (codes "apply"))
 
+-- the subcommand that answers a client; the flag `--image` has an id of its own
 abbrev pub serve_app : App
-serve_app = with_settings (new_app (codes "serve"))
+serve_app = with_rule (with_settings (new_app (codes "serve"))) (flag_rule (codes "from_image") (codes "image"))
 
 -- a command with an option for a number of threads
 abbrev pub with_threads : App → App
@@ -150,6 +157,21 @@ all_in_digits rows =
     in_digits rows (codes "max") && (in_digits rows (codes "threads") && (in_digits rows (codes "snapshots")
     && in_digits rows (codes "image"))))))
 
+-- whether a value comes from the words, and not from a default
+abbrev pub is_from_words : Option ValueSource → Bool
+is_from_words (Some CommandLine) = true
+is_from_words _ = false
+
+-- whether rows say that the words give an option, so that its value is no default
+abbrev pub typed_in : List Row → Text → Bool
+typed_in rows name = is_from_words (option_and_then (λ r. r.source) (find (λ r. bytes_eq r.id name) rows))
+
+-- whether rows say that the words give one of the options of a file's settings
+abbrev pub setting_typed_in : List Row → Bool
+setting_typed_in rows =
+    typed_in rows (codes "initial") || (typed_in rows (codes "capacity") || (typed_in rows (codes "load")
+    || typed_in rows (codes "max")))
+
 -- whether the words write each number in digits alone, without a sign
 abbrev pub write_digits : List Text → Bool
 write_digits words = option_map_or (λ s. all_in_digits s.1) (subcommand_of program_app words) true
@@ -171,6 +193,14 @@ unfoldable pub settings_given : List Text → Option Settings
 settings_given words = settings_from
     (number_given words (codes "initial")) (number_given words (codes "capacity"))
     (number_given words (codes "load")) (number_given words (codes "max"))
+
+-- whether the words give the flag that says that the input begins with an image
+abbrev pub image_begins : List Text → Bool
+image_begins words = option_map_or (λ s. typed_in s.1 (codes "from_image")) (subcommand_of program_app words) false
+
+-- whether the words give one of the options of a file's settings
+abbrev pub settings_typed : List Text → Bool
+settings_typed words = option_map_or (λ s. setting_typed_in s.1) (subcommand_of program_app words) false
 
 -- settings of which the greatest number of buckets is less than the initial one
 abbrev pub IsMaxBelowInitial : Option Settings → Type 0
@@ -222,9 +252,17 @@ drive_asked numbers s =
     (λ threads. option_map (λ snapshots. request.Drive s threads snapshots) (numbers (codes "snapshots")))
     (numbers (codes "threads"))
 
--- what a subcommand asks for, with the settings and the numbers of other options that the words give
-unfoldable pub asked_by : Text → Option Settings → (Text → Option ℕ) → Option Request
-asked_by name settings numbers =
+-- what `serve` asks for, with the settings, whether an image begins the input, and whether a setting is typed: one
+-- beside an image is refused whatever the order of the settings, and where none is, they are the defaults, in order
+abbrev pub serve_asked : Option Settings → Bool → Bool → Option Request
+serve_asked settings image typed =
+    if image then (if typed then Some request.SettingsBesideImage else Some request.ServeImage)
+    else in_order settings (λ s. Some (request.Serve s))
+
+-- what a subcommand asks for, with the settings and the numbers of other options that the words give, whether they say
+-- that the input begins with an image, and whether they give one of the settings
+unfoldable pub asked_by : Text → Option Settings → (Text → Option ℕ) → Bool → Bool → Option Request
+asked_by name settings numbers image typed =
     if bytes_eq name (codes "commands") then in_order settings (λ s. Some (request.Commands s))
     else if bytes_eq name (codes "steps") then in_order settings (λ s. Some (request.Steps s))
     else if bytes_eq name (codes "replay") then in_order settings (λ s. Some (request.Replay s))
@@ -237,13 +275,15 @@ asked_by name settings numbers =
     else if bytes_eq name (codes "migrate") then asked_without_settings settings request.Migrate
     else if bytes_eq name (codes "query") then asked_without_settings settings request.Query
     else if bytes_eq name (codes "apply") then apply_asked settings (numbers (codes "image"))
-    else if bytes_eq name (codes "serve") then in_order settings (λ s. Some (request.Serve s))
+    else if bytes_eq name (codes "serve") then serve_asked settings image typed
     else None
 
 -- what words ask for that are accepted
 abbrev pub asked_for : List Text → Option Request
 asked_for words =
-    option_and_then (λ name. asked_by name (settings_given words) (number_given words)) (subcommand_named words)
+    option_and_then
+    (λ name. asked_by name (settings_given words) (number_given words) (image_begins words) (settings_typed words))
+    (subcommand_named words)
 
 -- why words that are not accepted are turned away: they ask for a text that is shown, or are refused, for a reason in
 -- which no word brings a control byte

@@ -1,5 +1,5 @@
 //! What the options give, at words that are written out.
-ghost use Rattle.std.specs.Prelude.{codes};
+ghost use Rattle.std.specs.Prelude.{codes, false, true};
 ghost use Rattle.lh_options.specs.OptionLaws.{
   GivesApply,
   GivesBuild,
@@ -7,12 +7,14 @@ ghost use Rattle.lh_options.specs.OptionLaws.{
   GivesDrive,
   GivesReplay,
   GivesServe,
+  GivesServeImage,
   GivesSteps,
   apply_alone,
   apply_with_setting,
   build_given,
   check_alone,
   check_with_option,
+  commands_with_image,
   drive_alone,
   drive_given,
   draw_alone,
@@ -20,10 +22,13 @@ ghost use Rattle.lh_options.specs.OptionLaws.{
   first_image_applied,
   first_image_given,
   help_asked,
+  image_served,
+  image_served_twice,
   initial_twice,
   image_with_plus,
   initial_zero,
   max_below_initial,
+  max_beside_image,
   max_given,
   max_over_limit,
   max_with_plus,
@@ -49,7 +54,8 @@ ghost use Rattle.lh_options.specs.declared.options.ImageVersion.TheVariants.{Fir
 
 /// The words give the options the numbers that stand in them, and an option that is left out its
 /// default. A number out of its range or with a sign, an option given twice and an unknown one are refused, and so is
-/// each setting of a subcommand that reads an image.
+/// each setting of a subcommand that reads an image. `serve` says whether its input begins with an image, and whether a
+/// setting stands beside that.
 pub fn words_give_options()
     ensures left_out { GivesCommands no_options (record { initial = 1; capacity = 14; load = 100; max = 65536 }) }
     ensures given { GivesCommands max_given (record { initial = 3; capacity = 14; load = 100; max = 7 }) }
@@ -70,6 +76,8 @@ pub fn words_give_options()
     ensures query { Asks query_alone (codes "query") }
     ensures apply { GivesApply apply_alone Second }
     ensures serve { GivesServe serve_given (record { initial = 2; capacity = 1; load = 100; max = 65536 }) }
+    ensures serve_image { GivesServeImage image_served false }
+    ensures beside_image { GivesServeImage max_beside_image true }
     ensures first_applied { GivesApply first_image_applied First }
     ensures without_options { Refuses check_with_option }
     ensures without_settings { Refuses apply_with_setting }
@@ -84,6 +92,8 @@ pub fn words_give_options()
     ensures no_minus { Refuses snapshots_with_minus }
     ensures no_plus_of_image { Refuses image_with_plus }
     ensures twice { Refuses initial_twice }
+    ensures image_twice { Refuses image_served_twice }
+    ensures no_image { Refuses commands_with_image }
     ensures unknown { Refuses unknown_option }
     ensures help { AsksForHelp help_asked }
     ensures version { AsksForHelp program_version_asked }

@@ -6,14 +6,15 @@ ghost use Rattle.std.specs.String.{string_bytes};
 ghost use Rattle.lh_addr.specs.Settings.{IsInRange};
 ghost use Rattle.clap.specs.Words.{found_of, kind_of, new_app, rows_of, rule_of};
 ghost use Rattle.lh_options.specs.Escapes.{has_no_control};
-ghost use Rattle.lh_options.specs.Options.{Answers, IsMaxBelowInitial, IsServable, all_in_digits, in_digits, number_in, apply_app, build_app, drive_app, option_rule, version_numbered, root_app, scripts_app, program_app, with_settings};
-ghost use Rattle.lh_options.specs.OptionSteps.{HasNumber, HasSettings, HasDriveNumbers, HasImage, IsFileCommand, IsImageCommand, IsRefusal, IsRefusedText, Reads, asked_in, settings_in};
+ghost use Rattle.lh_options.specs.Options.{Answers, IsMaxBelowInitial, IsServable, all_in_digits, in_digits, number_in, apply_app, build_app, drive_app, flag_rule, option_rule, version_numbered, root_app, scripts_app, serve_app, setting_typed_in, typed_in, program_app, with_settings};
+ghost use Rattle.lh_options.specs.OptionSteps.{HasNumber, HasSettings, HasDriveNumbers, HasImage, IsFileCommand, IsImageCommand, IsRefusal, IsRefusedText, Reads, asked_in, serve_asked_in, settings_in};
 
 use crate::escapes::escaped;
 use crate::help::{
     APPLY, BUILD, CHECK, COMMANDS, DRAW, DRIVE, DUMP, Help, MIGRATE, QUERY, REPLAY, SERVE, STEPS,
 };
 use clap::error::ErrorKind;
+use clap::parser::ValueSource;
 use clap::{Arg, ArgAction, ArgMatches, Command, Error};
 use lh_addr::limits::{
     MAX_BUCKETS, MAX_CAPACITY, MAX_INITIAL, MAX_LOAD, MIN_CAPACITY, MIN_INITIAL, MIN_LOAD,
@@ -76,12 +77,16 @@ pub enum Request {
     },
     /// The subcommand `serve`, with the configuration that its options give.
     Serve(Config),
+    /// The subcommand `serve` with `--image`: the input begins with an image, whose configuration the file has.
+    ServeImage,
     /// Help or the version, and its text.
     Help(String),
     /// Words that are refused, and why, in one line.
     Refused(String),
     /// `--max` is less than `--initial`.
     MaxBelowInitial,
+    /// `serve` has `--image`, and an option of the configuration, which is the image's.
+    SettingsBesideImage,
 }
 
 /// An option with a whole number, from `least` to `most`.
@@ -206,6 +211,25 @@ fn apply_command<'a>(alloc: Global) -> Result<Command<'a>, AllocError>
     image_command(alloc, "apply", APPLY).arg(image_option(alloc))
 }
 
+/// The flag that says that the input begins with an image. Its id is not its name, since what stands under the id
+/// `image` is a number, and is to be in digits.
+fn image_flag<'a>(alloc: Global) -> Arg<'a>
+    ensures local { result.global ≡ false }
+    ensures rule { rule_of result ≡ flag_rule (codes "from_image") (codes "image") }
+{
+    Arg::new(alloc, "from_image")
+        .long("image")
+        .help("The input begins with an image, and the file goes on from it")
+        .action(ArgAction::SetTrue)
+}
+
+/// The subcommand that answers a client: a file's options, and a flag for an input that begins with an image.
+fn serve_command<'a>(alloc: Global) -> Result<Command<'a>, AllocError>
+    ensures { IfOk result (Reads serve_app) }
+{
+    file_command(alloc, "serve", SERVE)?.arg(image_flag(alloc))
+}
+
 /// The program's name and version, without a subcommand yet.
 fn root<'a>(alloc: Global) -> Command<'a>
     ensures { Reads root_app result }
@@ -241,7 +265,7 @@ fn program<'a>(alloc: Global) -> Result<Command<'a>, AllocError>
         .subcommand(image_command(alloc, "migrate", MIGRATE))?
         .subcommand(image_command(alloc, "query", QUERY))?
         .subcommand(apply_command(alloc)?)?
-        .subcommand(file_command(alloc, "serve", SERVE)?)
+        .subcommand(serve_command(alloc)?)
 }
 
 /// The number of an option.
@@ -321,6 +345,47 @@ fn version_in(matches: &ArgMatches<'_>) -> ImageVersion
     }
 }
 
+/// Whether the words give an option, so that its value is no default.
+fn is_typed(matches: &ArgMatches<'_>, name: &str) -> bool
+    ensures { result ≡ typed_in (rows_of (found_of matches.now)) name.now }
+{
+    match matches.value_source(name) {
+        Some(ValueSource::CommandLine) => true,
+        Some(ValueSource::DefaultValue) => false,
+        None => false,
+    }
+}
+
+/// Whether the words give an option of the configuration.
+fn is_setting_typed(matches: &ArgMatches<'_>) -> bool
+    ensures { result ≡ setting_typed_in (rows_of (found_of matches.now)) }
+{
+    is_typed(matches, "initial")
+        || is_typed(matches, "capacity")
+        || is_typed(matches, "load")
+        || is_typed(matches, "max")
+}
+
+/// What `serve` asks for.
+fn serve_asked(matches: &ArgMatches<'_>) -> Request
+    requires { HasSettings (rows_of (found_of matches.now)) }
+    ensures value { serve_asked_in (rows_of (found_of matches.now)) ≡ Some result }
+    ensures servable { IsServable result }
+{
+    if is_typed(matches, "from_image") {
+        if is_setting_typed(matches) {
+            Request::SettingsBesideImage
+        } else {
+            Request::ServeImage
+        }
+    } else {
+        match config_of(matches) {
+            Some(config) => Request::Serve(config),
+            None => Request::MaxBelowInitial,
+        }
+    }
+}
+
 /// What a subcommand asks for.
 fn asked(name: &str, matches: &ArgMatches<'_>) -> Request
     requires named { IsFileCommand name.now ⊎ IsImageCommand name.now }
@@ -359,10 +424,7 @@ fn asked(name: &str, matches: &ArgMatches<'_>) -> Request
             },
             None => Request::MaxBelowInitial,
         },
-        "serve" => match config_of(matches) {
-            Some(config) => Request::Serve(config),
-            None => Request::MaxBelowInitial,
-        },
+        "serve" => serve_asked(matches),
         "replay" => match config_of(matches) {
             Some(config) => Request::Replay(config),
             None => Request::MaxBelowInitial,

@@ -46,7 +46,9 @@ fn answer(rt: &(impl Abort + AllocGlobal), words: &[&str]) -> Result<String, All
             String::from_str(alloc, "help")
         }
         Request::Refused(text) => format!(in alloc; "refused: {text}"),
+        Request::ServeImage => String::from_str(alloc, "serve, from an image"),
         Request::MaxBelowInitial => String::from_str(alloc, "max is below initial"),
+        Request::SettingsBesideImage => String::from_str(alloc, "settings beside an image"),
     }
 }
 
@@ -355,7 +357,7 @@ fn what_goes_on_from_an_image_takes_no_settings(rt: HostRuntime) -> Result<(), A
 }
 
 #[test]
-fn serve_takes_the_settings_alone(rt: HostRuntime) -> Result<(), AllocError> {
+fn serve_takes_the_settings_or_an_image(rt: HostRuntime) -> Result<(), AllocError> {
     gives(
         &rt,
         ["lhash", "serve", "--initial=2", "--load", "50"].as_slice(),
@@ -368,8 +370,50 @@ fn serve_takes_the_settings_alone(rt: HostRuntime) -> Result<(), AllocError> {
     )?;
     gives(
         &rt,
+        ["lhash", "serve", "--image"].as_slice(),
+        "serve, from an image",
+    )?;
+    gives(
+        &rt,
         ["lhash", "serve", "--image=2"].as_slice(),
+        "refused: unexpected value '2' for '--image' found; no more were expected",
+    )?;
+    gives(
+        &rt,
+        ["lhash", "serve", "--image", "--image"].as_slice(),
+        "refused: the argument '--image' cannot be used multiple times",
+    )?;
+    gives(
+        &rt,
+        ["lhash", "commands", "--image"].as_slice(),
         "refused: unexpected argument '--image' found",
+    )
+}
+
+/// One that is given as its default is given, too.
+#[test]
+fn an_image_has_no_setting_beside_it(rt: HostRuntime) -> Result<(), AllocError> {
+    for setting in ["--initial=1", "--capacity=2", "--load=80", "--max=7"] {
+        gives(
+            &rt,
+            ["lhash", "serve", "--image", setting].as_slice(),
+            "settings beside an image",
+        )?;
+    }
+    gives(
+        &rt,
+        ["lhash", "serve", "--initial=8", "--image", "--max=7"].as_slice(),
+        "settings beside an image",
+    )?;
+    gives(
+        &rt,
+        ["lhash", "serve", "--image", "--max=+7"].as_slice(),
+        "refused: a number may have no sign",
+    )?;
+    gives(
+        &rt,
+        ["lhash", "serve", "--image", "--max=0"].as_slice(),
+        "refused: invalid value '0' for '--max <max>': 0 is not in 1..=65536",
     )
 }
 

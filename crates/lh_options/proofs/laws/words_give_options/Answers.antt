@@ -1,10 +1,10 @@
 -- Each example computes.
-use Rattle.std.proofs.Common.{ap, refl, inl, inr, codes}
+use Rattle.std.proofs.Common.{ap, refl, inl, inr, codes, false, true}
 use Rattle.std.proofs.lemmas.Bool.{false≢true}
 use Rattle.clap.proofs.OnLiterals.{clap_on_literals}
 use Rattle.clap.specs.Walk.{is_empty}
 use Rattle.clap.specs.declared.error.kind.ErrorKind.TheVariants as kind
-use Rattle.lh_options.specs.OptionLaws.{GivesApply, GivesBuild, GivesCommands, GivesDrive, GivesReplay, GivesServe, GivesSteps, Refuses, apply_alone, apply_with_setting, build_given, check_alone, check_with_option, draw_alone, drive_alone, drive_given, dump_alone, first_image_applied, first_image_given, help_asked, image_with_plus, initial_twice, initial_zero, max_below_initial, max_given, max_over_limit, max_with_plus, migrate_alone, no_options, no_subcommand, program_version_asked, query_alone, replay_given, snapshots_given, snapshots_over_limit, snapshots_with_minus, steps_given, third_image, threads_over_limit, threads_zero, unknown_option, serve_given}
+use Rattle.lh_options.specs.OptionLaws.{GivesApply, GivesBuild, GivesCommands, GivesDrive, GivesReplay, GivesServe, GivesServeImage, GivesSteps, Refuses, apply_alone, apply_with_setting, build_given, check_alone, check_with_option, commands_with_image, draw_alone, drive_alone, drive_given, dump_alone, first_image_applied, first_image_given, help_asked, image_served, image_served_twice, image_with_plus, initial_twice, initial_zero, max_below_initial, max_beside_image, max_given, max_over_limit, max_with_plus, migrate_alone, no_options, no_subcommand, program_version_asked, query_alone, replay_given, snapshots_given, snapshots_over_limit, snapshots_with_minus, steps_given, third_image, threads_over_limit, threads_zero, unknown_option, serve_given}
 use Rattle.lh_options.specs.declared.options.ImageVersion.TheVariants.{First, Second}
 use Rattle.lh_options.specs.Options.{Accepts, Asks, AsksForHelp, settings_given, subcommand_named}
 use Rattle.lh_options.proofs.laws.words_give_options.Goals as goal
@@ -79,7 +79,15 @@ first_applied = (((refl, refl), refl), refl)
 
 serve : GivesServe serve_given (record { initial = 2; capacity = 1; load = 100; max = 65536 })
 unfolding clap_on_literals Accepts settings_given subcommand_named
-serve = (((refl, refl), refl), refl)
+serve = (((refl, refl), refl), refl, refl)
+
+serve_image : GivesServeImage image_served false
+unfolding clap_on_literals Accepts subcommand_named
+serve_image = (((refl, refl), refl), refl, refl)
+
+beside_image : GivesServeImage max_beside_image true
+unfolding clap_on_literals Accepts subcommand_named
+beside_image = (((refl, refl), refl), refl, refl)
 
 without_settings : Refuses apply_with_setting
 unfolding clap_on_literals Accepts
@@ -133,6 +141,14 @@ twice : Refuses initial_twice
 unfolding clap_on_literals Accepts
 twice = λ e. false≢true (ap is_empty e.0)
 
+image_twice : Refuses image_served_twice
+unfolding clap_on_literals Accepts
+image_twice = λ e. false≢true (ap is_empty e.0)
+
+no_image : Refuses commands_with_image
+unfolding clap_on_literals Accepts
+no_image = λ e. false≢true (ap is_empty e.0)
+
 unknown : Refuses unknown_option
 unfolding clap_on_literals Accepts
 unknown = λ e. false≢true (ap is_empty e.0)
@@ -165,6 +181,8 @@ returns c = record {
   apply = apply;
   first_applied = first_applied;
   serve = serve;
+  serve_image = serve_image;
+  beside_image = beside_image;
   without_options = without_options;
   without_settings = without_settings;
   none = none;
@@ -178,6 +196,8 @@ returns c = record {
   no_minus = no_minus;
   no_plus_of_image = no_plus_of_image;
   twice = twice;
+  image_twice = image_twice;
+  no_image = no_image;
   unknown = unknown;
   help = help;
   version = version;

@@ -12,4 +12,4 @@ returns c =
     let fifth = subcommand-reads _ _ _ _ migrate_app c.in_ok-subcommand-5.ensures fourth c.image_command-4.ensures in
     let sixth = subcommand-reads _ _ _ _ query_app c.in_ok-subcommand-6.ensures fifth c.image_command-5.ensures in
     let seventh = subcommand-reads _ _ _ _ apply_app c.in_ok-subcommand-7.ensures sixth c.in_ok-apply_command.ensures in
-    IfOk-weaker c.subcommand-8.result _ _ (λ m h. subcommand-reads _ _ m _ serve_app h seventh c.in_ok-file_command.ensures) c.subcommand-8.ensures
+    IfOk-weaker c.subcommand-8.result _ _ (λ m h. subcommand-reads _ _ m _ serve_app h seventh c.in_ok-serve_command.ensures) c.subcommand-8.ensures
