@@ -28,6 +28,6 @@ pub use device::{WriteFailed, write_all};
 pub use draw::answer_draw;
 pub use images::{answer_build, answer_check, answer_dump, answer_migrate};
 pub use replay::answer_replay;
-pub use serve::answer_serve;
+pub use serve::{answer_serve, answer_serve_from};
 pub use status::{DeviceFault, InputFault, Status};
 pub use unsettled::Unsettled;

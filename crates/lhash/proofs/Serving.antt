@@ -1,5 +1,5 @@
 -- What follows of a run for the words of each kind
-use Rattle.std.proofs.Common.{◌≡◌, ◌∙◌, ℕ, ◌<◌, ◌≤◌, List, Option, None, Some, IfSome, inl, inr, refl, sym, ap, subst, codes}
+use Rattle.std.proofs.Common.{◌≡◌, ◌∙◌, ℕ, Bool, false, ◌<◌, ◌≤◌, List, Option, None, Some, IfSome, inl, inr, refl, sym, ap, subst, codes}
 use Rattle.std.specs.Prelude.{option_and_then, option_map, Result, Ok, Err}
 use Rattle.std.specs.String.{string_bytes}
 use Rattle.std.specs.Io.KnownBytes.{Keeps}
@@ -9,8 +9,8 @@ use Rattle.lh_bucket.specs.Listing.{Lists}
 use Rattle.lh_image.specs.declared.fault.ImageFault.{ImageFault}
 use Rattle.lh_image.specs.declared.version.Version.{Version}
 use Rattle.lh_image.specs.Reading.{leading, reading_of}
-use Rattle.lh_options.specs.Options.{Asks, AsksForHelp, IsTurned, Text, asked_by, asked_for, number_given, settings_given, subcommand_named, version_numbered}
-use Rattle.lh_options.proofs.Asking.{apply, asked_named, build, commands, drive, refused_alone, replay, serve, steps, unapplied, undriven}
+use Rattle.lh_options.specs.Options.{Asks, AsksForHelp, IsTurned, Text, asked_by, asked_for, image_begins, number_given, settings_given, settings_typed, subcommand_named, version_numbered}
+use Rattle.lh_options.proofs.Asking.{apply, asked_named, build, commands, drive, refused_alone, refuses_setting, replay, serves_file, serves_image, steps, unapplied, undriven}
 use Rattle.lh_options.specs.declared.options.Request.{Request}
 use Rattle.lh_options.specs.declared.options.Request.TheVariants as request
 use Rattle.lh_script.specs.declared.fault.ScriptFault.{ScriptFault}
@@ -18,8 +18,9 @@ use Rattle.lhash.specs.Driving.{EndsDriving}
 use Rattle.lh_subcommands.specs.Continued.{EndsApplying, EndsLeaving, query_due, script_behind}
 use Rattle.lh_subcommands.specs.Images.{EndsBuilding, check_due, draw_due, dump_due, migrate_due}
 use Rattle.lh_subcommands.specs.Run.{EndsReplay, EndsSteps}
+use Rattle.lh_serving.specs.Answers.{FileSeen, first_file}
 use Rattle.lh_subcommands.specs.Serve.{EndsServing}
-use Rattle.lhash.specs.Serving.{Ending, EndsCommands, EndsTold, IsHelped, IsRun, IsTurnedAway, IsWordsOf, RefusesBelow, Serves, ServesApply, ServesBuild, ServesClient, ServesDrive, ServesFile, ServesImage, TurnsAway, below_initial, wanted_version}
+use Rattle.lhash.specs.Serving.{Ending, EndsCommands, EndsTold, IsHelped, IsRun, IsTurnedAway, IsWordsOf, RefusesBelow, RefusesBeside, Serves, ServesApply, ServesBuild, ServesClient, ServesDrive, ServesFile, ServesFrom, ServesImage, TurnsAway, below_initial, beside_image, wanted_version}
 use Rattle.lh_subcommands.specs.declared.status.DeviceFault.TheVariants.{Read, Write}
 use Rattle.lh_subcommands.specs.declared.status.Status.{Status}
 use Rattle.lh_subcommands.specs.declared.status.Status.TheVariants.{Done, Input, Words, Device, Memory, NotSettled}
@@ -37,23 +38,23 @@ unwritten EndsWith status None before now allows is keeps = tt
 unwritten EndsWith status (Some input) before now allows is keeps = subst (λ (s : Status). EndsWith input s before now) (sym is) (allows input keeps)
 
 -- accepted words with settings out of order are refused for them
-below_asked : (words : List Text) (name : Option Text) → subcommand_named words ≡ name → (settings : Settings) → settings_given words ≡ Some settings →
+below_asked : (words : List Text) (name : Option Text) → subcommand_named words ≡ name → (subcommand_named words ≡ Some (codes "serve") → image_begins words ≡ false) → (settings : Settings) → settings_given words ≡ Some settings →
     settings.max < settings.initial → (r : Request) → asked_for words ≡ Some r → r ≡ request.MaxBelowInitial
-below_asked words None named settings given below r is =
-    let none : asked_for words ≡ None = ap (option_and_then (λ n. asked_by n (settings_given words) (number_given words))) named in
+below_asked words None named none settings given below r is =
+    let empty : asked_for words ≡ None = ap (option_and_then (λ n. asked_by n (settings_given words) (number_given words) (image_begins words) (settings_typed words))) named in
     absurd cc
-below_asked words (Some name) named settings given below r is =
-    let one : asked_for words ≡ asked_by name (settings_given words) (number_given words) =
-    ap (option_and_then (λ n. asked_by n (settings_given words) (number_given words))) named in
-    let by : asked_by name (settings_given words) (number_given words) ≡ asked_by name (Some settings) (number_given words) =
-    ap (λ s. asked_by name s (number_given words)) given in
-    refused_alone name (number_given words) settings r below (sym (one ∙ by) ∙ is)
+below_asked words (Some name) named none settings given below r is =
+    let one : asked_for words ≡ asked_by name (settings_given words) (number_given words) (image_begins words) (settings_typed words) =
+    ap (option_and_then (λ n. asked_by n (settings_given words) (number_given words) (image_begins words) (settings_typed words))) named in
+    let by : asked_by name (settings_given words) (number_given words) (image_begins words) (settings_typed words) ≡ asked_by name (Some settings) (number_given words) (image_begins words) (settings_typed words) =
+    ap (λ s. asked_by name s (number_given words) (image_begins words) (settings_typed words)) given in
+    refused_alone name (number_given words) (image_begins words) (settings_typed words) settings r below (λ n. none (named ∙ ap (λ x. Some x) n)) (sym (one ∙ by) ∙ is)
 
 -- a run for words that ask for one thing served it, or ran out of memory
 served : (words : List Text) (status : Status) (left rest before now : Option (List ℕ)) (name : Text) (r : Request) (EndsWith : Ending) →
     (Serves r status left rest before now → IfSome left (λ input. EndsWith input status before now)) →
     ((input : List ℕ) → Keeps before now → EndsWith input Memory before now) →
-    Asks words name → asked_by name (settings_given words) (number_given words) ≡ Some r →
+    Asks words name → asked_by name (settings_given words) (number_given words) (image_begins words) (settings_typed words) ≡ Some r →
     IsRun words status left rest before now → IfSome left (λ input. EndsWith input status before now)
 served words status left rest before now name r EndsWith ends allows asks is (inl run) =
     let same : Some run.0 ≡ Some r = sym (asked_named words name run.0 asks run.1) ∙ is in
@@ -65,42 +66,50 @@ served words status left rest before now name r EndsWith ends allows asks is (in
 pub serves_commands : ServesFile (codes "commands") EndsCommands
 serves_commands words status left rest before now settings asks given within run =
     served words status left rest before now (codes "commands") (request.Commands settings) (EndsCommands settings)
-    (λ h. h) (λ input keeps. keeps) asks (commands (codes "commands") _ _ settings refl given within) run
+    (λ h. h) (λ input keeps. keeps) asks (commands (codes "commands") _ _ (image_begins words) (settings_typed words) settings refl given within) run
 
 pub serves_steps : ServesFile (codes "steps") EndsSteps
 unfolding EndsSteps
 serves_steps words status left rest before now settings asks given within run =
     served words status left rest before now (codes "steps") (request.Steps settings) (EndsSteps settings)
-    (λ h. h) (λ input keeps. keeps) asks (steps (codes "steps") _ _ settings refl given within) run
+    (λ h. h) (λ input keeps. keeps) asks (steps (codes "steps") _ _ (image_begins words) (settings_typed words) settings refl given within) run
 
 pub serves_replay : ServesFile (codes "replay") EndsReplay
 unfolding EndsReplay
 serves_replay words status left rest before now settings asks given within run =
     served words status left rest before now (codes "replay") (request.Replay settings) (EndsReplay settings)
-    (λ h. h) (λ input keeps. keeps) asks (replay (codes "replay") _ _ settings refl given within) run
+    (λ h. h) (λ input keeps. keeps) asks (replay (codes "replay") _ _ (image_begins words) (settings_typed words) settings refl given within) run
 
 -- a conversation that did not begin, with nothing read and nothing written
-unserved : (settings : Settings) (status : Status) (left rest before now : Option (List ℕ)) → status ≡ Memory → Keeps left rest →
-    Keeps before now → IfSome left (λ input. EndsServing settings input status rest before now)
-unserved settings status None rest before now is unread keeps = tt
-unserved settings status (Some input) rest before now is unread keeps =
-    subst (λ (s : Status). EndsServing settings input s rest before now) (sym is) (unread, keeps)
+unserved : (start : FileSeen) (status : Status) (left rest before now : Option (List ℕ)) → status ≡ Memory → Keeps left rest →
+    Keeps before now → IfSome left (λ input. EndsServing start input status rest before now)
+unserved start status None rest before now is unread keeps = tt
+unserved start status (Some input) rest before now is unread keeps =
+    subst (λ (s : Status). EndsServing start input s rest before now) (sym is) (unread, keeps)
 
 pub serves_client : ServesClient
-serves_client words status left rest before now settings asks given within (inl run) =
-    let is = serve (codes "serve") _ _ settings refl given within in
-    let same : Some run.0 ≡ Some (request.Serve settings) = sym (asked_named words (codes "serve") run.0 asks run.1) ∙ is in
-    let one : run.0 ≡ request.Serve settings = cc in
-    subst (λ (x : Request). Serves x status left rest before now) one run.2
-serves_client words status left rest before now settings asks given within (inr run) =
-    unserved settings status left rest before now run.0 run.1 run.2
+serves_client words status left rest before now settings asks none given within (inl run) =
+    subst (λ (x : Request). Serves x status left rest before now) (serves_file words settings run.0 asks none given within run.1) run.2
+serves_client words status left rest before now settings asks none given within (inr run) =
+    unserved (first_file settings) status left rest before now run.0 run.1 run.2
+
+pub serves_from : ServesFrom
+serves_from words status left rest before now asks begins none (inl run) =
+    inl (subst (λ (x : Request). Serves x status left rest before now) (serves_image words run.0 asks begins none run.1) run.2)
+serves_from words status left rest before now asks begins none (inr run) = inr run
+
+pub refuses_beside : RefusesBeside
+refuses_beside words status left rest before now asks begins given (inl run) =
+    subst (λ (x : Request). Serves x status left rest before now) (refuses_setting words run.0 asks begins given run.1) run.2
+refuses_beside words status left rest before now asks begins given (inr run) =
+    (subst (IsWordsOf beside_image) (sym run.0) tt, run.1, run.2)
 
 pub serves_build : ServesBuild
 unfolding EndsBuilding
 serves_build words status left rest before now settings n asks given image within run =
     served words status left rest before now (codes "build") (request.Build settings (version_numbered n)) (EndsBuilding (wanted_version (version_numbered n)) settings)
     (λ h. h) (λ input keeps. keeps) asks
-    (build (codes "build") _ _ settings (version_numbered n) refl given (ap (option_map version_numbered) image) within) run
+    (build (codes "build") _ _ (image_begins words) (settings_typed words) settings (version_numbered n) refl given (ap (option_map version_numbered) image) within) run
 
 -- words that ask for a run in threads give their number, or ask for nothing
 driven : (words : List Text) (status : Status) (left rest before now : Option (List ℕ)) (settings : Settings) (snapshots : ℕ) (threads : Option ℕ) →
@@ -110,10 +119,10 @@ driven : (words : List Text) (status : Status) (left rest before now : Option (L
 unfolding EndsDriving
 driven words status left rest before now settings k (Some n) counted asks given taken within run =
     served words status left rest before now (codes "drive") (request.Drive settings n k) (EndsDriving settings k)
-    (λ h. h) (λ input keeps. keeps) asks (drive (codes "drive") _ _ settings n k refl given counted taken within) run
+    (λ h. h) (λ input keeps. keeps) asks (drive (codes "drive") _ _ (image_begins words) (settings_typed words) settings n k refl given counted taken within) run
 driven words status left rest before now settings k None counted asks given taken within (inl run) =
-    let none : asked_by (codes "drive") (settings_given words) (number_given words) ≡ None =
-    undriven (codes "drive") _ _ settings refl given counted within in
+    let none : asked_by (codes "drive") (settings_given words) (number_given words) (image_begins words) (settings_typed words) ≡ None =
+    undriven (codes "drive") _ _ (image_begins words) (settings_typed words) settings refl given counted within in
     let some = asked_named words (codes "drive") run.0 asks run.1 in
     let apart : Some run.0 ≡ None = sym some ∙ none in
     absurd cc
@@ -129,16 +138,16 @@ serves_alone : (words : List Text) (status : Status) (left rest before now : Opt
     (settings : Option Settings) → settings_given words ≡ settings →
     (Serves r status left rest before now → IfSome left (λ input. EndsWith input status before now)) →
     ((input : List ℕ) → Keeps before now → EndsWith input Memory before now) → Asks words name →
-    ((numbers : Text → Option ℕ) → asked_by name None numbers ≡ Some r) →
-    ((s : Settings) (numbers : Text → Option ℕ) → asked_by name (Some s) numbers ≡ None) →
+    ((numbers : Text → Option ℕ) (image typed : Bool) → asked_by name None numbers image typed ≡ Some r) →
+    ((s : Settings) (numbers : Text → Option ℕ) (image typed : Bool) → asked_by name (Some s) numbers image typed ≡ None) →
     IsRun words status left rest before now → IfSome left (λ input. EndsWith input status before now)
 serves_alone words status left rest before now name r EndsWith None given ends allows asks alone none run =
     served words status left rest before now name r EndsWith ends allows asks
-    (ap (λ s. asked_by name s (number_given words)) given ∙ alone (number_given words)) run
+    (ap (λ s. asked_by name s (number_given words) (image_begins words) (settings_typed words)) given ∙ alone (number_given words) (image_begins words) (settings_typed words)) run
 serves_alone words status left rest before now name r EndsWith (Some s) given ends allows asks alone none (inl run) =
     let some = asked_named words name run.0 asks run.1 in
-    let same : asked_by name (settings_given words) (number_given words) ≡ None =
-    ap (λ x. asked_by name x (number_given words)) given ∙ none s (number_given words) in
+    let same : asked_by name (settings_given words) (number_given words) (image_begins words) (settings_typed words) ≡ None =
+    ap (λ x. asked_by name x (number_given words) (image_begins words) (settings_typed words)) given ∙ none s (number_given words) (image_begins words) (settings_typed words) in
     absurd cc
 serves_alone words status left rest before now name r EndsWith (Some s) given ends allows asks alone none (inr run) =
     unwritten EndsWith status left before now allows run.0 run.2
@@ -147,31 +156,31 @@ pub serves_check : ServesImage (codes "check") (EndsTold check_due)
 unfolding asked_by
 serves_check words status left rest before now asks run =
     serves_alone words status left rest before now (codes "check") request.Check (EndsTold check_due) (settings_given words) refl
-    (λ h. h) (λ input keeps. keeps) asks (λ numbers. refl) (λ s numbers. refl) run
+    (λ h. h) (λ input keeps. keeps) asks (λ numbers image typed. refl) (λ s numbers image typed. refl) run
 
 pub serves_dump : ServesImage (codes "dump") (EndsTold dump_due)
 unfolding asked_by
 serves_dump words status left rest before now asks run =
     serves_alone words status left rest before now (codes "dump") request.Dump (EndsTold dump_due) (settings_given words) refl
-    (λ h. h) (λ input keeps. keeps) asks (λ numbers. refl) (λ s numbers. refl) run
+    (λ h. h) (λ input keeps. keeps) asks (λ numbers image typed. refl) (λ s numbers image typed. refl) run
 
 pub serves_draw : ServesImage (codes "draw") (EndsTold draw_due)
 unfolding asked_by
 serves_draw words status left rest before now asks run =
     serves_alone words status left rest before now (codes "draw") request.Draw (EndsTold draw_due) (settings_given words) refl
-    (λ h. h) (λ input keeps. keeps) asks (λ numbers. refl) (λ s numbers. refl) run
+    (λ h. h) (λ input keeps. keeps) asks (λ numbers image typed. refl) (λ s numbers image typed. refl) run
 
 pub serves_migrate : ServesImage (codes "migrate") (EndsTold migrate_due)
 unfolding asked_by
 serves_migrate words status left rest before now asks run =
     serves_alone words status left rest before now (codes "migrate") request.Migrate (EndsTold migrate_due) (settings_given words) refl
-    (λ h. h) (λ input keeps. keeps) asks (λ numbers. refl) (λ s numbers. refl) run
+    (λ h. h) (λ input keeps. keeps) asks (λ numbers image typed. refl) (λ s numbers image typed. refl) run
 
 pub serves_query : ServesImage (codes "query") (EndsTold query_due)
 unfolding asked_by
 serves_query words status left rest before now asks run =
     serves_alone words status left rest before now (codes "query") request.Query (EndsTold query_due) (settings_given words) refl
-    (λ h. h) (λ input keeps. keeps) asks (λ numbers. refl) (λ s numbers. refl) run
+    (λ h. h) (λ input keeps. keeps) asks (λ numbers image typed. refl) (λ s numbers image typed. refl) run
 
 -- an image that is not written keeps what the writer holds
 leaves_nothing : (version : Version) (file : Result Lists ImageFault) (given : Result (List Call) ScriptFault) (before now : Option (List ℕ)) →
@@ -183,9 +192,9 @@ applies_nothing : (version : Version) (input : List ℕ) (before now : Option (L
 unfolding EndsApplying
 applies_nothing version input before now keeps = leaves_nothing version (reading_of (leading input)) (script_behind input) before now keeps
 
-unasked : (s : Settings) (numbers : Text → Option ℕ) → asked_by (codes "apply") (Some s) numbers ≡ None
+unasked : (s : Settings) (numbers : Text → Option ℕ) (image typed : Bool) → asked_by (codes "apply") (Some s) numbers image typed ≡ None
 unfolding asked_by
-unasked s numbers = unapplied s (numbers (codes "image"))
+unasked s numbers image typed = unapplied s (numbers (codes "image"))
 
 -- words that ask for the image which a script leaves give no settings, or ask for nothing
 applied : (words : List Text) (status : Status) (left rest before now : Option (List ℕ)) (n : ℕ) (settings : Option Settings) →
@@ -195,10 +204,10 @@ applied : (words : List Text) (status : Status) (left rest before now : Option (
 applied words status left rest before now n None given asks image run =
     served words status left rest before now (codes "apply") (request.Apply (version_numbered n)) (EndsApplying (wanted_version (version_numbered n)))
     (λ h. h) (λ input keeps. applies_nothing (wanted_version (version_numbered n)) input before now keeps) asks
-    (apply (codes "apply") _ _ (version_numbered n) refl given (ap (option_map version_numbered) image)) run
+    (apply (codes "apply") _ _ (image_begins words) (settings_typed words) (version_numbered n) refl given (ap (option_map version_numbered) image)) run
 applied words status left rest before now n (Some s) given asks image (inl run) =
-    let none : asked_by (codes "apply") (settings_given words) (number_given words) ≡ None =
-    ap (λ x. asked_by (codes "apply") x (number_given words)) given ∙ unasked s (number_given words) in
+    let none : asked_by (codes "apply") (settings_given words) (number_given words) (image_begins words) (settings_typed words) ≡ None =
+    ap (λ x. asked_by (codes "apply") x (number_given words) (image_begins words) (settings_typed words)) given ∙ unasked s (number_given words) (image_begins words) (settings_typed words) in
     let some = asked_named words (codes "apply") run.0 asks run.1 in
     let apart : Some run.0 ≡ None = sym some ∙ none in
     absurd cc
@@ -212,11 +221,11 @@ serves_apply words status left rest before now n asks image run =
 
 -- what is refused for its settings
 pub refuses_below : RefusesBelow
-refuses_below words status left rest before now settings accepts given below (inl (r, inl answers, serves)) =
-    let is = below_asked words (subcommand_named words) refl settings given below r answers.1 in
+refuses_below words status left rest before now settings accepts none given below (inl (r, inl answers, serves)) =
+    let is = below_asked words (subcommand_named words) refl (λ n. none (accepts, n)) settings given below r answers.1 in
     subst (λ (x : Request). Serves x status left rest before now) is serves
-refuses_below words status left rest before now settings accepts given below (inl (r, inr answers, serves)) = absurd (answers.0 accepts)
-refuses_below words status left rest before now settings accepts given below (inr run) =
+refuses_below words status left rest before now settings accepts none given below (inl (r, inr answers, serves)) = absurd (answers.0 accepts)
+refuses_below words status left rest before now settings accepts none given below (inr run) =
     (subst (IsWordsOf below_initial) (sym run.0) tt, run.1, run.2)
 
 helped : (words : List Text) (text : List ℕ) (status : Status) (before now : Option (List ℕ)) → AsksForHelp words → IsHelped text status before now → IsTurnedAway words status before now
@@ -237,6 +246,8 @@ turned words (request.Commands config) status left rest before now is serves = a
 turned words (request.Steps config) status left rest before now is serves = absurd is
 turned words (request.Replay config) status left rest before now is serves = absurd is
 turned words (request.Serve config) status left rest before now is serves = absurd is
+turned words request.ServeImage status left rest before now is serves = absurd is
+turned words request.SettingsBesideImage status left rest before now is serves = absurd is
 turned words (request.Build config image) status left rest before now is serves = absurd is
 turned words (request.Drive config threads snapshots) status left rest before now is serves = absurd is
 turned words request.Check status left rest before now is serves = absurd is

@@ -10,13 +10,14 @@ use Rattle.lh_subcommands.specs.Continued.{EndsApplying, query_due}
 use Rattle.lh_subcommands.specs.Images.{EndsBuilding, check_due, draw_due, dump_due, migrate_due}
 use Rattle.lh_addr.specs.Settings.{Settings}
 use Rattle.lh_options.specs.Escapes.{has_no_control}
-use Rattle.lh_options.specs.Options.{Accepts, Answers, Asks, AsksForHelp, IsRefused, Text, number_given, settings_given, version_numbered}
+use Rattle.lh_options.specs.Options.{Accepts, Answers, Asks, AsksForHelp, IsRefused, Text, image_begins, number_given, settings_given, settings_typed, version_numbered}
 use Rattle.lh_subcommands.specs.Run.{Ends, EndsReplay, EndsSteps, commands_due}
-use Rattle.lh_subcommands.specs.Serve.{EndsServing}
+use Rattle.lh_serving.specs.Answers.{first_file}
+use Rattle.lh_subcommands.specs.Serve.{EndsServing, EndsServingFrom}
 use Rattle.lh_options.specs.declared.options.ImageVersion.{ImageVersion}
 use Rattle.lh_options.specs.declared.options.ImageVersion.TheVariants.{First, Second}
 use Rattle.lh_options.specs.declared.options.Request.{Request}
-use Rattle.lh_options.specs.declared.options.Request.TheVariants.{Commands, Steps, Replay, Build, Check, Draw, Dump, Drive, Migrate, Query, Apply, Serve, Help, Refused, MaxBelowInitial}
+use Rattle.lh_options.specs.declared.options.Request.TheVariants.{Commands, Steps, Replay, Build, Check, Draw, Dump, Drive, Migrate, Query, Apply, Serve, ServeImage, Help, Refused, MaxBelowInitial, SettingsBesideImage}
 use Rattle.lh_subcommands.specs.declared.status.DeviceFault.TheVariants.{Write}
 use Rattle.lh_subcommands.specs.declared.status.InputFault.{InputFault}
 use Rattle.lh_subcommands.specs.declared.status.Status.{Status}
@@ -42,6 +43,10 @@ IsHelped text _ before now = ⊥
 abbrev pub below_initial : List ℕ
 below_initial = codes "max is less than initial"
 
+-- a setting stands beside `--image`
+abbrev pub beside_image : List ℕ
+beside_image = codes "the configuration is the image's"
+
 -- the version of an image that is asked for
 abbrev pub wanted_version : ImageVersion → Version
 wanted_version First = One
@@ -65,10 +70,14 @@ Serves (Apply image) status left rest before now =
 Serves (Drive config threads snapshots) status left rest before now =
     IfSome left (λ input. EndsDriving config snapshots input status before now)
 Serves (Serve config) status left rest before now =
-    IfSome left (λ input. EndsServing config input status rest before now)
+    IfSome left (λ input. EndsServing (first_file config) input status rest before now)
+Serves ServeImage status left rest before now =
+    IfSome left (λ input. EndsServingFrom input status rest before now)
 Serves (Help text) status left rest before now = IsHelped (string_bytes text) status before now × Keeps left rest
 Serves (Refused text) status left rest before now = (status ≡ Words text) × Keeps left rest × Keeps before now
 Serves MaxBelowInitial status left rest before now = IsWordsOf below_initial status × Keeps left rest × Keeps before now
+Serves SettingsBesideImage status left rest before now =
+    IsWordsOf beside_image status × Keeps left rest × Keeps before now
 
 -- whether a request has an image written
 abbrev pub is_image_written : Request → Bool
@@ -125,12 +134,23 @@ ServesFile name EndsWith =
     Asks words name → settings_given words ≡ Some settings → settings.initial ≤ settings.max →
     IsRun words status left rest before now → IfSome left (λ input. EndsWith settings input status before now)
 
--- a run for words that ask for `serve`, and give settings in order, ends by them
+-- a run for words that ask for `serve` of an empty file, and give settings in order, ends by them
 abbrev pub ServesClient : Type 0
 ServesClient =
     (words : List Text) (status : Status) (left rest before now : Option (List ℕ)) (settings : Settings) →
-    Asks words (codes "serve") → settings_given words ≡ Some settings → settings.initial ≤ settings.max →
-    IsRun words status left rest before now → IfSome left (λ input. EndsServing settings input status rest before now)
+    Asks words (codes "serve") → image_begins words ≡ false → settings_given words ≡ Some settings →
+    settings.initial ≤ settings.max → IsRun words status left rest before now →
+    IfSome left (λ input. EndsServing (first_file settings) input status rest before now)
+
+-- a run for words that ask for `serve` of the file of an image, and give no setting, ends so; nothing is read or written
+-- where there was no memory for the words
+abbrev pub ServesFrom : Type 0
+ServesFrom =
+    (words : List Text) (status : Status) (left rest before now : Option (List ℕ)) →
+    Asks words (codes "serve") → image_begins words ≡ true → settings_typed words ≡ false →
+    IsRun words status left rest before now →
+    IfSome left (λ input. EndsServingFrom input status rest before now)
+    ⊎ ((status ≡ Memory) × Keeps left rest × Keeps before now)
 
 -- a run for words that ask for `build`, and give settings in order and the number of a version, ends by them
 abbrev pub ServesBuild : Type 0
@@ -161,12 +181,21 @@ ServesApply =
     Asks words (codes "apply") → number_given words (codes "image") ≡ Some n → IsRun words status left rest before now →
     IfSome left (λ input. EndsApplying (wanted_version (version_numbered n)) input status before now)
 
--- a run for words that give settings out of order refuses them
+-- a run for words that give settings out of order refuses them; those of `serve` with an image are refused, too, but
+-- for another reason
 abbrev pub RefusesBelow : Type 0
 RefusesBelow =
     (words : List Text) (status : Status) (left rest before now : Option (List ℕ)) (settings : Settings) →
-    Accepts words → settings_given words ≡ Some settings → settings.max < settings.initial →
+    Accepts words → (Asks words (codes "serve") → image_begins words ≡ false) →
+    settings_given words ≡ Some settings → settings.max < settings.initial →
     IsRun words status left rest before now → IsWordsOf below_initial status × Keeps left rest × Keeps before now
+
+-- a run for words of `serve` that give a setting beside an image refuses them
+abbrev pub RefusesBeside : Type 0
+RefusesBeside =
+    (words : List Text) (status : Status) (left rest before now : Option (List ℕ)) →
+    Asks words (codes "serve") → image_begins words ≡ true → settings_typed words ≡ true →
+    IsRun words status left rest before now → IsWordsOf beside_image status × Keeps left rest × Keeps before now
 
 -- a run for words that are not accepted turns them away, and nothing is read
 abbrev pub TurnsAway : Type 0

@@ -4,7 +4,7 @@ ghost use Rattle.std.specs.Prelude.{codes};
 ghost use Rattle.lh_subcommands.specs.Continued.{query_due};
 ghost use Rattle.lh_subcommands.specs.Images.{check_due, draw_due, dump_due, migrate_due};
 ghost use Rattle.lh_subcommands.specs.Run.{EndsReplay, EndsSteps};
-ghost use Rattle.lhash.specs.Serving.{EndsCommands, EndsTold, RefusesBelow, ServesApply, ServesBuild, ServesClient, ServesDrive, ServesFile, ServesImage, TurnsAway};
+ghost use Rattle.lhash.specs.Serving.{EndsCommands, EndsTold, RefusesBelow, RefusesBeside, ServesApply, ServesBuild, ServesClient, ServesDrive, ServesFile, ServesFrom, ServesImage, TurnsAway};
 
 /// Words that ask for `commands` have the replies of one plain map to the script's calls written, and the number of
 /// buckets that the split policy gives; or the run ends at the script's first fault, with nothing written.
@@ -74,9 +74,20 @@ pub fn serve_is_served()
     ensures { ServesClient }
 {}
 
+/// Words that ask for `serve --image` have each line behind the image that the input begins with answered so by the plain map
+/// of the image's listing.
+pub fn serve_goes_on_from_an_image()
+    ensures { ServesFrom }
+{}
+
 /// Words whose `--max` is less than their `--initial` are refused, with nothing read and nothing written.
 pub fn settings_out_of_order_are_refused()
     ensures { RefusesBelow }
+{}
+
+/// Words of `serve --image` that give an option of the configuration are refused, with nothing read and nothing written.
+pub fn settings_beside_an_image_are_refused()
+    ensures { RefusesBeside }
 {}
 
 /// Words that clap doesn't accept are refused, or ask for help or the version; nothing is read.

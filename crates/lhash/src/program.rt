@@ -8,8 +8,8 @@ use lh_image::Version;
 use lh_options::{ImageVersion, Request, request_of};
 use lh_subcommands::{
     DeviceFault, Status, answer_apply, answer_build, answer_check, answer_commands, answer_draw,
-    answer_dump, answer_migrate, answer_query, answer_replay, answer_serve, answer_steps,
-    write_all,
+    answer_dump, answer_migrate, answer_query, answer_replay, answer_serve, answer_serve_from,
+    answer_steps, write_all,
 };
 use std::alloc::{AllocError, Global};
 use std::io::{Read, Write};
@@ -77,9 +77,11 @@ fn serve<A: Threads + Wait + Sync, R: Read, W: Write>(
             snapshots,
         } => answer_drive(rt, alloc, config, threads, snapshots, reader, writer),
         Request::Serve(config) => answer_serve(alloc, config, reader, writer),
+        Request::ServeImage => answer_serve_from(alloc, reader, writer),
         Request::Help(text) => write_help(writer, text.as_str()),
         Request::Refused(text) => Status::Words(text),
         Request::MaxBelowInitial => refuse(alloc, "max is less than initial"),
+        Request::SettingsBesideImage => refuse(alloc, "the configuration is the image's"),
     }
 }
 

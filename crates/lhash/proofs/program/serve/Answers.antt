@@ -43,6 +43,12 @@ returns-in-Steps g c = served_as c.in-Steps.is _ _ _ _ _ search
 pub returns-in-Serve : goal.returns-in-Serve
 returns-in-Serve g c = served_as c.in-Serve.is _ _ _ _ _ c.answer_serve.ensures
 
+pub returns-in-ServeImage : goal.returns-in-ServeImage
+returns-in-ServeImage g c = served_as c.in-ServeImage.is _ _ _ _ _ c.answer_serve_from.ensures
+
+pub returns-in-SettingsBesideImage : goal.returns-in-SettingsBesideImage
+returns-in-SettingsBesideImage g c = served_as c.in-SettingsBesideImage.is _ _ _ _ _ (search Keeps-refl)
+
 pub returns-in-Query : goal.returns-in-Query
 returns-in-Query g c = served_as c.in-Query.is _ _ _ _ _ c.answer_query.ensures
 
