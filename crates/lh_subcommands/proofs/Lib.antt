@@ -7,6 +7,7 @@ pub mod Inspecting
 pub mod LineLengths
 pub mod RecordLines
 pub mod ReplyLines
+pub mod SameReplies
 pub mod Sending
 pub mod Serving
 pub mod Turns

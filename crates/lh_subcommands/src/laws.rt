@@ -9,6 +9,7 @@ ghost use Rattle.lh_subcommands.specs.ContinuedLaws.{ApplyLaw, MigrateLaw, Query
 ghost use Rattle.lh_subcommands.specs.Devices.{longest_line};
 ghost use Rattle.lh_subcommands.specs.ImageTexts.{record_text};
 ghost use Rattle.lh_subcommands.specs.LongestLine.{IsEntryInLimits, IsNumber, IsRecordInLimits, IsReplyInLimits};
+ghost use Rattle.lh_subcommands.specs.ServeLaws.{SameRepliesLaw};
 
 use lh_image::laws::{an_image_leads, census_counts_pages, image_is_of_only_listing};
 
@@ -36,6 +37,11 @@ pub fn apply_without_calls_is_migrate()
     image_is_of_only_listing();
     census_counts_pages();
 }
+
+/// `serve` and `commands` answer the same lines alike.
+pub fn serve_replies_as_commands()
+    ensures { SameRepliesLaw }
+{}
 
 /// No line that `commands`, `steps` and `dump` write is longer than the room that is kept for one: so none wants memory
 /// after the first write.
