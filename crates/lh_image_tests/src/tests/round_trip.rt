@@ -34,6 +34,7 @@ fn reads_back(rt: &impl Abort, alloc: Global, listing: &Listing) -> Result<(), F
     for version in 1..=2 {
         let image = written(rt, alloc, version, listing);
         expect_same(rt, &read_again(alloc, &image)?, listing);
+        assert!(rt; version == 1 || image_len(listing) == Ok(image.len() as u64));
     }
     Ok(())
 }

@@ -10,12 +10,12 @@ use std::test::Fail;
 /// Each kind of line: calls, what else may be asked, one that ends in CR and LF, an empty line, a comment, and lines at
 /// fault.
 const LINES: &[u8] = b"insert 61 31\nsearch 61\r\n\n# none\nfrob\nrecords\nreplace 61 32\nbuckets\n\
-    search 61 62\nsearch 6\ninsert - 31\nsearch 61\ndelete 61\nrecords 1\nrecords\n";
+    search 61 62\nsearch 6\ninsert - 31\nsearch 61\ndelete 61\nrecords 1\nimage 2\nrecords\n";
 
 /// The answers to these lines.
 const ANSWERS: &[u8] = b"inserted\nfound 31\nfault unknown word\nrecords 1\nreplaced\nbuckets 1\n\
     fault wrong number of words\nfault bad hexadecimal\nfault key length 0\nfound 32\ndeleted\n\
-    fault wrong number of words\nrecords 0\n";
+    fault wrong number of words\nfault wrong number of words\nrecords 0\n";
 
 fn conversation(alloc: Global) -> Result<Conversation, Fail> {
     match Conversation::new(alloc, Config::default()) {
@@ -30,6 +30,9 @@ fn hear(talk: &mut Conversation, bytes: &[u8]) -> Result<(), Fail> {
     for _ in 0..bytes.len() {
         if rest.is_empty() {
             break;
+        }
+        if talk.image().is_some() {
+            return Err(Fail::from("an image is to be told first"));
         }
         match talk.hear(rest) {
             Ok(behind) => rest = behind,
@@ -111,4 +114,55 @@ fn a_line_has_1024_bytes_at_most(rt: HostRuntime) -> Result<(), Fail> {
     is_answered(&rt, 1_024, b"")?;
     is_answered(&rt, 1_025, b"fault line too long\n")?;
     is_answered(&rt, 9_000, b"fault line too long\n")
+}
+
+/// What waits is these lines, and behind them the image of a file with so many records, or none.
+fn waits(rt: &impl Abort, talk: &Conversation, lines: &[u8], records: Option<u64>) {
+    assert_eq!(rt; talk.waiting(), lines);
+    match talk.image() {
+        Some(listing) => assert!(rt; records == Some(listing.len())),
+        None => assert!(rt; records.is_none()),
+    }
+}
+
+#[test]
+fn an_image_waits_behind_the_lines(rt: HostRuntime) -> Result<(), Fail> {
+    let mut talk = conversation(rt.alloc())?;
+    assert!(rt; talk.is_quiet());
+    hear(&mut talk, b"insert 61 31\nimage\n")?;
+    waits(&rt, &talk, b"inserted\nimage 8192\n", Some(1));
+    assert!(rt; !talk.is_quiet());
+    talk.note_told();
+    assert!(rt; talk.is_quiet());
+    hear(&mut talk, b"delete 61\nim")?;
+    waits(&rt, &talk, b"deleted\n", None);
+    hear(&mut talk, b"age\n")?;
+    waits(&rt, &talk, b"deleted\nimage 8192\n", Some(0));
+    talk.note_told();
+    hear(&mut talk, b"records\n")?;
+    waits(&rt, &talk, b"records 0\n", None);
+    Ok(())
+}
+
+#[test]
+fn a_conversation_goes_on_from_a_listing(rt: HostRuntime) -> Result<(), Fail> {
+    let mut first = conversation(rt.alloc())?;
+    hear(&mut first, b"insert 61 31\ninsert 62 32\nimage\n")?;
+    let Some(listing) = first.image() else {
+        return Err(Fail::from("no image"));
+    };
+    let Ok(mut next) = Conversation::open_from(rt.alloc(), listing) else {
+        return Err(Fail::from("no conversation"));
+    };
+    hear(
+        &mut next,
+        b"records\nsearch 62\ninsert 62 33\ninsert 63 33\nrecords\n",
+    )?;
+    waits(
+        &rt,
+        &next,
+        b"records 2\nfound 32\nexists\ninserted\nrecords 3\n",
+        None,
+    );
+    Ok(())
 }

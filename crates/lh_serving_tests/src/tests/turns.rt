@@ -1,8 +1,9 @@
 //! A client at the other end of `serve`, who looks at what was flushed whenever it is listened to.
 use lh_addr::Config;
-use lh_subcommands::answer_serve;
+use lh_subcommands::{answer_serve, answer_serve_from};
 use std::cell::Cell;
 use std::io::{self, Error, ErrorKind, Read, Write};
+use std::process::Abort;
 use std::test::Fail;
 
 /// Sends a piece at each read, and then nothing or a fault; and notes how many bytes were flushed before each.
@@ -87,5 +88,70 @@ fn each_line_is_answered_before_the_next_read(rt: HostRuntime) -> Result<(), Fai
         assert_eq!(rt; hears.bytes.as_slice(), ANSWERS);
         assert_eq!(rt; sends.noted.as_slice(), FLUSHED.as_slice());
     }
+    Ok(())
+}
+
+/// The conversation of some pieces, from an empty file or from the image that the first ones are.
+fn told(
+    rt: &(impl AllocGlobal + Abort),
+    pieces: &[&[u8]],
+    from_image: bool,
+    flushed_before: &[usize],
+) -> Result<Vec<u8>, Fail> {
+    let flushed = Cell::new(0);
+    let mut sends = Sends {
+        pieces,
+        sent: 0,
+        fails: false,
+        flushed: &flushed,
+        noted: Vec::new(rt.alloc()),
+    };
+    let mut hears = Hears {
+        bytes: Vec::new(rt.alloc()),
+        flushed: &flushed,
+    };
+    let status = if from_image {
+        answer_serve_from(rt.alloc(), &mut sends, &mut hears)
+    } else {
+        answer_serve(rt.alloc(), Config::default(), &mut sends, &mut hears)
+    };
+    assert_eq!(rt; status.code(), 0);
+    assert_eq!(rt; sends.noted.as_slice(), flushed_before);
+    Ok(hears.bytes)
+}
+
+/// The bytes of an empty file's image.
+const EMPTY_IMAGE: usize = 8_192;
+
+#[test]
+fn an_image_is_told_before_what_comes_behind_it(rt: HostRuntime) -> Result<(), Fail> {
+    // Three lines at once: the image stands between the answers to the other two.
+    let all: [&[u8]; 1] = [b"records\nimage\nbuckets\nrec"];
+    let front = b"records 0\nimage 8192\n";
+    let behind = b"buckets 1\n";
+    let length = front.len() + EMPTY_IMAGE + behind.len();
+    let told_at_once = told(&rt, all.as_slice(), false, [0, length].as_slice())?;
+    assert_eq!(rt; told_at_once.len(), length);
+    assert!(rt; told_at_once.as_slice().starts_with(front.as_slice()));
+    let image = &told_at_once.as_slice()[front.len()..front.len() + EMPTY_IMAGE];
+    assert!(rt; image.starts_with(b"LHF2".as_slice()));
+    assert!(rt; told_at_once.as_slice().ends_with(behind.as_slice()));
+    // The same image, sent in pieces of as many bytes as are read at once, is gone on from.
+    let pieces: [&[u8]; 4] = [
+        &image[..1_024],
+        &image[1_024..4_096],
+        &image[4_096..],
+        b"insert 61 31\nrecords\nimage\n",
+    ];
+    let answers = b"inserted\nrecords 1\nimage 8192\n";
+    let length = answers.len() + EMPTY_IMAGE;
+    let next = told(
+        &rt,
+        pieces.as_slice(),
+        true,
+        [0, 0, 0, 0, length].as_slice(),
+    )?;
+    assert_eq!(rt; next.len(), length);
+    assert!(rt; next.as_slice().starts_with(answers.as_slice()));
     Ok(())
 }

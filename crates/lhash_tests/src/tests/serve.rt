@@ -1,6 +1,7 @@
 //! `serve`, from words and bytes to bytes and a status.
 use crate::tests::support::{Sink, Source, fails, ran, writes};
 use lhash::run;
+use std::alloc::Global;
 use std::process::Abort;
 use std::sync::Wait;
 use std::test::Fail;
@@ -45,6 +46,93 @@ fn a_line_at_fault_is_answered_and_changes_nothing(rt: HostRuntime) -> Result<()
         2,
         "max is less than initial",
     )
+}
+
+/// The image that a script of calls builds, in a version.
+fn image_of(
+    rt: &(impl Abort + AllocGlobal + Threads + Wait + Sync),
+    version: &str,
+    calls: &str,
+) -> Result<Vec<u8>, Fail> {
+    let words = ["lhash", "build", "--capacity", "1", "--image", version];
+    let (code, image, _) = ran(rt, words.as_slice(), calls.as_bytes())?;
+    assert_eq!(rt; code, 0);
+    Ok(image)
+}
+
+/// Some bytes and others behind them.
+fn joined(alloc: Global, first: &[u8], second: &[u8]) -> Result<Vec<u8>, Fail> {
+    let mut all = Vec::new(alloc);
+    all.extend_from_slice(first)?;
+    all.extend_from_slice(second)?;
+    Ok(all)
+}
+
+const FROM_IMAGE: [&str; 3] = ["lhash", "serve", "--image"];
+
+#[test]
+fn serve_goes_on_from_an_image_as_query_and_apply_do(rt: HostRuntime) -> Result<(), Fail> {
+    for version in ["1", "2"] {
+        let image = image_of(&rt, version, "insert 61 31\ninsert 65 35\n")?;
+        let (code, replies, _) = ran(
+            &rt,
+            ["lhash", "query"].as_slice(),
+            &joined(rt.alloc(), &image, CALLS.as_bytes())?,
+        )?;
+        assert_eq!(rt; code, 0);
+        let (code, left, _) = ran(
+            &rt,
+            ["lhash", "apply"].as_slice(),
+            &joined(rt.alloc(), &image, CALLS.as_bytes())?,
+        )?;
+        assert_eq!(rt; code, 0);
+        let lines = joined(rt.alloc(), CALLS.as_bytes(), b"buckets\nimage\n")?;
+        let (code, answers, text) = ran(
+            &rt,
+            FROM_IMAGE.as_slice(),
+            &joined(rt.alloc(), &image, &lines)?,
+        )?;
+        assert_eq!(rt; text.as_str(), "");
+        assert_eq!(rt; code, 0);
+        let head = format!(in rt.alloc(); "image {}\n", left.len())?;
+        let mut due = joined(rt.alloc(), &replies, head.as_bytes())?;
+        due.extend_from_slice(&left)?;
+        assert_eq!(rt; answers, due);
+    }
+    Ok(())
+}
+
+#[test]
+fn serve_without_an_image_where_one_is_due_tells_why(rt: HostRuntime) -> Result<(), Fail> {
+    fails(&rt, FROM_IMAGE.as_slice(), "", 1, "image I1")?;
+    fails(&rt, FROM_IMAGE.as_slice(), "records\n", 1, "image I1")?;
+    let words = ["lhash", "serve", "--image", "--load=100"];
+    fails(
+        &rt,
+        words.as_slice(),
+        "",
+        2,
+        "the configuration is the image's",
+    )
+}
+
+#[test]
+fn a_read_that_fails_within_the_image_ends_serve(rt: HostRuntime) -> Result<(), Fail> {
+    let image = image_of(&rt, "2", "insert 61 31\n")?;
+    let input = joined(rt.alloc(), &image, b"records\n")?;
+    for failing_read in 1..=3 {
+        let mut source = Source {
+            bytes: &input,
+            at_once: 8_192,
+            reads: 0,
+            failing_read,
+        };
+        let mut output = Vec::new(rt.alloc());
+        let status = run(&rt, FROM_IMAGE.as_slice(), &mut source, &mut output);
+        assert!(rt; status.code() == 3, "read {failing_read}");
+        assert!(rt; output.is_empty(), "read {failing_read}");
+    }
+    Ok(())
 }
 
 /// A failed read ends the run when the lines that had come by then are answered.
