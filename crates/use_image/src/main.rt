@@ -8,6 +8,7 @@ use lh_bucket::Reply;
 use lh_file::{Hand, HashFile, NoGate};
 use lh_image::{Image, check_image, read_image, write_image};
 use lh_page::{Key, Value};
+use std::alloc::Global;
 use std::sync::Wait;
 
 const WORDS: [&[u8]; 7] = [b"do", b"re", b"mi", b"fa", b"sol", b"la", b"ti"];
@@ -19,6 +20,28 @@ fn fill<R: Wait>(rt: &R, file: &HashFile<NoGate>, hand: &mut Hand) -> anyhow::Re
 {
     for word in WORDS {
         file.insert(rt, hand, Key::new(word)?, Value::new(b"note")?)?;
+    }
+    Ok(())
+}
+
+/// Looks keys up in the bytes of an image, with no listing made.
+fn look_up<R: Print>(rt: &R, alloc: Global, bytes: &[u8]) -> anyhow::Result<()> {
+    // A key is looked up in the bytes as they are.
+    let image = Image::open(bytes)?;
+    for word in [b"sol".as_slice(), b"ut".as_slice()] {
+        match image.find_bytes(&Key::new(word)?)? {
+            Some(value) => println!(rt; "{} bytes, of {} records", value.len(), image.len())?,
+            None => println!(rt; "absent")?,
+        }
+    }
+
+    // All pages are looked at once. After that no look-up has a fault.
+    let checked = image.check(alloc)?;
+    for word in [b"do".as_slice(), b"so".as_slice()] {
+        match checked.find(&Key::new(word)?) {
+            Some(value) => println!(rt; "{} bytes, checked", value.bytes().len())?,
+            None => println!(rt; "absent, checked")?,
+        }
     }
     Ok(())
 }
@@ -54,14 +77,7 @@ fn main(rt: HostRuntime) -> anyhow::Result<()> {
         reply == Reply::Found(Value::new(b"note")?)
     )?;
 
-    // A key is looked up in the bytes as they are, with no listing made.
-    let image = Image::open(&bytes)?;
-    for word in [b"sol".as_slice(), b"ut".as_slice()] {
-        match image.find_bytes(&Key::new(word)?)? {
-            Some(value) => println!(rt; "{} bytes, of {} records", value.len(), image.len())?,
-            None => println!(rt; "absent")?,
-        }
-    }
+    look_up(&rt, alloc, &bytes)?;
 
     // One byte less is no image.
     if let Some((_, mut cut)) = bytes.as_slice().split_last() {
