@@ -129,21 +129,24 @@ drive_built = shape_at 6 (built program_app).subs
 
 drive-options : HasOptions drive_built.rules
 drive-options = record {
-  initial = (((λ _. refl), (unequal, (unequal, (unequal, (unequal, (unequal, (unequal, tt))))))), inl refl);
-  capacity = ((unequal, ((λ _. refl), (unequal, (unequal, (unequal, (unequal, (unequal, tt))))))), inr (inl refl));
-  load = ((unequal, (unequal, ((λ _. refl), (unequal, (unequal, (unequal, (unequal, tt))))))), inr (inr (inl refl)));
-  max = ((unequal, (unequal, (unequal, ((λ _. refl), (unequal, (unequal, (unequal, tt))))))), inr (inr (inr (inl refl))));
+  initial = (((λ _. refl), (unequal, (unequal, (unequal, (unequal, (unequal, (unequal, (unequal, tt)))))))), inl refl);
+  capacity = ((unequal, ((λ _. refl), (unequal, (unequal, (unequal, (unequal, (unequal, (unequal, tt)))))))), inr (inl refl));
+  load = ((unequal, (unequal, ((λ _. refl), (unequal, (unequal, (unequal, (unequal, (unequal, tt)))))))), inr (inr (inl refl)));
+  max = ((unequal, (unequal, (unequal, ((λ _. refl), (unequal, (unequal, (unequal, (unequal, tt)))))))), inr (inr (inr (inl refl))));
 }
 
--- the numbers of threads and of snapshots
+-- the numbers of threads, of shards and of snapshots
 drive-after : (words : List Text) → level_fault drive_built [] nothing_held words false [] ≡ [] → HasDriveNumbers (rows_after drive_built.rules [] words)
 drive-after words e =
     let threads = level-row (codes "threads") (codes "4") 1 64 drive_built
-    (unequal, (unequal, (unequal, (unequal, ((λ _. refl), (unequal, (unequal, tt))))))) (inr (inr (inr (inr (inl refl))))) [] words false [] e in
+    (unequal, (unequal, (unequal, (unequal, ((λ _. refl), (unequal, (unequal, (unequal, tt)))))))) (inr (inr (inr (inr (inl refl))))) [] words false [] e in
+    let shards = level-row (codes "shards") (codes "1") 1 64 drive_built
+    (unequal, (unequal, (unequal, (unequal, (unequal, ((λ _. refl), (unequal, (unequal, tt)))))))) (inr (inr (inr (inr (inr (inl refl)))))) [] words false [] e in
     let snapshots = level-row (codes "snapshots") (codes "0") 0 most_snapshots drive_built
-    (unequal, (unequal, (unequal, (unequal, (unequal, ((λ _. refl), (unequal, tt))))))) (inr (inr (inr (inr (inr (inl refl)))))) [] words false [] e in
+    (unequal, (unequal, (unequal, (unequal, (unequal, (unequal, ((λ _. refl), (unequal, tt)))))))) (inr (inr (inr (inr (inr (inr (inl refl))))))) [] words false [] e in
     record {
       threads = number-fits (codes "threads") (codes "4") 1 64 _ threads.0 threads.1 threads.2;
+      shards = number-fits (codes "shards") (codes "1") 1 64 _ shards.0 shards.1 shards.2;
       snapshots = number-fits (codes "snapshots") (codes "0") 0 most_snapshots _ snapshots.0 snapshots.1 snapshots.2;
     }
 

@@ -6,7 +6,7 @@ use Rattle.std.proofs.lemmas.Bool.{le-ltb, lt-ltb}
 use Rattle.std.proofs.lemmas.Slice.Eq.{bytes_eq-Decides}
 use Rattle.clap.specs.Walk.{Text}
 use Rattle.lh_addr.specs.Settings.{Settings}
-use Rattle.lh_options.specs.Options.{Answers, Asks, IsMaxBelowInitial, asked_by, apply_asked, drive_asked, image_begins, in_order, number_given, serve_asked, settings_given, settings_typed, version_numbered}
+use Rattle.lh_options.specs.Options.{Answers, Asks, IsMaxBelowInitial, asked_by, apply_asked, drive_asked, driven, image_begins, in_order, number_given, serve_asked, settings_given, settings_typed, version_numbered}
 use Rattle.lh_options.specs.declared.options.ImageVersion.{ImageVersion}
 use Rattle.lh_options.specs.declared.options.Request.{Request}
 use Rattle.lh_options.specs.declared.options.Request.TheVariants as request
@@ -55,13 +55,19 @@ build name settings numbers image typed s version named e f within =
     (λ i. asked_by (named i) (e i) numbers image typed) ∙ passed_on s (λ x. option_map (λ n. request.Build x (version_numbered n)) (numbers (codes "image"))) within
     ∙ built s version (numbers (codes "image")) f
 
-pub drive : (name : Text) (settings : Option Settings) (numbers : Text → Option ℕ) (image typed : Bool) (s : Settings) (n k : ℕ) →
-    name ≡ codes "drive" → settings ≡ Some s → numbers (codes "threads") ≡ Some n → numbers (codes "snapshots") ≡ Some k → s.initial ≤ s.max →
-    asked_by name settings numbers image typed ≡ Some (request.Drive s n k)
+-- `drive` asks by its settings, where those are in order, and by its numbers
+pub drive_by : (name : Text) (settings : Option Settings) (numbers : Text → Option ℕ) (image typed : Bool) (s : Settings) →
+    name ≡ codes "drive" → settings ≡ Some s → s.initial ≤ s.max → asked_by name settings numbers image typed ≡ drive_asked numbers s
 unfolding asked_by
-drive name settings numbers image typed s n k named e f g within =
+drive_by name settings numbers image typed s named e within =
     (λ i. asked_by (named i) (e i) numbers image typed) ∙ passed_on s (drive_asked numbers) within
-    ∙ (λ i. option_and_then (λ threads. option_map (λ snapshots. request.Drive s threads snapshots) (g i)) (f i))
+
+pub drive : (name : Text) (settings : Option Settings) (numbers : Text → Option ℕ) (image typed : Bool) (s : Settings) (n h k : ℕ) →
+    name ≡ codes "drive" → settings ≡ Some s → numbers (codes "threads") ≡ Some n → numbers (codes "shards") ≡ Some h →
+    numbers (codes "snapshots") ≡ Some k → s.initial ≤ s.max → asked_by name settings numbers image typed ≡ Some (driven s n h k)
+drive name settings numbers image typed s n h k named e f g j within =
+    drive_by name settings numbers image typed s named e within
+    ∙ (λ i. option_and_then (λ threads. option_and_then (λ shards. option_map (λ snapshots. driven s threads shards snapshots) (j i)) (g i)) (f i))
 
 pub check : (name : Text) (settings : Option Settings) (numbers : Text → Option ℕ) (image typed : Bool) →
     name ≡ codes "check" → settings ≡ None → asked_by name settings numbers image typed ≡ Some request.Check
@@ -105,13 +111,21 @@ pub unapplied : (s : Settings) (image : Option ℕ) → apply_asked (Some s) ima
 unapplied s None = refl
 unapplied s (Some n) = refl
 
--- no number of threads, and nothing is asked for
+nothing : (o : Option ℕ) → ◌≡◌ {A = Option Request} (option_and_then (λ (n : ℕ). None) o) None
+nothing None = refl
+nothing (Some n) = refl
+
+-- no number of threads or of shards, and nothing is asked for
 pub undriven : (name : Text) (settings : Option Settings) (numbers : Text → Option ℕ) (image typed : Bool) (s : Settings) →
-    name ≡ codes "drive" → settings ≡ Some s → numbers (codes "threads") ≡ None → s.initial ≤ s.max → asked_by name settings numbers image typed ≡ None
-unfolding asked_by
-undriven name settings numbers image typed s named e f within =
-    (λ i. asked_by (named i) (e i) numbers image typed) ∙ passed_on s (drive_asked numbers) within
-    ∙ (λ i. option_and_then (λ threads. option_map (λ snapshots. request.Drive s threads snapshots) (numbers (codes "snapshots"))) (f i))
+    name ≡ codes "drive" → settings ≡ Some s → (numbers (codes "threads") ≡ None) ⊎ (numbers (codes "shards") ≡ None) → s.initial ≤ s.max →
+    asked_by name settings numbers image typed ≡ None
+undriven name settings numbers image typed s named e (inl f) within =
+    drive_by name settings numbers image typed s named e within
+    ∙ (λ i. option_and_then (λ threads. option_and_then (λ shards. option_map (λ snapshots. driven s threads shards snapshots) (numbers (codes "snapshots"))) (numbers (codes "shards"))) (f i))
+undriven name settings numbers image typed s named e (inr f) within =
+    drive_by name settings numbers image typed s named e within
+    ∙ (λ i. option_and_then (λ threads. option_and_then (λ shards. option_map (λ snapshots. driven s threads shards snapshots) (numbers (codes "snapshots"))) (f i)) (numbers (codes "threads")))
+    ∙ nothing (numbers (codes "threads"))
 
 -- settings out of order are refused
 refused : (s : Settings) (ask : Settings → Option Request) → s.max < s.initial → in_order (Some s) ask ≡ Some request.MaxBelowInitial

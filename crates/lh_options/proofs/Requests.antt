@@ -129,7 +129,7 @@ refusal-answers words e (request.Steps config) among h = absurd h
 refusal-answers words e (request.Replay config) among h = absurd h
 refusal-answers words e (request.Serve config) among h = absurd h
 refusal-answers words e (request.Build config version) among h = absurd h
-refusal-answers words e (request.Drive config threads snapshots) among h = absurd h
+refusal-answers words e (request.Drive config threads shards snapshots) among h = absurd h
 refusal-answers words e request.Check among h = absurd h
 refusal-answers words e request.Dump among h = absurd h
 refusal-answers words e request.Draw among h = absurd h
@@ -139,10 +139,11 @@ refusal-answers words e (request.Apply version) among h = absurd h
 refusal-answers words e request.ServeImage among h = absurd h
 refusal-answers words e request.MaxBelowInitial among h = absurd h
 refusal-answers words e request.SettingsBesideImage among h = absurd h
+refusal-answers words e request.SnapshotsOfShards among h = absurd h
 
 -- a request that turns words away runs nothing
 pub refusal-servable : (k : ErrorKind) (r : Request) → IsRefusal k r → IsServable r
-refusal-servable k (request.Drive config threads snapshots) h = absurd h
+refusal-servable k (request.Drive config threads shards snapshots) h = absurd h
 refusal-servable k _ h = tt
 
 -- what a parse that succeeds says of the words, and of the subcommand that it entered
@@ -185,5 +186,5 @@ signed-answers words name rows (request.Refused text) entered digits h =
 signed-answers words name rows _ entered digits h = absurd h
 
 pub signed-servable : (r : Request) → IsRefusedText r → IsServable r
-signed-servable (request.Drive config threads snapshots) h = absurd h
+signed-servable (request.Drive config threads shards snapshots) h = absurd h
 signed-servable _ h = tt

@@ -113,6 +113,21 @@ threads_zero = codes "lhash" ∷ codes "drive" ∷ codes "--threads=0" ∷ []
 abbrev pub threads_over_limit : List Text
 threads_over_limit = codes "lhash" ∷ codes "drive" ∷ codes "--threads" ∷ codes "65" ∷ []
 
+abbrev pub shards_given : List Text
+shards_given = codes "lhash" ∷ codes "drive" ∷ codes "--shards" ∷ codes "64" ∷ codes "--threads=2" ∷ []
+
+abbrev pub shards_zero : List Text
+shards_zero = codes "lhash" ∷ codes "drive" ∷ codes "--shards=0" ∷ []
+
+abbrev pub shards_over_limit : List Text
+shards_over_limit = codes "lhash" ∷ codes "drive" ∷ codes "--shards" ∷ codes "65" ∷ []
+
+abbrev pub shards_with_plus : List Text
+shards_with_plus = codes "lhash" ∷ codes "drive" ∷ codes "--shards=+2" ∷ []
+
+abbrev pub snapshots_of_shards : List Text
+snapshots_of_shards = codes "lhash" ∷ codes "drive" ∷ codes "--snapshots=1" ∷ codes "--shards=2" ∷ []
+
 abbrev pub snapshots_given : List Text
 snapshots_given = codes "lhash" ∷ codes "drive" ∷ codes "--snapshots" ∷ codes "1000" ∷ []
 
@@ -151,11 +166,12 @@ abbrev pub GivesApply : List Text → ImageVersion → Type 0
 GivesApply words version =
     Asks words (codes "apply") × (option_map version_numbered (number_given words (codes "image")) ≡ Some version)
 
--- the words are accepted, name `drive`, and give these settings and these numbers of threads and of snapshots
-abbrev pub GivesDrive : List Text → Settings → ℕ → ℕ → Type 0
-GivesDrive words s threads snapshots =
+-- the words are accepted, name `drive`, and give these settings and numbers of threads, of shards and of snapshots
+abbrev pub GivesDrive : List Text → Settings → ℕ → ℕ → ℕ → Type 0
+GivesDrive words s threads shards snapshots =
     Asks words (codes "drive") × (settings_given words ≡ Some s)
-    × (number_given words (codes "threads") ≡ Some threads) × (number_given words (codes "snapshots") ≡ Some snapshots)
+    × (number_given words (codes "threads") ≡ Some threads) × (number_given words (codes "shards") ≡ Some shards)
+    × (number_given words (codes "snapshots") ≡ Some snapshots)
 
 -- the words are not accepted
 abbrev pub Refuses : List Text → Type 0

@@ -11,7 +11,7 @@ use Rattle.clap.specs.declared.error.kind.ErrorKind.TheVariants as kind
 use Rattle.lh_addr.specs.Limits.{most_initial, most_capacity, least_load, most_load, most_buckets}
 use Rattle.lh_addr.specs.Settings.{Settings}
 use Rattle.lh_options.specs.Escapes.{has_no_control}
-use Rattle.lh_options.specs.Options.{IsShown, asked_by, most_snapshots, number_in, serve_asked, setting_typed_in, settings_from, typed_in}
+use Rattle.lh_options.specs.Options.{IsShown, asked_by, drive_asked, most_snapshots, number_in, serve_asked, setting_typed_in, settings_from, typed_in}
 use Rattle.lh_options.specs.declared.options.Request.{Request}
 use Rattle.lh_options.specs.declared.options.Request.TheVariants as request
 
@@ -34,9 +34,10 @@ pub record HasSettings (rows : List Row) : Type 0 where
   pub load : HasNumber rows (codes "load") least_load most_load
   pub max : HasNumber rows (codes "max") 1 most_buckets
 
--- the numbers of threads and of snapshots are in their ranges
+-- the numbers of threads, of shards and of snapshots are in their ranges
 pub record HasDriveNumbers (rows : List Row) : Type 0 where
   pub threads : HasNumber rows (codes "threads") 1 64
+  pub shards : HasNumber rows (codes "shards") 1 64
   pub snapshots : HasNumber rows (codes "snapshots") 0 most_snapshots
 
 -- the version of the image is one of the two
@@ -65,6 +66,10 @@ IsImageCommand name =
 abbrev pub asked_in : Text → List Row → Option Request
 asked_in name rows =
     asked_by name (settings_in rows) (number_in rows) (typed_in rows (codes "from_image")) (setting_typed_in rows)
+
+-- what `drive` asks for by its rows, with settings in order
+abbrev pub drive_asked_in : List Row → Settings → Option Request
+drive_asked_in rows s = drive_asked (number_in rows) s
 
 -- what `serve` asks for by its rows
 abbrev pub serve_asked_in : List Row → Option Request

@@ -92,6 +92,10 @@ serve_app = with_rule (with_settings (new_app (codes "serve"))) (flag_rule (code
 abbrev pub with_threads : App → App
 with_threads app = with_rule app (option_rule (codes "threads") (codes "4") 1 64)
 
+-- a command with an option for a number of shards
+abbrev pub with_shards : App → App
+with_shards app = with_rule app (option_rule (codes "shards") (codes "1") 1 64)
+
 -- the most snapshots that are taken while a script is run in threads
 abbrev pub most_snapshots : ℕ
 most_snapshots = 1000
@@ -102,7 +106,7 @@ with_snapshots app = with_rule app (option_rule (codes "snapshots") (codes "0") 
 
 -- the subcommand that runs a script in threads
 abbrev pub drive_app : App
-drive_app = with_snapshots (with_threads (with_settings (new_app (codes "drive"))))
+drive_app = with_snapshots (with_shards (with_threads (with_settings (new_app (codes "drive")))))
 
 -- a command that asks for a subcommand
 abbrev pub with_subcommand_required : App → App
@@ -154,8 +158,8 @@ in_digits rows name = option_map_or (λ text. list_all is_ascii_digit text) (fir
 abbrev pub all_in_digits : List Row → Bool
 all_in_digits rows =
     in_digits rows (codes "initial") && (in_digits rows (codes "capacity") && (in_digits rows (codes "load") && (
-    in_digits rows (codes "max") && (in_digits rows (codes "threads") && (in_digits rows (codes "snapshots")
-    && in_digits rows (codes "image"))))))
+    in_digits rows (codes "max") && (in_digits rows (codes "threads") && (in_digits rows (codes "shards") && (
+    in_digits rows (codes "snapshots") && in_digits rows (codes "image")))))))
 
 -- whether a value comes from the words, and not from a default
 abbrev pub is_from_words : Option ValueSource → Bool
@@ -245,11 +249,18 @@ abbrev pub apply_asked : Option Settings → Option ℕ → Option Request
 apply_asked settings image =
     option_and_then (λ n. asked_without_settings settings (request.Apply (version_numbered n))) image
 
--- a run in threads with settings in order, by the numbers of threads and of snapshots
+-- a run in threads; a snapshot is one of a whole file, so that snapshots of more shards than one are refused
+abbrev pub driven : Settings → ℕ → ℕ → ℕ → Request
+driven s threads shards snapshots =
+    if shards == 1 || snapshots == 0 then request.Drive s threads shards snapshots else request.SnapshotsOfShards
+
+-- a run in threads with settings in order, by the numbers of threads, of shards and of snapshots
 abbrev pub drive_asked : (Text → Option ℕ) → Settings → Option Request
 drive_asked numbers s =
     option_and_then
-    (λ threads. option_map (λ snapshots. request.Drive s threads snapshots) (numbers (codes "snapshots")))
+    (λ threads. option_and_then
+    (λ shards. option_map (λ snapshots. driven s threads shards snapshots) (numbers (codes "snapshots")))
+    (numbers (codes "shards")))
     (numbers (codes "threads"))
 
 -- what `serve` asks for, with the settings, whether an image begins the input, and whether a setting is typed: one
@@ -296,7 +307,8 @@ IsTurned words _ = ⊥
 abbrev pub Answers : List Text → Request → Type 0
 Answers words r = (Accepts words × (asked_for words ≡ Some r)) ⊎ (¬ Accepts words × IsTurned words r)
 
--- what is asked for can be done: a script is run in 1 to 64 threads
+-- what is asked for can be done: a script is run in 1 to 64 threads, on 1 to 64 shards
 abbrev pub IsServable : Request → Type 0
-IsServable (request.Drive config threads snapshots) = (1 ≤ threads) × (threads ≤ 64)
+IsServable (request.Drive config threads shards snapshots) =
+    (1 ≤ threads) × (threads ≤ 64) × (1 ≤ shards) × (shards ≤ 64)
 IsServable _ = Unit {0}

@@ -40,7 +40,12 @@ ghost use Rattle.lh_options.specs.OptionLaws.{
   replay_given,
   Refuses,
   serve_given,
+  shards_given,
+  shards_over_limit,
+  shards_with_plus,
+  shards_zero,
   snapshots_given,
+  snapshots_of_shards,
   snapshots_over_limit,
   snapshots_with_minus,
   steps_given,
@@ -66,10 +71,15 @@ pub fn words_give_options()
     ensures first { GivesBuild first_image_given
         (record { initial = 1; capacity = 14; load = 100; max = 65536 }) First }
     ensures migrate { Asks migrate_alone (codes "migrate") }
-    ensures drive { GivesDrive drive_given (record { initial = 3; capacity = 14; load = 100; max = 65536 }) 64 0 }
-    ensures drive_left_out { GivesDrive drive_alone (record { initial = 1; capacity = 14; load = 100; max = 65536 }) 4 0 }
+    ensures drive { GivesDrive drive_given (record { initial = 3; capacity = 14; load = 100; max = 65536 }) 64 1 0 }
+    ensures drive_left_out { GivesDrive drive_alone
+        (record { initial = 1; capacity = 14; load = 100; max = 65536 }) 4 1 0 }
+    ensures shards { GivesDrive shards_given
+        (record { initial = 1; capacity = 14; load = 100; max = 65536 }) 2 64 0 }
     ensures snapshots { GivesDrive snapshots_given
-        (record { initial = 1; capacity = 14; load = 100; max = 65536 }) 4 1000 }
+        (record { initial = 1; capacity = 14; load = 100; max = 65536 }) 4 1 1000 }
+    ensures of_shards { GivesDrive snapshots_of_shards
+        (record { initial = 1; capacity = 14; load = 100; max = 65536 }) 4 2 1 }
     ensures check { Asks check_alone (codes "check") }
     ensures dump { Asks dump_alone (codes "dump") }
     ensures draw { Asks draw_alone (codes "draw") }
@@ -85,10 +95,13 @@ pub fn words_give_options()
     ensures too_small { Refuses initial_zero }
     ensures no_thread { Refuses threads_zero }
     ensures too_many_threads { Refuses threads_over_limit }
+    ensures no_shard { Refuses shards_zero }
+    ensures too_many_shards { Refuses shards_over_limit }
     ensures too_many_snapshots { Refuses snapshots_over_limit }
     ensures too_great { Refuses max_over_limit }
     ensures no_third { Refuses third_image }
     ensures no_plus { Refuses max_with_plus }
+    ensures no_plus_of_shards { Refuses shards_with_plus }
     ensures no_minus { Refuses snapshots_with_minus }
     ensures no_plus_of_image { Refuses image_with_plus }
     ensures twice { Refuses initial_twice }

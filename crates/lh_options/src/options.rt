@@ -7,7 +7,7 @@ ghost use Rattle.lh_addr.specs.Settings.{IsInRange};
 ghost use Rattle.clap.specs.Words.{found_of, kind_of, new_app, rows_of, rule_of};
 ghost use Rattle.lh_options.specs.Escapes.{has_no_control};
 ghost use Rattle.lh_options.specs.Options.{Answers, IsMaxBelowInitial, IsServable, all_in_digits, in_digits, number_in, apply_app, build_app, drive_app, flag_rule, option_rule, version_numbered, root_app, scripts_app, serve_app, setting_typed_in, typed_in, program_app, with_settings};
-ghost use Rattle.lh_options.specs.OptionSteps.{HasNumber, HasSettings, HasDriveNumbers, HasImage, IsFileCommand, IsImageCommand, IsRefusal, IsRefusedText, Reads, asked_in, serve_asked_in, settings_in};
+ghost use Rattle.lh_options.specs.OptionSteps.{HasNumber, HasSettings, HasDriveNumbers, HasImage, IsFileCommand, IsImageCommand, IsRefusal, IsRefusedText, Reads, asked_in, drive_asked_in, serve_asked_in, settings_in};
 
 use crate::escapes::escaped;
 use crate::help::{
@@ -27,6 +27,12 @@ const MIN_THREADS: u32 = 1;
 
 /// The greatest number of threads that a script is run in.
 const MAX_THREADS: u32 = 64;
+
+/// The least number of shards that a script is run on.
+const MIN_SHARDS: u32 = 1;
+
+/// The greatest number of shards that a script is run on.
+const MAX_SHARDS: u32 = 64;
 
 /// The greatest number of snapshots that are taken meanwhile.
 const MAX_SNAPSHOTS: u32 = 1_000;
@@ -69,10 +75,12 @@ pub enum Request {
     Query,
     /// The subcommand `apply`, with the version of the image that its option gives.
     Apply(ImageVersion),
-    /// The subcommand `drive`, with the configuration and the numbers of threads and of snapshots that its options give.
+    /// The subcommand `drive`, with the configuration and the numbers of threads, of shards and of snapshots that its
+    /// options give.
     Drive {
         config: Config,
         threads: u32,
+        shards: u32,
         snapshots: u32,
     },
     /// The subcommand `serve`, with the configuration that its options give.
@@ -87,6 +95,8 @@ pub enum Request {
     MaxBelowInitial,
     /// `serve` has `--image`, and an option of the configuration, which is the image's.
     SettingsBesideImage,
+    /// `--snapshots` is not 0, and `--shards` is not 1: a snapshot is one of a whole file.
+    SnapshotsOfShards,
 }
 
 /// An option with a whole number, from `least` to `most`.
@@ -159,7 +169,8 @@ fn image_command<'a>(alloc: Global, name: &'a str, help: Help) -> Command<'a>
         .after_help(help.example)
 }
 
-/// The subcommand that runs a script in threads: a file's options, and one each for the threads and the snapshots.
+/// The subcommand that runs a script in threads: a file's options, and one each for the threads, the shards and the
+/// snapshots.
 fn drive_command<'a>(alloc: Global) -> Result<Command<'a>, AllocError>
     ensures { IfOk result (Reads drive_app) }
 {
@@ -171,6 +182,14 @@ fn drive_command<'a>(alloc: Global) -> Result<Command<'a>, AllocError>
             "4",
             MIN_THREADS,
             MAX_THREADS,
+        ))?
+        .arg(option(
+            alloc,
+            "shards",
+            "Number of shards, 1 to 64",
+            "1",
+            MIN_SHARDS,
+            MAX_SHARDS,
         ))?
         .arg(option(
             alloc,
@@ -305,6 +324,7 @@ fn are_in_digits(matches: &ArgMatches<'_>) -> bool
         && is_in_digits(matches, "load")
         && is_in_digits(matches, "max")
         && is_in_digits(matches, "threads")
+        && is_in_digits(matches, "shards")
         && is_in_digits(matches, "snapshots")
         && is_in_digits(matches, "image")
 }
@@ -366,6 +386,27 @@ fn is_setting_typed(matches: &ArgMatches<'_>) -> bool
         || is_typed(matches, "max")
 }
 
+/// What `drive` asks for, with the configuration that its options give.
+fn drive_asked(config: Config, matches: &ArgMatches<'_>) -> Request
+    requires { HasDriveNumbers (rows_of (found_of matches.now)) }
+    ensures value { drive_asked_in (rows_of (found_of matches.now)) config ≡ Some result }
+    ensures servable { IsServable result }
+{
+    let threads = number(matches, "threads");
+    let shards = number(matches, "shards");
+    let snapshots = number(matches, "snapshots");
+    if shards == 1 || snapshots == 0 {
+        Request::Drive {
+            config,
+            threads,
+            shards,
+            snapshots,
+        }
+    } else {
+        Request::SnapshotsOfShards
+    }
+}
+
 /// What `serve` asks for.
 fn serve_asked(matches: &ArgMatches<'_>) -> Request
     requires { HasSettings (rows_of (found_of matches.now)) }
@@ -417,11 +458,7 @@ fn asked(name: &str, matches: &ArgMatches<'_>) -> Request
         "query" => Request::Query,
         "apply" => Request::Apply(version_in(matches)),
         "drive" => match config_of(matches) {
-            Some(config) => Request::Drive {
-                config,
-                threads: number(matches, "threads"),
-                snapshots: number(matches, "snapshots"),
-            },
+            Some(config) => drive_asked(config, matches),
             None => Request::MaxBelowInitial,
         },
         "serve" => serve_asked(matches),

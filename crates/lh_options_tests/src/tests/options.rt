@@ -24,10 +24,13 @@ fn answer(rt: &(impl Abort + AllocGlobal), words: &[&str]) -> Result<String, All
         Request::Drive {
             config,
             threads,
+            shards,
             snapshots,
         } => {
             let settings = settings(rt, &config)?;
-            format!(in alloc; "{settings}, {threads} threads, {snapshots} snapshots")
+            format!(in alloc;
+                "{settings}, {threads} threads, {shards} shards, {snapshots} snapshots"
+            )
         }
         Request::Check => String::from_str(alloc, "check"),
         Request::Dump => String::from_str(alloc, "dump"),
@@ -49,6 +52,7 @@ fn answer(rt: &(impl Abort + AllocGlobal), words: &[&str]) -> Result<String, All
         Request::ServeImage => String::from_str(alloc, "serve, from an image"),
         Request::MaxBelowInitial => String::from_str(alloc, "max is below initial"),
         Request::SettingsBesideImage => String::from_str(alloc, "settings beside an image"),
+        Request::SnapshotsOfShards => String::from_str(alloc, "snapshots of shards"),
     }
 }
 
@@ -204,12 +208,20 @@ fn drive_expect(
 
 #[test]
 fn threads_are_1_to_64(rt: HostRuntime) -> Result<(), AllocError> {
-    drive_expect(&rt, "--max=7", "1 14 80 7, 4 threads, 0 snapshots")?;
-    drive_expect(&rt, "--threads=1", "1 14 80 65536, 1 threads, 0 snapshots")?;
+    drive_expect(
+        &rt,
+        "--max=7",
+        "1 14 80 7, 4 threads, 1 shards, 0 snapshots",
+    )?;
+    drive_expect(
+        &rt,
+        "--threads=1",
+        "1 14 80 65536, 1 threads, 1 shards, 0 snapshots",
+    )?;
     drive_expect(
         &rt,
         "--threads=64",
-        "1 14 80 65536, 64 threads, 0 snapshots",
+        "1 14 80 65536, 64 threads, 1 shards, 0 snapshots",
     )?;
     drive_expect(
         &rt,
@@ -224,16 +236,83 @@ fn threads_are_1_to_64(rt: HostRuntime) -> Result<(), AllocError> {
 }
 
 #[test]
+fn shards_are_1_to_64(rt: HostRuntime) -> Result<(), AllocError> {
+    drive_expect(
+        &rt,
+        "--shards=1",
+        "1 14 80 65536, 4 threads, 1 shards, 0 snapshots",
+    )?;
+    drive_expect(
+        &rt,
+        "--shards=64",
+        "1 14 80 65536, 4 threads, 64 shards, 0 snapshots",
+    )?;
+    drive_expect(&rt, "--shards=+2", "refused: a number may have no sign")?;
+    drive_expect(
+        &rt,
+        "--shards=0",
+        "refused: invalid value '0' for '--shards <shards>': 0 is not in 1..=64",
+    )?;
+    drive_expect(
+        &rt,
+        "--shards=65",
+        "refused: invalid value '65' for '--shards <shards>': 65 is not in 1..=64",
+    )?;
+    gives(
+        &rt,
+        ["lhash", "commands", "--shards=2"].as_slice(),
+        "refused: unexpected argument '--shards' found",
+    )
+}
+
+#[test]
+fn snapshots_are_of_one_shard(rt: HostRuntime) -> Result<(), AllocError> {
+    gives(
+        &rt,
+        ["lhash", "drive", "--shards=2", "--snapshots=1"].as_slice(),
+        "snapshots of shards",
+    )?;
+    gives(
+        &rt,
+        ["lhash", "drive", "--snapshots=1000", "--shards", "64"].as_slice(),
+        "snapshots of shards",
+    )?;
+    gives(
+        &rt,
+        ["lhash", "drive", "--shards=1", "--snapshots=1"].as_slice(),
+        "1 14 100 65536, 4 threads, 1 shards, 1 snapshots",
+    )?;
+    gives(
+        &rt,
+        ["lhash", "drive", "--shards=2", "--snapshots=0"].as_slice(),
+        "1 14 100 65536, 4 threads, 2 shards, 0 snapshots",
+    )?;
+    gives(
+        &rt,
+        [
+            "lhash",
+            "drive",
+            "--initial=8",
+            "--max=7",
+            "--shards=2",
+            "--snapshots=1",
+        ]
+        .as_slice(),
+        "max is below initial",
+    )
+}
+
+#[test]
 fn snapshots_are_0_to_1000(rt: HostRuntime) -> Result<(), AllocError> {
     drive_expect(
         &rt,
         "--snapshots=0",
-        "1 14 80 65536, 4 threads, 0 snapshots",
+        "1 14 80 65536, 4 threads, 1 shards, 0 snapshots",
     )?;
     drive_expect(
         &rt,
         "--snapshots=1000",
-        "1 14 80 65536, 4 threads, 1000 snapshots",
+        "1 14 80 65536, 4 threads, 1 shards, 1000 snapshots",
     )?;
     drive_expect(&rt, "--snapshots=-0", "refused: a number may have no sign")?;
     drive_expect(
@@ -260,7 +339,7 @@ fn gives(
 }
 
 #[test]
-fn drive_takes_six_options(rt: HostRuntime) -> Result<(), AllocError> {
+fn drive_takes_seven_options(rt: HostRuntime) -> Result<(), AllocError> {
     let words = [
         "lhash",
         "drive",
@@ -274,10 +353,16 @@ fn drive_takes_six_options(rt: HostRuntime) -> Result<(), AllocError> {
         "7",
         "--threads",
         "64",
+        "--shards",
+        "1",
         "--snapshots",
         "5",
     ];
-    gives(&rt, words.as_slice(), "3 2 80 7, 64 threads, 5 snapshots")
+    gives(
+        &rt,
+        words.as_slice(),
+        "3 2 80 7, 64 threads, 1 shards, 5 snapshots",
+    )
 }
 
 #[test]

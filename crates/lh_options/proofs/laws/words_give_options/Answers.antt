@@ -4,7 +4,7 @@ use Rattle.std.proofs.lemmas.Bool.{false≢true}
 use Rattle.clap.proofs.OnLiterals.{clap_on_literals}
 use Rattle.clap.specs.Walk.{is_empty}
 use Rattle.clap.specs.declared.error.kind.ErrorKind.TheVariants as kind
-use Rattle.lh_options.specs.OptionLaws.{GivesApply, GivesBuild, GivesCommands, GivesDrive, GivesReplay, GivesServe, GivesServeImage, GivesSteps, Refuses, apply_alone, apply_with_setting, build_given, check_alone, check_with_option, commands_with_image, draw_alone, drive_alone, drive_given, dump_alone, first_image_applied, first_image_given, help_asked, image_served, image_served_twice, image_with_plus, initial_twice, initial_zero, max_below_initial, max_beside_image, max_given, max_over_limit, max_with_plus, migrate_alone, no_options, no_subcommand, program_version_asked, query_alone, replay_given, snapshots_given, snapshots_over_limit, snapshots_with_minus, steps_given, third_image, threads_over_limit, threads_zero, unknown_option, serve_given}
+use Rattle.lh_options.specs.OptionLaws.{GivesApply, GivesBuild, GivesCommands, GivesDrive, GivesReplay, GivesServe, GivesServeImage, GivesSteps, Refuses, apply_alone, apply_with_setting, build_given, check_alone, check_with_option, commands_with_image, draw_alone, drive_alone, drive_given, dump_alone, first_image_applied, first_image_given, help_asked, image_served, image_served_twice, image_with_plus, initial_twice, initial_zero, max_below_initial, max_beside_image, max_given, max_over_limit, max_with_plus, migrate_alone, no_options, no_subcommand, program_version_asked, query_alone, replay_given, shards_given, shards_over_limit, shards_with_plus, shards_zero, snapshots_given, snapshots_of_shards, snapshots_over_limit, snapshots_with_minus, steps_given, third_image, threads_over_limit, threads_zero, unknown_option, serve_given}
 use Rattle.lh_options.specs.declared.options.ImageVersion.TheVariants.{First, Second}
 use Rattle.lh_options.specs.Options.{Accepts, Asks, AsksForHelp, settings_given, subcommand_named}
 use Rattle.lh_options.proofs.laws.words_give_options.Goals as goal
@@ -41,17 +41,25 @@ migrate : Asks migrate_alone (codes "migrate")
 unfolding clap_on_literals Accepts subcommand_named
 migrate = ((refl, refl), refl)
 
-drive : GivesDrive drive_given (record { initial = 3; capacity = 14; load = 100; max = 65536 }) 64 0
+drive : GivesDrive drive_given (record { initial = 3; capacity = 14; load = 100; max = 65536 }) 64 1 0
 unfolding clap_on_literals Accepts settings_given subcommand_named
-drive = (((refl, refl), refl), refl, refl, refl)
+drive = (((refl, refl), refl), refl, refl, refl, refl)
 
-drive_left_out : GivesDrive drive_alone (record { initial = 1; capacity = 14; load = 100; max = 65536 }) 4 0
+drive_left_out : GivesDrive drive_alone (record { initial = 1; capacity = 14; load = 100; max = 65536 }) 4 1 0
 unfolding clap_on_literals Accepts settings_given subcommand_named
-drive_left_out = (((refl, refl), refl), refl, refl, refl)
+drive_left_out = (((refl, refl), refl), refl, refl, refl, refl)
 
-snapshots : GivesDrive snapshots_given (record { initial = 1; capacity = 14; load = 100; max = 65536 }) 4 1000
+shards : GivesDrive shards_given (record { initial = 1; capacity = 14; load = 100; max = 65536 }) 2 64 0
 unfolding clap_on_literals Accepts settings_given subcommand_named
-snapshots = (((refl, refl), refl), refl, refl, refl)
+shards = (((refl, refl), refl), refl, refl, refl, refl)
+
+snapshots : GivesDrive snapshots_given (record { initial = 1; capacity = 14; load = 100; max = 65536 }) 4 1 1000
+unfolding clap_on_literals Accepts settings_given subcommand_named
+snapshots = (((refl, refl), refl), refl, refl, refl, refl)
+
+of_shards : GivesDrive snapshots_of_shards (record { initial = 1; capacity = 14; load = 100; max = 65536 }) 4 2 1
+unfolding clap_on_literals Accepts settings_given subcommand_named
+of_shards = (((refl, refl), refl), refl, refl, refl, refl)
 
 check : Asks check_alone (codes "check")
 unfolding clap_on_literals Accepts subcommand_named
@@ -113,6 +121,14 @@ too_many_threads : Refuses threads_over_limit
 unfolding clap_on_literals Accepts
 too_many_threads = λ e. false≢true (ap is_empty e.0)
 
+no_shard : Refuses shards_zero
+unfolding clap_on_literals Accepts
+no_shard = λ e. false≢true (ap is_empty e.0)
+
+too_many_shards : Refuses shards_over_limit
+unfolding clap_on_literals Accepts
+too_many_shards = λ e. false≢true (ap is_empty e.0)
+
 too_many_snapshots : Refuses snapshots_over_limit
 unfolding clap_on_literals Accepts
 too_many_snapshots = λ e. false≢true (ap is_empty e.0)
@@ -128,6 +144,10 @@ no_third = λ e. false≢true (ap is_empty e.0)
 no_plus : Refuses max_with_plus
 unfolding clap_on_literals Accepts
 no_plus = λ e. false≢true e.1
+
+no_plus_of_shards : Refuses shards_with_plus
+unfolding clap_on_literals Accepts
+no_plus_of_shards = λ e. false≢true e.1
 
 no_minus : Refuses snapshots_with_minus
 unfolding clap_on_literals Accepts
@@ -173,7 +193,9 @@ returns c = record {
   migrate = migrate;
   drive = drive;
   drive_left_out = drive_left_out;
+  shards = shards;
   snapshots = snapshots;
+  of_shards = of_shards;
   check = check;
   dump = dump;
   draw = draw;
@@ -189,10 +211,13 @@ returns c = record {
   too_small = too_small;
   no_thread = no_thread;
   too_many_threads = too_many_threads;
+  no_shard = no_shard;
+  too_many_shards = too_many_shards;
   too_many_snapshots = too_many_snapshots;
   too_great = too_great;
   no_third = no_third;
   no_plus = no_plus;
+  no_plus_of_shards = no_plus_of_shards;
   no_minus = no_minus;
   no_plus_of_image = no_plus_of_image;
   twice = twice;

@@ -1,5 +1,5 @@
 use Rattle.std.proofs.Common.{◌∙◌, inl, inr}
-use Rattle.lh_options.proofs.Asking.{apply, build, check, commands, drive, draw, dump, migrate, out_of_order, query, replay, serve_by, steps}
+use Rattle.lh_options.proofs.Asking.{apply, build, check, commands, drive_by, draw, dump, migrate, out_of_order, query, replay, serve_by, steps}
 use Rattle.lh_options.proofs.options.asked.Goals as goal
 
 pub returns-in-Some-clause-value : goal.returns-in-Some-clause-value
@@ -42,7 +42,7 @@ returns-in-apply-clause-value c =
 
 pub returns-in-Some-config_of-3-clause-value : goal.returns-in-Some-config_of-3-clause-value
 returns-in-Some-config_of-3-clause-value c =
-    drive _ _ _ _ _ _ _ _ c.in-drive.is c.in-Some-config_of-3.ensures.some c.number.ensures c.number-in-Some-config_of-3.ensures c.in-Some-config_of-3.ensures.in_range.max.0
+    drive_by _ _ _ _ _ _ c.in-drive.is c.in-Some-config_of-3.ensures.some c.in-Some-config_of-3.ensures.in_range.max.0 ∙ c.drive_asked.ensures.value
 
 pub returns-in-None-config_of-3-clause-value : goal.returns-in-None-config_of-3-clause-value
 returns-in-None-config_of-3-clause-value c = out_of_order _ _ _ _ _ (inr (inr (inr (inl c.in-drive.is)))) c.in-None-config_of-3.ensures.none
