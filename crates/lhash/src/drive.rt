@@ -192,7 +192,7 @@ pub fn drive_with<G: Gate + Drop + Sync, R: Threads + Wait + Sync>(
 }
 
 /// How a run ends that has no totals.
-fn undriven(fault: DriveFault) -> Status
+pub(crate) fn undriven(fault: DriveFault) -> Status
     ensures { result ≡ ended_by fault }
 {
     match fault {

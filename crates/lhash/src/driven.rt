@@ -1,5 +1,5 @@
 //! The totals of a settled run.
-ghost use Rattle.std.specs.Prelude.{◌≡◌, ◌-◌, ◌<◌, ◌^◌, ◌++◌, ◌∷◌, [], List, Some, length};
+ghost use Rattle.std.specs.Prelude.{◌≡◌, ◌+◌, ◌-◌, ◌<◌, ◌^◌, ◌++◌, ◌∷◌, [], List, Some, flat_map, length};
 ghost use Rattle.lh_bucket.specs.declared.call.Reply.{Reply as ReplyOf};
 ghost use Rattle.lh_settling.specs.Acts.{replies_of};
 ghost use Rattle.lhash.specs.Driven.{Counts, driven_text, replies_text, snapshots_text};
@@ -57,14 +57,38 @@ impl Driven {
         }
     }
 
+    /// Counts the calls of a history more.
+    fn count_all(&mut self, history: &History)
+        requires { (replies : List ReplyOf) × Counts replies self.old × (length replies + length history.now < 2 ^ 64) }
+        ensures counts { (replies : List ReplyOf) → Counts replies self.old →
+            Counts (replies ++ replies_of history.now) self.new }
+        ensures records { self.new.records ≡ self.old.records }
+    {
+        for stamp in 0..history.len() {
+            self.count(history.at(stamp).reply);
+        }
+    }
+
     /// The totals of a history, whose file has this number of records in the end.
     pub fn of(history: &History, records: u64) -> Driven
         ensures counts { Counts (replies_of history.now) result }
         ensures records { result.records ≡ records }
     {
+        let _few = history.len();
         let mut driven = Driven::idle(records);
-        for stamp in 0..history.len() {
-            driven.count(history.at(stamp).reply);
+        driven.count_all(history);
+        driven
+    }
+
+    /// The totals of several histories, whose files have this number of records together in the end.
+    pub(crate) fn of_all(histories: &[History], records: u64) -> Driven
+        requires { length (flat_map replies_of histories.now) < 2 ^ 64 }
+        ensures counts { Counts (flat_map replies_of histories.now) result }
+        ensures records { result.records ≡ records }
+    {
+        let mut driven = Driven::idle(records);
+        for history in histories {
+            driven.count_all(history);
         }
         driven
     }

@@ -1,16 +1,19 @@
 //! All of the program `lhash` but its process: `run`, from words and bytes to bytes and a status.
 //!
 //! The words are taken apart by `lh_options`. `drive` stands here, which makes the calls of a command script in threads
-//! that share one file, and writes totals; `lh_subcommands` has all others.
+//! that share one file or several shards, and writes totals; `lh_subcommands` has all others.
 #![tactic(auto)]
 
 mod drive;
+mod drive_shards;
 mod driven;
 pub mod laws;
 mod program;
+mod shard_workers;
 mod workers;
 
 pub use drive::{DriveFault, drive_with, drive_with_snapshots};
+pub use drive_shards::{answer_drive_shards, drive_shards_with};
 pub use driven::Driven;
 pub use lh_subcommands::{DeviceFault, InputFault, Status, Unsettled};
 pub use program::{asks_for_image, refuse, run};

@@ -89,7 +89,7 @@ fn work<G: Gate, J: Room, R: Wait>(
 }
 
 /// How many calls of a script `work` makes.
-fn calls_of_thread(calls: &[Call], first: usize, threads: usize) -> usize
+pub(crate) fn calls_of_thread(calls: &[Call], first: usize, threads: usize) -> usize
     requires { 0 < threads }
     ensures { result ≡ places_from first threads (length calls.now) }
 {

@@ -1,0 +1,34 @@
+use Rattle.std.proofs.Common.{◌∙◌, ◌+◌, ◌-◌, length, ap, sym, arith}
+use Rattle.lhash.proofs.Places.{places_before, places_before-more, places_before-within}
+use Rattle.lhash.proofs.ShardHands.{have_fewer}
+use Rattle.lhash.proofs.shard_workers.fn.work_in_threads.scope.Goals as goal
+
+pub divide-requires : goal.divide-requires
+divide-requires g c =
+    let calls = length c.captures.calls.now in
+    let first = c.loop-first.first in
+    let more = places_before-more first c.captures.threads calls c.loop-first-test.true in
+    let within = places_before-within (first + 1) c.captures.threads calls c.requires.threads (omega (arith, c.loop-first-test.true)) in record {
+      of = c.loop-first.invariant.of;
+      enough = have_fewer (calls - places_before first c.captures.threads calls) c.calls_of_thread-share.result c.loop-first.all
+          (omega (arith, c.calls_of_thread-share.ensures, more, within)) c.loop-first.invariant.enough;
+    }
+
+pub loop-first-preserved : goal.loop-first-preserved
+loop-first-preserved g c =
+    let calls = length c.captures.calls.now in
+    let first = c.loop-first.first in
+    let share = c.calls_of_thread-share.result in
+    let more = places_before-more first c.captures.threads calls c.loop-first-test.true in
+    let within = places_before-within (first + 1) c.captures.threads calls c.requires.threads (omega (arith, c.loop-first-test.true)) in
+    let rest = calls - places_before (first + 1) c.captures.threads calls in
+    let kept = c.keep.ensures.calls c.if-not-keep.false in
+    let promised = ap (λ p. p.calls) c.in-Ok.ensures.ok in record {
+      of = c.divide.ensures.of;
+      each = c.keep.ensures.all;
+      dealt = kept ∙ omega (arith, promised, c.calls_of_thread-share.ensures, c.loop-first.invariant.dealt) ∙ sym more;
+      acts = c.in_ok-part.ensures.kept.acts ∙ c.loop-first.invariant.acts;
+      enough = c.in_ok-part.ensures.kept.left rest
+          (have_fewer (calls - places_before first c.captures.threads calls) (rest + share) c.loop-first.all
+          (omega (arith, c.calls_of_thread-share.ensures, more, within)) c.loop-first.invariant.enough);
+    }

@@ -1,0 +1,21 @@
+use Rattle.std.proofs.Common.{◌≡◌, ◌∷◌, All, ap, subst, rules, arith}
+use Rattle.std.specs.Prelude.{sum_by}
+use Rattle.std.proofs.lemmas.List.Elements.{All-tail}
+use Rattle.std.proofs.lemmas.List.Sums.{sum_by-cons}
+use Rattle.std.specs.Vec.Iter.{into_iter_items}
+use Rattle.std.specs.declared.thread.PromisedHandle.{PromisedHandle}
+use Rattle.lhash.specs.declared.shard_workers.Part.{Part}
+use Rattle.lhash.specs.declared.shard_workers.Worked.{Worked}
+use Rattle.lhash.proofs.shard_workers.join_all.Goals as goal
+
+pub loop-worker-preserved : goal.loop-worker-preserved
+loop-worker-preserved g c =
+    let Handle = PromisedHandle Worked Part in
+    let met = λ (worker : Handle). worker.promise.shards.now ≡ c.args.shards.now in
+    let calls = λ (worker : Handle). worker.promise.calls in
+    let e : into_iter_items c.loop-worker.worker-iterator ≡ c.in-Some.worker ∷ into_iter_items c.next.new.self = search rules in
+    let cons = sum_by-cons calls c.in-Some.worker (into_iter_items c.next.new.self) in record {
+      hands = search rules;
+      each = All-tail met c.in-Some.worker (into_iter_items c.next.new.self) (subst (All met) e c.loop-worker.invariant.each);
+      made = omega (arith, ap (sum_by calls) e, cons, c.in_ok-hands.ensures.made, c.loop-worker.invariant.made);
+    }

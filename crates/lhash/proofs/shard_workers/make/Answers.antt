@@ -1,0 +1,30 @@
+use Rattle.lhash.proofs.ShardHands.{call_made, call_refused}
+use Rattle.lhash.proofs.shard_workers.make.Goals as goal
+
+pub returns-in-Search-clause-made : goal.returns-in-Search-clause-made
+returns-in-Search-clause-made g c =
+    call_made _ _ _ _ _ c.search.result c.requires.of c.requires.records c.search.ensures.served
+
+pub returns-in-Insert-clause-made : goal.returns-in-Insert-clause-made
+returns-in-Insert-clause-made g c =
+    call_made _ _ _ _ _ c.insert.result c.requires.of c.requires.records c.insert.ensures.served
+
+pub returns-in-Delete-clause-made : goal.returns-in-Delete-clause-made
+returns-in-Delete-clause-made g c =
+    call_made _ _ _ _ _ c.delete.result c.requires.of c.requires.records c.delete.ensures.served
+
+pub returns-in-Replace-clause-made : goal.returns-in-Replace-clause-made
+returns-in-Replace-clause-made g c =
+    call_made _ _ _ _ _ c.replace.result c.requires.of c.requires.records c.replace.ensures.served
+
+pub returns-in-Search-clause-err : goal.returns-in-Search-clause-err
+returns-in-Search-clause-err g c = call_refused _ _ _ _ _ c.search.result c.requires.enough c.search.ensures.served
+
+pub returns-in-Insert-clause-err : goal.returns-in-Insert-clause-err
+returns-in-Insert-clause-err g c = call_refused _ _ _ _ _ c.insert.result c.requires.enough c.insert.ensures.served
+
+pub returns-in-Delete-clause-err : goal.returns-in-Delete-clause-err
+returns-in-Delete-clause-err g c = call_refused _ _ _ _ _ c.delete.result c.requires.enough c.delete.ensures.served
+
+pub returns-in-Replace-clause-err : goal.returns-in-Replace-clause-err
+returns-in-Replace-clause-err g c = call_refused _ _ _ _ _ c.replace.result c.requires.enough c.replace.ensures.served

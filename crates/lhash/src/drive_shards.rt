@@ -1,0 +1,110 @@
+//! The subcommand `drive` on several shards: a command script in threads, on several files as one table, settled, from its
+//! bytes to its totals.
+ghost use Rattle.std.specs.Prelude.{◌≡◌, ◌≤◌, ◌-◌, ◌^◌, ◌<◌, All, IfErr, IfOk, IfSome, List, length, min, sum_by};
+ghost use Rattle.lh_bucket.specs.declared.call.Call.{Call as CallOf};
+ghost use Rattle.lh_bucket.specs.Listing.{count_of};
+ghost use Rattle.lh_shards.specs.Hands.{IsCount};
+ghost use Rattle.lhash.specs.DrivingShards.{EndsDrivingShards, IsDrivenShards, IsDriveShardsFault, acts_in};
+
+use crate::drive::{DriveFault, undriven};
+use crate::driven::Driven;
+use crate::shard_workers::work_in_threads;
+use lh_addr::Config;
+use lh_bucket::Call;
+use lh_shards::{ClosedShards, CreateFault, Shards, empty_listings};
+use lh_subcommands::{DeviceFault, Status, read_script, write_all};
+use std::alloc::Global;
+use std::io::{Read, Write};
+use std::sync::Wait;
+use std::thread::Threads;
+
+/// The number of records of all shards, where it is below 2^64; more would be told as 2^64 - 1.
+fn records_in(closed: &ClosedShards) -> u64
+    ensures { result ≡ min (sum_by (λ shard. count_of shard.closed.lists) closed.now) (2 ^ 64 - 1) }
+{
+    let mut records = 0_u64;
+    for shard in 0..closed.count() {
+        records = records.saturating_add(closed.shard(shard).closed.records());
+    }
+    records
+}
+
+/// Settles closed shards that were created empty, and counts what was done with all of them.
+fn totals(alloc: Global, config: Config, closed: &ClosedShards) -> Result<Driven, DriveFault>
+    requires configs { All (λ shard. shard.closed.config ≡ config) closed.now }
+    requires few { acts_in closed.now < 2 ^ 64 }
+    ensures ok { IfOk result (λ d. (calls : List CallOf) → length calls ≡ acts_in closed.now →
+        IsDrivenShards config (length closed.now) calls d) }
+    ensures err { IfErr result (IsDriveShardsFault config (length closed.now)) }
+{
+    let openings = empty_listings(alloc, config, closed.count())?;
+    match closed.settle(alloc, &openings) {
+        Ok(histories) => Ok(Driven::of_all(&histories, records_in(closed))),
+        Err(at) => Err(DriveFault::from(at.fault)),
+    }
+}
+
+/// Runs calls in threads on so many empty shards of this configuration, and settles what they did. The call at place `j`
+/// is made by thread `j % threads`, and each thread makes its calls in their order.
+///
+/// The totals are those of one history of one map, which has as many calls as the script: the shards' histories, one after
+/// another. Which histories they are depends on how the threads' calls fall together; where all calls on each key go to one
+/// thread, the replies don't.
+///
+/// If a thread can't be started, or a call isn't answered, all threads that run are waited for, and the fault is answered.
+/// A fault of settling is that of the first shard that has one.
+pub fn drive_shards_with<R: Threads + Wait + Sync>(
+    rt: &R,
+    alloc: Global,
+    config: Config,
+    calls: &[Call],
+    threads: u32,
+    shards: u32,
+) -> Result<Driven, DriveFault>
+    requires threads { 1 ≤ threads }
+    requires shards { IsCount shards }
+    ensures ok { IfOk result (IsDrivenShards config shards calls.now) }
+    ensures err { IfErr result (IsDriveShardsFault config shards) }
+{
+    let (shards, hands) = match Shards::create(alloc, config, shards, true) {
+        Ok(created) => created,
+        Err(CreateFault::Memory) => return Err(DriveFault::Memory),
+        Err(CreateFault::Count) => unreachable!(),
+    };
+    let hands = work_in_threads(rt, alloc, &shards, hands, calls, threads as usize)?;
+    let closed = shards.close(rt, hands)?;
+    totals(alloc, config, &closed)
+}
+
+/// Reads a command script whole, makes its calls in threads on so many shards, and writes the totals of what is settled.
+pub fn answer_drive_shards<A: Threads + Wait + Sync, R: Read, W: Write>(
+    rt: &A,
+    alloc: Global,
+    config: Config,
+    threads: u32,
+    shards: u32,
+    reader: &mut R,
+    writer: &mut W,
+) -> Status
+    requires threads { 1 ≤ threads }
+    requires shards { IsCount shards }
+    ensures { IfSome (R.remaining reader.old) (λ input.
+        EndsDrivingShards config shards input result (W.contents writer.old) (W.contents writer.new)) }
+{
+    let calls: Vec<Call> = match read_script(alloc, reader) {
+        Ok(calls) => calls,
+        Err(status) => return status,
+    };
+    let calls = calls.as_slice();
+    let driven = match drive_shards_with(rt, alloc, config, calls, threads, shards) {
+        Ok(driven) => driven,
+        Err(fault) => return undriven(fault),
+    };
+    let Ok(text) = format!(in alloc; "{driven}") else {
+        return Status::Memory;
+    };
+    match write_all(writer, text.as_bytes()) {
+        Ok(()) => Status::Done,
+        Err(_) => Status::Device(DeviceFault::Write),
+    }
+}
