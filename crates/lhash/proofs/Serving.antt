@@ -1,5 +1,5 @@
 -- What follows of a run for the words of each kind
-use Rattle.std.proofs.Common.{◌≡◌, ◌∙◌, ℕ, Bool, false, ◌<◌, ◌≤◌, List, Option, None, Some, IfSome, inl, inr, refl, sym, ap, subst, codes}
+use Rattle.std.proofs.Common.{◌≡◌, ◌==◌, ◌||◌, ◌∙◌, ℕ, Bool, true, false, cond, ◌<◌, ◌≤◌, List, Option, None, Some, IfSome, inl, inr, refl, sym, ap, subst, codes}
 use Rattle.std.specs.Prelude.{option_and_then, option_map, Result, Ok, Err}
 use Rattle.std.specs.String.{string_bytes}
 use Rattle.std.specs.Io.KnownBytes.{Keeps}
@@ -15,12 +15,13 @@ use Rattle.lh_options.specs.declared.options.Request.{Request}
 use Rattle.lh_options.specs.declared.options.Request.TheVariants as request
 use Rattle.lh_script.specs.declared.fault.ScriptFault.{ScriptFault}
 use Rattle.lhash.specs.Driving.{EndsDriving}
+use Rattle.lhash.specs.DrivingShards.{EndsDrivingShards}
 use Rattle.lh_subcommands.specs.Continued.{EndsApplying, EndsLeaving, query_due, script_behind}
 use Rattle.lh_subcommands.specs.Images.{EndsBuilding, check_due, draw_due, dump_due, migrate_due}
 use Rattle.lh_subcommands.specs.Run.{EndsReplay, EndsSteps}
 use Rattle.lh_serving.specs.Answers.{FileSeen, first_file}
 use Rattle.lh_subcommands.specs.Serve.{EndsServing}
-use Rattle.lhash.specs.Serving.{Ending, EndsCommands, EndsTold, IsHelped, IsRun, IsTurnedAway, IsWordsOf, RefusesBelow, RefusesBeside, Serves, ServesApply, ServesBuild, ServesClient, ServesDrive, ServesFile, ServesFrom, ServesImage, TurnsAway, below_initial, beside_image, wanted_version}
+use Rattle.lhash.specs.Serving.{Ending, EndsCommands, EndsDrivingIn, EndsTold, IsHelped, IsRun, IsTurnedAway, IsWordsOf, RefusesBelow, RefusesBeside, RefusesSnapshots, Serves, ServesApply, ServesBuild, ServesClient, ServesDrive, ServesFile, ServesFrom, ServesImage, TurnsAway, below_initial, beside_image, snapshots_of_shards, wanted_version}
 use Rattle.lh_subcommands.specs.declared.status.DeviceFault.TheVariants.{Read, Write}
 use Rattle.lh_subcommands.specs.declared.status.Status.{Status}
 use Rattle.lh_subcommands.specs.declared.status.Status.TheVariants.{Done, Input, Words, Device, Memory, NotSettled}
@@ -111,27 +112,46 @@ serves_build words status left rest before now settings n asks given image withi
     (λ h. h) (λ input keeps. keeps) asks
     (build (codes "build") _ _ (image_begins words) (settings_typed words) settings (version_numbered n) refl given (ap (option_map version_numbered) image) within) run
 
+-- a run in threads that ended out of memory wrote nothing
+driven_nothing : (one : Bool) (settings : Settings) (shards snapshots : ℕ) (input : List ℕ) (before now : Option (List ℕ)) → Keeps before now →
+    EndsDrivingIn one settings shards snapshots input Memory before now
+unfolding EndsDriving EndsDrivingShards
+driven_nothing true settings shards snapshots input before now keeps = keeps
+driven_nothing false settings shards snapshots input before now keeps = keeps
+
 -- words that ask for a run in threads give their number, or ask for nothing
-driven : (words : List Text) (status : Status) (left rest before now : Option (List ℕ)) (settings : Settings) (snapshots : ℕ) (threads : Option ℕ) →
+driven : (words : List Text) (status : Status) (left rest before now : Option (List ℕ)) (settings : Settings) (shards snapshots : ℕ) (threads : Option ℕ) →
     number_given words (codes "threads") ≡ threads → Asks words (codes "drive") → settings_given words ≡ Some settings →
-    number_given words (codes "snapshots") ≡ Some snapshots → settings.initial ≤ settings.max →
-    IsRun words status left rest before now → IfSome left (λ input. EndsDriving settings snapshots input status before now)
-unfolding EndsDriving
-driven words status left rest before now settings k (Some n) counted asks given taken within run =
-    served words status left rest before now (codes "drive") (request.Drive settings n k) (EndsDriving settings k)
-    (λ h. h) (λ input keeps. keeps) asks (drive (codes "drive") _ _ (image_begins words) (settings_typed words) settings n k refl given counted taken within) run
-driven words status left rest before now settings k None counted asks given taken within (inl run) =
+    number_given words (codes "shards") ≡ Some shards → number_given words (codes "snapshots") ≡ Some snapshots → (shards == 1 || snapshots == 0) ≡ true →
+    settings.initial ≤ settings.max → IsRun words status left rest before now →
+    IfSome left (λ input. EndsDrivingIn (shards == 1) settings shards snapshots input status before now)
+driven words status left rest before now settings h k (Some n) counted asks given parts taken allowed within run =
+    served words status left rest before now (codes "drive") (request.Drive settings n h k) (EndsDrivingIn (h == 1) settings h k)
+    (λ h. h) (λ input keeps. driven_nothing (h == 1) settings h k input before now keeps) asks
+    (drive (codes "drive") _ _ (image_begins words) (settings_typed words) settings n h k refl given counted parts taken within
+    ∙ ap (λ b. Some (cond b (request.Drive settings n h k) request.SnapshotsOfShards)) allowed) run
+driven words status left rest before now settings h k None counted asks given parts taken allowed within (inl run) =
     let none : asked_by (codes "drive") (settings_given words) (number_given words) (image_begins words) (settings_typed words) ≡ None =
-    undriven (codes "drive") _ _ (image_begins words) (settings_typed words) settings refl given counted within in
+    undriven (codes "drive") _ _ (image_begins words) (settings_typed words) settings refl given (inl counted) within in
     let some = asked_named words (codes "drive") run.0 asks run.1 in
     let apart : Some run.0 ≡ None = sym some ∙ none in
     absurd cc
-driven words status left rest before now settings k None counted asks given taken within (inr run) =
-    unwritten (EndsDriving settings k) status left before now (λ input keeps. keeps) run.0 run.2
+driven words status left rest before now settings h k None counted asks given parts taken allowed within (inr run) =
+    unwritten (EndsDrivingIn (h == 1) settings h k) status left before now (λ input keeps. driven_nothing (h == 1) settings h k input before now keeps) run.0 run.2
 
 pub serves_drive : ServesDrive
-serves_drive words status left rest before now settings snapshots asks given taken within run =
-    driven words status left rest before now settings snapshots (number_given words (codes "threads")) refl asks given taken within run
+serves_drive words status left rest before now settings shards snapshots asks given parts taken allowed within run =
+    driven words status left rest before now settings shards snapshots (number_given words (codes "threads")) refl asks given parts taken allowed within run
+
+pub refuses_snapshots : RefusesSnapshots
+refuses_snapshots words status left rest before now settings n h k asks given counted parts taken apart within (inl run) =
+    let is = drive (codes "drive") _ _ (image_begins words) (settings_typed words) settings n h k refl given counted parts taken within
+    ∙ ap (λ b. Some (cond b (request.Drive settings n h k) request.SnapshotsOfShards)) apart in
+    let same : Some run.0 ≡ Some request.SnapshotsOfShards = sym (asked_named words (codes "drive") run.0 asks run.1) ∙ is in
+    let one : run.0 ≡ request.SnapshotsOfShards = cc in
+    subst (λ (x : Request). Serves x status left rest before now) one run.2
+refuses_snapshots words status left rest before now settings n h k asks given counted parts taken apart within (inr run) =
+    (subst (IsWordsOf snapshots_of_shards) (sym run.0) tt, run.1, run.2)
 
 -- a run for words that ask for a subcommand which takes no settings served it, or ran out of memory
 serves_alone : (words : List Text) (status : Status) (left rest before now : Option (List ℕ)) (name : Text) (r : Request) (EndsWith : Ending)
@@ -248,8 +268,9 @@ turned words (request.Replay config) status left rest before now is serves = abs
 turned words (request.Serve config) status left rest before now is serves = absurd is
 turned words request.ServeImage status left rest before now is serves = absurd is
 turned words request.SettingsBesideImage status left rest before now is serves = absurd is
+turned words request.SnapshotsOfShards status left rest before now is serves = absurd is
 turned words (request.Build config image) status left rest before now is serves = absurd is
-turned words (request.Drive config threads snapshots) status left rest before now is serves = absurd is
+turned words (request.Drive config threads shards snapshots) status left rest before now is serves = absurd is
 turned words request.Check status left rest before now is serves = absurd is
 turned words request.Dump status left rest before now is serves = absurd is
 turned words request.Draw status left rest before now is serves = absurd is

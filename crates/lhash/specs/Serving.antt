@@ -1,11 +1,12 @@
 -- How a run answers its words
-use Rattle.std.specs.Prelude.{◌≡◌, ◌⊎◌, ℕ, ◌<◌, ◌≤◌, Bool, false, true, List, Option, Some, IfSome, Result, codes}
+use Rattle.std.specs.Prelude.{◌≡◌, ◌⊎◌, ◌==◌, ◌||◌, ℕ, ◌<◌, ◌≤◌, Bool, false, true, List, Option, Some, IfSome, Result, codes}
 use Rattle.std.specs.String.{string_bytes}
 use Rattle.std.specs.Io.KnownBytes.{Appends, Keeps}
 use Rattle.lh_subcommands.specs.Devices.{TakesBeginning}
 use Rattle.lh_image.specs.declared.version.Version.{Version}
 use Rattle.lh_image.specs.declared.version.Version.TheVariants.{One, Two}
 use Rattle.lhash.specs.Driving.{EndsDriving}
+use Rattle.lhash.specs.DrivingShards.{EndsDrivingShards}
 use Rattle.lh_subcommands.specs.Continued.{EndsApplying, query_due}
 use Rattle.lh_subcommands.specs.Images.{EndsBuilding, check_due, draw_due, dump_due, migrate_due}
 use Rattle.lh_addr.specs.Settings.{Settings}
@@ -17,7 +18,7 @@ use Rattle.lh_subcommands.specs.Serve.{EndsServing, EndsServingFrom}
 use Rattle.lh_options.specs.declared.options.ImageVersion.{ImageVersion}
 use Rattle.lh_options.specs.declared.options.ImageVersion.TheVariants.{First, Second}
 use Rattle.lh_options.specs.declared.options.Request.{Request}
-use Rattle.lh_options.specs.declared.options.Request.TheVariants.{Commands, Steps, Replay, Build, Check, Draw, Dump, Drive, Migrate, Query, Apply, Serve, ServeImage, Help, Refused, MaxBelowInitial, SettingsBesideImage}
+use Rattle.lh_options.specs.declared.options.Request.TheVariants.{Commands, Steps, Replay, Build, Check, Draw, Dump, Drive, Migrate, Query, Apply, Serve, ServeImage, Help, Refused, MaxBelowInitial, SettingsBesideImage, SnapshotsOfShards}
 use Rattle.lh_subcommands.specs.declared.status.DeviceFault.TheVariants.{Write}
 use Rattle.lh_subcommands.specs.declared.status.InputFault.{InputFault}
 use Rattle.lh_subcommands.specs.declared.status.Status.{Status}
@@ -47,6 +48,16 @@ below_initial = codes "max is less than initial"
 abbrev pub beside_image : List ℕ
 beside_image = codes "the configuration is the image's"
 
+-- snapshots of more shards than one
+abbrev pub snapshots_of_shards : List ℕ
+snapshots_of_shards = codes "snapshots are of one shard"
+
+-- how `drive` ends: on one file, with snapshots or without, or on several shards
+abbrev pub EndsDrivingIn : Bool → Settings → ℕ → ℕ → List ℕ → Status → Option (List ℕ) → Option (List ℕ) → Type 0
+EndsDrivingIn true settings shards snapshots input status before now = EndsDriving settings snapshots input status before now
+EndsDrivingIn false settings shards snapshots input status before now =
+    EndsDrivingShards settings shards input status before now
+
 -- the version of an image that is asked for
 abbrev pub wanted_version : ImageVersion → Version
 wanted_version First = One
@@ -67,8 +78,8 @@ Serves Migrate status left rest before now = IfSome left (λ input. Ends status 
 Serves Query status left rest before now = IfSome left (λ input. Ends status (query_due input) before now)
 Serves (Apply image) status left rest before now =
     IfSome left (λ input. EndsApplying (wanted_version image) input status before now)
-Serves (Drive config threads snapshots) status left rest before now =
-    IfSome left (λ input. EndsDriving config snapshots input status before now)
+Serves (Drive config threads shards snapshots) status left rest before now =
+    IfSome left (λ input. EndsDrivingIn (shards == 1) config shards snapshots input status before now)
 Serves (Serve config) status left rest before now =
     IfSome left (λ input. EndsServing (first_file config) input status rest before now)
 Serves ServeImage status left rest before now =
@@ -78,6 +89,8 @@ Serves (Refused text) status left rest before now = (status ≡ Words text) × K
 Serves MaxBelowInitial status left rest before now = IsWordsOf below_initial status × Keeps left rest × Keeps before now
 Serves SettingsBesideImage status left rest before now =
     IsWordsOf beside_image status × Keeps left rest × Keeps before now
+Serves SnapshotsOfShards status left rest before now =
+    IsWordsOf snapshots_of_shards status × Keeps left rest × Keeps before now
 
 -- whether a request has an image written
 abbrev pub is_image_written : Request → Bool
@@ -160,13 +173,15 @@ ServesBuild =
     settings.initial ≤ settings.max → IsRun words status left rest before now →
     IfSome left (λ input. EndsBuilding (wanted_version (version_numbered n)) settings input status before now)
 
--- a run for words that ask for `drive`, and give settings in order and a number of snapshots, ends by them
+-- a run for words that ask for `drive`, and give settings in order and the numbers of shards and of snapshots, where it is one
+-- shard or no snapshot, ends by them
 abbrev pub ServesDrive : Type 0
 ServesDrive =
-    (words : List Text) (status : Status) (left rest before now : Option (List ℕ)) (settings : Settings) (n : ℕ) →
-    Asks words (codes "drive") → settings_given words ≡ Some settings →
-    number_given words (codes "snapshots") ≡ Some n → settings.initial ≤ settings.max →
-    IsRun words status left rest before now → IfSome left (λ input. EndsDriving settings n input status before now)
+    (words : List Text) (status : Status) (left rest before now : Option (List ℕ)) (settings : Settings) (shards n : ℕ) →
+    Asks words (codes "drive") → settings_given words ≡ Some settings → number_given words (codes "shards") ≡ Some shards →
+    number_given words (codes "snapshots") ≡ Some n → (shards == 1 || n == 0) ≡ true → settings.initial ≤ settings.max →
+    IsRun words status left rest before now →
+    IfSome left (λ input. EndsDrivingIn (shards == 1) settings shards n input status before now)
 
 -- a run for words that ask for this subcommand, which reads an image, ends so
 abbrev pub ServesImage : Text → Ending → Type 0
@@ -196,6 +211,16 @@ RefusesBeside =
     (words : List Text) (status : Status) (left rest before now : Option (List ℕ)) →
     Asks words (codes "serve") → image_begins words ≡ true → settings_typed words ≡ true →
     IsRun words status left rest before now → IsWordsOf beside_image status × Keeps left rest × Keeps before now
+
+-- a run for words of `drive` that ask for snapshots of more shards than one, with settings in order, refuses them
+abbrev pub RefusesSnapshots : Type 0
+RefusesSnapshots =
+    (words : List Text) (status : Status) (left rest before now : Option (List ℕ)) (settings : Settings)
+    (threads shards n : ℕ) →
+    Asks words (codes "drive") → settings_given words ≡ Some settings → number_given words (codes "threads") ≡ Some threads →
+    number_given words (codes "shards") ≡ Some shards → number_given words (codes "snapshots") ≡ Some n →
+    (shards == 1 || n == 0) ≡ false → settings.initial ≤ settings.max → IsRun words status left rest before now →
+    IsWordsOf snapshots_of_shards status × Keeps left rest × Keeps before now
 
 -- a run for words that are not accepted turns them away, and nothing is read
 abbrev pub TurnsAway : Type 0

@@ -4,7 +4,7 @@ ghost use Rattle.std.specs.Prelude.{codes};
 ghost use Rattle.lh_subcommands.specs.Continued.{query_due};
 ghost use Rattle.lh_subcommands.specs.Images.{check_due, draw_due, dump_due, migrate_due};
 ghost use Rattle.lh_subcommands.specs.Run.{EndsReplay, EndsSteps};
-ghost use Rattle.lhash.specs.Serving.{EndsCommands, EndsTold, RefusesBelow, RefusesBeside, ServesApply, ServesBuild, ServesClient, ServesDrive, ServesFile, ServesFrom, ServesImage, TurnsAway};
+ghost use Rattle.lhash.specs.Serving.{EndsCommands, EndsTold, RefusesBelow, RefusesBeside, RefusesSnapshots, ServesApply, ServesBuild, ServesClient, ServesDrive, ServesFile, ServesFrom, ServesImage, TurnsAway};
 
 /// Words that ask for `commands` have the replies of one plain map to the script's calls written, and the number of
 /// buckets that the split policy gives; or the run ends at the script's first fault, with nothing written.
@@ -30,6 +30,7 @@ pub fn build_is_served()
 
 /// Words that ask for `drive` have the totals written of a settled, legal history; and, where they give a number of
 /// snapshots, that as many were taken, each of which is settled with the acts before it, the first part of that history.
+/// On several shards the history is a merge of theirs, legal for one map, of which the shards hold the parts.
 pub fn drive_is_served()
     ensures { ServesDrive }
 {}
@@ -88,6 +89,11 @@ pub fn settings_out_of_order_are_refused()
 /// Words of `serve --image` that give an option of the configuration are refused, with nothing read and nothing written.
 pub fn settings_beside_an_image_are_refused()
     ensures { RefusesBeside }
+{}
+
+/// Words of `drive` that ask for snapshots of more shards than one are refused, with nothing read and nothing written.
+pub fn snapshots_of_shards_are_refused()
+    ensures { RefusesSnapshots }
 {}
 
 /// Words that clap doesn't accept are refused, or ask for help or the version; nothing is read.

@@ -13,7 +13,7 @@ mod shard_workers;
 mod workers;
 
 pub use drive::{DriveFault, drive_with, drive_with_snapshots};
-pub use drive_shards::{answer_drive_shards, drive_shards_with};
+pub use drive_shards::drive_shards_with;
 pub use driven::Driven;
 pub use lh_subcommands::{DeviceFault, InputFault, Status, Unsettled};
 pub use program::{asks_for_image, refuse, run};

@@ -1,9 +1,12 @@
 //! The program, from words and bytes to bytes and a status.
-ghost use Rattle.std.specs.Prelude.{◌≡◌, Bool, IfOk, map};
+ghost use Rattle.std.specs.Prelude.{◌≡◌, ◌≤◌, ◌==◌, Bool, IfOk, IfSome, map};
+ghost use Rattle.lh_shards.specs.Hands.{IsCount};
 ghost use Rattle.lh_options.specs.Options.{IsServable};
-ghost use Rattle.lhash.specs.Serving.{IsHelped, IsRun, IsWhetherImageAsked, IsWordsOf, Serves, wanted_version};
+ghost use Rattle.lhash.specs.Serving.{EndsDrivingIn, IsHelped, IsRun, IsWhetherImageAsked, IsWordsOf, Serves, wanted_version};
 
 use crate::drive::answer_drive;
+use crate::drive_shards::answer_drive_shards;
+use lh_addr::Config;
 use lh_image::Version;
 use lh_options::{ImageVersion, Request, request_of};
 use lh_subcommands::{
@@ -46,6 +49,29 @@ fn version_of(asked: ImageVersion) -> Version
     }
 }
 
+/// Runs a script in threads, on one file or on several shards.
+fn drive<A: Threads + Wait + Sync, R: Read, W: Write>(
+    rt: &A,
+    alloc: Global,
+    config: Config,
+    threads: u32,
+    shards: u32,
+    snapshots: u32,
+    reader: &mut R,
+    writer: &mut W,
+) -> Status
+    requires threads { 1 ≤ threads }
+    requires shards { IsCount shards }
+    ensures { IfSome (R.remaining reader.old) (λ input. EndsDrivingIn (shards == 1) config shards snapshots input result
+        (W.contents writer.old) (W.contents writer.new)) }
+{
+    if shards == 1 {
+        answer_drive(rt, alloc, config, threads, snapshots, reader, writer)
+    } else {
+        answer_drive_shards(rt, alloc, config, threads, shards, reader, writer)
+    }
+}
+
 /// Does what is asked for.
 fn serve<A: Threads + Wait + Sync, R: Read, W: Write>(
     rt: &A,
@@ -74,14 +100,18 @@ fn serve<A: Threads + Wait + Sync, R: Read, W: Write>(
         Request::Drive {
             config,
             threads,
+            shards,
             snapshots,
-        } => answer_drive(rt, alloc, config, threads, snapshots, reader, writer),
+        } => drive(
+            rt, alloc, config, threads, shards, snapshots, reader, writer,
+        ),
         Request::Serve(config) => answer_serve(alloc, config, reader, writer),
         Request::ServeImage => answer_serve_from(alloc, reader, writer),
         Request::Help(text) => write_help(writer, text.as_str()),
         Request::Refused(text) => Status::Words(text),
         Request::MaxBelowInitial => refuse(alloc, "max is less than initial"),
         Request::SettingsBesideImage => refuse(alloc, "the configuration is the image's"),
+        Request::SnapshotsOfShards => refuse(alloc, "snapshots are of one shard"),
     }
 }
 

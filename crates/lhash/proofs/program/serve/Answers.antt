@@ -17,7 +17,7 @@ pub returns-in-Draw : goal.returns-in-Draw
 returns-in-Draw g c = served_as c.in-Draw.is _ _ _ _ _ c.answer_draw.ensures
 
 pub returns-in-Drive : goal.returns-in-Drive
-returns-in-Drive g c = served_as c.in-Drive.is _ _ _ _ _ c.answer_drive.ensures
+returns-in-Drive g c = served_as c.in-Drive.is _ _ _ _ _ c.drive.ensures
 
 pub returns-in-Refused : goal.returns-in-Refused
 returns-in-Refused g c = served_as c.in-Refused.is _ _ _ _ _ (refl, Keeps-refl _, Keeps-refl _)
@@ -48,6 +48,9 @@ returns-in-ServeImage g c = served_as c.in-ServeImage.is _ _ _ _ _ c.answer_serv
 
 pub returns-in-SettingsBesideImage : goal.returns-in-SettingsBesideImage
 returns-in-SettingsBesideImage g c = served_as c.in-SettingsBesideImage.is _ _ _ _ _ (search Keeps-refl)
+
+pub returns-in-SnapshotsOfShards : goal.returns-in-SnapshotsOfShards
+returns-in-SnapshotsOfShards g c = served_as c.in-SnapshotsOfShards.is _ _ _ _ _ (search Keeps-refl)
 
 pub returns-in-Query : goal.returns-in-Query
 returns-in-Query g c = served_as c.in-Query.is _ _ _ _ _ c.answer_query.ensures
