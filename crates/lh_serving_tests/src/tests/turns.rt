@@ -127,31 +127,39 @@ const EMPTY_IMAGE: usize = 8_192;
 fn an_image_is_told_before_what_comes_behind_it(rt: HostRuntime) -> Result<(), Fail> {
     // Three lines at once: the image stands between the answers to the other two.
     let all: [&[u8]; 1] = [b"records\nimage\nbuckets\nrec"];
-    let front = b"records 0\nimage 8192\n";
+    let front = b"records 0\nimage 8192\nLHF2";
     let behind = b"buckets 1\n";
-    let length = front.len() + EMPTY_IMAGE + behind.len();
+    let length = front.len() - 4 + EMPTY_IMAGE + behind.len();
     let told_at_once = told(&rt, all.as_slice(), false, [0, length].as_slice())?;
     assert_eq!(rt; told_at_once.len(), length);
     assert!(rt; told_at_once.as_slice().starts_with(front.as_slice()));
-    let image = &told_at_once.as_slice()[front.len()..front.len() + EMPTY_IMAGE];
-    assert!(rt; image.starts_with(b"LHF2".as_slice()));
     assert!(rt; told_at_once.as_slice().ends_with(behind.as_slice()));
-    // The same image, sent in pieces of as many bytes as are read at once, is gone on from.
-    let pieces: [&[u8]; 4] = [
-        &image[..1_024],
-        &image[1_024..4_096],
-        &image[4_096..],
-        b"insert 61 31\nrecords\nimage\n",
-    ];
+    Ok(())
+}
+
+/// A conversation that goes on from the image that is told behind a first line, and is sent in pieces of as many bytes as are
+/// read at once.
+fn goes_on(rt: &(impl AllocGlobal + Abort), line: &[u8], told_first: &[u8]) -> Result<(), Fail> {
+    if told_first.len() != line.len() + EMPTY_IMAGE {
+        return Err(Fail::from("no image of an empty file"));
+    }
+    let image = &told_first[line.len()..];
+    let (first, rest) = image.split_at(1_024);
+    let (second, last) = rest.split_at(3_072);
+    let pieces: [&[u8]; 4] = [first, second, last, b"insert 61 31\nrecords\nimage\n"];
     let answers = b"inserted\nrecords 1\nimage 8192\n";
     let length = answers.len() + EMPTY_IMAGE;
-    let next = told(
-        &rt,
-        pieces.as_slice(),
-        true,
-        [0, 0, 0, 0, length].as_slice(),
-    )?;
+    let next = told(rt, pieces.as_slice(), true, [0, 0, 0, 0, length].as_slice())?;
     assert_eq!(rt; next.len(), length);
     assert!(rt; next.as_slice().starts_with(answers.as_slice()));
     Ok(())
+}
+
+#[test]
+fn a_conversation_goes_on_from_its_image(rt: HostRuntime) -> Result<(), Fail> {
+    let line = b"image 8192\n";
+    let all: [&[u8]; 1] = [b"image\n"];
+    let length = line.len() + EMPTY_IMAGE;
+    let told_first = told(&rt, all.as_slice(), false, [0, length].as_slice())?;
+    goes_on(&rt, line.as_slice(), &told_first)
 }
