@@ -38,9 +38,9 @@ pub record AreShardsOf (settings : Settings) (shards : ℕ) (closed : List Close
   pub configs : All (λ shard. shard.closed.config ≡ settings) closed
 
 -- The totals are those of a legal history of one map. So many closed shards of the settings are settled, each with a
--- history of its own, from an empty file on. These histories have a merge that keeps the order of each; it is legal, from
--- the empty map on, and the shards hold the parts of what it leaves. Its replies are counted, one for each call of the
--- script, and the records of all closed shards (from 2^64 on it would be 2^64 - 1).
+-- history of its own, from an empty file on. These histories have a merge that keeps the order of each; it is legal,
+-- from the empty map on, and the shards hold the parts of what it leaves. Its replies are counted, one for each call of
+-- the script, and the records of all closed shards (from 2^64 on it would be 2^64 - 1).
 pub record IsDrivenShards (settings : Settings) (shards : ℕ) (calls : List CallOf) (d : Driven) : Type 0 where
   pub closed : List ClosedShard
   pub histories : List (List ActLine)
@@ -54,8 +54,8 @@ pub record IsDrivenShards (settings : Settings) (shards : ℕ) (calls : List Cal
   pub made : d.calls ≡ length calls
   pub records : d.records ≡ min (sum_by (λ shard. count_of shard.closed.lists) closed) (2 ^ 64 - 1)
 
--- why there are no totals: a fault of settling, other than out of memory, that is due for one of so many closed shards of
--- the settings, from an empty file on, and all shards before it are settled; or the threads' work failed
+-- why there are no totals: a fault of settling, other than out of memory, that is due for one of so many closed shards
+-- of the settings, from an empty file on, and all shards before it are settled; or the threads' work failed
 abbrev pub IsDriveShardsFault : Settings → ℕ → DriveFault → Type 0
 IsDriveShardsFault settings shards (Settle fault) =
     (closed : List ClosedShard) × (shard : ℕ) × AreShardsOf settings shards closed
@@ -73,8 +73,8 @@ abbrev pub AreUnsettled : Settings → ℕ → Unsettled → Type 0
 AreUnsettled settings shards reason =
     (fault : DriveFault) × IsDriveShardsFault settings shards fault × (ended_by fault ≡ NotSettled reason)
 
--- how `drive` ends on an input with so many shards: not settled, and the writer took nothing; otherwise with the totals of
--- a legal history, or with the script's first fault
+-- how `drive` ends on an input with so many shards: not settled, and the writer took nothing; otherwise with the totals
+-- of a legal history, or with the script's first fault
 unfoldable pub EndsDrivingShards : Settings → ℕ → List ℕ → Status → Option (List ℕ) → Option (List ℕ) → Type 0
 EndsDrivingShards settings shards input (NotSettled reason) before now =
     (calls : List CallOf) × (script command input ≡ Ok calls) × AreUnsettled settings shards reason × Keeps before now

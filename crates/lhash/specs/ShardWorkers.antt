@@ -31,8 +31,8 @@ pub record HaveMadeOne (old new : List HandState) : Type 0 where
   pub acts : acts_of new ≡ acts_of old + 1
   pub left : (others : ℕ) → AllHave (others + 1) old → AllHave others new
 
--- what a thread that was to make these calls comes back with: hands of the shards, which have made all of them unless there
--- is a fault, and a fault that is none for want of calls
+-- what a thread that was to make these calls comes back with: hands of the shards, which have made all of them unless
+-- there is a fault, and a fault that is none for want of calls
 pub record IsWorked (files : List FileState) (calls : ℕ) (worked : Worked) : Type 0 where
   pub of : AreOf files worked.hands
   pub done : worked.fault ≡ None → acts_of worked.hands ≡ calls

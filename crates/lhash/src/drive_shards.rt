@@ -1,5 +1,5 @@
-//! The subcommand `drive` on several shards: a command script in threads, on several files as one table, settled, from its
-//! bytes to its totals.
+//! The subcommand `drive` on several shards: a command script in threads, on several files as one table, settled, from
+//! its bytes to its totals.
 ghost use Rattle.std.specs.Prelude.{◌≡◌, ◌≤◌, ◌-◌, ◌^◌, ◌<◌, All, IfErr, IfOk, IfSome, List, length, min, sum_by};
 ghost use Rattle.lh_bucket.specs.declared.call.Call.{Call as CallOf};
 ghost use Rattle.lh_bucket.specs.Listing.{count_of};
@@ -44,15 +44,16 @@ fn totals(alloc: Global, config: Config, closed: &ClosedShards) -> Result<Driven
     }
 }
 
-/// Runs calls in threads on so many empty shards of this configuration, and settles what they did. The call at place `j`
-/// is made by thread `j % threads`, and each thread makes its calls in their order.
+/// Runs calls in threads on so many empty shards of this configuration, and settles what they did. The call at place
+/// `j` is made by thread `j % threads`, and each thread makes its calls in their order.
 ///
-/// The totals are those of one history of one map, which has as many calls as the script: the shards' histories, one after
-/// another. Which histories they are depends on how the threads' calls fall together; where all calls on each key go to one
+/// The totals are those of one history of one map, which has as many calls as the script: the shards' histories, one
+/// after another. Any other merge of these is legal too (see [`shards_are_one_map`](lh_shards::laws::shards_are_one_map)).
+/// Which histories they are depends on how the threads' calls fall together; where all calls on each key go to one
 /// thread, the replies don't.
 ///
-/// If a thread can't be started, or a call isn't answered, all threads that run are waited for, and the fault is answered.
-/// A fault of settling is that of the first shard that has one.
+/// If a thread can't be started, or a call isn't answered, all threads that run are waited for, and the fault is
+/// answered. A fault of settling is that of the first shard that has one.
 pub fn drive_shards_with<R: Threads + Wait + Sync>(
     rt: &R,
     alloc: Global,
@@ -76,7 +77,8 @@ pub fn drive_shards_with<R: Threads + Wait + Sync>(
     totals(alloc, config, &closed)
 }
 
-/// Reads a command script whole, makes its calls in threads on so many shards, and writes the totals of what is settled.
+/// Reads a command script whole, makes its calls in threads on so many shards, and writes the totals of what is
+/// settled.
 pub fn answer_drive_shards<A: Threads + Wait + Sync, R: Read, W: Write>(
     rt: &A,
     alloc: Global,

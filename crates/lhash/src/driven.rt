@@ -74,6 +74,7 @@ impl Driven {
         ensures counts { Counts (replies_of history.now) result }
         ensures records { result.records ≡ records }
     {
+        // The acts are few enough to be counted.
         let _few = history.len();
         let mut driven = Driven::idle(records);
         driven.count_all(history);

@@ -24,8 +24,8 @@ struct Worked {
     fault: Option<FileFault>,
 }
 
-/// The hands that come back are those of these shards, and have made this number of calls, unless there is a fault, which
-/// is none for want of calls.
+/// The hands that come back are those of these shards, and have made this number of calls, unless there is a fault,
+/// which is none for want of calls.
 #[derive(Clone, Copy)]
 struct Part<'a> {
     shards: &'a Shards,
@@ -205,7 +205,8 @@ pub fn work_in_threads<R: Threads + Wait + Sync>(
                         requires part { ArePartOf shards.now (places_from first threads (length calls.now)) part }
                         requires records { AreRecording shards.now }
                         requires threads { 0 < threads }
-                        ensures { IsWorked shards.entry.now (places_from first threads (length calls.entry.now)) result }
+                        ensures { IsWorked shards.entry.now
+                            (places_from first threads (length calls.entry.now)) result }
                     { work(rt, shards, part, calls, first, threads) },
                 ) else {
                     return Err(DriveFault::Thread);
