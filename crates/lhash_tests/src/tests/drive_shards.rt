@@ -4,7 +4,7 @@ use lh_addr::Config;
 use lh_bucket::Call;
 use lh_file::NoGate;
 use lh_page::{Key, Value};
-use lhash::{DeviceFault, Driven, Status, answer_drive_shards, drive_shards_with, drive_with};
+use lhash::{DeviceFault, Driven, Status, drive_shards_with, drive_with, run};
 use std::alloc::Global;
 use std::process::Abort;
 use std::sync::Wait;
@@ -95,14 +95,12 @@ fn calls_that_fill_no_row_of_threads_are_made(rt: HostRuntime) -> Result<(), Fai
 fn answered(
     rt: &(impl Abort + AllocGlobal + Threads + Wait + Sync),
     script: &str,
-    threads: u32,
-    shards: u32,
+    threads: &str,
+    shards: &str,
 ) -> Result<(Status, Vec<u8>), Fail> {
-    assert!(rt; threads > 0 && shards > 0 && shards <= 64);
+    let words = ["lhash", "drive", "--threads", threads, "--shards", shards];
     let (mut source, mut output) = (script.as_bytes(), Vec::new(rt.alloc()));
-    let config = Config::new(1, 14, 100, 65536)?;
-    let (reader, writer) = (&mut source, &mut output);
-    let status = answer_drive_shards(rt, rt.alloc(), config, threads, shards, reader, writer);
+    let status = run(rt, words.as_slice(), &mut source, &mut output);
     Ok((status, output))
 }
 
@@ -110,10 +108,10 @@ fn answered(
 fn writes_totals(
     rt: &(impl Abort + AllocGlobal + Threads + Wait + Sync),
     script: &str,
-    threads: u32,
+    threads: &str,
     totals: &str,
 ) -> Result<(), Fail> {
-    for shards in [1, 2, 8, 64] {
+    for shards in ["1", "2", "8", "64"] {
         let (status, output) = answered(rt, script, threads, shards)?;
         assert_eq!(rt; status.code(), 0);
         assert_eq!(rt; output.as_slice(), totals.as_bytes(), "{shards} shards");
@@ -128,7 +126,7 @@ fn each_reply_is_counted(rt: HostRuntime) -> Result<(), Fail> {
         "insert 61 31\ninsert 62 32\ninsert 63 33\ninsert 64 34\nsearch 61\ninsert 62 35\ndelete 63\nsearch 64\nsearch 61\nsearch 62\nsearch 63\ndelete 64\nreplace 61 36\nreplace 62 -\nreplace 63 37\nreplace 64 38\n";
     let totals =
         "settled\ncalls 16\nfound 4\nabsent 3\ninserted 4\nexists 1\ndeleted 2\nreplaced 2\nrecords 2\n";
-    for threads in [1, 2, 4] {
+    for threads in ["1", "2", "4"] {
         writes_totals(&rt, script, threads, totals)?;
     }
     Ok(())
@@ -138,7 +136,7 @@ fn each_reply_is_counted(rt: HostRuntime) -> Result<(), Fail> {
 fn an_empty_script_has_totals(rt: HostRuntime) -> Result<(), Fail> {
     let totals =
         "settled\ncalls 0\nfound 0\nabsent 0\ninserted 0\nexists 0\ndeleted 0\nreplaced 0\nrecords 0\n";
-    for threads in [1, 8] {
+    for threads in ["1", "8"] {
         writes_totals(&rt, "# none\n", threads, totals)?;
     }
     Ok(())
@@ -146,7 +144,7 @@ fn an_empty_script_has_totals(rt: HostRuntime) -> Result<(), Fail> {
 
 #[test]
 fn a_faulty_script_runs_nothing(rt: HostRuntime) -> Result<(), Fail> {
-    let (status, output) = answered(&rt, "insert 61 31\nsearch 6\nfrob\n", 4, 8)?;
+    let (status, output) = answered(&rt, "insert 61 31\nsearch 6\nfrob\n", "4", "8")?;
     assert_eq!(rt; status.code(), 1);
     assert_eq!(rt;
         status.to_string(rt.alloc())?.as_str(),
@@ -158,7 +156,7 @@ fn a_faulty_script_runs_nothing(rt: HostRuntime) -> Result<(), Fail> {
 
 #[test]
 fn a_device_may_fail(rt: HostRuntime) -> Result<(), Fail> {
-    let config = Config::new(1, 14, 100, 65536)?;
+    let words = ["lhash", "drive", "--threads", "2", "--shards", "2"];
     for (failing_read, failing_write) in [(2, 0), (0, 1)] {
         let mut source = Source {
             bytes: b"insert 61 31\n",
@@ -167,8 +165,7 @@ fn a_device_may_fail(rt: HostRuntime) -> Result<(), Fail> {
             failing_read,
         };
         let mut sink = Sink::new(rt.alloc(), 1_000, failing_write);
-        let (reader, writer) = (&mut source, &mut sink);
-        let status = answer_drive_shards(&rt, rt.alloc(), config, 2, 2, reader, writer);
+        let status = run(&rt, words.as_slice(), &mut source, &mut sink);
         let fault = if failing_read > 0 {
             DeviceFault::Read
         } else {
