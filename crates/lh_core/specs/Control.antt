@@ -56,6 +56,12 @@ IsQuiet (event.Act worker) = ⊥
 IsQuiet event.SplitMove = ⊥
 IsQuiet _ = Unit {0}
 
+-- a call at the bucket that it aims at, at the bucket's level
+pub record IsAimed (c : Control) (act : Act) : Type 0 where
+  pub low : act.level ≤ 16
+  pub aim : IsAim c.config.initial c.filled.buckets (code_of (key_of act.call.now)) act.level act.bucket
+  pub level : act.level ≡ level_of c.config.initial c.filled.buckets act.bucket
+
 -- the act of a worker: its call, at the level that it came with, which is the bucket's
 pub record IsActOf (c : Control) (worker : ℕ) (act : Act) : Type 0 where
   pub there : worker < 16

@@ -4,7 +4,7 @@ ghost use Rattle.lh_addr.specs.Limits.{IsInitial, IsCapacity};
 ghost use Rattle.lh_bucket.specs.Bucket.{CanSplit};
 ghost use Rattle.lh_bucket.specs.Call.{IsInsert};
 ghost use Rattle.lh_bucket.specs.PlainMap.{Records, reply, after};
-ghost use Rattle.lh_core.specs.Control.{IsControl, IsActOf, world_of};
+ghost use Rattle.lh_core.specs.Control.{IsControl, IsAimed, world_of};
 ghost use Rattle.lh_core.specs.Kept.{IsRow, IsWorld, IsEmptyRow};
 ghost use Rattle.lh_core.specs.Splits.{IsSplit, unfilled};
 ghost use Rattle.lh_core.specs.World.{IsPlaced, StandsFor, bucket_at};
@@ -27,14 +27,13 @@ pub(crate) fn first_row<B: Bucket>(alloc: Global, config: &Config) -> Result<Vec
     Ok(buckets)
 }
 
-/// Serves the call of an act at its bucket. The contract alone asks which worker it is of, in which world.
+/// Serves a call at the bucket that it aims at.
 pub(crate) fn serve<B: Bucket>(
     control: &Control,
     buckets: &mut Vec<B>,
-    worker: u8,
     act: &Act<'_>,
 ) -> Result<Reply, Memory>
-    requires act { IsActOf control.now worker act.now }
+    requires act { IsAimed control.now act.now }
     requires world { IsWorld (world_of control.now (map B.seen buckets.old.items)) }
     ensures row { IsRow control.now.config control.now.filled.buckets (map B.seen buckets.new.items) }
     ensures reply { (m : Records) → StandsFor (world_of control.now (map B.seen buckets.old.items)) m →

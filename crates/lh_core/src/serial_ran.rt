@@ -10,6 +10,7 @@ ghost use Rattle.lh_core.specs.World.{IsStep, StandsFor};
 
 use crate::effect::{Effect, Refusal};
 use crate::event::Event;
+use crate::row::serve;
 use crate::world::World;
 use lh_addr::Config;
 use lh_bucket::{Bucket, Call, Memory, Reply};
@@ -93,6 +94,18 @@ impl<B: Bucket> World<B> {
         }
     }
 
+    /// Serves a call at once, where nobody is at work: it does what the five steps of a worker do, and no other is there to
+    /// see that they are one.
+    fn serve_at_once(&mut self, call: &Call) -> Result<Reply, Memory>
+        requires { IsAtRest self.old.state }
+        ensures ok { IfOk result (λ reply. IsServedAlone self.old call.now reply self.new) }
+        ensures err { OnErr result (IsGivenUp self.old self.new) }
+        ensures insert { OnErr result (IsInsert call.now) }
+    {
+        let act = self.control.aimed(call);
+        serve(&self.control, &mut self.buckets, &act)
+    }
+
     /// Splits once, where nobody is at work and the file may grow. Where memory runs out, the splitter
     /// gives the split up.
     fn grow(&mut self) -> Result<(), Memory>
@@ -167,7 +180,7 @@ impl<B: Bucket> World<B> {
         ensures err { OnErr result (IsGivenUp self.old self.new) }
         ensures insert { OnErr result (IsInsert call) }
     {
-        let reply = self.serve_alone(call)?;
+        let reply = self.serve_at_once(&call)?;
         let count = count_after(records, &reply);
         if !self.wants(&reply, count) {
             return Ok((reply, count));

@@ -5,10 +5,11 @@ ghost use Rattle.lh_core.specs.declared.event.Event.TheVariants as event;
 ghost use Rattle.lh_core.specs.declared.control.Act.{Act as ActOf};
 ghost use Rattle.lh_core.specs.Aims.{Leads};
 ghost use Rattle.lh_core.specs.Rules.{called, read, lock, rehash, release, at_worker, allowed};
-ghost use Rattle.lh_core.specs.Control.{IsControl, HasNoReply, IsActOf, KeepsFile, control_state, step_to, acted};
+ghost use Rattle.lh_core.specs.Control.{IsControl, HasNoReply, IsActOf, IsAimed, KeepsFile, control_state, step_to, acted};
 
 use crate::control::{Act, Control};
 use crate::effect::{Effect, Refusal};
+use crate::laws::linear_hashing;
 use crate::state::WorkerState;
 use lh_addr::{Aim, fnv1a, hash_at};
 use lh_bucket::Call;
@@ -39,6 +40,22 @@ impl Control {
                 Ok(Effect::Called)
             }
             _ => Err(Refusal::WrongState),
+        }
+    }
+
+    /// A call at the bucket of its key, at that bucket's level.
+    pub(crate) fn aimed<'a>(&self, call: &'a Call) -> Act<'a>
+        requires { IsControl self.now }
+        ensures call { result.call.now ≡ call.now }
+        ensures aimed { IsAimed self.now result }
+    {
+        // Its law: a code's address, at its own level, is an aim.
+        linear_hashing();
+        let Aim { level, bucket } = self.filled.aim(fnv1a(call.key().bytes()));
+        Act {
+            call,
+            level,
+            bucket,
         }
     }
 

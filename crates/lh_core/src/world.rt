@@ -72,7 +72,7 @@ impl<B: Bucket> World<B> {
         // Its laws: each aim leads to a filled bucket after the act too.
         linear_hashing();
         match self.control.act(worker) {
-            Ok(act) => match serve(&self.control, &mut self.buckets, worker, &act) {
+            Ok(act) => match serve(&self.control, &mut self.buckets, &act) {
                 Ok(reply) => {
                     self.control.note_act(worker);
                     Ok(Effect::Answered(reply))

@@ -1,6 +1,8 @@
 -- One worker alone, and one split alone, step by step
 use Rattle.std.proofs.Common.{◌≡◌, ℕ, ◌+◌, ◌<◌, true, false, cond, ◌∷◌, Option, Some, None, Ok, Err, nat_eq, nat_lt, refl, sym, ap, subst, ◌∙◌, arith, replicate}
+use Rattle.std.specs.Prelude.{IfOk, List, OnOk, Result}
 use Rattle.std.specs.Result.{IsOk}
+use Rattle.lh_page.specs.declared.memory.Memory.{Memory}
 use Rattle.std.proofs.lemmas.Bool.Decides.{nat_tests}
 use Rattle.lh_addr.specs.Fnv.{code_of}
 use Rattle.lh_addr.specs.Settings.{Settings}
@@ -9,7 +11,10 @@ use Rattle.lh_bucket.specs.declared.call.Call.{Call}
 use Rattle.lh_bucket.specs.Call.{is_insert, is_search}
 use Rattle.lh_bucket.specs.declared.call.Reply.{Reply}
 use Rattle.lh_bucket.specs.Call.{key_of}
-use Rattle.lh_bucket.specs.PlainMap.{Records, after}
+use Rattle.lh_bucket.specs.Bucket.{Seen}
+use Rattle.lh_bucket.specs.PlainMap.{Records, after, reply}
+use Rattle.lh_core.specs.Control.{world_of}
+use Rattle.lh_core.specs.declared.control.Control.{Control}
 use Rattle.lh_core.specs.declared.effect.Effect.{Effect}
 use Rattle.lh_core.specs.declared.effect.Effect.TheVariants as effect
 use Rattle.lh_core.specs.declared.effect.Refusal.TheVariants.{Held, MustRehash, FileFull}
@@ -30,6 +35,19 @@ use Rattle.lh_core.specs.Serial.{IsAtRest, IsGivenUp, IsServedAlone, HasGrown}
 use Rattle.lh_core.specs.World.{WorldSeen, IsStep, StandsFor, reply_to, map_after}
 use Rattle.lh_core.proofs.Logs.Steps.{became, told, some_same, none_some}
 use Rattle.lh_core.proofs.Logs.Leading.{idle_filled}
+
+-- a call that is served at once, while nobody is at work
+pub at_once : (c : Control) (row rows : List Seen) (call served : Call) (r : Result Reply Memory) → served ≡ call →
+    ((m : Records) → StandsFor (world_of c row) m → IfOk r (λ y. y ≡ reply m served)) →
+    ((m : Records) → StandsFor (world_of c row) m → OnOk r (StandsFor (world_of c rows) (after m served))) →
+    IfOk r (λ y. IsServedAlone (world_of c row) call y (world_of c rows))
+at_once c row rows call served (Ok y) is told stands = record {
+  same = refl;
+  state = refl;
+  replied = λ m p. told m p ∙ ap (reply m) is;
+  stands = λ m p. subst (λ x. StandsFor (world_of c rows) (after m x)) is (stands m p);
+}
+at_once c row rows call served (Err e) is told stands = tt
 
 -- worker 0 does x, and nobody else does anything
 abbrev pub alone : ℕ → WorkerState → State
