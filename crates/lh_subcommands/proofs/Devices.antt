@@ -4,7 +4,6 @@ use Rattle.std.proofs.KnownBytes.{Appends-trans, Appends-kept, Consumes-trans, C
 use Rattle.std.proofs.lemmas.Grind.{common_steps}
 use Rattle.std.specs.Io.KnownBytes.{Appends, Consumes, IsAtEnd, Keeps}
 use Rattle.lh_subcommands.specs.Devices.{ReadsOnto, IsReadOf, TakesBeginning}
-use Rattle.lh_script.proofs.Splitting.{part_from}
 
 pub reads_none : (a : Option (List ℕ)) → Consumes a a []
 reads_none a = Consumes-nil a
@@ -18,7 +17,9 @@ take_split (suc i) n [] = grind (arith, common_steps)
 take_split (suc i) n (x ∷ xs) = let e : suc (i + n) ≡ suc i + n = omega arith in ap (λ ys. x ∷ ys) (take_split i n xs) ∙ ap (λ m. take m (x ∷ xs)) e
 
 parts : (i n : ℕ) (xs : List ℕ) → take i xs ++ take n (take (length xs - i) (drop i xs)) ≡ take (i + n) xs
-parts i n xs = ap (λ ys. take i xs ++ take n ys) (part_from i xs) ∙ take_split i n xs
+parts i n xs =
+    let behind : take (length xs - i) (drop i xs) ≡ drop i xs = grind (arith, common_steps) in
+    ap (λ ys. take i xs ++ take n ys) behind ∙ take_split i n xs
 
 pub writes_more : (a b c : Option (List ℕ)) (xs : List ℕ) (i n : ℕ) → Appends a b (take i xs) → Appends b c (take n (take (length xs - i) (drop i xs))) → Appends a c (take (i + n) xs)
 writes_more a b c xs i n h k = subst (Appends a c) (parts i n xs) (Appends-trans a b c (take i xs) (take n (take (length xs - i) (drop i xs))) h k)
