@@ -1,6 +1,6 @@
 //! A conversation with a client, from bytes to bytes.
 ghost use Rattle.std.specs.Prelude.{◌≡◌, ◌<◌, ◌++◌, ℕ, List, None, [], IfOk, length, option_map};
-ghost use Rattle.std.specs.Bool.{OnTrue};
+ghost use Rattle.std.specs.Bool.{OnFalse, OnTrue};
 ghost use Rattle.lh_core.specs.Serial.{IsAtRest};
 ghost use Rattle.lh_serving.specs.Answers.{FileSeen, Shows, asked_by, file_of, first_file};
 ghost use Rattle.lh_serving.specs.Conversations.{IsAt, IsQuiet, pending};
@@ -134,7 +134,8 @@ impl Conversation {
 
     /// Whether nothing waits to be told.
     pub fn is_quiet(&self) -> bool
-        ensures { OnTrue result (IsQuiet self.now) }
+        ensures quiet { OnTrue result (IsQuiet self.now) }
+        ensures not { OnFalse result (¬ (IsQuiet self.now)) }
     {
         self.waiting.is_empty() && self.image.is_none()
     }
