@@ -70,7 +70,7 @@ impl World<PagedBucket> {
     }
 }
 
-/// The number of records of a listing, where so many calls can't make it 2^64, which memory is too small for.
+/// The number of records of a listing. Where so many calls could make it 2^64, memory counts as run out.
 pub fn count_before(listing: &Listing, calls: usize) -> Result<u64, Memory>
     ensures count { IfOk result (λ records. records ≡ len (records_of listing.now)) }
     ensures room { IfOk result (λ records. records + calls < 2 ^ 64) }

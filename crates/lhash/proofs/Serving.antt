@@ -8,7 +8,7 @@ use Rattle.lh_bucket.specs.declared.call.Call.{Call}
 use Rattle.lh_bucket.specs.Listing.{Lists}
 use Rattle.lh_image.specs.declared.fault.ImageFault.{ImageFault}
 use Rattle.lh_image.specs.declared.version.Version.{Version}
-use Rattle.lh_image.specs.Reading.{leading, reading_of}
+use Rattle.lh_image.specs.Reading.{following, leading, reading_of}
 use Rattle.lh_options.specs.Options.{Asks, AsksForHelp, IsTurned, Text, asked_by, asked_for, image_begins, number_given, settings_given, settings_typed, subcommand_named, version_numbered}
 use Rattle.lh_options.proofs.Asking.{apply, asked_named, build, commands, drive, refused_alone, refuses_setting, replay, serves_file, serves_image, steps, unapplied, undriven}
 use Rattle.lh_options.specs.declared.options.Request.{Request}
@@ -20,7 +20,7 @@ use Rattle.lh_subcommands.specs.Continued.{EndsApplying, EndsLeaving, query_due,
 use Rattle.lh_subcommands.specs.Images.{EndsBuilding, check_due, draw_due, dump_due, migrate_due}
 use Rattle.lh_subcommands.specs.Run.{EndsReplay, EndsSteps}
 use Rattle.lh_serving.specs.Answers.{FileSeen, first_file}
-use Rattle.lh_subcommands.specs.Serve.{EndsServing}
+use Rattle.lh_subcommands.specs.Serve.{EndsGoingOn, EndsServing, EndsServingFrom}
 use Rattle.lhash.specs.Serving.{Ending, EndsCommands, EndsDrivingIn, EndsTold, IsHelped, IsRun, IsTurnedAway, IsWordsOf, RefusesBelow, RefusesBeside, RefusesSnapshots, Serves, ServesApply, ServesBuild, ServesClient, ServesDrive, ServesFile, ServesFrom, ServesImage, TurnsAway, below_initial, beside_image, snapshots_of_shards, wanted_version}
 use Rattle.lh_subcommands.specs.declared.status.DeviceFault.TheVariants.{Read, Write}
 use Rattle.lh_subcommands.specs.declared.status.Status.{Status}
@@ -94,10 +94,23 @@ serves_client words status left rest before now settings asks none given within 
 serves_client words status left rest before now settings asks none given within (inr run) =
     unserved (first_file settings) status left rest before now run.0 run.1 run.2
 
+-- nor did one that was to go on from an image
+no_image : (due : Result Lists ImageFault) (lines : List ℕ) (rest before now : Option (List ℕ)) → Keeps before now → EndsGoingOn due lines Memory rest before now
+no_image (Ok l) lines rest before now keeps = inr (inr refl, keeps)
+no_image (Err fault) lines rest before now keeps = keeps
+
+unheard : (status : Status) (left rest before now : Option (List ℕ)) → status ≡ Memory → Keeps before now →
+    IfSome left (λ input. EndsServingFrom input status rest before now)
+unfolding EndsServingFrom
+unheard status None rest before now is keeps = tt
+unheard status (Some input) rest before now is keeps =
+    subst (λ (s : Status). EndsGoingOn (reading_of (leading input)) (following input) s rest before now) (sym is)
+    (no_image (reading_of (leading input)) (following input) rest before now keeps)
+
 pub serves_from : ServesFrom
 serves_from words status left rest before now asks begins none (inl run) =
-    inl (subst (λ (x : Request). Serves x status left rest before now) (serves_image words run.0 asks begins none run.1) run.2)
-serves_from words status left rest before now asks begins none (inr run) = inr run
+    subst (λ (x : Request). Serves x status left rest before now) (serves_image words run.0 asks begins none run.1) run.2
+serves_from words status left rest before now asks begins none (inr run) = unheard status left rest before now run.0 run.2
 
 pub refuses_beside : RefusesBeside
 refuses_beside words status left rest before now asks begins given (inl run) =

@@ -155,15 +155,12 @@ ServesClient =
     settings.initial ≤ settings.max → IsRun words status left rest before now →
     IfSome left (λ input. EndsServing (first_file settings) input status rest before now)
 
--- a run for words that ask for `serve` of the file of an image, and give no setting, ends so; nothing is read or written
--- where there was no memory for the words
+-- a run for words that ask for `serve` of the file of an image, and give no setting, ends so
 abbrev pub ServesFrom : Type 0
 ServesFrom =
     (words : List Text) (status : Status) (left rest before now : Option (List ℕ)) →
     Asks words (codes "serve") → image_begins words ≡ true → settings_typed words ≡ false →
-    IsRun words status left rest before now →
-    IfSome left (λ input. EndsServingFrom input status rest before now)
-    ⊎ ((status ≡ Memory) × Keeps left rest × Keeps before now)
+    IsRun words status left rest before now → IfSome left (λ input. EndsServingFrom input status rest before now)
 
 -- a run for words that ask for `build`, and give settings in order and the number of a version, ends by them
 abbrev pub ServesBuild : Type 0
