@@ -71,8 +71,8 @@ impl Model for Config {
 impl Default for Config {
     ghost use Rattle.lh_addr.specs.Settings.{default_settings};
 
-    /// A file that begins with 1 bucket, has 14 records in a page, grows above a load of 100 percent, and may have 65,536
-    /// buckets.
+    /// A file that begins with 1 bucket, has 14 records in a page, grows above a load of 100 percent, and may have
+    /// 65,536 buckets.
     fn default() -> Config
         ensures { result ≡ default_settings }
     {

@@ -1,7 +1,8 @@
 //! Laws of linear hashing over the definitions of `specs/Growth.antt`, each the contract of a
 //! function that does nothing: a caller whose proof needs a law calls it.
 
-ghost use Rattle.lh_addr.specs.Growth.{RootLaw, AddressLaw, LevelReaches, SplitLevels, SplitAddresses, AimBegins, AimStays, AimRises, HashRises, HashFalls};
+ghost use Rattle.lh_addr.specs.Growth.{RootLaw, AddressLaw, LevelReaches, SplitLevels, SplitAddresses, AimBegins};
+ghost use Rattle.lh_addr.specs.Growth.{AimStays, AimRises, HashRises, HashFalls};
 
 /// The level and the pointer are the one pair that a file's size has.
 pub fn root_is_only_pair()

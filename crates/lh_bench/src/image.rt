@@ -44,8 +44,8 @@ fn write_to_file<R: Files + AllocGlobal>(
     write_listing(listing, version, &mut writer)
 }
 
-/// Inserts the records into an empty file, and writes a snapshot of it. Answers how long that took, and whether all were
-/// inserted.
+/// Inserts the records into an empty file, and writes a snapshot of it. Answers how long that took, and whether all
+/// were inserted.
 // The file is made, and it and the snapshot are let go, off the clock.
 fn write<R>(rt: &R, order: &Order) -> Result<(Spent, bool)>
 where

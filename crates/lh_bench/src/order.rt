@@ -210,8 +210,8 @@ impl Order {
         self.calls() / self.threads.max(1)
     }
 
-    /// On how many tables it is run, one after another: those whose calls say how large a table grows are run on as many
-    /// as there have to be for enough calls.
+    /// On how many tables it is run, one after another: those whose calls say how large a table grows are run on as
+    /// many as there have to be for enough calls.
     pub fn tables(&self) -> u64 {
         match self.workload {
             Workload::Inserts | Workload::Image => LEAST.div_ceil(self.calls().max(1)),

@@ -183,7 +183,8 @@ impl Outcome {
     }
 }
 
-/// How many calls of a kind were timed, and how long they took. The kind goes by its words for one call and for several.
+/// How many calls of a kind were timed, and how long they took. The kind goes by its words for one call and for
+/// several.
 fn print_lengths_of(
     rt: &impl Print,
     one: &str,

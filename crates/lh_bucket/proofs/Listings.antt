@@ -1,5 +1,6 @@
 -- Keys that stand twice in a list, and places in lists of lists.
-use Rattle.std.proofs.Common.{◌≡◌, ℕ, zero, suc, ◌+◌, ◌<◌, ◌≤◌, Bool, true, false, cond, ◌⊎◌, inl, inr, ⊎_elim, List, [], Option, Some, None, map, length, get_or, refl, sym, ap, subst, ◌∙◌, arith}
+use Rattle.std.proofs.Common.{◌≡◌, ℕ, zero, suc, ◌+◌, ◌<◌, ◌≤◌, Bool, true, false, cond, ◌⊎◌, inl, inr, ⊎_elim, List}
+use Rattle.std.proofs.Common.{[], Option, Some, None, map, length, get_or, refl, sym, ap, subst, ◌∙◌, arith}
 use Rattle.std.specs.Bool.{IsTrue}
 use Rattle.std.specs.Ordering.{nat_cmp}
 use Rattle.std.specs.Cmp.Lexicographic.{slice_cmp, texts_ties}
@@ -49,11 +50,16 @@ pub record IsSeen (ps : List Pair) (n : ℕ) (member : List ℕ → Bool) : Type
   pub new : (p : ℕ) → p < n → IsNew 0 ps p
 
 -- one record more, whose key was not in the set
-pub seen_more : (ps : List Pair) (n : ℕ) (key : List ℕ) (member member' : List ℕ → Bool) → key_at ps n ≡ key → member key ≡ false → ((q : List ℕ) → member' q ≡ cond (is_at (slice_cmp nat_cmp key) q) true (member q)) → IsSeen ps n member → IsSeen ps (n + 1) member'
+pub seen_more : (ps : List Pair) (n : ℕ) (key : List ℕ) (member member' : List ℕ → Bool) → key_at ps n ≡ key →
+    member key ≡ false → ((q : List ℕ) → member' q ≡ cond (is_at (slice_cmp nat_cmp key) q) true (member q)) →
+    IsSeen ps n member → IsSeen ps (n + 1) member'
 seen_more ps n key member member' at none adds seen = record {
   has = λ p below. ⊎_elim
-      (λ (before : p < n). adds (key_at ps p) ∙ still (is_at (slice_cmp nat_cmp key) (key_at ps p)) (member (key_at ps p)) (seen.has p before))
-      (λ (last : p ≡ n). ap member' (ap (key_at ps) last ∙ at) ∙ adds key ∙ ap (λ t. cond t true (member key)) (found_itself key))
+      (λ (before : p < n).
+      adds (key_at ps p)
+      ∙ still (is_at (slice_cmp nat_cmp key) (key_at ps p)) (member (key_at ps p)) (seen.has p before))
+      (λ (last : p ≡ n).
+      ap member' (ap (key_at ps) last ∙ at) ∙ adds key ∙ ap (λ t. cond t true (member key)) (found_itself key))
       (last_or_before p n below);
   only = λ q there. ⊎_elim
       (λ (own : is_at (slice_cmp nat_cmp key) q ≡ true). (n, omega arith, at ∙ found_equal key q own))
@@ -72,13 +78,15 @@ abbrev pub EachBefore : PlaceFact → List (List Pair) → ℕ → Type 0
 EachBefore Good lists n = (b p : ℕ) → b < n → p < length (list_at lists b) → Good b (list_at lists b) p
 
 -- the list of a bucket that a loop reads
-pub list_read : {V : Type 0} (f : V → List Pair) (vs : List V) (n : ℕ) (v : V) → n < length vs → v ≡ get_or vs n v → list_at (map f vs) n ≡ f v
+pub list_read : {V : Type 0} (f : V → List Pair) (vs : List V) (n : ℕ) (v : V) → n < length vs → v ≡ get_or vs n v →
+    list_at (map f vs) n ≡ f v
 list_read f vs n v below is =
     let within : n < length (map f vs) = omega (arith, length-map vs f) in
     get_or_default (map f vs) n [] (f v) within ∙ get_or-map f vs n v ∙ ap f (sym is)
 
 -- one list more
-pub each_more : (Good : PlaceFact) (lists : List (List Pair)) (n : ℕ) (ps : List Pair) → list_at lists n ≡ ps → ((p : ℕ) → p < length ps → Good n ps p) → EachBefore Good lists n → EachBefore Good lists (n + 1)
+pub each_more : (Good : PlaceFact) (lists : List (List Pair)) (n : ℕ) (ps : List Pair) → list_at lists n ≡ ps →
+    ((p : ℕ) → p < length ps → Good n ps p) → EachBefore Good lists n → EachBefore Good lists (n + 1)
 each_more Good lists n ps is good before b p below within = ⊎_elim
     (λ (earlier : b < n). before b p earlier within)
     (λ (last : b ≡ n).
@@ -88,14 +96,16 @@ each_more Good lists n ps is good before b p below within = ⊎_elim
     (last_or_before b n below)
 
 -- what holds of the lists before a bucket, and of its list, holds of one list more
-pub all_more : (P : Pair → Type 0) (lists : List (List Pair)) (n : ℕ) (ps : List Pair) → list_at lists n ≡ ps → All P ps → ((b : ℕ) → b < n → All P (list_at lists b)) → (b : ℕ) → b < n + 1 → All P (list_at lists b)
+pub all_more : (P : Pair → Type 0) (lists : List (List Pair)) (n : ℕ) (ps : List Pair) → list_at lists n ≡ ps →
+    All P ps → ((b : ℕ) → b < n → All P (list_at lists b)) → (b : ℕ) → b < n + 1 → All P (list_at lists b)
 all_more P lists n ps is all before b below = ⊎_elim
     (λ (earlier : b < n). before b earlier)
     (λ (last : b ≡ n). subst (All P) (sym (ap (list_at lists) last ∙ is)) all)
     (last_or_before b n below)
 
 -- what holds of the lists holds of every list, since there is none behind them
-pub all_lists : (P : Pair → Type 0) (lists : List (List Pair)) (n : ℕ) → length lists ≤ n → ((b : ℕ) → b < n → All P (list_at lists b)) → (b : ℕ) → All P (list_at lists b)
+pub all_lists : (P : Pair → Type 0) (lists : List (List Pair)) (n : ℕ) → length lists ≤ n →
+    ((b : ℕ) → b < n → All P (list_at lists b)) → (b : ℕ) → All P (list_at lists b)
 all_lists P lists n many before b p d within = ⊎_elim
     (λ (low : b < n). before b low p d within)
     (λ (high : n ≤ b). absurd (omega (arith, within, ap length (get_or_past lists b [] (omega arith)))))
@@ -114,10 +124,18 @@ distinct_new ps new = IsDistinct-from_apart bytes_eq (keys_of ps) (λ i j d lt b
     ∙ sym (get_or_default (keys_of ps) j [] d below) ∙ get_or-map (λ (p : Pair). p.key) ps j no_pair)))
 
 -- lists without a fault
-pub listing_made : (config : Settings) (buckets : ℕ) (lists : List (List Pair)) → IsInRange config → IsShape config buckets lists → EachPlace (IsHome config.initial buckets) lists → ((bucket : ℕ) → All IsRecord (list_at lists bucket)) → EachPlace IsNew lists → IsListing (record { config = config; lists = lists })
+pub listing_made : (config : Settings) (buckets : ℕ) (lists : List (List Pair)) → IsInRange config →
+    IsShape config buckets lists → EachPlace (IsHome config.initial buckets) lists →
+    ((bucket : ℕ) → All IsRecord (list_at lists bucket)) → EachPlace IsNew lists →
+    IsListing (record { config = config; lists = lists })
 listing_made config buckets lists range shape home records new = record {
   config = range;
-  shape = record { from_initial = omega (arith, shape.from_initial, shape.each); to_max = omega (arith, shape.to_max, shape.each); each = refl };
+  shape =
+      record {
+        from_initial = omega (arith, shape.from_initial, shape.each);
+        to_max = omega (arith, shape.to_max, shape.each);
+        each = refl;
+      };
   records = records;
   home = subst (λ n. EachPlace (IsHome config.initial n) lists) (sym shape.each) home;
   distinct = λ bucket. distinct_new (list_at lists bucket) (λ p within. new bucket p within);
@@ -132,30 +150,38 @@ nowhere : {G : Type 0} (n b p : ℕ) → p < length (list_at (replicate n []) b)
 nowhere n b p within = absurd (omega (arith, ap length (none_at n b)))
 
 -- lists without records
-pub listing_empty : (config : Settings) → IsInRange config → IsListing (record { config = config; lists = replicate config.initial [] })
+pub listing_empty : (config : Settings) → IsInRange config →
+    IsListing (record { config = config; lists = replicate config.initial [] })
 listing_empty config range =
-    let many : length (replicate {A = List Pair} config.initial []) ≡ config.initial = length-replicate config.initial [] in
+    let many : length (replicate {A = List Pair} config.initial []) ≡ config.initial =
+    length-replicate config.initial [] in
     record {
       config = range;
       shape = record { from_initial = omega arith; to_max = omega (arith, range.max.0); each = refl };
       records = λ b p _ within. nowhere config.initial b p within;
       home = λ b p within. nowhere config.initial b p within;
-      distinct = λ b. distinct_new (list_at (replicate config.initial []) b) (λ p within. nowhere config.initial b p within);
+      distinct =
+          λ b. distinct_new (list_at (replicate config.initial []) b) (λ p within. nowhere config.initial b p within);
     }
 
 -- no key stands twice in the lists up to a bucket, where none does in the lists before it and none in its own
-pub none_twice : (lists : List (List Pair)) (n : ℕ) (ps : List Pair) (found result : Option ListingFault) → list_at lists n ≡ ps → IfNone result (found ≡ None) → IfNone result ((p : ℕ) → p < length ps → IsNew 0 ps p) → IfNone found (EachBefore IsNew lists n) → IfNone result (EachBefore IsNew lists (n + 1))
+pub none_twice : (lists : List (List Pair)) (n : ℕ) (ps : List Pair) (found result : Option ListingFault) →
+    list_at lists n ≡ ps → IfNone result (found ≡ None) → IfNone result ((p : ℕ) → p < length ps → IsNew 0 ps p) →
+    IfNone found (EachBefore IsNew lists n) → IfNone result (EachBefore IsNew lists (n + 1))
 none_twice lists n ps found None at none new before =
     each_more IsNew lists n ps at new (subst (λ r. IfNone r (EachBefore IsNew lists n)) none before)
 none_twice lists n ps found (Some fault) at none new before = tt
 
 -- the same of a list in which no key stands twice, so that nothing new is found
-pub none_twice_more : (lists : List (List Pair)) (n : ℕ) (ps : List Pair) (found : Option ListingFault) → list_at lists n ≡ ps → ((p : ℕ) → p < length ps → IsNew 0 ps p) → IfNone found (EachBefore IsNew lists n) → IfNone found (EachBefore IsNew lists (n + 1))
+pub none_twice_more : (lists : List (List Pair)) (n : ℕ) (ps : List Pair) (found : Option ListingFault) →
+    list_at lists n ≡ ps → ((p : ℕ) → p < length ps → IsNew 0 ps p) → IfNone found (EachBefore IsNew lists n) →
+    IfNone found (EachBefore IsNew lists (n + 1))
 none_twice_more lists n ps None at new before = each_more IsNew lists n ps at new before
 none_twice_more lists n ps (Some fault) at new before = tt
 
 -- the first key that stands twice in the list of a bucket is the first in all lists, where none stands twice before it
-first_there : (lists : List (List Pair)) (n : ℕ) (ps : List Pair) → list_at lists n ≡ ps → EachBefore IsNew lists n → (fault : ListingFault) → IsTwiceIn n ps fault → IsTwiceAmong lists fault
+first_there : (lists : List (List Pair)) (n : ℕ) (ps : List Pair) → list_at lists n ≡ ps → EachBefore IsNew lists n →
+    (fault : ListingFault) → IsTwiceIn n ps fault → IsTwiceAmong lists fault
 first_there lists n ps at before Shape twice = twice
 first_there lists n ps at before (Misplaced bucket place) twice = twice
 first_there lists n ps at before (Twice bucket place) (own, within, again, new) =
@@ -169,15 +195,20 @@ first_there lists n ps at before (Twice bucket place) (own, within, again, new) 
 first_there lists n ps at before Memory long = (n, subst (λ (qs : List Pair). few < length qs) (sym at) long)
 
 -- a key that stands twice is kept in mind, or is the first
-pub first_twice : (lists : List (List Pair)) (n : ℕ) (ps : List Pair) (found result : Option ListingFault) → list_at lists n ≡ ps → IfSome result (λ fault. (found ≡ Some fault) ⊎ ((found ≡ None) × IsTwiceIn n ps fault)) → IfNone found (EachBefore IsNew lists n) → IfSome found (IsTwiceAmong lists) → IfSome result (IsTwiceAmong lists)
+pub first_twice : (lists : List (List Pair)) (n : ℕ) (ps : List Pair) (found result : Option ListingFault) →
+    list_at lists n ≡ ps → IfSome result (λ fault. (found ≡ Some fault) ⊎ ((found ≡ None) × IsTwiceIn n ps fault)) →
+    IfNone found (EachBefore IsNew lists n) → IfSome found (IsTwiceAmong lists) → IfSome result (IsTwiceAmong lists)
 first_twice lists n ps found None at twice before among = tt
 first_twice lists n ps found (Some fault) at twice before among = ⊎_elim
     (λ (known : found ≡ Some fault). subst (λ r. IfSome r (IsTwiceAmong lists)) known among)
-    (λ (new : (found ≡ None) × IsTwiceIn n ps fault). first_there lists n ps at (subst (λ r. IfNone r (EachBefore IsNew lists n)) new.0 before) fault new.1)
+    (λ (new : (found ≡ None) × IsTwiceIn n ps fault).
+    first_there lists n ps at (subst (λ r. IfNone r (EachBefore IsNew lists n)) new.0 before) fault new.1)
     twice
 
 -- a key that stands twice is the first fault of lists in which each record is at home
-pub fault_of_twice : (initial buckets : ℕ) (lists : List (List Pair)) (result : Option ListingFault) → EachPlace (IsHome initial buckets) lists → IfSome result (IsTwiceAmong lists) → IfSome result (IsFaultAmong initial buckets lists)
+pub fault_of_twice : (initial buckets : ℕ) (lists : List (List Pair)) (result : Option ListingFault) →
+    EachPlace (IsHome initial buckets) lists → IfSome result (IsTwiceAmong lists) →
+    IfSome result (IsFaultAmong initial buckets lists)
 fault_of_twice initial buckets lists None home twice = tt
 fault_of_twice initial buckets lists (Some Shape) home twice = twice
 fault_of_twice initial buckets lists (Some (Misplaced bucket place)) home twice = absurd twice
@@ -185,7 +216,8 @@ fault_of_twice initial buckets lists (Some (Twice bucket place)) home twice = (h
 fault_of_twice initial buckets lists (Some Memory) home long = (home, long)
 
 -- the first fault of lists of which there are as many as buckets is their first fault
-pub fault_is_first : (config : Settings) (buckets : ℕ) (lists : List (List Pair)) → IsShape config buckets lists → (fault : ListingFault) → IsFaultAmong config.initial buckets lists fault → IsFaultOf config buckets lists fault
+pub fault_is_first : (config : Settings) (buckets : ℕ) (lists : List (List Pair)) → IsShape config buckets lists →
+    (fault : ListingFault) → IsFaultAmong config.initial buckets lists fault → IsFaultOf config buckets lists fault
 fault_is_first config buckets lists shape Shape fault = absurd fault
 fault_is_first config buckets lists shape (Misplaced bucket place) fault = (shape, fault)
 fault_is_first config buckets lists shape (Twice bucket place) fault = (shape, fault.0, fault.1)

@@ -1,5 +1,6 @@
 -- The buckets of a listing have the records of their addresses.
-use Rattle.std.proofs.Common.{◌≡◌, ℕ, zero, suc, ◌+◌, ◌<◌, Bool, true, false, cond, nat_eq, List, [], ◌∷◌, map, length, None, refl, sym, ap, ◌∙◌, arith}
+use Rattle.std.proofs.Common.{◌≡◌, ℕ, zero, suc, ◌+◌, ◌<◌, Bool, true, false, cond, nat_eq, List, [], ◌∷◌, map, length}
+use Rattle.std.proofs.Common.{None, refl, sym, ap, ◌∙◌, arith}
 use Rattle.std.specs.Str.{bytes_eq}
 use Rattle.std.specs.Map.{lookup}
 use Rattle.std.proofs.lemmas.Bool.{both_ways}
@@ -24,22 +25,28 @@ module _ (home : List ℕ → ℕ) where
   later j ps lists h b p below = omega (arith, h (suc b) p below)
 
   -- a key whose home comes before all of the lists
-  before : (j : ℕ) (lists : List (List Pair)) → IsHomeFrom j lists → (q : List ℕ) → home q < j → lookup (bytes_eq q) (map entry_of (all_of lists)) ≡ None
+  before : (j : ℕ) (lists : List (List Pair)) → IsHomeFrom j lists → (q : List ℕ) → home q < j →
+      lookup (bytes_eq q) (map entry_of (all_of lists)) ≡ None
   before j [] h q low = refl
   before j (ps ∷ lists) h q low =
-      lookup-both ps (all_of lists) q (lookup-absent ps q (λ p below same. absurd (omega (arith, h 0 p below, ap home same))))
+      lookup-both ps (all_of lists) q
+      (lookup-absent ps q (λ p below same. absurd (omega (arith, h 0 p below, ap home same))))
       ∙ before (j + 1) lists (later j ps lists h) q (omega arith)
 
   -- a key is looked for in the list of its home
-  at_home : (j : ℕ) (lists : List (List Pair)) → IsHomeFrom j lists → (q : List ℕ) (b : ℕ) → home q ≡ j + b → lookup (bytes_eq q) (map entry_of (all_of lists)) ≡ lookup (bytes_eq q) (map entry_of (list_at lists b))
+  at_home : (j : ℕ) (lists : List (List Pair)) → IsHomeFrom j lists → (q : List ℕ) (b : ℕ) → home q ≡ j + b →
+      lookup (bytes_eq q) (map entry_of (all_of lists)) ≡ lookup (bytes_eq q) (map entry_of (list_at lists b))
   at_home j [] h q b is = refl
   at_home j (ps ∷ lists) h q zero is =
       lookup-first ps (all_of lists) q (before (j + 1) lists (later j ps lists h) q (omega arith))
   at_home j (ps ∷ lists) h q (suc b) is =
-      lookup-both ps (all_of lists) q (lookup-absent ps q (λ p below same. absurd (omega (arith, h 0 p below, ap home same))))
+      lookup-both ps (all_of lists) q
+      (lookup-absent ps q (λ p below same. absurd (omega (arith, h 0 p below, ap home same))))
       ∙ at_home (j + 1) lists (later j ps lists h) q b (omega arith)
 
-  chosen : (lists : List (List Pair)) (b : ℕ) → IsHomeFrom 0 lists → (q : List ℕ) (t : Bool) → nat_eq (home q) b ≡ t → lookup (bytes_eq q) (map entry_of (list_at lists b)) ≡ cond t (lookup (bytes_eq q) (map entry_of (all_of lists))) None
+  chosen : (lists : List (List Pair)) (b : ℕ) → IsHomeFrom 0 lists → (q : List ℕ) (t : Bool) → nat_eq (home q) b ≡ t →
+      lookup (bytes_eq q) (map entry_of (list_at lists b)) ≡
+      cond t (lookup (bytes_eq q) (map entry_of (all_of lists))) None
   chosen lists b h q true e = sym (at_home 0 lists h q b (omega (arith, exact_unsigned_eq (home q) b e)))
   chosen lists b h q false e = lookup-absent (list_at lists b) q (λ p below same.
       let other : home q ≡ b = omega (arith, h b p below, ap home same) in

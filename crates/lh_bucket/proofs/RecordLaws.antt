@@ -1,5 +1,6 @@
 -- What the map of some records has.
-use Rattle.std.proofs.Common.{◌≡◌, ◌≢◌, ℕ, suc, ◌+◌, ◌<◌, true, false, cond, List, [], ◌∷◌, ◌++◌, map, length, get_or, Option, Some, None, is_some, refl, sym, ap, subst, ◌∙◌, arith, add-one}
+use Rattle.std.proofs.Common.{◌≡◌, ◌≢◌, ℕ, suc, ◌+◌, ◌<◌, true, false, cond, List, [], ◌∷◌, ◌++◌, map, length, get_or}
+use Rattle.std.proofs.Common.{Option, Some, None, is_some, refl, sym, ap, subst, ◌∙◌, arith, add-one}
 use Rattle.std.specs.Str.{bytes_eq}
 use Rattle.std.specs.List.{AllByRecursion, Contains, list_any}
 use Rattle.std.specs.Map.{lookup}
@@ -21,17 +22,23 @@ use Rattle.lh_bucket.specs.Laws.{KeyLaw, LookupLaw, CountLaw}
 use Rattle.lh_bucket.proofs.MapOf.{Distinct, equals, get-map_of, map_of-none, entry_keys-map, apart_from_distinct, gone}
 
 -- a record is what its key and value make it
-record_is : (p : Pair) (key value : List ℕ) → entry_of p ≡ (key, value) → ◌≡◌ {A = Pair} p (record { key = key; value = value })
+record_is : (p : Pair) (key value : List ℕ) → entry_of p ≡ (key, value) →
+    ◌≡◌ {A = Pair} p (record { key = key; value = value })
 record_is p key value e i = record { key = (e i).0; value = (e i).1 }
 
-found : (ps : List Pair) (key value : List ℕ) → get (map_of ps) key ≡ Some value → Contains ps (record { key = key; value = value })
+found : (ps : List Pair) (key value : List ℕ) → get (map_of ps) key ≡ Some value →
+    Contains ps (record { key = key; value = value })
 found ps key value h =
     let p : Pair = record { key = key; value = value } in
     let there = Contains-from_lookup equals key value (map entry_of ps) (sym (get-map_of ps key) ∙ h) in
-    let below : there.0 < length (map entry_of ps) = there.1 in
-    (there.0, omega (arith, length-map ps entry_of), record_is (get_or ps there.0 p) key value (sym (get_or-map entry_of ps there.0 p) ∙ there.2))
+    let below : there.0 < length (map entry_of ps) = there.1 in (
+      there.0,
+      omega (arith, length-map ps entry_of),
+      record_is (get_or ps there.0 p) key value (sym (get_or-map entry_of ps there.0 p) ∙ there.2),
+    )
 
-had : (ps : List Pair) (key value : List ℕ) → Distinct ps → Contains ps (record { key = key; value = value }) → get (map_of ps) key ≡ Some value
+had : (ps : List Pair) (key value : List ℕ) → Distinct ps → Contains ps (record { key = key; value = value }) →
+    get (map_of ps) key ≡ Some value
 had ps key value d h =
     let p : Pair = record { key = key; value = value } in
     let below : h.0 < length ps = h.1 in
@@ -45,7 +52,9 @@ lookup_law ps key value d = (found ps key value, had ps key value d)
 new_key : (p : Pair) (ps : List Pair) → Distinct (p ∷ ps) → get (map_of ps) p.key ≡ None
 new_key p ps d =
     get-map_of ps p.key
-    ∙ gone p.key (map entry_of ps) (subst (AllByRecursion (λ y. bytes_eq p.key y ≡ false)) (sym (entry_keys-map ps)) (IsDistinct-head bytes_eq p.key (keys_of ps) d))
+    ∙ gone p.key (map entry_of ps)
+    (subst (AllByRecursion (λ y. bytes_eq p.key y ≡ false)) (sym (entry_keys-map ps))
+    (IsDistinct-head bytes_eq p.key (keys_of ps) d))
 
 pub map_of-cons : (p : Pair) (ps : List Pair) → map_of (p ∷ ps) ≡ insert (map_of ps) p.key p.value
 unfolding map_of
@@ -62,12 +71,14 @@ pub key_law : KeyLaw
 key_law ps place below =
     let key = key_at ps place in
     let within : place < length (keys_of ps) = omega (arith, length-map ps (λ (p : Pair). p.key)) in
-    ap is_some (get-map_of ps key) ∙ is_some-lookup (bytes_eq key) (map entry_of ps) ∙ ap (list_any (bytes_eq key)) (entry_keys-map ps)
+    ap is_some (get-map_of ps key) ∙ is_some-lookup (bytes_eq key) (map entry_of ps)
+    ∙ ap (list_any (bytes_eq key)) (entry_keys-map ps)
     ∙ list_any_at (bytes_eq key) (keys_of ps) place [] within
     (ap (bytes_eq key) (get_or-map (λ (p : Pair). p.key) ps place no_pair) ∙ (bytes_eq-Decides key key).1 refl)
 
 -- what is looked for where no record has its key
-pub lookup-absent : (ps : List Pair) (q : List ℕ) → ((p : ℕ) → p < length ps → key_at ps p ≢ q) → lookup (bytes_eq q) (map entry_of ps) ≡ None
+pub lookup-absent : (ps : List Pair) (q : List ℕ) → ((p : ℕ) → p < length ps → key_at ps p ≢ q) →
+    lookup (bytes_eq q) (map entry_of ps) ≡ None
 lookup-absent [] q h = refl
 lookup-absent (p ∷ ps) q h =
     ap (λ b. cond b (Some p.value) (lookup (bytes_eq q) (map entry_of ps)))
@@ -78,14 +89,18 @@ some_none : {X G : Type 0} {v : X} → Some v ≡ None → G
 some_none e = cc
 
 -- what is looked for in two lists of records
-pub lookup-both : (ps qs : List Pair) (q : List ℕ) → lookup (bytes_eq q) (map entry_of ps) ≡ None → lookup (bytes_eq q) (map entry_of (ps ++ qs)) ≡ lookup (bytes_eq q) (map entry_of qs)
+pub lookup-both : (ps qs : List Pair) (q : List ℕ) → lookup (bytes_eq q) (map entry_of ps) ≡ None →
+    lookup (bytes_eq q) (map entry_of (ps ++ qs)) ≡ lookup (bytes_eq q) (map entry_of qs)
 lookup-both [] qs q h = refl
 lookup-both (p ∷ ps) qs q h =
-    elim (bytes_eq q p.key) as (λ b. cond b (Some p.value) (lookup (bytes_eq q) (map entry_of ps)) ≡ None → cond b (Some p.value) (lookup (bytes_eq q) (map entry_of (ps ++ qs))) ≡ lookup (bytes_eq q) (map entry_of qs)) [
+    elim (bytes_eq q p.key) as (λ b. cond b (Some p.value) (lookup (bytes_eq q) (map entry_of ps)) ≡ None →
+    cond b (Some p.value) (lookup (bytes_eq q) (map entry_of (ps ++ qs))) ≡
+    lookup (bytes_eq q) (map entry_of qs)) [
       | true ↦ λ e. some_none e
       | false ↦ λ e. lookup-both ps qs q e
     ] h
 
-pub lookup-first : (ps qs : List Pair) (q : List ℕ) → lookup (bytes_eq q) (map entry_of qs) ≡ None → lookup (bytes_eq q) (map entry_of (ps ++ qs)) ≡ lookup (bytes_eq q) (map entry_of ps)
+pub lookup-first : (ps qs : List Pair) (q : List ℕ) → lookup (bytes_eq q) (map entry_of qs) ≡ None →
+    lookup (bytes_eq q) (map entry_of (ps ++ qs)) ≡ lookup (bytes_eq q) (map entry_of ps)
 lookup-first [] qs q h = h
 lookup-first (p ∷ ps) qs q h = ap (cond (bytes_eq q p.key) (Some p.value)) (lookup-first ps qs q h)

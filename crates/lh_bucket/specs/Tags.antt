@@ -91,7 +91,8 @@ given_back given.Exists value = refl
 given_back given.Deleted value = refl
 given_back given.Replaced value = refl
 
-pub value_back : (call : Asked) (reply : Given) (key value : List ℕ) → GoTogether call reply value → value_of (call_by call key value) (reply_by reply value) ≡ value
+pub value_back : (call : Asked) (reply : Given) (key value : List ℕ) → GoTogether call reply value →
+    value_of (call_by call key value) (reply_by reply value) ≡ value
 value_back asked.Insert reply key value h = refl
 value_back asked.Replace reply key value h = refl
 value_back asked.Search given.Found key value h = refl

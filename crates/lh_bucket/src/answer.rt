@@ -37,8 +37,8 @@ enum Given {
 ///
 /// It is made of a [`Home`], which only a bucket makes, or by [`look`](crate::Bucket::look) and
 /// [`serve`](crate::Bucket::serve): at a bucket whose local level was the level that the call looked for. So the
-/// call's key belongs to that bucket: the code's hash at that level is the bucket's number. Whoever makes one of a `Home`
-/// answers for its reply, which some map has to give to the call.
+/// call's key belongs to that bucket: the code's hash at that level is the bucket's number. Whoever makes one of a
+/// `Home` answers for its reply, which some map has to give to the call.
 #[derive(Clone, Copy, Debug, PartialEq, Eq)]
 pub struct Answer {
     bucket: u32,

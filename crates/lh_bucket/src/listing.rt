@@ -1,5 +1,6 @@
 //! Listings: whole files as lists of records.
-ghost use Rattle.std.specs.Prelude.{◌≡◌, ℕ, ◌^◌, ◌<◌, ◌-◌, [], length, map, min, replicate, slice_get, Some, IfOk, IfErr};
+ghost use Rattle.std.specs.Prelude.{◌≡◌, ℕ, ◌^◌, ◌<◌, ◌-◌, [], length, map, min, replicate, slice_get, Some, IfOk};
+ghost use Rattle.std.specs.Prelude.{IfErr};
 ghost use Rattle.std.specs.List.{All};
 ghost use Rattle.lh_page.specs.Records.{IsRecord};
 ghost use Rattle.lh_bucket.specs.Listing.{list_at};

@@ -1,6 +1,7 @@
 -- Laws of the definitions
 use Rattle.std.specs.Prelude.{◌≡◌, ℕ, ◌≤◌, Some}
-use Rattle.lh_addr.specs.Growth.{RootLaw, AddressLaw, SplitLevels, SplitAddresses, AimBegins, AimStays, AimRises, HashRises}
+use Rattle.lh_addr.specs.Growth.{RootLaw, AddressLaw, SplitLevels, SplitAddresses, AimBegins, AimStays, AimRises}
+use Rattle.lh_addr.specs.Growth.{HashRises}
 use Rattle.lh_addr.specs.Settings.{Settings}
 use Rattle.lh_bucket.specs.declared.call.Call.{Call}
 use Rattle.lh_core.specs.State.{State}

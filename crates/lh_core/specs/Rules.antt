@@ -8,7 +8,8 @@ use Rattle.lh_bucket.specs.Call.{key_of}
 use Rattle.lh_core.specs.declared.effect.Effect.{Effect}
 use Rattle.lh_core.specs.declared.effect.Effect.TheVariants as effect
 use Rattle.lh_core.specs.declared.effect.Refusal.{Refusal}
-use Rattle.lh_core.specs.declared.effect.Refusal.TheVariants.{WrongState, Held, MustRehash, NothingToRehash, SplitBusy, FileFull}
+use Rattle.lh_core.specs.declared.effect.Refusal.TheVariants.{WrongState, Held, MustRehash, NothingToRehash, SplitBusy}
+use Rattle.lh_core.specs.declared.effect.Refusal.TheVariants.{FileFull}
 use Rattle.lh_core.specs.declared.event.Event.{Event}
 use Rattle.lh_core.specs.declared.event.Event.TheVariants as event
 use Rattle.lh_core.specs.declared.state.WorkerState.{WorkerState}

@@ -1,11 +1,13 @@
 //! A file with one caller.
-ghost use Rattle.std.specs.Prelude.{◌≡◌, ◌+◌, ◌-◌, ◌^◌, ◌<◌, ◌≤◌, [], length, Ok, IsTrue, IfOk, OnErr, OnOk, false, true};
+ghost use Rattle.std.specs.Prelude.{◌≡◌, ◌+◌, ◌-◌, ◌^◌, ◌<◌, ◌≤◌, [], length, Ok, IsTrue, IfOk, OnErr, OnOk, false};
+ghost use Rattle.std.specs.Prelude.{true};
 ghost use Rattle.std.specs.Result.{IsOk};
 ghost use Rattle.std.specs.FinMap.{len};
 ghost use Rattle.lh_bucket.specs.PlainMap.{IsInsert, Records};
 ghost use Rattle.lh_core.specs.History.{may_want_memory};
 ghost use Rattle.lh_core.specs.Rules.{allowed};
-ghost use Rattle.lh_core.specs.Serial.{IsAtRest, IsGivenUp, IsServedAlone, IsServed, IsServedOn, IsSerial, IsSerialFrom, HasGrown, HasRecords, grows_after, count_after};
+ghost use Rattle.lh_core.specs.Serial.{IsAtRest, IsGivenUp, IsServedAlone, IsServed, IsServedOn, IsSerial};
+ghost use Rattle.lh_core.specs.Serial.{IsSerialFrom, HasGrown, HasRecords, grows_after, count_after};
 ghost use Rattle.lh_core.specs.World.{IsStep, StandsFor};
 
 use crate::effect::{Effect, Refusal};
@@ -94,8 +96,8 @@ impl<B: Bucket> World<B> {
         }
     }
 
-    /// Serves a call at once, where nobody is at work: it does what the five steps of a worker do, and no other is there to
-    /// see that they are one.
+    /// Serves a call at once, where nobody is at work: it does what the five steps of a worker do, and no other is
+    /// there to see that they are one.
     fn serve_at_once(&mut self, call: &Call) -> Result<Reply, Memory>
         requires { IsAtRest self.old.state }
         ensures ok { IfOk result (λ reply. IsServedAlone self.old call.now reply self.new) }

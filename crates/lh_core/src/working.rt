@@ -5,7 +5,8 @@ ghost use Rattle.lh_core.specs.declared.event.Event.TheVariants as event;
 ghost use Rattle.lh_core.specs.declared.control.Act.{Act as ActOf};
 ghost use Rattle.lh_core.specs.Aims.{Leads};
 ghost use Rattle.lh_core.specs.Rules.{called, read, lock, rehash, release, at_worker, allowed};
-ghost use Rattle.lh_core.specs.Control.{IsControl, HasNoReply, IsActOf, IsAimed, KeepsFile, control_state, step_to, acted};
+ghost use Rattle.lh_core.specs.Control.{IsControl, HasNoReply, IsActOf, IsAimed, KeepsFile, control_state, step_to};
+ghost use Rattle.lh_core.specs.Control.{acted};
 
 use crate::control::{Act, Control};
 use crate::effect::{Effect, Refusal};

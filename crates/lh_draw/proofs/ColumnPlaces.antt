@@ -8,7 +8,8 @@ use Rattle.lh_draw.specs.Columns.{column_count, first_bucket, group_size, label_
 use Rattle.lh_draw.specs.Drawing.{label_count}
 
 -- a column's first bucket is one of the file's
-pub column_within : (buckets column : ℕ) → 1 ≤ buckets → column < column_count buckets → first_bucket buckets column < buckets
+pub column_within : (buckets column : ℕ) → 1 ≤ buckets → column < column_count buckets →
+    first_bucket buckets column < buckets
 unfolding column_count
 column_within buckets column some h =
     let g : ℕ = group_size buckets in
@@ -17,7 +18,8 @@ column_within buckets column some h =
     omega (arith, all, next, some)
 
 -- a number of buckets leads to no column behind the last
-pub column_of : (buckets bucket : ℕ) → 1 ≤ buckets → bucket ≤ buckets → bucket / group_size buckets ≤ column_count buckets
+pub column_of : (buckets bucket : ℕ) → 1 ≤ buckets → bucket ≤ buckets →
+    bucket / group_size buckets ≤ column_count buckets
 unfolding column_count
 column_of buckets bucket some h =
     let g : ℕ = group_size buckets in
@@ -66,9 +68,11 @@ has_some l h = omega (arith, h.config.initial.0, h.shape.from_initial)
 pub has_most : (l : Lists) → IsListing l → size l ≤ 65536
 has_most l h = omega (arith, h.config.max.1, h.shape.to_max)
 
-pub label_column : (l : Lists) (place : ℕ) → 1 ≤ size l → place < label_count l → place * label_step (size l) < column_count (size l)
+pub label_column : (l : Lists) (place : ℕ) → 1 ≤ size l → place < label_count l →
+    place * label_step (size l) < column_count (size l)
 unfolding label_count
-label_column l place some h = label_within (column_count (size l)) (label_step (size l)) place (column_some (size l) some) h
+label_column l place some h =
+    label_within (column_count (size l)) (label_step (size l)) place (column_some (size l) some) h
 
 -- a product of small factors is small
 pub product_small : (a b : ℕ) → a ≤ 64 → b ≤ 512 → a * b ≤ 32768

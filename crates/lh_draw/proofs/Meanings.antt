@@ -1,5 +1,8 @@
 -- What a drawing means: the laws of its boxes, colours, columns and legend.
-use Rattle.std.proofs.Common.{◌≡◌, ◌∙◌, ◌⊎◌, inl, inr, ℕ, zero, suc, ◌+◌, ◌-◌, ◌*◌, ◌/◌, ◌<◌, ◌≤◌, ◌^◌, Bool, true, false, ◌||◌, if◌then◌else◌, cond, ltb, leb, List, [], ◌∷◌, ◌++◌, None, Some, length, codes, decimal, drop, ap, sym, refl, subst, arith, append-nil, length-append, length-take, length-drop}
+use Rattle.std.proofs.Common.{◌≡◌, ◌∙◌, ◌⊎◌, inl, inr, ℕ, zero, suc, ◌+◌, ◌-◌, ◌*◌, ◌/◌, ◌<◌, ◌≤◌, ◌^◌, Bool, true}
+use Rattle.std.proofs.Common.{false, ◌||◌, if◌then◌else◌, cond, ltb, leb, List, [], ◌∷◌, ◌++◌, None, Some, length}
+use Rattle.std.proofs.Common.{codes, decimal, drop, ap, sym, refl, subst, arith, append-nil, length-append, length-take}
+use Rattle.std.proofs.Common.{length-drop}
 use Rattle.std.specs.Prelude.{min, sum_by, flat_map}
 use Rattle.std.proofs.lemmas.Grind.{flat_map-append}
 use Rattle.std.proofs.lemmas.Bool.{cases_lt, le-leb, lt-ltb}
@@ -11,7 +14,8 @@ use Rattle.lh_bucket.specs.Listing.{Lists, list_at, size}
 use Rattle.lh_page.specs.declared.pair.Pair.{Pair}
 use Rattle.lh_page.specs.PackedList.{PiecesLaw}
 use Rattle.lh_draw.specs.Columns.{chain_length, column_count, group_size, lists_between, longest_of, pitch, whole_tally}
-use Rattle.lh_draw.specs.Drawing.{chain_text, columns_text, group_bar, in_turn, legend_of, level_above, more_of, page_bar, part_of}
+use Rattle.lh_draw.specs.Drawing.{chain_text, columns_text, group_bar, in_turn, legend_of, level_above, more_of}
+use Rattle.lh_draw.specs.Drawing.{page_bar, part_of}
 use Rattle.lh_draw.specs.DrawingTexts.{bar_text, more_text}
 use Rattle.lh_draw.specs.declared.bars.More.{More}
 use Rattle.lh_draw.specs.Meaning.{ApartLaw, BoxLaw, ColourLaw, ColumnLaw, IsColumnOf, LegendLaw, boxes_at, used_on}
@@ -29,7 +33,8 @@ turn-texts : {A : Type 0} (text : A → List ℕ) (items : ℕ → List A) (n : 
 unfolding in_turn
 turn-texts text items zero = refl
 turn-texts text items (suc n) =
-    flat_map-append text (in_turn items n) (items n) ∙ ap (λ (some : List ℕ). some ++ flat_map text (items n)) (turn-texts text items n)
+    flat_map-append text (in_turn items n) (items n)
+    ∙ ap (λ (some : List ℕ). some ++ flat_map text (items n)) (turn-texts text items n)
 
 -- texts that agree, in turn
 turn-same : (one other : ℕ → List ℕ) (n : ℕ) → ((i : ℕ) → i < n → one i ≡ other i) → in_turn one n ≡ in_turn other n
@@ -51,7 +56,8 @@ chain-within l (suc n) bucket within h =
       | inl before ↦ omega (arith, more, chain-within l n bucket (omega (arith, within)) before)
       | inr last ↦
           let same : bucket ≡ n = omega (arith, h, last) in
-          let chain : chain_length capacity (list_at l.lists bucket) ≡ chain_length capacity (list_at l.lists n) = ap (λ (b : ℕ). chain_length capacity (list_at l.lists b)) same in
+          let chain : chain_length capacity (list_at l.lists bucket) ≡ chain_length capacity (list_at l.lists n) =
+          ap (λ (b : ℕ). chain_length capacity (list_at l.lists b)) same in
           omega (arith, more, chain)
     ])
 
@@ -59,7 +65,8 @@ chain-within l (suc n) bucket within h =
 boxes-each : (l : Lists) (bucket : ℕ) → chain_length l.config.capacity (list_at l.lists bucket) ≤ 24 →
     length (boxes_at l bucket) ≡ chain_length l.config.capacity (list_at l.lists bucket)
 boxes-each l bucket short =
-    length-turn (page_bar l bucket) (min (chain_length l.config.capacity (list_at l.lists bucket)) 24) ∙ omega (arith, short)
+    length-turn (page_bar l bucket) (min (chain_length l.config.capacity (list_at l.lists bucket)) 24)
+    ∙ omega (arith, short)
 
 -- the boxes of the first buckets
 boxes-count : (l : Lists) (n : ℕ) → n ≤ size l → longest_of l.config.capacity (lists_between l 0 n) ≤ 24 →
@@ -69,11 +76,13 @@ boxes-count l zero within short = sym (ap (sum_by (chain_length l.config.capacit
 boxes-count l (suc n) within short =
     let capacity : ℕ = l.config.capacity in
     let next : n + 1 ≡ suc n = omega arith in
-    let low : longest_of capacity (lists_between l 0 (n + 1)) ≤ 24 = subst (λ (m : ℕ). longest_of capacity (lists_between l 0 m) ≤ 24) (sym next) short in
+    let low : longest_of capacity (lists_between l 0 (n + 1)) ≤ 24 =
+    subst (λ (m : ℕ). longest_of capacity (lists_between l 0 m) ≤ 24) (sym next) short in
     let longest = longest_more l capacity 0 n (omega arith) (omega (arith, within)) in
     let before : length (in_turn (boxes_at l) n) ≡ sum_by (chain_length capacity) (lists_between l 0 n) =
     boxes-count l n (omega (arith, within)) (omega (arith, low, longest)) in
-    let here : length (boxes_at l n) ≡ chain_length capacity (list_at l.lists n) = boxes-each l n (omega (arith, low, longest)) in
+    let here : length (boxes_at l n) ≡ chain_length capacity (list_at l.lists n) =
+    boxes-each l n (omega (arith, low, longest)) in
     length-append (in_turn (boxes_at l) n) (boxes_at l n)
     ∙ (λ i. before i + here i)
     ∙ sym (pages_more l capacity 0 n (omega arith) (omega (arith, within)))
@@ -83,7 +92,13 @@ boxes-count l (suc n) within short =
 more-none : (m : More) → m.pages ≤ 24 → more_text m ≡ []
 unfolding more_text
 more-none m short =
-    ap (λ b. if b then [] else (codes "<text transform='translate(" ++ (decimal m.centre ++ (codes " -964)rotate(-90)' dy='3' font-size='8'>+" ++ (decimal (m.pages - 24) ++ codes "</text>\n")))))
+    ap
+    (λ b.
+    if b then []
+    else (codes "<text transform='translate("
+    ++ (decimal m.centre
+    ++ (codes " -964)rotate(-90)' dy='3' font-size='8'>+"
+    ++ (decimal (m.pages - 24) ++ codes "</text>\n")))))
     (le-leb m.pages 24 short)
 
 -- the text of a chain is that of its boxes
@@ -103,7 +118,10 @@ pub box_law : BoxLaw
 unfolding columns_text whole_tally
 box_law l few short = record {
   drawn =
-      ap (λ b. if b then in_turn (chain_text l) (size l) else in_turn (λ column. bar_text (group_bar l column)) (column_count (size l))) (le-leb (size l) 128 few)
+      ap
+      (λ b.
+      if b then in_turn (chain_text l) (size l)
+      else in_turn (λ column. bar_text (group_bar l column)) (column_count (size l))) (le-leb (size l) 128 few)
       ∙ turn-same (chain_text l) (λ bucket. flat_map bar_text (boxes_at l bucket)) (size l)
       (λ bucket h. chain-boxes l bucket (omega (arith, short, chain-within l (size l) bucket (omega arith) h)))
       ∙ sym (turn-texts bar_text (boxes_at l) (size l));
@@ -111,7 +129,8 @@ box_law l few short = record {
 }
 
 -- the records on a page, by the place of its first
-used-is : PiecesLaw → (l : Lists) (bucket page : ℕ) → 1 ≤ l.config.capacity → page < chain_length l.config.capacity (list_at l.lists bucket) →
+used-is : PiecesLaw → (l : Lists) (bucket page : ℕ) → 1 ≤ l.config.capacity →
+    page < chain_length l.config.capacity (list_at l.lists bucket) →
     min (length (list_at l.lists bucket) - l.config.capacity * page) l.config.capacity ≡ used_on l bucket page
 used-is law l bucket page some h =
     let capacity : ℕ = l.config.capacity in
@@ -134,7 +153,8 @@ unfolding page_bar
 apart_law = record {
   pages = λ l bucket page later h. inl (omega (arith, h));
   buckets = λ l bucket later page other h.
-      let next : pitch (size l) * (bucket + 1) ≤ pitch (size l) * later = mul-le-mul_left (pitch (size l)) (omega (arith, h)) in
+      let next : pitch (size l) * (bucket + 1) ≤ pitch (size l) * later =
+      mul-le-mul_left (pitch (size l)) (omega (arith, h)) in
       let broad : pitch (size l) * (bucket + 1) ≡ pitch (size l) * bucket + pitch (size l) = grind arith in
       inr (omega (arith, next, broad));
 }
@@ -154,7 +174,8 @@ quotient-below g buckets bucket some h =
 
 quotient-high : (g bucket : ℕ) → 0 < g → bucket < g * (bucket / g) + g
 quotient-high g bucket some =
-    let next : g * (bucket / g + 1) ≡ g * (bucket / g) + g = grind arith in omega (arith, lt-mul-div-succ bucket some, next)
+    let next : g * (bucket / g + 1) ≡ g * (bucket / g) + g = grind arith in
+    omega (arith, lt-mul-div-succ bucket some, next)
 
 pub column_law : ColumnLaw
 unfolding column_count
@@ -169,7 +190,8 @@ column_law buckets bucket column h =
     )
 
 -- a level over plain numbers: p is the size at level L, S the number of buckets
-named : (p S L i : ℕ) → i < S → (above first : Bool) → (ltb i (S - p) || leb p i) ≡ above → (ltb 0 (S - p) || leb p 0) ≡ first →
+named : (p S L i : ℕ) → i < S → (above first : Bool) → (ltb i (S - p) || leb p i) ≡ above →
+    (ltb 0 (S - p) || leb p 0) ≡ first →
     (cond above (L + 1) L ≡ L)
     ⊎ (cond (ltb L (cond first (L + 1) L)) (Some (cond first (L + 1) L)) None ≡ Some (cond above (L + 1) L))
 named p S L i h false first is of_first = inl refl
@@ -178,4 +200,6 @@ named p S L i h true false is of_first = absurd (grind (arith, nat_tests))
 
 pub legend_law : LegendLaw
 unfolding legend_of level_above level_of pointer
-legend_law l bucket h = named (l.config.initial * 2 ^ level l.config.initial (size l)) (size l) (level l.config.initial (size l)) bucket h _ _ refl refl
+legend_law l bucket h =
+    named (l.config.initial * 2 ^ level l.config.initial (size l)) (size l) (level l.config.initial (size l)) bucket h _
+    _ refl refl

@@ -1,5 +1,6 @@
 -- The columns of a drawing: how they lie, and what is counted of their buckets
-use Rattle.std.specs.Prelude.{ℕ, ◌+◌, ◌-◌, ◌*◌, ◌/◌, min, max, Bool, nat_lt, nat_le, if◌then◌else◌, List, [], ◌∷◌, length, take, drop, sum_by}
+use Rattle.std.specs.Prelude.{ℕ, ◌+◌, ◌-◌, ◌*◌, ◌/◌, min, max, Bool, nat_lt, nat_le, if◌then◌else◌, List, [], ◌∷◌}
+use Rattle.std.specs.Prelude.{length, take, drop, sum_by}
 use Rattle.lh_addr.specs.Growth.{level, level_of}
 use Rattle.lh_page.specs.PackedList.{pages_needed}
 use Rattle.lh_page.specs.declared.pair.Pair.{Pair}

@@ -1,10 +1,13 @@
 -- What is drawn of a file: a column for each bucket, or for each group of buckets where there are many.
 -- Meaning.antt says what that means.
-use Rattle.std.specs.Prelude.{ℕ, zero, suc, ◌+◌, ◌-◌, ◌*◌, ◌/◌, min, max, if◌then◌else◌, List, [], ◌++◌, length, Option, None, Some}
+use Rattle.std.specs.Prelude.{ℕ, zero, suc, ◌+◌, ◌-◌, ◌*◌, ◌/◌, min, max, if◌then◌else◌, List, [], ◌++◌, length, Option}
+use Rattle.std.specs.Prelude.{None, Some}
 use Rattle.lh_addr.specs.Growth.{level, level_of, pointer}
 use Rattle.lh_bucket.specs.Listing.{Lists, size, list_at}
-use Rattle.lh_draw.specs.Columns.{bar_width, centre, chain_length, column_count, end_bucket, first_bucket, group_size, is_detailed, is_next_level, label_step, left, lists_between, tally_of, whole_tally}
-use Rattle.lh_draw.specs.DrawingTexts.{bar_text, canvas_text, caption_text, cuts_text, label_text, legend_text, mark_text, more_text, plot_text, title_text}
+use Rattle.lh_draw.specs.Columns.{bar_width, centre, chain_length, column_count, end_bucket, first_bucket, group_size}
+use Rattle.lh_draw.specs.Columns.{is_detailed, is_next_level, label_step, left, lists_between, tally_of, whole_tally}
+use Rattle.lh_draw.specs.DrawingTexts.{bar_text, canvas_text, caption_text, cuts_text, label_text, legend_text}
+use Rattle.lh_draw.specs.DrawingTexts.{mark_text, more_text, plot_text, title_text}
 use Rattle.lh_draw.specs.declared.bars.Bar.{Bar}
 use Rattle.lh_draw.specs.declared.elements.Canvas.{Canvas}
 use Rattle.lh_draw.specs.declared.bars.Cuts.{Cuts}

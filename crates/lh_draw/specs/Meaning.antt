@@ -1,5 +1,6 @@
 -- What a drawing means: a box is a page, coloured as far as it is used, and each bucket stands in one column
-use Rattle.std.specs.Prelude.{◌≡◌, ◌⊎◌, ◌↔◌, ℕ, ◌+◌, ◌/◌, ◌<◌, ◌≤◌, List, [], ◌∷◌, length, Some, min, nat_lt, slice_index_or, flat_map}
+use Rattle.std.specs.Prelude.{◌≡◌, ◌⊎◌, ◌↔◌, ℕ, ◌+◌, ◌/◌, ◌<◌, ◌≤◌, List, [], ◌∷◌, length, Some, min, nat_lt}
+use Rattle.std.specs.Prelude.{slice_index_or, flat_map}
 use Rattle.lh_addr.specs.Growth.{level, level_of}
 use Rattle.lh_bucket.specs.Listing.{Lists, list_at, size}
 use Rattle.lh_page.specs.PackedList.{pages_of}

@@ -2,7 +2,8 @@
 ghost use Rattle.std.specs.Prelude.{◌≡◌, ◌+◌, ◌*◌, ◌/◌, ◌^◌, ◌<◌, ◌≤◌, IfSome, min};
 ghost use Rattle.lh_bucket.specs.Listing.{IsListing, list_at, size};
 ghost use Rattle.lh_draw.specs.Columns.{chain_length, column_count, is_next_level, whole_tally};
-ghost use Rattle.lh_draw.specs.Drawing.{canvas_of, cuts_of, filling_of, floor_of, group_bar, label_count, label_of, legend_of, level_above, more_of, page_bar, part_of, pointer_mark_of, title_of};
+ghost use Rattle.lh_draw.specs.Drawing.{canvas_of, cuts_of, filling_of, floor_of, group_bar, label_count, label_of};
+ghost use Rattle.lh_draw.specs.Drawing.{legend_of, level_above, more_of, page_bar, part_of, pointer_mark_of, title_of};
 
 use crate::bars::{Bar, Cuts, More};
 use crate::elements::{Canvas, Label, Legend, Mark, Title};

@@ -1,6 +1,7 @@
 //! What stands around the bars of a drawing, each element as the SVG text that a type displays.
 ghost use Rattle.std.specs.Prelude.{Some};
-ghost use Rattle.lh_draw.specs.DrawingTexts.{canvas_text, caption_text, label_text, legend_text, mark_text, numbers_text, plot_text, title_text};
+ghost use Rattle.lh_draw.specs.DrawingTexts.{canvas_text, caption_text, label_text, legend_text, mark_text};
+ghost use Rattle.lh_draw.specs.DrawingTexts.{numbers_text, plot_text, title_text};
 
 use std::fmt;
 

@@ -1,7 +1,8 @@
 //! How the columns of a drawing lie. All of it follows from the number of buckets, 1 to 65,536.
 ghost use Rattle.std.specs.Prelude.{◌≡◌, ◌+◌, ◌*◌, ◌<◌, ◌≤◌, IsTrue};
 ghost use Rattle.lh_addr.specs.Limits.{most_buckets};
-ghost use Rattle.lh_draw.specs.Columns.{bar_width, centre, column_count, end_bucket, first_bucket, group_size, is_detailed, label_step, left, pitch};
+ghost use Rattle.lh_draw.specs.Columns.{bar_width, centre, column_count, end_bucket, first_bucket, group_size};
+ghost use Rattle.lh_draw.specs.Columns.{is_detailed, label_step, left, pitch};
 
 /// Whether a column shows the pages of one bucket.
 pub fn is_detailed(buckets: u32) -> bool

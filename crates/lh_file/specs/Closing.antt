@@ -62,9 +62,9 @@ pub record AreGathered (buckets : List Seen) (lists : List (List Pair)) (whole :
 abbrev pub NoneLent : List Entry → Type 0
 NoneLent entries = Each entries (λ e. e.lent ≡ false)
 
--- A traced file was closed with all its buckets and no split under way: the hand that closed it was told of a log, of all
--- that was done with the file, and the closed file holds just what that leaves. Where each call came home to this hand
--- and none was lent, these acts are the log's, of which none is lent, and the file is settled.
+-- A traced file was closed with all its buckets and no split under way: the hand that closed it was told of a log, of
+-- all that was done with the file, and the closed file holds just what that leaves. Where each call came home to this
+-- hand and none was lent, these acts are the log's, of which none is lent, and the file is settled.
 abbrev pub HasHistory : Lists → ClosedFile → List ActLine → HandState → Type 0
 HasHistory opening closed acts hand =
     (log : List Entry) × IsSnapshot opening closed hand.entries hand.logs log

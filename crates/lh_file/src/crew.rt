@@ -1,5 +1,6 @@
 //! Hands for several threads.
-ghost use Rattle.std.specs.Prelude.{◌≡◌, ◌*◌, ◌-◌, ◌^◌, ◌<◌, ◌≤◌, ◌∷◌, ◌++◌, [], min, vec_capacity, vec_len, All, IsOk, IfOk, IfErr, OnOk, OnErr, length, sum_by};
+ghost use Rattle.std.specs.Prelude.{◌≡◌, ◌*◌, ◌-◌, ◌^◌, ◌<◌, ◌≤◌, ◌∷◌, ◌++◌, [], min, vec_capacity, vec_len, All, IsOk};
+ghost use Rattle.std.specs.Prelude.{IfOk, IfErr, OnOk, OnErr, length, sum_by};
 ghost use Rattle.lh_file.specs.FileState.{IsOf, MayBeJoined};
 ghost use Rattle.lh_file.specs.Words.Calls.{IsNotGiven};
 ghost use Rattle.lh_file.specs.Words.HandState.{AreJoined, IsBranch, IsSame, seeing};

@@ -1,14 +1,15 @@
 //! A linear hash file that many threads use at once. Of a traced one the history is proved: whatever the schedule, its
 //! calls are those of one plain map. Of any other, recorded acts can be settled after the run.
 //!
-//! While it works a file can be copied, all of it at one moment ([`HashFile::snapshot`]) or bucket by bucket ([`Scan`]).
+//! While it works a file can be copied, all of it at one moment ([`HashFile::snapshot`]) or bucket by bucket
+//! ([`Scan`]).
 //!
 //! Each thread takes part with a [`Hand`] of its own. What all of them change stands in four words: the
 //! root with the right to split, the next stamp, and the counts of inserts and of deletes. They change
 //! in single atomic steps of a few kinds, under one rule about the words and about what each hand knows,
 //! has and did; the rule holds between any two steps. Each bucket has a reader-writer lock of its own.
-//! A call holds one bucket at a time, a split the two that it divides, the lower number first, and a snapshot all of them,
-//! in the same order.
+//! A call holds one bucket at a time, a split the two that it divides, the lower number first, and a snapshot all of
+//! them, in the same order.
 //!
 //! The steps that calls and splits take are those of the stepping core, and a comment names each where it
 //! is taken: `Call`, `Read`, `Lock`, `Rehash`, `Act` and `Release` of a call, `SplitBegin`, `SplitLock`,

@@ -1,5 +1,6 @@
 -- The faults of an image: the condition of each, the table of them, and the fault that is answered
-use Rattle.std.specs.Prelude.{ℕ, ◌+◌, ◌-◌, ◌*◌, Bool, false, not, ◌&&◌, ◌||◌, List, [], ◌∷◌, ◌++◌, length, map, option_map, Option, Some, None, nat_lt, nat_le, ◌==◌, if◌then◌else◌}
+use Rattle.std.specs.Prelude.{ℕ, ◌+◌, ◌-◌, ◌*◌, Bool, false, not, ◌&&◌, ◌||◌, List, [], ◌∷◌, ◌++◌, length, map}
+use Rattle.std.specs.Prelude.{option_map, Option, Some, None, nat_lt, nat_le, ◌==◌, if◌then◌else◌}
 use Rattle.std.specs.List.{range_with_len, list_any, count_by, sum_by, find, before_first, flat_map}
 use Rattle.std.specs.Option.{is_some}
 use Rattle.std.specs.Str.{bytes_eq}
@@ -10,13 +11,17 @@ use Rattle.lh_page.specs.declared.head.PageHead.{PageHead}
 use Rattle.lh_page.specs.declared.pair.Pair.{Pair}
 use Rattle.lh_page.specs.Records.{keys_of}
 use Rattle.lh_image.specs.declared.fault.ImageFault.{ImageFault}
-use Rattle.lh_image.specs.declared.fault.ImageFault.TheVariants.{Magic, HeaderField, Counts, Short, Trailing, Kind, BucketNumber, Level, Used, Next, Twice, Never, Slot, Misfit}
+use Rattle.lh_image.specs.declared.fault.ImageFault.TheVariants.{Magic, HeaderField, Counts, Short, Trailing, Kind}
+use Rattle.lh_image.specs.declared.fault.ImageFault.TheVariants.{BucketNumber, Level, Used, Next, Twice, Never, Slot}
+use Rattle.lh_image.specs.declared.fault.ImageFault.TheVariants.{Misfit}
 use Rattle.lh_image.specs.declared.reading.first_page.Header.{Header}
 use Rattle.lh_image.specs.Chains.{Links, chain, stands_in}
-use Rattle.lh_image.specs.Layout.{most_pages, initial_offset, capacity_offset, load_offset, buckets_offset, max_offset, fields_end, header_of, ends_in_zeros, image_bytes, view_of}
+use Rattle.lh_image.specs.Layout.{most_pages, initial_offset, capacity_offset, load_offset, buckets_offset, max_offset}
+use Rattle.lh_image.specs.Layout.{fields_end, header_of, ends_in_zeros, image_bytes, view_of}
 use Rattle.lh_image.specs.Version.{begins, page_bytes, slots, version_of}
 use Rattle.lh_image.specs.declared.version.Version.TheVariants.{One, Two}
-use Rattle.lh_image.specs.View.{View, initial, buckets, page_count, record_count, numbers, used, bucket, links, chain_of}
+use Rattle.lh_image.specs.View.{View, initial, buckets, page_count, record_count, numbers, used, bucket, links}
+use Rattle.lh_image.specs.View.{chain_of}
 
 -- ---- the file as a whole
 

@@ -1,8 +1,12 @@
 -- Which fault of the table is answered
 use Rattle.std.specs.Prelude.{◌≡◌, ◌↔◌, ℕ, ◌<◌, ◌≤◌, Bool, true, false, List, Some, None}
 use Rattle.lh_image.specs.declared.fault.ImageFault.{ImageFault}
-use Rattle.lh_image.specs.declared.fault.ImageFault.TheVariants.{Magic, HeaderField, Counts, Short, Trailing, Kind, BucketNumber, Level, Used, Next, Twice, Never, Slot, Misfit, ReadFault, Memory}
-use Rattle.lh_image.specs.Faults.{no_magic, has_header, bad_field, bad_counts, is_short, has_trailing, at_head, bad_kind, bad_bucket, bad_level, bad_used_at, bad_next, named_twice, on_no_chain, has_bad_slot, has_misfit, image_fault}
+use Rattle.lh_image.specs.declared.fault.ImageFault.TheVariants.{Magic, HeaderField, Counts, Short, Trailing, Kind}
+use Rattle.lh_image.specs.declared.fault.ImageFault.TheVariants.{BucketNumber, Level, Used, Next, Twice, Never, Slot}
+use Rattle.lh_image.specs.declared.fault.ImageFault.TheVariants.{Misfit, ReadFault, Memory}
+use Rattle.lh_image.specs.Faults.{no_magic, has_header, bad_field, bad_counts, is_short, has_trailing, at_head}
+use Rattle.lh_image.specs.Faults.{bad_kind, bad_bucket, bad_level, bad_used_at, bad_next, named_twice, on_no_chain}
+use Rattle.lh_image.specs.Faults.{has_bad_slot, has_misfit, image_fault}
 use Rattle.lh_image.specs.Layout.{header_of, ends_in_zeros, view_of}
 use Rattle.lh_image.specs.View.{View, page_count, links}
 

@@ -1,5 +1,6 @@
 -- A look-up in the bytes of an image: what it answers, whatever the bytes are
-use Rattle.std.specs.Prelude.{◌≡◌, ℕ, zero, suc, ◌+◌, ◌*◌, ◌<◌, ◌≤◌, ◌⊎◌, Bool, true, false, not, List, [], ◌∷◌, ◌++◌, length, map, Option, Some, None, Result, Ok, Err, option_map, ◌==◌, if◌then◌else◌}
+use Rattle.std.specs.Prelude.{◌≡◌, ℕ, zero, suc, ◌+◌, ◌*◌, ◌<◌, ◌≤◌, ◌⊎◌, Bool, true, false, not, List, [], ◌∷◌, ◌++◌}
+use Rattle.std.specs.Prelude.{length, map, Option, Some, None, Result, Ok, Err, option_map, ◌==◌, if◌then◌else◌}
 use Rattle.std.specs.FinMap.{get}
 use Rattle.std.specs.List.{Contains, find, list_any, range_with_len}
 use Rattle.std.specs.Str.{bytes_eq}
@@ -13,10 +14,12 @@ use Rattle.lh_page.specs.PageTable.{slot}
 use Rattle.lh_bucket.specs.Listing.{Lists, all_of}
 use Rattle.lh_bucket.specs.Records.{map_of}
 use Rattle.lh_image.specs.declared.fault.ImageFault.{ImageFault}
-use Rattle.lh_image.specs.declared.fault.ImageFault.TheVariants.{Kind, BucketNumber, Level, Used, Next, Twice, Slot, Misfit}
+use Rattle.lh_image.specs.declared.fault.ImageFault.TheVariants.{Kind, BucketNumber, Level, Used, Next, Twice, Slot}
+use Rattle.lh_image.specs.declared.fault.ImageFault.TheVariants.{Misfit}
 use Rattle.lh_image.specs.declared.reading.first_page.Header.{Header}
 use Rattle.lh_image.specs.Chains.{pages_from, stands_in}
-use Rattle.lh_image.specs.Faults.{at_head, bad_bucket, bad_kind, bad_level, bad_next, bad_used, first_fault_of, has_bad_slot, header_rows, is_at_home, size_rows, where_so}
+use Rattle.lh_image.specs.Faults.{at_head, bad_bucket, bad_kind, bad_level, bad_next, bad_used, first_fault_of}
+use Rattle.lh_image.specs.Faults.{has_bad_slot, header_rows, is_at_home, size_rows, where_so}
 use Rattle.lh_image.specs.Header.{AreInRange}
 use Rattle.lh_image.specs.Image.{IsImage}
 use Rattle.lh_image.specs.Layout.{header_of, page, view_of}

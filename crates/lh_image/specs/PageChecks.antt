@@ -1,5 +1,6 @@
 -- The faults of pages by themselves, as they are noted page after page
-use Rattle.std.specs.Prelude.{◌≡◌, ℕ, ◌+◌, Bool, not, ◌&&◌, List, [], ◌∷◌, option_map, Option, Some, None, nat_lt, ◌==◌, if◌then◌else◌}
+use Rattle.std.specs.Prelude.{◌≡◌, ℕ, ◌+◌, Bool, not, ◌&&◌, List, [], ◌∷◌, option_map, Option, Some, None, nat_lt, ◌==◌}
+use Rattle.std.specs.Prelude.{if◌then◌else◌}
 use Rattle.std.specs.List.{range_with_len, sum_by, find}
 use Rattle.lh_page.specs.declared.head.PageHead.{PageHead}
 use Rattle.lh_image.specs.declared.fault.ImageFault.{ImageFault}

@@ -3,7 +3,8 @@ use Rattle.std.specs.Prelude.{◌≡◌, ℕ, ◌+◌, max, List, ◌++◌, Opti
 use Rattle.std.specs.Io.KnownBytes.{Consumes, IsAtEnd}
 use Rattle.lh_bucket.specs.Listing.{Lists}
 use Rattle.lh_image.specs.declared.fault.ImageFault.{ImageFault}
-use Rattle.lh_image.specs.declared.fault.ImageFault.TheVariants.{Magic, HeaderField, Counts, Trailing, ReadFault, Memory}
+use Rattle.lh_image.specs.declared.fault.ImageFault.TheVariants.{Magic, HeaderField, Counts, Trailing, ReadFault}
+use Rattle.lh_image.specs.declared.fault.ImageFault.TheVariants.{Memory}
 use Rattle.lh_image.specs.Faults.{page_fault, image_fault}
 use Rattle.lh_image.specs.Image.{IsImage, listing_of}
 use Rattle.lh_image.specs.Layout.{image_bytes, view_of}

@@ -1,5 +1,6 @@
 -- What a reader keeps of the pages that came: an entry for each page, and the records of all
-use Rattle.std.specs.Prelude.{◌≡◌, ℕ, ◌+◌, ◌<◌, ◌≤◌, Bool, true, false, not, ◌&&◌, ◌||◌, List, [], ◌∷◌, ◌++◌, length, take, drop, slice_index_or, Option, Some, None, nat_lt, ◌==◌}
+use Rattle.std.specs.Prelude.{◌≡◌, ℕ, ◌+◌, ◌<◌, ◌≤◌, Bool, true, false, not, ◌&&◌, ◌||◌, List, [], ◌∷◌, ◌++◌, length}
+use Rattle.std.specs.Prelude.{take, drop, slice_index_or, Option, Some, None, nat_lt, ◌==◌}
 use Rattle.lh_page.specs.declared.pair.Pair.{Pair}
 use Rattle.lh_page.specs.declared.fault.PageFault.{PageFault}
 use Rattle.lh_page.specs.declared.fault.PageFault.TheVariants.{Kind, Used, Slot}

@@ -2,9 +2,12 @@
 use Rattle.std.specs.Prelude.{ℕ, List, ◌++◌, codes}
 use Rattle.std.specs.Fmt.{decimal}
 use Rattle.lh_image.specs.declared.fault.ImageFault.{ImageFault}
-use Rattle.lh_image.specs.declared.fault.ImageFault.TheVariants.{Magic, HeaderField, Counts, Short, Trailing, Kind, BucketNumber, Level, Used, Next, Twice, Never, Slot, Misfit, ReadFault, Memory}
+use Rattle.lh_image.specs.declared.fault.ImageFault.TheVariants.{Magic, HeaderField, Counts, Short, Trailing, Kind}
+use Rattle.lh_image.specs.declared.fault.ImageFault.TheVariants.{BucketNumber, Level, Used, Next, Twice, Never, Slot}
+use Rattle.lh_image.specs.declared.fault.ImageFault.TheVariants.{Misfit, ReadFault, Memory}
 use Rattle.lh_image.specs.declared.fault.WriteImageFault.{WriteImageFault}
-use Rattle.lh_image.specs.declared.fault.WriteImageFault.TheVariants.{OldCapacity, OldRecord, TooLarge, WriteFault, Memory as NoMemory}
+use Rattle.lh_image.specs.declared.fault.WriteImageFault.TheVariants.{OldCapacity, OldRecord, TooLarge, WriteFault}
+use Rattle.lh_image.specs.declared.fault.WriteImageFault.TheVariants.{Memory as NoMemory}
 
 -- the text of a fault of an image
 abbrev pub image_fault_text : ImageFault → List ℕ

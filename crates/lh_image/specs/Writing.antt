@@ -4,7 +4,8 @@ use Rattle.std.specs.Io.KnownBytes.{Appends, Keeps}
 use Rattle.lh_bucket.specs.Listing.{IsFirst, Lists}
 use Rattle.lh_image.specs.declared.version.Version.{Version}
 use Rattle.lh_image.specs.declared.fault.WriteImageFault.{WriteImageFault}
-use Rattle.lh_image.specs.declared.fault.WriteImageFault.TheVariants.{OldCapacity, OldRecord, TooLarge, WriteFault, Memory}
+use Rattle.lh_image.specs.declared.fault.WriteImageFault.TheVariants.{OldCapacity, OldRecord, TooLarge, WriteFault}
+use Rattle.lh_image.specs.declared.fault.WriteImageFault.TheVariants.{Memory}
 use Rattle.lh_image.specs.Canonical.{canonical, page_total}
 use Rattle.lh_image.specs.Fitting.{FitsVersion, IsFitting, IsTooLong}
 use Rattle.lh_image.specs.Layout.{most_pages}

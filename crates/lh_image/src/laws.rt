@@ -88,8 +88,8 @@ pub fn an_image_leads()
 }
 
 /// A look-up in an image of a listing answers as the plain map of all records does. In any bytes, a value that is found
-/// stands with the key in a page of the key's bucket, and a fault is that of a page of the key's chain, or names a page that
-/// leads back to itself.
+/// stands with the key in a page of the key's bucket, and a fault is that of a page of the key's chain, or names a page
+/// that leads back to itself.
 pub fn what_is_found_stands_there()
     ensures map { MapLaw }
     ensures stands { StandsLaw }

@@ -2,7 +2,8 @@
 ghost use Rattle.std.specs.Prelude.{◌≡◌, ◌+◌, ◌-◌, ◌<◌, ◌≤◌, IfErr, IfOk, length};
 ghost use Rattle.std.specs.List.{range_with_len, flat_map};
 ghost use Rattle.lh_bucket.specs.Listing.{IsListing, size};
-ghost use Rattle.lh_image.specs.Canonical.{canonical, page_count_in, page_total, overflow_before, overflow_text, text_in};
+ghost use Rattle.lh_image.specs.Canonical.{canonical, page_count_in, page_total, overflow_before, overflow_text};
+ghost use Rattle.lh_image.specs.Canonical.{text_in};
 ghost use Rattle.lh_image.specs.Fitting.{FitsVersion};
 ghost use Rattle.lh_image.specs.Writing.{FitsImage, IsNotOld, IsSent, IsWriteRefusal, IsWritten};
 ghost use Rattle.lh_image.specs.Layout.{most_pages};
@@ -27,8 +28,8 @@ use lh_page::laws::a_page_is_its_bytes;
 use lh_page::{Page, PageKind, Pairs, page_to_bytes, page2_to_bytes};
 use std::io::Write;
 
-/// Writes page `k` of a bucket, which is put in place of another. `following` is the number of the bucket's first overflow
-/// page, if it has any.
+/// Writes page `k` of a bucket, which is put in place of another. `following` is the number of the bucket's first
+/// overflow page, if it has any.
 fn write_page_of<W: Write>(
     listing: &Listing,
     version: Version,

@@ -1,5 +1,6 @@
 -- Words in which clap finds no fault name a subcommand, whose rows have the numbers of all its options
-use Rattle.std.proofs.Common.{◌≡◌, ◌∙◌, ◌⊎◌, ◌||◌, ℕ, zero, suc, inl, inr, Bool, true, false, refl, sym, ap, List, [], ◌∷◌, Option, Some, None, codes, arith}
+use Rattle.std.proofs.Common.{◌≡◌, ◌∙◌, ◌⊎◌, ◌||◌, ℕ, zero, suc, inl, inr, Bool, true, false, refl, sym, ap, List, []}
+use Rattle.std.proofs.Common.{◌∷◌, Option, Some, None, codes, arith}
 use Rattle.std.specs.Prelude.{find, option_and_then}
 use Rattle.std.specs.Str.{bytes_eq}
 use Rattle.std.proofs.lemmas.Bool.{false≢true}
@@ -9,7 +10,8 @@ use Rattle.clap.specs.Simple.{Shape, argument_words, built, subcommand_of}
 use Rattle.clap.specs.Faults.{fault_of, level_fault}
 use Rattle.lh_addr.specs.Limits.{most_initial, most_capacity, least_load, most_load, most_buckets}
 use Rattle.lh_options.specs.Options.{commands_app, most_snapshots, number_in, numeral_value, program_app, settings_from}
-use Rattle.lh_options.specs.OptionSteps.{HasDriveNumbers, HasImage, HasSettings, IsFileCommand, IsImageCommand, settings_in}
+use Rattle.lh_options.specs.OptionSteps.{HasDriveNumbers, HasImage, HasSettings, IsFileCommand, IsImageCommand}
+use Rattle.lh_options.specs.OptionSteps.{settings_in}
 use Rattle.lh_options.proofs.Levels.{entered-some, find-passes}
 use Rattle.lh_options.proofs.RowLemmas.{Every, FitsHere, HasTarget, IsTarget, find-every, level-every, level-row}
 use Rattle.lh_options.proofs.NumberLemmas.{number-fits}
@@ -17,15 +19,22 @@ use Rattle.lh_options.proofs.Unlike.{unlike}
 
 -- the four options are among these rules, each alone with its name
 pub record HasOptions (rules : List Rule) : Type 0 where
-  pub initial : Every (IsTarget (codes "initial") (codes "1") 1 most_initial) rules × HasTarget (codes "initial") (codes "1") 1 most_initial rules
-  pub capacity : Every (IsTarget (codes "capacity") (codes "14") 1 most_capacity) rules × HasTarget (codes "capacity") (codes "14") 1 most_capacity rules
-  pub load : Every (IsTarget (codes "load") (codes "100") least_load most_load) rules × HasTarget (codes "load") (codes "100") least_load most_load rules
-  pub max : Every (IsTarget (codes "max") (codes "65536") 1 most_buckets) rules × HasTarget (codes "max") (codes "65536") 1 most_buckets rules
+  pub initial : Every (IsTarget (codes "initial") (codes "1") 1 most_initial) rules
+      × HasTarget (codes "initial") (codes "1") 1 most_initial rules
+  pub capacity : Every (IsTarget (codes "capacity") (codes "14") 1 most_capacity) rules
+      × HasTarget (codes "capacity") (codes "14") 1 most_capacity rules
+  pub load : Every (IsTarget (codes "load") (codes "100") least_load most_load) rules
+      × HasTarget (codes "load") (codes "100") least_load most_load rules
+  pub max : Every (IsTarget (codes "max") (codes "65536") 1 most_buckets) rules
+      × HasTarget (codes "max") (codes "65536") 1 most_buckets rules
 
-settings-after : (s : Shape) → HasOptions s.rules → (words : List Text) → level_fault s [] nothing_held words false [] ≡ [] → HasSettings (rows_after s.rules [] words)
+settings-after : (s : Shape) → HasOptions s.rules → (words : List Text) →
+    level_fault s [] nothing_held words false [] ≡ [] → HasSettings (rows_after s.rules [] words)
 settings-after s h words e =
-    let initial = level-row (codes "initial") (codes "1") 1 most_initial s h.initial.0 h.initial.1 [] words false [] e in
-    let capacity = level-row (codes "capacity") (codes "14") 1 most_capacity s h.capacity.0 h.capacity.1 [] words false [] e in
+    let initial =
+    level-row (codes "initial") (codes "1") 1 most_initial s h.initial.0 h.initial.1 [] words false [] e in
+    let capacity =
+    level-row (codes "capacity") (codes "14") 1 most_capacity s h.capacity.0 h.capacity.1 [] words false [] e in
     let load = level-row (codes "load") (codes "100") least_load most_load s h.load.0 h.load.1 [] words false [] e in
     let max = level-row (codes "max") (codes "65536") 1 most_buckets s h.max.0 h.max.1 [] words false [] e in
     record {
@@ -36,25 +45,33 @@ settings-after s h words e =
     }
 
 -- an option that is none of the rules has no row, and so no number
-no-number : (name : Text) (s : Shape) → Every (IsTarget name (codes "1") 1 0) s.rules → (words : List Text) → level_fault s [] nothing_held words false [] ≡ []
+no-number : (name : Text) (s : Shape) → Every (IsTarget name (codes "1") 1 0) s.rules → (words : List Text) →
+    level_fault s [] nothing_held words false [] ≡ []
     → number_in (rows_after s.rules [] words) name ≡ None
 no-number name s none words e = go (find (λ r. bytes_eq r.id name) (rows_after s.rules [] words)) refl
   where
-    go : (o : Option Row) → find (λ r. bytes_eq r.id name) (rows_after s.rules [] words) ≡ o → number_in (rows_after s.rules [] words) name ≡ None
+    go : (o : Option Row) → find (λ r. bytes_eq r.id name) (rows_after s.rules [] words) ≡ o →
+        number_in (rows_after s.rules [] words) name ≡ None
     go None is = ap (λ (found : Option Row). option_and_then numeral_value (option_and_then row_text found)) is
     go (Some r) is =
         let every = level-every name (codes "1") 1 0 s none [] words false [] e in
-        let fits = find-every (FitsHere name (codes "1") 1 0) (λ r. bytes_eq r.id name) _ r every is (find-passes (λ r. bytes_eq r.id name) (rows_after s.rules [] words) r is) in
+        let fits =
+        find-every (FitsHere name (codes "1") 1 0) (λ r. bytes_eq r.id name) _ r every is
+        (find-passes (λ r. bytes_eq r.id name) (rows_after s.rules [] words) r is) in
         let number = number-fits name (codes "1") 1 0 _ r is fits in
         absurd (omega (arith, number.low, number.high))
 
 -- a subcommand without options gives no settings
-no-settings : (s : Shape) → Every (IsTarget (codes "initial") (codes "1") 1 0) s.rules → (words : List Text) → level_fault s [] nothing_held words false [] ≡ []
+no-settings : (s : Shape) → Every (IsTarget (codes "initial") (codes "1") 1 0) s.rules → (words : List Text) →
+    level_fault s [] nothing_held words false [] ≡ []
     → settings_in (rows_after s.rules [] words) ≡ None
 unfolding settings_in
 no-settings s none words e =
     let rows = rows_after s.rules [] words in
-    ap (λ initial. settings_from initial (number_in rows (codes "capacity")) (number_in rows (codes "load")) (number_in rows (codes "max"))) (no-number (codes "initial") s none words e)
+    ap
+    (λ initial.
+    settings_from initial (number_in rows (codes "capacity")) (number_in rows (codes "load"))
+    (number_in rows (codes "max"))) (no-number (codes "initial") s none words e)
 
 abbrev shape_at : ℕ → List Shape → Shape
 shape_at n [] = commands_app.top
@@ -130,20 +147,31 @@ drive_built = shape_at 6 (built program_app).subs
 drive-options : HasOptions drive_built.rules
 drive-options = record {
   initial = (((λ _. refl), (unequal, (unequal, (unequal, (unequal, (unequal, (unequal, (unequal, tt)))))))), inl refl);
-  capacity = ((unequal, ((λ _. refl), (unequal, (unequal, (unequal, (unequal, (unequal, (unequal, tt)))))))), inr (inl refl));
-  load = ((unequal, (unequal, ((λ _. refl), (unequal, (unequal, (unequal, (unequal, (unequal, tt)))))))), inr (inr (inl refl)));
-  max = ((unequal, (unequal, (unequal, ((λ _. refl), (unequal, (unequal, (unequal, (unequal, tt)))))))), inr (inr (inr (inl refl))));
+  capacity =
+      ((unequal, ((λ _. refl), (unequal, (unequal, (unequal, (unequal, (unequal, (unequal, tt)))))))), inr (inl refl));
+  load = (
+    (unequal, (unequal, ((λ _. refl), (unequal, (unequal, (unequal, (unequal, (unequal, tt)))))))),
+    inr (inr (inl refl)),
+  );
+  max = (
+    (unequal, (unequal, (unequal, ((λ _. refl), (unequal, (unequal, (unequal, (unequal, tt)))))))),
+    inr (inr (inr (inl refl))),
+  );
 }
 
 -- the numbers of threads, of shards and of snapshots
-drive-after : (words : List Text) → level_fault drive_built [] nothing_held words false [] ≡ [] → HasDriveNumbers (rows_after drive_built.rules [] words)
+drive-after : (words : List Text) → level_fault drive_built [] nothing_held words false [] ≡ [] →
+    HasDriveNumbers (rows_after drive_built.rules [] words)
 drive-after words e =
     let threads = level-row (codes "threads") (codes "4") 1 64 drive_built
-    (unequal, (unequal, (unequal, (unequal, ((λ _. refl), (unequal, (unequal, (unequal, tt)))))))) (inr (inr (inr (inr (inl refl))))) [] words false [] e in
+    (unequal, (unequal, (unequal, (unequal, ((λ _. refl), (unequal, (unequal, (unequal, tt))))))))
+    (inr (inr (inr (inr (inl refl))))) [] words false [] e in
     let shards = level-row (codes "shards") (codes "1") 1 64 drive_built
-    (unequal, (unequal, (unequal, (unequal, (unequal, ((λ _. refl), (unequal, (unequal, tt)))))))) (inr (inr (inr (inr (inr (inl refl)))))) [] words false [] e in
+    (unequal, (unequal, (unequal, (unequal, (unequal, ((λ _. refl), (unequal, (unequal, tt))))))))
+    (inr (inr (inr (inr (inr (inl refl)))))) [] words false [] e in
     let snapshots = level-row (codes "snapshots") (codes "0") 0 most_snapshots drive_built
-    (unequal, (unequal, (unequal, (unequal, (unequal, (unequal, ((λ _. refl), (unequal, tt)))))))) (inr (inr (inr (inr (inr (inr (inl refl))))))) [] words false [] e in
+    (unequal, (unequal, (unequal, (unequal, (unequal, (unequal, ((λ _. refl), (unequal, tt))))))))
+    (inr (inr (inr (inr (inr (inr (inl refl))))))) [] words false [] e in
     record {
       threads = number-fits (codes "threads") (codes "4") 1 64 _ threads.0 threads.1 threads.2;
       shards = number-fits (codes "shards") (codes "1") 1 64 _ shards.0 shards.1 shards.2;
@@ -151,7 +179,8 @@ drive-after words e =
     }
 
 -- the version of the image
-image-after : (words : List Text) → level_fault build_built [] nothing_held words false [] ≡ [] → HasImage (rows_after build_built.rules [] words)
+image-after : (words : List Text) → level_fault build_built [] nothing_held words false [] ≡ [] →
+    HasImage (rows_after build_built.rules [] words)
 image-after words e =
     let own : Every (IsTarget (codes "image") (codes "2") 1 2) build_built.rules =
     (unequal, (unequal, (unequal, (unequal, ((λ _. refl), (unequal, tt)))))) in
@@ -159,7 +188,8 @@ image-after words e =
     let row = level-row (codes "image") (codes "2") 1 2 build_built own has [] words false [] e in
     number-fits (codes "image") (codes "2") 1 2 _ row.0 row.1 row.2
 
-applied-after : (words : List Text) → level_fault apply_built [] nothing_held words false [] ≡ [] → HasImage (rows_after apply_built.rules [] words)
+applied-after : (words : List Text) → level_fault apply_built [] nothing_held words false [] ≡ [] →
+    HasImage (rows_after apply_built.rules [] words)
 applied-after words e =
     let own : Every (IsTarget (codes "image") (codes "2") 1 2) apply_built.rules = ((λ _. refl), (unequal, tt)) in
     let has : HasTarget (codes "image") (codes "2") 1 2 apply_built.rules = inl refl in
@@ -167,7 +197,9 @@ applied-after words e =
     number-fits (codes "image") (codes "2") 1 2 _ row.0 row.1 row.2
 
 is_help : (t : Text) → (bytes_eq (codes "help") t || false) ≡ true → bytes_eq t (codes "help") ≡ true
-is_help t e = (bytes_eq-Decides t (codes "help")).1 (sym ((bytes_eq-Decides (codes "help") t).0 (go (bytes_eq (codes "help") t) e)))
+is_help t e =
+    (bytes_eq-Decides t (codes "help")).1
+    (sym ((bytes_eq-Decides (codes "help") t).0 (go (bytes_eq (codes "help") t) e)))
   where
     go : (b : Bool) → (b || false) ≡ true → b ≡ true
     go true f = refl
@@ -176,7 +208,8 @@ is_help t e = (bytes_eq-Decides t (codes "help")).1 (sym ((bytes_eq-Decides (cod
 -- the subcommands that the words may name, and what holds of their rows
 abbrev pub IsEntered : Text → List Row → Type 0
 IsEntered name rows =
-    (IsFileCommand name × HasSettings rows × (name ≡ codes "drive" → HasDriveNumbers rows) × (name ≡ codes "build" → HasImage rows))
+    (IsFileCommand name × HasSettings rows × (name ≡ codes "drive" → HasDriveNumbers rows)
+    × (name ≡ codes "build" → HasImage rows))
     ⊎ (IsImageCommand name × (settings_in rows ≡ None) × (name ≡ codes "apply" → HasImage rows))
 
 -- of a subcommand of another name nothing is said
@@ -184,31 +217,90 @@ other-name : {P : Type 0} (name given : Text) → bytes_eq name given ≡ false 
 other-name name given other is = absurd (unlike name given other is)
 
 -- accepted words name such a subcommand
-pub accepted-rows : (words : List Text) → fault_of program_app words ≡ [] → (e : Text × List Row) × (subcommand_of program_app words ≡ Some e) × IsEntered e.0 e.1
+pub accepted-rows : (words : List Text) → fault_of program_app words ≡ [] →
+    (e : Text × List Row) × (subcommand_of program_app words ≡ Some e) × IsEntered e.0 e.1
 accepted-rows words e = entered-some (built program_app) IsEntered (
-  (λ t is other ws f. inl (inl refl, settings-after commands_built file-options ws f, other-name (codes "commands") _ refl, other-name (codes "commands") _ refl)),
+  (λ t is other ws f.
+      inl (
+        inl refl,
+        settings-after commands_built file-options ws f,
+        other-name (codes "commands") _ refl,
+        other-name (codes "commands") _ refl,
+      )),
   (
-    (λ t is other ws f. inl (inr (inl refl), settings-after steps_built file-options ws f, other-name (codes "steps") _ refl, other-name (codes "steps") _ refl)),
+    (λ t is other ws f.
+        inl (
+          inr (inl refl),
+          settings-after steps_built file-options ws f,
+          other-name (codes "steps") _ refl,
+          other-name (codes "steps") _ refl,
+        )),
     (
-      (λ t is other ws f. inl (inr (inr (inr (inr (inl refl)))), settings-after replay_built file-options ws f, other-name (codes "replay") _ refl, other-name (codes "replay") _ refl)),
+      (λ t is other ws f.
+          inl (
+            inr (inr (inr (inr (inl refl)))),
+            settings-after replay_built file-options ws f,
+            other-name (codes "replay") _ refl,
+            other-name (codes "replay") _ refl,
+          )),
       (
-        (λ t is other ws f. inl (inr (inr (inl refl)), settings-after build_built build-options ws f, other-name (codes "build") _ refl, λ _. image-after ws f)),
+        (λ t is other ws f.
+            inl (
+              inr (inr (inl refl)),
+              settings-after build_built build-options ws f,
+              other-name (codes "build") _ refl,
+              λ _. image-after ws f,
+            )),
         (
-          (λ t is other ws f. inr (inl refl, no-settings check_built (unequal, tt) ws f, other-name (codes "check") _ refl)),
+          (λ t is other ws f.
+              inr (inl refl, no-settings check_built (unequal, tt) ws f, other-name (codes "check") _ refl)),
           (
-            (λ t is other ws f. inr (inr (inl refl), no-settings dump_built (unequal, tt) ws f, other-name (codes "dump") _ refl)),
+            (λ t is other ws f.
+                inr (inr (inl refl), no-settings dump_built (unequal, tt) ws f, other-name (codes "dump") _ refl)),
             (
-              (λ t is other ws f. inl (inr (inr (inr (inl refl))), settings-after drive_built drive-options ws f, (λ _. drive-after ws f), other-name (codes "drive") _ refl)),
+              (λ t is other ws f.
+                  inl (
+                    inr (inr (inr (inl refl))),
+                    settings-after drive_built drive-options ws f,
+                    (λ _. drive-after ws f),
+                    other-name (codes "drive") _ refl,
+                  )),
               (
-                (λ t is other ws f. inr (inr (inr (inl refl)), no-settings draw_built (unequal, tt) ws f, other-name (codes "draw") _ refl)),
+                (λ t is other ws f.
+                    inr (
+                      inr (inr (inl refl)),
+                      no-settings draw_built (unequal, tt) ws f,
+                      other-name (codes "draw") _ refl,
+                    )),
                 (
-                  (λ t is other ws f. inr (inr (inr (inr (inl refl))), no-settings migrate_built (unequal, tt) ws f, other-name (codes "migrate") _ refl)),
+                  (λ t is other ws f.
+                      inr (
+                        inr (inr (inr (inl refl))),
+                        no-settings migrate_built (unequal, tt) ws f,
+                        other-name (codes "migrate") _ refl,
+                      )),
                   (
-                    (λ t is other ws f. inr (inr (inr (inr (inr (inl refl)))), no-settings query_built (unequal, tt) ws f, other-name (codes "query") _ refl)),
+                    (λ t is other ws f.
+                        inr (
+                          inr (inr (inr (inr (inl refl)))),
+                          no-settings query_built (unequal, tt) ws f,
+                          other-name (codes "query") _ refl,
+                        )),
                     (
-                      (λ t is other ws f. inr (inr (inr (inr (inr (inr refl)))), no-settings apply_built (unequal, (unequal, tt)) ws f, λ _. applied-after ws f)),
+                      (λ t is other ws f.
+                          inr (
+                            inr (inr (inr (inr (inr refl)))),
+                            no-settings apply_built (unequal, (unequal, tt)) ws f,
+                            λ _. applied-after ws f,
+                          )),
                       (
-                        (λ t is other ws f. inl (inr (inr (inr (inr (inr refl)))), settings-after serve_built serve-options ws f, other-name (codes "serve") _ refl, other-name (codes "serve") _ refl)),
+                        (λ t is other ws f.
+                            inl (
+                              inr (inr (inr (inr (inr refl)))),
+                              settings-after serve_built serve-options ws f,
+                              other-name (codes "serve") _ refl,
+                              other-name (codes "serve") _ refl,
+                            )),
                         ((λ t is other ws f. absurd (false≢true (sym other ∙ is_help t is))), tt),
                       ),
                     ),

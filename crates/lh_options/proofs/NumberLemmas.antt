@@ -1,5 +1,6 @@
 -- A row that fits gives its option a number in the range
-use Rattle.std.proofs.Common.{◌≡◌, ◌∙◌, ◌<◌, ◌==◌, ◌&&◌, ℕ, Bool, true, false, refl, ap, subst, arith, List, [], ◌∷◌, length, nat_lt, Some, None, cond, drop, pos, if◌then◌else◌}
+use Rattle.std.proofs.Common.{◌≡◌, ◌∙◌, ◌<◌, ◌==◌, ◌&&◌, ℕ, Bool, true, false, refl, ap, subst, arith, List, [], ◌∷◌}
+use Rattle.std.proofs.Common.{length, nat_lt, Some, None, cond, drop, pos, if◌then◌else◌}
 use Rattle.std.specs.Prelude.{find, option_map, option_and_then, slice_get, unwrap_or}
 use Rattle.std.specs.Str.{bytes_eq}
 use Rattle.std.specs.Char.{digit_value}
@@ -30,7 +31,8 @@ both-true : (a b : Bool) → (a && b) ≡ true → a ≡ true
 both-true true b e = refl
 both-true false b e = cc
 
-passed-value : (p : ValueParser) (v : Text) (vs : List Text) → values_kinds false p (v ∷ vs) ≡ [] → accepts false p v ≡ true
+passed-value : (p : ValueParser) (v : Text) (vs : List Text) → values_kinds false p (v ∷ vs) ≡ [] →
+    accepts false p v ≡ true
 passed-value p v vs e = go (accepts false p v) (or_else-nil (value_kinds false p v) (values_kinds false p vs) e).0
   where
     go : (b : Bool) → (if b then [] else refused_kind p ∷ []) ≡ [] → b ≡ true
@@ -51,8 +53,10 @@ no-plus (x ∷ xs) e = go (x == 43) refl
         absurd (false≢true (subst (λ (d : ℕ). nat_lt (digit_value d) 10 ≡ true) is digit))
     go false plus = refl
 
-module _ (name default : Text) (least most : ℕ) (rows : List Row) (r : Row) (found : find (λ r. bytes_eq r.id name) rows ≡ Some r) where
-  from-value : (v : Text) (vs : List Text) → r.values ≡ v ∷ vs → r.reading ≡ WithoutMinus → accepts false (range name default least most) v ≡ true → HasNumber rows name least most
+module _ (name default : Text) (least most : ℕ) (rows : List Row) (r : Row)
+    (found : find (λ r. bytes_eq r.id name) rows ≡ Some r) where
+  from-value : (v : Text) (vs : List Text) → r.values ≡ v ∷ vs → r.reading ≡ WithoutMinus →
+      accepts false (range name default least most) v ≡ true → HasNumber rows name least most
   from-value v vs is reading accepted = go (starts_with_minus v) refl
     where
       passed : IsSignedIn (pos least) (pos most) v
@@ -62,7 +66,9 @@ module _ (name default : Text) (least most : ℕ) (rows : List Row) (r : Row) (f
       first = ap (λ (l : List Text). slice_get l 0) is
 
       read : one_of name rows ≡ Some (cond (starts_with_minus v) (drop 1 v) v)
-      read = ap (option_and_then row_text) found ∙ ap (λ how. option_map (read_as how) (slice_get r.values 0)) reading ∙ ap (option_map without_minus) first
+      read =
+          ap (option_and_then row_text) found ∙ ap (λ how. option_map (read_as how) (slice_get r.values 0)) reading
+          ∙ ap (option_map without_minus) first
           ∙ ap (λ (t : Text). Some t) (without_minus-cond v)
 
       digits : is_numeral (without_leading_sign v) ≡ true
@@ -72,7 +78,8 @@ module _ (name default : Text) (least most : ℕ) (rows : List Row) (r : Row) (f
       go true minus =
           let low = rw minus at passed.2 in
           let bare = no-plus (drop 1 v) (rw minus at digits) in
-          let value : digits_value 10 (without_leading_plus (drop 1 v)) ≡ digits_value 10 (drop 1 v) = ap (digits_value 10) bare in
+          let value : digits_value 10 (without_leading_plus (drop 1 v)) ≡ digits_value 10 (drop 1 v) =
+          ap (digits_value 10) bare in
           record {
             text = drop 1 v;
             as_read = rw minus at read;
@@ -83,11 +90,18 @@ module _ (name default : Text) (least most : ℕ) (rows : List Row) (r : Row) (f
       go false plain =
           let low = rw plain at passed.2 in
           let high = rw plain at passed.3 in
-          record { text = v; as_read = rw plain at read; numeral = rw plain at digits; low = omega (arith, ints); high = omega (arith, ints) }
+          record {
+            text = v;
+            as_read = rw plain at read;
+            numeral = rw plain at digits;
+            low = omega (arith, ints);
+            high = omega (arith, ints);
+          }
 
   pub number-fits : Fits name default least most r → HasNumber rows name least most
   number-fits fits = go r.values refl fits.values fits.filled
     where
-      go : (l : List Text) → r.values ≡ l → values_kinds false (range name default least most) l ≡ [] → 0 < length l → HasNumber rows name least most
+      go : (l : List Text) → r.values ≡ l → values_kinds false (range name default least most) l ≡ [] → 0 < length l →
+          HasNumber rows name least most
       go [] is e some = absurd (omega arith)
       go (v ∷ vs) is e some = from-value v vs is fits.reading (passed-value (range name default least most) v vs e)

@@ -1,5 +1,6 @@
 -- From what the functions give to what a request says of the words
-use Rattle.std.proofs.Common.{◌≡◌, ◌∙◌, ◌<◌, ◌≤◌, ℕ, inl, inr, refl, sym, ap, subst, List, [], ◌∷◌, length, nat_lt, Option, Some, None, codes, false, true, if◌then◌else◌}
+use Rattle.std.proofs.Common.{◌≡◌, ◌∙◌, ◌<◌, ◌≤◌, ℕ, inl, inr, refl, sym, ap, subst, List, [], ◌∷◌, length, nat_lt}
+use Rattle.std.proofs.Common.{Option, Some, None, codes, false, true, if◌then◌else◌}
 use Rattle.std.specs.Prelude.{option_map, option_and_then}
 use Rattle.std.specs.Option.{option_map_or}
 use Rattle.std.proofs.lemmas.Bool.{cases_lt, false≢true, ltb-true}
@@ -23,14 +24,18 @@ use Rattle.lh_addr.specs.Settings.{Settings}
 use Rattle.lh_addr.specs.Config.{IsFirstOutOfRange}
 use Rattle.lh_addr.specs.declared.config.Range.{Range}
 use Rattle.lh_addr.specs.declared.config.Range.TheVariants.{Max}
-use Rattle.lh_options.specs.Options.{Accepts, Answers, AsksForHelp, IsRefused, IsServable, all_in_digits, asked_by, asked_for, image_begins, number_in, numeral_value, program_app, setting_typed_in, settings_from, settings_given, settings_typed, subcommand_named, typed_in, write_digits}
+use Rattle.lh_options.specs.Options.{Accepts, Answers, AsksForHelp, IsRefused, IsServable, all_in_digits, asked_by}
+use Rattle.lh_options.specs.Options.{asked_for, image_begins, number_in, numeral_value, program_app, setting_typed_in}
+use Rattle.lh_options.specs.Options.{settings_from, settings_given, settings_typed, subcommand_named, typed_in}
+use Rattle.lh_options.specs.Options.{write_digits}
 use Rattle.lh_options.specs.OptionSteps.{HasNumber, IsRefusal, IsRefusedText, asked_in, settings_in}
 use Rattle.lh_options.specs.declared.options.Request.{Request}
 use Rattle.lh_options.specs.declared.options.Request.TheVariants as request
 use Rattle.lh_options.proofs.Accepted.{IsEntered, accepted-rows}
 
 -- the settings are the four numbers
-pub settings-are : (rows : List Row) (initial capacity load max : ℕ) → number_in rows (codes "initial") ≡ Some initial → number_in rows (codes "capacity") ≡ Some capacity
+pub settings-are : (rows : List Row) (initial capacity load max : ℕ) → number_in rows (codes "initial") ≡ Some initial →
+    number_in rows (codes "capacity") ≡ Some capacity
     → number_in rows (codes "load") ≡ Some load → number_in rows (codes "max") ≡ Some max
     → settings_in rows ≡ Some (record { initial = initial; capacity = capacity; load = load; max = max })
 unfolding settings_in
@@ -49,22 +54,27 @@ digits-all ds e =
         (ltb-true (digit_value x) 10 parts.0, each xs parts.1)
 
 -- a text of digits writes the number of its digits
-numeral_value-numeral : (text : Text) → is_numeral (without_leading_plus text) ≡ true → numeral_value text ≡ Some (digits_value 10 (without_leading_plus text))
+numeral_value-numeral : (text : Text) → is_numeral (without_leading_plus text) ≡ true →
+    numeral_value text ≡ Some (digits_value 10 (without_leading_plus text))
 numeral_value-numeral text e = ap (λ b. if b then Some (digits_value 10 (without_leading_plus text)) else None) e
 
 pub number-is : (rows : List Row) (name : Text) (least most : ℕ) (given : HasNumber rows name least most)
     → number_in rows name ≡ Some (digits_value 10 (without_leading_plus given.text))
-number-is rows name least most given = ap (option_and_then numeral_value) given.as_read ∙ numeral_value-numeral given.text given.numeral
+number-is rows name least most given =
+    ap (option_and_then numeral_value) given.as_read ∙ numeral_value-numeral given.text given.numeral
 
-pub number-at-most : (rows : List Row) (name : Text) (least most n : ℕ) → HasNumber rows name least most → number_in rows name ≡ Some n → n ≤ most
+pub number-at-most : (rows : List Row) (name : Text) (least most n : ℕ) → HasNumber rows name least most →
+    number_in rows name ≡ Some n → n ≤ most
 number-at-most rows name least most n given is =
-    let read : number_in rows name ≡ Some (digits_value 10 (without_leading_plus given.text)) = number-is rows name least most given in
+    let read : number_in rows name ≡ Some (digits_value 10 (without_leading_plus given.text)) =
+    number-is rows name least most given in
     let same : digits_value 10 (without_leading_plus given.text) ≡ n = cc in
     subst (λ (k : ℕ). k ≤ most) same given.high
 
 -- a size that is out of its limits, and not too great, is too small
 below-initial : (initial max : ℕ) → max ≤ 65536 → (IsSize initial max → ⊥) → max < initial
-below-initial initial max high out = elim (cases_lt max initial) [ inl below ↦ below | inr above ↦ absurd (out (above, high)) ]
+below-initial initial max high out =
+    elim (cases_lt max initial) [ inl below ↦ below | inr above ↦ absurd (out (above, high)) ]
 
 -- settings that are refused for their greatest number of buckets, which is not too great, have it too small
 pub max-refused : (s : Settings) (e : Range) → IsFirstOutOfRange s e → e ≡ Max → s.max ≤ 65536 → s.max < s.initial
@@ -72,7 +82,8 @@ max-refused s e out is high =
     let at_max : IsFirstOutOfRange s Max = subst (IsFirstOutOfRange s) is out in
     below-initial s.initial s.max high at_max.3
 
-option_map-twice : {A B C : Type 0} (f : B → C) (g : A → B) (o : Option A) → option_map f (option_map g o) ≡ option_map (λ x. f (g x)) o
+option_map-twice : {A B C : Type 0} (f : B → C) (g : A → B) (o : Option A) →
+    option_map f (option_map g o) ≡ option_map (λ x. f (g x)) o
 option_map-twice f g None = refl
 option_map-twice f g (Some x) = refl
 
@@ -80,8 +91,10 @@ name-of-rows : (m : ArgMatches) → option_map (λ p. p.0) (subcommand_rows_of m
 name-of-rows m = option_map-twice _ _ (out-ArgMatches m).subcommand
 
 -- the subcommand that a parse of accepted words entered
-entered-is : (m : ArgMatches) (words : List Text) (name : Text) (rows : List Row) → subcommand_rows_of m ≡ subcommand_of program_app words
-    → Some name ≡ subcommand_name_of m → Some rows ≡ option_map (λ p. p.1) (subcommand_rows_of m) → fault_of program_app words ≡ []
+entered-is : (m : ArgMatches) (words : List Text) (name : Text) (rows : List Row) →
+    subcommand_rows_of m ≡ subcommand_of program_app words
+    → Some name ≡ subcommand_name_of m → Some rows ≡ option_map (λ p. p.1) (subcommand_rows_of m) →
+    fault_of program_app words ≡ []
     → (subcommand_of program_app words ≡ Some (name, rows)) × IsEntered name rows
 entered-is m words name rows same named with_rows no_fault =
     let got = accepted-rows words no_fault in
@@ -89,18 +102,25 @@ entered-is m words name rows same named with_rows no_fault =
     let same_name : Some name ≡ Some got.0.0 = named ∙ (sym (name-of-rows m) ∙ ap (option_map (λ p. p.0)) is) in
     let same_rows : Some rows ≡ Some got.0.1 = with_rows ∙ ap (option_map (λ p. p.1)) is in
     let name_is : got.0.0 ≡ name = cc in
-    let rows_are : got.0.1 ≡ rows = cc in
-    (got.1 ∙ (λ i. Some (name_is i, rows_are i)), subst (IsEntered name) rows_are (subst (λ (n : Text). IsEntered n got.0.1) name_is got.2))
+    let rows_are : got.0.1 ≡ rows = cc in (
+      got.1
+          ∙ (λ i. Some (name_is i, rows_are i)),
+      subst (IsEntered name) rows_are (subst (λ (n : Text). IsEntered n got.0.1) name_is got.2),
+    )
 
 -- the settings that the words give are those in the rows of the subcommand
-settings-at : (words : List Text) (name : Text) (rows : List Row) → subcommand_of program_app words ≡ Some (name, rows) → settings_given words ≡ settings_in rows
+settings-at : (words : List Text) (name : Text) (rows : List Row) →
+    subcommand_of program_app words ≡ Some (name, rows) → settings_given words ≡ settings_in rows
 unfolding settings_given settings_in
 settings-at words name rows is = λ i. settings_from
-    (option_and_then (λ s. number_in s.1 (codes "initial")) (is i)) (option_and_then (λ s. number_in s.1 (codes "capacity")) (is i))
-    (option_and_then (λ s. number_in s.1 (codes "load")) (is i)) (option_and_then (λ s. number_in s.1 (codes "max")) (is i))
+    (option_and_then (λ s. number_in s.1 (codes "initial")) (is i))
+    (option_and_then (λ s. number_in s.1 (codes "capacity")) (is i))
+    (option_and_then (λ s. number_in s.1 (codes "load")) (is i))
+    (option_and_then (λ s. number_in s.1 (codes "max")) (is i))
 
 -- what the words ask for is what the subcommand asks for by its rows
-asked-is : (words : List Text) (name : Text) (rows : List Row) → subcommand_of program_app words ≡ Some (name, rows) → asked_for words ≡ asked_in name rows
+asked-is : (words : List Text) (name : Text) (rows : List Row) → subcommand_of program_app words ≡ Some (name, rows) →
+    asked_for words ≡ asked_in name rows
 unfolding subcommand_named
 asked-is words name rows is =
     let named : subcommand_named words ≡ Some name = ap (option_map (λ s. s.0)) is in
@@ -109,7 +129,9 @@ asked-is words name rows is =
     let typed : settings_typed words ≡ setting_typed_in rows =
     ap (λ (o : Option (Text × List Row)). option_map_or (λ s. setting_typed_in s.1) o false) is in
     λ i. option_and_then
-    (λ n. asked_by n (settings-at words name rows is i) (λ o. option_and_then (λ s. number_in s.1 o) (is i)) (begins i) (typed i))
+    (λ n.
+    asked_by n (settings-at words name rows is i) (λ o. option_and_then (λ s. number_in s.1 o) (is i)) (begins i)
+    (typed i))
     (named i)
 
 -- one of some kinds, where there is none
@@ -117,13 +139,16 @@ none-among : (k : ErrorKind) (kinds : Kinds) → IsAmong k kinds → kinds ≡ [
 none-among k kinds among none = subst (IsAmong k) none among
 
 -- an error of clap's turns the words away, or says that memory ran out
-pub refusal-answers : (words : List Text) (e : Error) (r : Request) → HasKind (fault_of program_app words) e → IsRefusal (kind_of e) r → Answers words r
+pub refusal-answers : (words : List Text) (e : Error) (r : Request) → HasKind (fault_of program_app words) e →
+    IsRefusal (kind_of e) r → Answers words r
 unfolding Accepts AsksForHelp IsRefused
 refusal-answers words e (request.Help text) (inl memory) (inl h) = cc
 refusal-answers words e (request.Help text) (inl memory) (inr h) = cc
-refusal-answers words e (request.Help text) (inr among) h = inr (λ a. none-among (kind_of e) _ among a.0, (kind_of e, among, h))
+refusal-answers words e (request.Help text) (inr among) h =
+    inr (λ a. none-among (kind_of e) _ among a.0, (kind_of e, among, h))
 refusal-answers words e (request.Refused text) (inl memory) h = absurd (h.1 memory)
-refusal-answers words e (request.Refused text) (inr among) h = inr (λ a. none-among (kind_of e) _ among a.0, (inl (kind_of e, among, h.0), h.2))
+refusal-answers words e (request.Refused text) (inr among) h =
+    inr (λ a. none-among (kind_of e) _ among a.0, (inl (kind_of e, among, h.0), h.2))
 refusal-answers words e (request.Commands config) among h = absurd h
 refusal-answers words e (request.Steps config) among h = absurd h
 refusal-answers words e (request.Replay config) among h = absurd h
@@ -154,7 +179,8 @@ pub record HasEntered (words : List Text) (name : Text) (rows : List Row) : Type
 
 pub entered-from : (a : App) (m : ArgMatches) (words : List Text) (name : Text) (rows : List Row) → a ≡ program_app
     → (is_simple_and_free a ≡ true → fault_of a words ≡ []) → HasMatchesOf a words m
-    → Some name ≡ subcommand_name_of m → Some rows ≡ option_map (λ p. p.1) (subcommand_rows_of m) → HasEntered words name rows
+    → Some name ≡ subcommand_name_of m → Some rows ≡ option_map (λ p. p.1) (subcommand_rows_of m) →
+    HasEntered words name rows
 entered-from a m words name rows is none matches named with_rows =
     let found : is_simple_and_free program_app ≡ true → fault_of program_app words ≡ [] =
     subst (λ (x : App). is_simple_and_free x ≡ true → fault_of x words ≡ []) is none in
@@ -162,22 +188,27 @@ entered-from a m words name rows is none matches named with_rows =
     let entered = entered-is m words name rows (same refl).1 named with_rows (found refl) in
     record { no_fault = found refl; is = entered.0; asked = entered.1 }
 
-pub failed-from : (a : App) (words : List Text) (e : Error) → a ≡ program_app → (is_simple_and_free a ≡ true → HasKind (fault_of a words) e)
+pub failed-from : (a : App) (words : List Text) (e : Error) → a ≡ program_app →
+    (is_simple_and_free a ≡ true → HasKind (fault_of a words) e)
     → HasKind (fault_of program_app words) e
-failed-from a words e is failed = (subst (λ (x : App). is_simple_and_free x ≡ true → HasKind (fault_of x words) e) is failed) refl
+failed-from a words e is failed =
+    (subst (λ (x : App). is_simple_and_free x ≡ true → HasKind (fault_of x words) e) is failed) refl
 
 -- whether the words write each number in digits alone, by the rows of the subcommand
-write-is : (words : List Text) (name : Text) (rows : List Row) → subcommand_of program_app words ≡ Some (name, rows) → write_digits words ≡ all_in_digits rows
+write-is : (words : List Text) (name : Text) (rows : List Row) → subcommand_of program_app words ≡ Some (name, rows) →
+    write_digits words ≡ all_in_digits rows
 write-is words name rows is = ap (λ (o : Option (Text × List Row)). option_map_or (λ s. all_in_digits s.1) o true) is
 
-pub asked-answers : (words : List Text) (name : Text) (rows : List Row) (r : Request) → HasEntered words name rows → all_in_digits rows ≡ true
+pub asked-answers : (words : List Text) (name : Text) (rows : List Row) (r : Request) → HasEntered words name rows →
+    all_in_digits rows ≡ true
     → asked_in name rows ≡ Some r → Answers words r
 unfolding Accepts
 asked-answers words name rows r entered digits h =
     inl ((entered.no_fault, write-is words name rows entered.is ∙ digits), asked-is words name rows entered.is ∙ h)
 
 -- a number with a sign turns the words away
-pub signed-answers : (words : List Text) (name : Text) (rows : List Row) (r : Request) → HasEntered words name rows → all_in_digits rows ≡ false
+pub signed-answers : (words : List Text) (name : Text) (rows : List Row) (r : Request) → HasEntered words name rows →
+    all_in_digits rows ≡ false
     → IsRefusedText r → Answers words r
 unfolding Accepts IsRefused
 signed-answers words name rows (request.Refused text) entered digits h =

@@ -3,7 +3,8 @@ use Rattle.std.specs.Prelude.{◌≡◌, ℕ, Bool, true, false, List, [], ◌�
 use Rattle.clap.specs.Walk.{Text}
 use Rattle.lh_addr.specs.Settings.{Settings}
 use Rattle.lh_options.specs.declared.options.ImageVersion.{ImageVersion}
-use Rattle.lh_options.specs.Options.{Accepts, Asks, image_begins, number_given, settings_given, settings_typed, version_numbered}
+use Rattle.lh_options.specs.Options.{Accepts, Asks, image_begins, number_given, settings_given, settings_typed}
+use Rattle.lh_options.specs.Options.{version_numbered}
 
 abbrev pub no_options : List Text
 no_options = codes "lhash" ∷ codes "commands" ∷ []

@@ -11,7 +11,8 @@ use Rattle.clap.specs.declared.error.kind.ErrorKind.TheVariants as kind
 use Rattle.lh_addr.specs.Limits.{most_initial, most_capacity, least_load, most_load, most_buckets}
 use Rattle.lh_addr.specs.Settings.{Settings}
 use Rattle.lh_options.specs.Escapes.{has_no_control}
-use Rattle.lh_options.specs.Options.{IsShown, asked_by, drive_asked, most_snapshots, number_in, serve_asked, setting_typed_in, settings_from, typed_in}
+use Rattle.lh_options.specs.Options.{IsShown, asked_by, drive_asked, most_snapshots, number_in, serve_asked}
+use Rattle.lh_options.specs.Options.{setting_typed_in, settings_from, typed_in}
 use Rattle.lh_options.specs.declared.options.Request.{Request}
 use Rattle.lh_options.specs.declared.options.Request.TheVariants as request
 

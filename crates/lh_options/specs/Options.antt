@@ -1,6 +1,7 @@
 -- The command line: the program's command, the numbers that the words give its options,
 -- and what a request says of the words
-use Rattle.std.specs.Prelude.{◌≡◌, ◌⊎◌, ◌<◌, ◌≤◌, ℕ, List, [], ◌∷◌, Option, Some, None, codes, pos, false, true, nat_lt, Bool, ◌&&◌, ◌||◌, ◌==◌, find, option_map, option_and_then, if◌then◌else◌}
+use Rattle.std.specs.Prelude.{◌≡◌, ◌⊎◌, ◌<◌, ◌≤◌, ℕ, List, [], ◌∷◌, Option, Some, None, codes, pos, false, true, nat_lt}
+use Rattle.std.specs.Prelude.{Bool, ◌&&◌, ◌||◌, ◌==◌, find, option_map, option_and_then, if◌then◌else◌}
 use Rattle.std.specs.Char.{is_ascii_digit}
 use Rattle.std.specs.List.{list_all}
 use Rattle.std.specs.Option.{option_map_or}
@@ -9,7 +10,8 @@ use Rattle.std.specs.String.{string_bytes}
 use Rattle.std.specs.Str.Parse.{digits_value, without_leading_plus}
 use Rattle.clap.specs.ValueTests.{is_numeral}
 pub use Rattle.clap.specs.Walk.{Text}
-use Rattle.clap.specs.Words.{App, Row, Rule, fault_of, first_of, new_app, new_rule, one_of, subcommand_of, with_rule, with_subcommand}
+use Rattle.clap.specs.Words.{App, Row, Rule, fault_of, first_of, new_app, new_rule, one_of, subcommand_of, with_rule}
+use Rattle.clap.specs.Words.{with_subcommand}
 use Rattle.clap.specs.Kinds.{IsAmong}
 use Rattle.clap.specs.declared.builder.action.ArgAction.TheVariants.{Set, SetTrue}
 use Rattle.clap.specs.declared.builder.value_parser.ValueParser.TheVariants as parser
@@ -129,12 +131,14 @@ scripts_app =
 -- the program's command
 abbrev pub program_app : App
 program_app =
-    with_subcommand (with_subcommand (with_subcommand (with_subcommand (with_subcommand (with_subcommand (with_subcommand (
-    with_subcommand scripts_app check_app.top) dump_app.top) drive_app.top) draw_app.top) migrate_app.top) query_app.top)
+    with_subcommand
+    (with_subcommand (with_subcommand (with_subcommand (with_subcommand (with_subcommand (with_subcommand (
+    with_subcommand scripts_app check_app.top) dump_app.top) drive_app.top) draw_app.top) migrate_app.top)
+    query_app.top)
     apply_app.top) serve_app.top
 
--- the whole number that a text writes in decimal digits, where it is such a text; a plus may stand first, as clap has it,
--- though not in words that are accepted
+-- the whole number that a text writes in decimal digits, where it is such a text; a plus may stand first, as clap has
+-- it, though not in words that are accepted
 abbrev pub numeral_value : Text → Option ℕ
 numeral_value text =
     let digits = without_leading_plus text in

@@ -6,8 +6,13 @@ ghost use Rattle.std.specs.String.{string_bytes};
 ghost use Rattle.lh_addr.specs.Settings.{IsInRange};
 ghost use Rattle.clap.specs.Words.{found_of, kind_of, new_app, rows_of, rule_of};
 ghost use Rattle.lh_options.specs.Escapes.{has_no_control};
-ghost use Rattle.lh_options.specs.Options.{Answers, IsMaxBelowInitial, IsServable, all_in_digits, in_digits, number_in, apply_app, build_app, drive_app, flag_rule, option_rule, version_numbered, root_app, scripts_app, serve_app, setting_typed_in, typed_in, program_app, with_settings};
-ghost use Rattle.lh_options.specs.OptionSteps.{HasNumber, HasSettings, HasDriveNumbers, HasImage, IsFileCommand, IsImageCommand, IsRefusal, IsRefusedText, Reads, asked_in, drive_asked_in, serve_asked_in, settings_in};
+ghost use Rattle.lh_options.specs.Options.{Answers, IsMaxBelowInitial, IsServable, all_in_digits, in_digits, number_in};
+ghost use Rattle.lh_options.specs.Options.{apply_app, build_app, drive_app, flag_rule, option_rule, version_numbered};
+ghost use Rattle.lh_options.specs.Options.{root_app, scripts_app, serve_app, setting_typed_in, typed_in, program_app};
+ghost use Rattle.lh_options.specs.Options.{with_settings};
+ghost use Rattle.lh_options.specs.OptionSteps.{HasNumber, HasSettings, HasDriveNumbers, HasImage, IsFileCommand};
+ghost use Rattle.lh_options.specs.OptionSteps.{IsImageCommand, IsRefusal, IsRefusedText, Reads, asked_in};
+ghost use Rattle.lh_options.specs.OptionSteps.{drive_asked_in, serve_asked_in, settings_in};
 
 use crate::escapes::escaped;
 use crate::help::{

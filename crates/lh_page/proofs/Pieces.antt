@@ -1,8 +1,10 @@
 -- How many pieces a list is cut into.
-use Rattle.std.proofs.Common.{◌≡◌, ℕ, zero, suc, ◌+◌, ◌-◌, ◌*◌, ◌/◌, ◌<◌, ◌≤◌, leb, List, [], ◌∷◌, get_or, ◌++◌, length, take, drop, refl, sym, ap, ◌∙◌, inl, inr, arith}
+use Rattle.std.proofs.Common.{◌≡◌, ℕ, zero, suc, ◌+◌, ◌-◌, ◌*◌, ◌/◌, ◌<◌, ◌≤◌, leb, List, [], ◌∷◌, get_or, ◌++◌, length}
+use Rattle.std.proofs.Common.{take, drop, refl, sym, ap, ◌∙◌, inl, inr, arith}
 use Rattle.std.proofs.Math.Nat.{div-eq_of_lt, add-div_right}
 use Rattle.std.proofs.lemmas.Bool.{leb-true, leb-false, le-leb, lt-leb, cases_Bool}
-use Rattle.std.proofs.lemmas.List.{append-nil, drop-drop, length-append, length-drop, length-take, length-take-le, take-append-drop, take_all, take_at, drop_at}
+use Rattle.std.proofs.lemmas.List.{append-nil, drop-drop, length-append, length-drop, length-take, length-take-le}
+use Rattle.std.proofs.lemmas.List.{take-append-drop, take_all, take_at, drop_at}
 use Rattle.lh_page.specs.declared.pair.Pair.{Pair}
 use Rattle.lh_page.specs.PackedList.{pieces, IsPacked, joined, PackingLaw, PiecesLaw}
 
@@ -11,10 +13,12 @@ one_page n b some few = let e : (n - 1) / b ≡ 0 = div-eq_of_lt (omega arith) i
 
 page_more : (n b : ℕ) → 1 ≤ b → b < n → suc ((n - b - 1) / b + 1) ≡ (n - 1) / b + 1
 page_more n b some many =
-    let e : (n - 1) / b ≡ (n - b - 1) / b + 1 = ap (λ m. m / b) (let f : n - 1 ≡ n - b - 1 + b = omega arith in f) ∙ add-div_right (n - b - 1) some in
+    let e : (n - 1) / b ≡ (n - b - 1) / b + 1 =
+    ap (λ m. m / b) (let f : n - 1 ≡ n - b - 1 + b = omega arith in f) ∙ add-div_right (n - b - 1) some in
     omega arith
 
-pub length-pieces : (n b : ℕ) (pairs : List Pair) → 1 ≤ b → length pairs ≤ n → length (pieces n b pairs) ≡ (length pairs - 1) / b + 1
+pub length-pieces : (n b : ℕ) (pairs : List Pair) → 1 ≤ b → length pairs ≤ n →
+    length (pieces n b pairs) ≡ (length pairs - 1) / b + 1
 unfolding pieces
 length-pieces zero b pairs some few = one_page (length pairs) b some (omega arith)
 length-pieces (suc n) b pairs some few =
@@ -23,7 +27,9 @@ length-pieces (suc n) b pairs some few =
       | inr more ↦
           let many : b < length pairs = leb-false _ _ more in
           let less : length (drop b pairs) ≡ length pairs - b = length-drop b pairs in
-          rw more (ap suc (length-pieces n b (drop b pairs) some (omega arith) ∙ ap (λ m. (m - 1) / b + 1) less) ∙ page_more (length pairs) b some many)
+          rw more
+          (ap suc (length-pieces n b (drop b pairs) some (omega arith) ∙ ap (λ m. (m - 1) / b + 1) less)
+          ∙ page_more (length pairs) b some many)
     ]
 
 FirstHasOne : List (List Pair) → Type 0
@@ -38,7 +44,8 @@ first-pieces (suc n) b pairs some many = elim (cases_Bool (leb (length pairs) b)
   | inr more ↦ rw more (omega (arith, length-take b pairs))
 ]
 
-packed-cons : (b : ℕ) (page : List Pair) (pages : List (List Pair)) → length page ≡ b → FirstHasOne pages → IsPacked b pages → IsPacked b (page ∷ pages)
+packed-cons : (b : ℕ) (page : List Pair) (pages : List (List Pair)) → length page ≡ b → FirstHasOne pages →
+    IsPacked b pages → IsPacked b (page ∷ pages)
 unfolding FirstHasOne
 packed-cons b page [] full some h = absurd some
 packed-cons b page (second ∷ rest) full some h = (full, some, h)
@@ -52,7 +59,10 @@ packed-pieces (suc n) b pairs some few = elim (cases_Bool (leb (length pairs) b)
   | inr more ↦
       let many : b < length pairs = leb-false _ _ more in
       let less : length (drop b pairs) ≡ length pairs - b = length-drop b pairs in
-      rw more (packed-cons b (take b pairs) (pieces n b (drop b pairs)) (length-take-le b pairs (omega arith)) (first-pieces n b (drop b pairs) some (omega arith)) (packed-pieces n b (drop b pairs) some (omega arith)))
+      rw more
+      (packed-cons b (take b pairs) (pieces n b (drop b pairs)) (length-take-le b pairs (omega arith))
+      (first-pieces n b (drop b pairs) some (omega arith))
+      (packed-pieces n b (drop b pairs) some (omega arith)))
 ]
 
 -- the pieces joined are the list
@@ -69,27 +79,33 @@ unfolding pieces
 one-piece zero b pairs fits = refl
 one-piece (suc n) b pairs fits = rw (le-leb (length pairs) b fits) refl
 
-more-pieces : (n b : ℕ) (page rest : List Pair) → length page ≡ b → 1 ≤ length rest → pieces (suc n) b (page ++ rest) ≡ page ∷ pieces n b rest
+more-pieces : (n b : ℕ) (page rest : List Pair) → length page ≡ b → 1 ≤ length rest →
+    pieces (suc n) b (page ++ rest) ≡ page ∷ pieces n b rest
 unfolding pieces
 more-pieces n b page rest full some =
     let long : b < length (page ++ rest) = omega (arith, length-append page rest) in
     rw (lt-leb (length (page ++ rest)) b long, take_at page rest b full, drop_at page rest b full) refl
 
 -- packed pages are the pieces of what they hold
-pieces-joined : (n b : ℕ) (pages : List (List Pair)) → 1 ≤ b → IsPacked b pages → length (joined pages) ≤ n → pieces n b (joined pages) ≡ pages
+pieces-joined : (n b : ℕ) (pages : List (List Pair)) → 1 ≤ b → IsPacked b pages → length (joined pages) ≤ n →
+    pieces n b (joined pages) ≡ pages
 pieces-joined n b [] some h few = absurd h
 pieces-joined n b (last ∷ []) some h few = ap (pieces n b) (append-nil last) ∙ one-piece n b last h
 pieces-joined zero b (first ∷ second ∷ rest) some h few =
     absurd (omega (arith, h.0, length-append first (joined (second ∷ rest))))
 pieces-joined (suc n) b (first ∷ second ∷ rest) some h few =
-    let whole : length (first ++ joined (second ∷ rest)) ≡ length first + length (joined (second ∷ rest)) = length-append first (joined (second ∷ rest)) in
-    let left : length (second ++ joined rest) ≡ length second + length (joined rest) = length-append second (joined rest) in
+    let whole : length (first ++ joined (second ∷ rest)) ≡ length first + length (joined (second ∷ rest)) =
+    length-append first (joined (second ∷ rest)) in
+    let left : length (second ++ joined rest) ≡ length second + length (joined rest) =
+    length-append second (joined rest) in
     more-pieces n b first (joined (second ∷ rest)) h.0 (omega (arith, h.1, left))
     ∙ ap (λ pages. first ∷ pages) (pieces-joined n b (second ∷ rest) some h.2 (omega (arith, h.0, whole)))
 
 pub packing : PackingLaw
 packing b pairs pages some = (
-  λ h. sym (pieces-joined (length pairs) b pages some h.0 (omega (arith, ap length h.1))) ∙ ap (pieces (length pairs) b) h.1,
+  λ h.
+      sym (pieces-joined (length pairs) b pages some h.0 (omega (arith, ap length h.1)))
+      ∙ ap (pieces (length pairs) b) h.1,
   λ e. rw e (packed-pieces (length pairs) b pairs some (omega arith), joined-pieces (length pairs) b pairs),
 )
 
@@ -105,7 +121,8 @@ only_page b zero pairs fits low =
     (omega arith, rw (e, take_all b pairs fits) refl)
 only_page b (suc k) pairs fits low = absurd (omega arith)
 
-piece_at : (n b k : ℕ) (pairs : List Pair) → 1 ≤ b → length pairs ≤ n → k < length (pieces n b pairs) → Starts b k pairs (get_or (pieces n b pairs) k [])
+piece_at : (n b k : ℕ) (pairs : List Pair) → 1 ≤ b → length pairs ≤ n → k < length (pieces n b pairs) →
+    Starts b k pairs (get_or (pieces n b pairs) k [])
 unfolding pieces Starts
 piece_at zero b k pairs some few low = only_page b k pairs (omega arith) (omega arith)
 piece_at (suc n) b zero pairs some few low =
@@ -115,7 +132,9 @@ piece_at (suc n) b zero pairs some few low =
       | inr more ↦ rw more (omega arith, rw e refl)
     ]
 piece_at (suc n) b (suc k) pairs some few low = elim (cases_Bool (leb (length pairs) b)) [
-  | inl fits ↦ absurd (let one : length (pieces (suc n) b pairs) ≡ 1 = ap length (one-piece (suc n) b pairs (leb-true _ _ fits)) in omega (arith, one, low))
+  | inl fits ↦
+      absurd (let one : length (pieces (suc n) b pairs) ≡ 1 =
+      ap length (one-piece (suc n) b pairs (leb-true _ _ fits)) in omega (arith, one, low))
   | inr more ↦
       let many : b < length pairs = leb-false _ _ more in
       let less : length (drop b pairs) ≡ length pairs - b = length-drop b pairs in
@@ -127,4 +146,7 @@ piece_at (suc n) b (suc k) pairs some few low = elim (cases_Bool (leb (length pa
 
 pub all_pieces : PiecesLaw
 unfolding Starts
-all_pieces b pairs some = (length-pieces (length pairs) b pairs some (omega arith), λ k low. piece_at (length pairs) b k pairs some (omega arith) low)
+all_pieces b pairs some = (
+  length-pieces (length pairs) b pairs some (omega arith),
+  λ k low. piece_at (length pairs) b k pairs some (omega arith) low,
+)

@@ -22,14 +22,17 @@ pub place_of-found : (pairs : List Pair) (key : List ℕ) (i : ℕ) → StandsFi
 unfolding place_of
 place_of-found pairs key i h =
     let first : position_or_len (λ p. bytes_eq p.key key) pairs ≡ i =
-    position_or_len_is (λ p. bytes_eq p.key key) pairs i no_pair (omega arith) (λ k below. bytes_eq-other _ _ (h.1 k below (omega arith))) (λ _. bytes_eq-same _ _ h.2) in
+    position_or_len_is (λ p. bytes_eq p.key key) pairs i no_pair (omega arith)
+    (λ k below. bytes_eq-other _ _ (h.1 k below (omega arith))) (λ _. bytes_eq-same _ _ h.2) in
     rw (first, lt-ltb i (length pairs) h.0)
 
-pub place_of-absent : (pairs : List Pair) (key : List ℕ) → AbsentBelow pairs (length pairs) key → place_of pairs key ≡ None
+pub place_of-absent : (pairs : List Pair) (key : List ℕ) → AbsentBelow pairs (length pairs) key →
+    place_of pairs key ≡ None
 unfolding place_of
 place_of-absent pairs key h =
     let first : position_or_len (λ p. bytes_eq p.key key) pairs ≡ length pairs =
-    position_or_len_is (λ p. bytes_eq p.key key) pairs (length pairs) no_pair (omega arith) (λ k below. bytes_eq-other _ _ (h k below below)) (λ past. absurd (omega arith)) in
+    position_or_len_is (λ p. bytes_eq p.key key) pairs (length pairs) no_pair (omega arith)
+    (λ k below. bytes_eq-other _ _ (h k below below)) (λ past. absurd (omega arith)) in
     rw (first, le-ltb (length pairs) (length pairs) (omega arith))
 
 none_at : (b : Bool) (i : ℕ) → cond b (Some i) None ≡ None → b ≡ false
@@ -37,13 +40,15 @@ none_at true i e = cc
 none_at false i e = cc
 
 -- where no place is answered, no record has the key
-pub absent_from_None : (pairs : List Pair) (key : List ℕ) → place_of pairs key ≡ None → AbsentBelow pairs (length pairs) key
+pub absent_from_None : (pairs : List Pair) (key : List ℕ) → place_of pairs key ≡ None →
+    AbsentBelow pairs (length pairs) key
 unfolding place_of
 absent_from_None pairs key e k below _ same =
     let far : length pairs ≤ position_or_len (λ p. bytes_eq p.key key) pairs = ltb-false _ _ (none_at _ _ e) in
     both_ways _ (fails_before_first (λ p. bytes_eq p.key key) pairs k no_pair (omega arith)) (bytes_eq-same _ _ same)
 
 -- an answer with its reason
-pub place_of-told : (pairs : List Pair) (key : List ℕ) (r : Option ℕ) → IfSome r (λ i. StandsFirst pairs i key) → IfNone r (AbsentBelow pairs (length pairs) key) → r ≡ place_of pairs key
+pub place_of-told : (pairs : List Pair) (key : List ℕ) (r : Option ℕ) → IfSome r (λ i. StandsFirst pairs i key) →
+    IfNone r (AbsentBelow pairs (length pairs) key) → r ≡ place_of pairs key
 place_of-told pairs key (Some i) found absent = sym (place_of-found pairs key i found)
 place_of-told pairs key None found absent = sym (place_of-absent pairs key absent)

@@ -1,5 +1,6 @@
 -- Rows of keys that agree in all their words are the same.
-use Rattle.std.proofs.Common.{◌≡◌, ◌≢◌, ℕ, zero, suc, ◌+◌, ◌*◌, ◌<◌, ◌≤◌, Bool, true, false, eqb, List, length, take, sym, ap, ◌∙◌, inl, inr, arith}
+use Rattle.std.proofs.Common.{◌≡◌, ◌≢◌, ℕ, zero, suc, ◌+◌, ◌*◌, ◌<◌, ◌≤◌, Bool, true, false, eqb, List, length, take}
+use Rattle.std.proofs.Common.{sym, ap, ◌∙◌, inl, inr, arith}
 use Rattle.std.specs.Prelude.{slice_index}
 use Rattle.std.proofs.lemmas.Bool.{and_parts, and_from, cases_lt, eqb-true, eq-eqb}
 use Rattle.std.proofs.lemmas.List.{ext_get_or, get_or-take, length-take-le}
@@ -17,15 +18,23 @@ other_digits : (x y m n : ℕ) → x < 256 → y < 256 → x + 256 * m ≡ y + 2
 other_digits x y m n low small e = omega arith
 
 -- equal numbers have equal bytes
-bytes_from_number : (n k : ℕ) (xs ys : List ℕ) → ((i : ℕ) → slice_index xs i < 256) → ((i : ℕ) → slice_index ys i < 256) → little_from k n xs ≡ little_from k n ys →
+bytes_from_number : (n k : ℕ) (xs ys : List ℕ) → ((i : ℕ) → slice_index xs i < 256) →
+    ((i : ℕ) → slice_index ys i < 256) → little_from k n xs ≡ little_from k n ys →
     (i : ℕ) → k ≤ i → i < k + n → slice_index xs i ≡ slice_index ys i
 bytes_from_number zero k xs ys fit small e i low high = absurd (omega arith)
 bytes_from_number (suc n) k xs ys fit small e i low high = elim (cases_lt k i) [
-  | inl later ↦ bytes_from_number n (suc k) xs ys fit small (other_digits (slice_index xs k) (slice_index ys k) _ _ (fit k) (small k) e) i (omega arith) (omega arith)
-  | inr here ↦ let same : i ≡ k = omega arith in rw same (first_digit (slice_index xs k) (slice_index ys k) (little_from (suc k) n xs) (little_from (suc k) n ys) (fit k) (small k) e)
+  | inl later ↦
+      bytes_from_number n (suc k) xs ys fit small
+      (other_digits (slice_index xs k) (slice_index ys k) _ _ (fit k) (small k) e) i (omega arith) (omega arith)
+  | inr here ↦ let same : i ≡ k =
+      omega arith in
+      rw same
+      (first_digit (slice_index xs k) (slice_index ys k) (little_from (suc k) n xs) (little_from (suc k) n ys)
+      (fit k) (small k) e)
 ]
 
-pub same_from_words : (a b : List ℕ) → length a ≡ key_room → length b ≡ key_room → ((i : ℕ) → slice_index a i < 256) → ((i : ℕ) → slice_index b i < 256) → same_words a b ≡ true → a ≡ b
+pub same_from_words : (a b : List ℕ) → length a ≡ key_room → length b ≡ key_room → ((i : ℕ) → slice_index a i < 256) →
+    ((i : ℕ) → slice_index b i < 256) → same_words a b ≡ true → a ≡ b
 unfolding word_at
 same_from_words a b long whole fit small e =
     let seventh = and_parts _ _ e in
@@ -53,23 +62,32 @@ same_from_words a b long whole fit small e =
 
 pub words_from_same : (a b : List ℕ) → a ≡ b → same_words a b ≡ true
 words_from_same a b e =
-    and_from _ _ (and_from _ _ (and_from _ _ (and_from _ _ (and_from _ _ (and_from _ _ (at 0) (at 8)) (at 16)) (at 24)) (at 32)) (at 40)) (at 48)
+    and_from _ _
+    (and_from _ _ (and_from _ _ (and_from _ _ (and_from _ _ (and_from _ _ (at 0) (at 8)) (at 16)) (at 24)) (at 32))
+    (at 40)) (at 48)
   where
     at : (place : ℕ) → eqb (word_at a place) (word_at b place) ≡ true
     at place = eq-eqb (word_at a place) (word_at b place) (ap (λ bytes. word_at bytes place) e)
 
 -- rows with zeros behind their first bytes are the same where these are
-pub eq_told : (r : Bool) (n : ℕ) (a b v w : List ℕ) → OnTrue r (a ≡ b) → OnFalse r (a ≢ b) → take n a ≡ v → take n b ≡ w → padded key_room v ≡ a → padded key_room w ≡ b → r ≡ bytes_eq v w
-eq_told true n a b v w same other front behind whole all = sym (bytes_eq-same v w (sym front ∙ ap (take n) same ∙ behind))
-eq_told false n a b v w same other front behind whole all = sym (bytes_eq-other v w (λ e. other (sym whole ∙ ap (padded key_room) e ∙ all)))
+pub eq_told : (r : Bool) (n : ℕ) (a b v w : List ℕ) → OnTrue r (a ≡ b) → OnFalse r (a ≢ b) → take n a ≡ v →
+    take n b ≡ w → padded key_room v ≡ a → padded key_room w ≡ b → r ≡ bytes_eq v w
+eq_told true n a b v w same other front behind whole all =
+    sym (bytes_eq-same v w (sym front ∙ ap (take n) same ∙ behind))
+eq_told false n a b v w same other front behind whole all =
+    sym (bytes_eq-other v w (λ e. other (sym whole ∙ ap (padded key_room) e ∙ all)))
 
 -- the first bytes of a row are those of another where the two agree at each of their places
-pub front_told : (r : Bool) (n : ℕ) (a b v : List ℕ) → n ≤ length a → n ≤ length b → take n a ≡ v → OnTrue r ((i : ℕ) → i < n → slice_index a i ≡ slice_index b i) →
+pub front_told : (r : Bool) (n : ℕ) (a b v : List ℕ) → n ≤ length a → n ≤ length b → take n a ≡ v →
+    OnTrue r ((i : ℕ) → i < n → slice_index a i ≡ slice_index b i) →
     OnFalse r ((i : ℕ) × (i < n) × (slice_index a i ≢ slice_index b i)) → r ≡ bytes_eq (take n b) v
 front_told true n a b v wide long front same other =
-    sym (bytes_eq-same (take n b) v (ext_get_or 0 (take n b) (take n a) (length-take-le n b long ∙ sym (length-take-le n a wide)) (λ i low.
+    sym
+    (bytes_eq-same (take n b) v
+    (ext_get_or 0 (take n b) (take n a) (length-take-le n b long ∙ sym (length-take-le n a wide)) (λ i low.
     let below : i < n = omega (arith, length-take-le n b long) in
     get_or-take n b i 0 below ∙ (sym (same i below) ∙ sym (get_or-take n a i 0 below))) ∙ front))
 front_told false n a b v wide long front same other =
     sym (bytes_eq-other (take n b) v (λ e. other.2
-    (sym (get_or-take n a other.0 0 other.1) ∙ (ap (λ l. slice_index l other.0) (front ∙ sym e) ∙ get_or-take n b other.0 0 other.1))))
+    (sym (get_or-take n a other.0 0 other.1)
+    ∙ (ap (λ l. slice_index l other.0) (front ∙ sym e) ∙ get_or-take n b other.0 0 other.1))))

@@ -1,5 +1,6 @@
 -- What a page's bytes show, and their faults.
-use Rattle.std.specs.Prelude.{◌≡◌, ℕ, ◌<◌, ◌≤◌, Bool, true, false, not, ◌&&◌, ◌||◌, List, map, option_map, Option, Some, slice_index, nat_lt, ◌+◌, ◌-◌, ◌==◌, if◌then◌else◌}
+use Rattle.std.specs.Prelude.{◌≡◌, ℕ, ◌<◌, ◌≤◌, Bool, true, false, not, ◌&&◌, ◌||◌, List, map, option_map, Option, Some}
+use Rattle.std.specs.Prelude.{slice_index, nat_lt, ◌+◌, ◌-◌, ◌==◌, if◌then◌else◌}
 use Rattle.std.specs.List.{find, list_all, range_with_len}
 use Rattle.byteorder.specs.Endian.{little_number}
 use Rattle.lh_page.specs.declared.fault.PageFault.{PageFault}

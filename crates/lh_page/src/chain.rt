@@ -1,5 +1,6 @@
 //! Packed chains of records.
-ghost use Rattle.std.specs.Prelude.{not, ◌≡◌, ◌+◌, ◌%◌, ◌<◌, [], ◌∷◌, ◌++◌, length, slice_get, slice_index_or, Some, None, IsOk, IfOk, IfSome, IfNone, OnOk, OnErr};
+ghost use Rattle.std.specs.Prelude.{not, ◌≡◌, ◌+◌, ◌%◌, ◌<◌, [], ◌∷◌, ◌++◌, length, slice_get, slice_index_or, Some};
+ghost use Rattle.std.specs.Prelude.{None, IsOk, IfOk, IfSome, IfNone, OnOk, OnErr};
 ghost use Rattle.std.specs.List.{IsDistinct, filter, swap_remove};
 ghost use Rattle.std.specs.Str.{bytes_eq};
 ghost use Rattle.lh_page.specs.Limits.{IsCapacity, IsValue};

@@ -1,10 +1,12 @@
 //! Keys: short byte strings that are kept in place and copied freely.
-ghost use Rattle.std.specs.Prelude.{◌≡◌, ◌≢◌, ℕ, ◌<◌, ◌≤◌, ◌+◌, ◌↔◌, List, [], ◌∷◌, length, take, slice_index, Some, IsOk, IfOk, IfErr, nat_eq, refl};
+ghost use Rattle.std.specs.Prelude.{◌≡◌, ◌≢◌, ℕ, ◌<◌, ◌≤◌, ◌+◌, ◌↔◌, List, [], ◌∷◌, length, take, slice_index, Some};
+ghost use Rattle.std.specs.Prelude.{IsOk, IfOk, IfErr, nat_eq, refl};
 ghost use Rattle.std.specs.Ordering.{nat_cmp};
 ghost use Rattle.std.specs.Bool.{OnTrue, OnFalse};
 ghost use Rattle.std.specs.Str.{bytes_eq};
 ghost use Rattle.std.specs.Cmp.{partial_equiv_from_equiv};
-ghost use Rattle.std.specs.Cmp.Lexicographic.{pointwise, slice_cmp, nat_list_eq_equiv, nat_list_cmp_total, texts_po, texts_ties};
+ghost use Rattle.std.specs.Cmp.Lexicographic.{pointwise, slice_cmp, nat_list_eq_equiv, nat_list_cmp_total, texts_po};
+ghost use Rattle.std.specs.Cmp.Lexicographic.{texts_ties};
 ghost use Rattle.lh_page.specs.Limits.{IsKey};
 ghost use Rattle.lh_page.specs.Mark.{mark_of, mixed_words, same_words, word_at};
 

@@ -3,7 +3,8 @@ ghost use Rattle.std.specs.Prelude.{◌≡◌, ◌<◌, ◌≤◌, [], IfOk, OnO
 ghost use Rattle.std.specs.Result.{result_err};
 ghost use Rattle.lh_page.specs.Format.{version_1, version_2, slot_size, page_size, IsWithinLimits};
 ghost use Rattle.lh_page.specs.Limits.{IsCapacity};
-ghost use Rattle.lh_page.specs.PageFields.{head_of, page_of, pairs_of, used_of, bad_slot, fault_of, FirstFilled, UnusedAreZero};
+ghost use Rattle.lh_page.specs.PageFields.{head_of, page_of, pairs_of, used_of, bad_slot, fault_of, FirstFilled};
+ghost use Rattle.lh_page.specs.PageFields.{UnusedAreZero};
 ghost use Rattle.lh_page.specs.PageTable.{slot};
 
 use crate::fault::PageFault;

@@ -1,6 +1,7 @@
 //! Writing a page as bytes.
 ghost use Rattle.std.specs.Prelude.{◌≡◌, ◌<◌, length};
-ghost use Rattle.lh_page.specs.Format.{version_1, version_2, slot_size, page_size, FitsFormat, FitsSlot, IsWithinLimits};
+ghost use Rattle.lh_page.specs.Format.{version_1, version_2, slot_size, page_size, FitsFormat, FitsSlot};
+ghost use Rattle.lh_page.specs.Format.{IsWithinLimits};
 ghost use Rattle.lh_page.specs.PageTable.{IsPage, WritesSlot, head_text, slot};
 ghost use Rattle.lh_page.specs.Records.{FitsPage};
 ghost use Rattle.lh_page.specs.Rows.{zeros};

@@ -1,5 +1,6 @@
 -- What a picture means: the laws of where boxes and arrows end, and of the lanes.
-use Rattle.std.proofs.Common.{◌≡◌, ℕ, zero, suc, ◌+◌, ◌<◌, ◌≤◌, Bool, true, false, if◌then◌else◌, List, [], ◌∷◌, length, inl, inr, refl, arith}
+use Rattle.std.proofs.Common.{◌≡◌, ℕ, zero, suc, ◌+◌, ◌<◌, ◌≤◌, Bool, true, false, if◌then◌else◌, List, [], ◌∷◌, length}
+use Rattle.std.proofs.Common.{inl, inr, refl, arith}
 use Rattle.std.specs.Prelude.{fold, max}
 use Rattle.lh_core.specs.declared.event.Event.{Event}
 use Rattle.lh_core.specs.Log.{Entry}
@@ -17,20 +18,25 @@ first-ends is_lock lane event events entry entries is = record {
 }
 
 -- the first step is another
-goes-on : (is_lock : Bool) (lane : ℕ) (event : Event) (events : List Event) (entry : Entry) (entries : List Entry) (rows : ℕ) →
+goes-on : (is_lock : Bool) (lane : ℕ) (event : Event) (events : List Event) (entry : Entry) (entries : List Entry)
+    (rows : ℕ) →
     ends_at is_lock lane event entry ≡ false → Reaches is_lock lane events entries rows →
     (row : ℕ) → row + 1 < rows + 1 → ends_row is_lock lane (event ∷ events) (entry ∷ entries) row ≡ false
 goes-on is_lock lane event events entry entries rows is h zero low = is
 goes-on is_lock lane event events entry entries rows is h (suc row) low = h.goes_on row (omega (arith, low))
 
-none-ends : (is_lock : Bool) (lane : ℕ) (event : Event) (events : List Event) (entry : Entry) (entries : List Entry) (rows : ℕ) →
-    ends_at is_lock lane event entry ≡ false → ((row : ℕ) → row < rows → ends_row is_lock lane events entries row ≡ false) →
+none-ends : (is_lock : Bool) (lane : ℕ) (event : Event) (events : List Event) (entry : Entry) (entries : List Entry)
+    (rows : ℕ) →
+    ends_at is_lock lane event entry ≡ false →
+    ((row : ℕ) → row < rows → ends_row is_lock lane events entries row ≡ false) →
     (row : ℕ) → row < rows + 1 → ends_row is_lock lane (event ∷ events) (entry ∷ entries) row ≡ false
 none-ends is_lock lane event events entry entries rows is none zero low = is
 none-ends is_lock lane event events entry entries rows is none (suc row) low = none row (omega (arith, low))
 
-later-ends : (is_lock : Bool) (lane : ℕ) (event : Event) (events : List Event) (entry : Entry) (entries : List Entry) (rows : ℕ) →
-    ends_at is_lock lane event entry ≡ false → Reaches is_lock lane events entries rows → Reaches is_lock lane (event ∷ events) (entry ∷ entries) (rows + 1)
+later-ends : (is_lock : Bool) (lane : ℕ) (event : Event) (events : List Event) (entry : Entry) (entries : List Entry)
+    (rows : ℕ) →
+    ends_at is_lock lane event entry ≡ false → Reaches is_lock lane events entries rows →
+    Reaches is_lock lane (event ∷ events) (entry ∷ entries) (rows + 1)
 later-ends is_lock lane event events entry entries rows is h = record {
   within = omega (arith, h.within);
   goes_on = goes-on is_lock lane event events entry entries rows is h;
@@ -40,22 +46,32 @@ later-ends is_lock lane event events entry entries rows is h = record {
   ];
 }
 
-reaches-next : (is_lock : Bool) (lane : ℕ) (event : Event) (events : List Event) (entry : Entry) (entries : List Entry) (rows : ℕ) (ends : Bool) →
+reaches-next : (is_lock : Bool) (lane : ℕ) (event : Event) (events : List Event) (entry : Entry) (entries : List Entry)
+    (rows : ℕ) (ends : Bool) →
     ends_at is_lock lane event entry ≡ ends → Reaches is_lock lane events entries rows →
     Reaches is_lock lane (event ∷ events) (entry ∷ entries) (if ends then 1 else rows + 1)
-reaches-next is_lock lane event events entry entries rows true is h = first-ends is_lock lane event events entry entries is
-reaches-next is_lock lane event events entry entries rows false is h = later-ends is_lock lane event events entry entries rows is h
+reaches-next is_lock lane event events entry entries rows true is h =
+    first-ends is_lock lane event events entry entries is
+reaches-next is_lock lane event events entry entries rows false is h =
+    later-ends is_lock lane event events entry entries rows is h
 
 pub reach_law : ReachLaw
 unfolding rows_until
-reach_law is_lock lane [] entries same = record { within = omega arith; goes_on = λ row h. absurd (omega (arith, h)); ends = inr (refl, λ row h. absurd (omega (arith, h))) }
+reach_law is_lock lane [] entries same =
+    record {
+      within = omega arith;
+      goes_on = λ row h. absurd (omega (arith, h));
+      ends = inr (refl, λ row h. absurd (omega (arith, h)));
+    }
 reach_law is_lock lane (event ∷ events) [] same = absurd (omega (arith, same))
 reach_law is_lock lane (event ∷ events) (entry ∷ entries) same =
-    reaches-next is_lock lane event events entry entries (rows_until is_lock lane events entries) (ends_at is_lock lane event entry) refl
+    reaches-next is_lock lane event events entry entries (rows_until is_lock lane events entries)
+    (ends_at is_lock lane event entry) refl
     (reach_law is_lock lane events entries (omega (arith, same)))
 
 -- the lanes that are counted are no fewer than before
-lanes-more : (events : List Event) (lanes : ℕ) → lanes ≤ fold (λ lanes event. max lanes (lane_of event + 1)) lanes events
+lanes-more : (events : List Event) (lanes : ℕ) →
+    lanes ≤ fold (λ lanes event. max lanes (lane_of event + 1)) lanes events
 lanes-more [] lanes = omega arith
 lanes-more (event ∷ events) lanes = omega (arith, lanes-more events (max lanes (lane_of event + 1)))
 

@@ -1,6 +1,7 @@
 -- What a picture means: each step stands in a lane that is drawn,
 -- and a box or an arrow reaches down to the step that ends it
-use Rattle.std.specs.Prelude.{◌≡◌, ◌⊎◌, ℕ, ◌+◌, ◌<◌, ◌≤◌, Bool, true, false, List, ◌∷◌, ◌++◌, length, Some, Ok, slice_get}
+use Rattle.std.specs.Prelude.{◌≡◌, ◌⊎◌, ℕ, ◌+◌, ◌<◌, ◌≤◌, Bool, true, false, List, ◌∷◌, ◌++◌, length, Some, Ok}
+use Rattle.std.specs.Prelude.{slice_get}
 use Rattle.std.specs.List.{list_any}
 use Rattle.lh_addr.specs.Settings.{Settings}
 use Rattle.lh_core.specs.declared.effect.Effect.TheVariants as effect

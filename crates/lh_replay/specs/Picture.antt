@@ -1,5 +1,6 @@
 -- The picture of a schedule: a row for each step, in the lane of who takes it
-use Rattle.std.specs.Prelude.{ℕ, ◌+◌, ◌*◌, true, false, if◌then◌else◌, max, List, ◌++◌, length, drop, slice_index_or, Ok}
+use Rattle.std.specs.Prelude.{ℕ, ◌+◌, ◌*◌, true, false, if◌then◌else◌, max, List, ◌++◌, length, drop, slice_index_or}
+use Rattle.std.specs.Prelude.{Ok}
 use Rattle.lh_core.specs.declared.effect.Effect.TheVariants as effect
 use Rattle.lh_core.specs.declared.event.Event.{Event}
 use Rattle.lh_core.specs.declared.event.Event.TheVariants as event

@@ -29,7 +29,8 @@ picture_canvas_text c =
 unfoldable pub picture_caption_text : Caption → List ℕ
 picture_caption_text c =
     codes "<title id='title'>Schedule of a linear hash file, steps " ++ (decimal c.steps ++
-    codes "</title>\n<desc id='desc'>A lane for the splitter and one for each place, and downwards a row for each step. A box is a bucket that is held, from its lock to its release; an arrow leads from a rehash to the lock after it; an arrow between two boxes marks the move of a split, and a triangle the step of its pointer.</desc>\n<rect width='100%' height='100%' fill='#ffffff'/>\n<text x='16' y='20'>a box is a bucket that is held, and a curved arrow a rehash</text>\n<text x='16' y='38'>a straight arrow is the move of a split, and a triangle the step of its pointer</text>\n")
+    codes
+    "</title>\n<desc id='desc'>A lane for the splitter and one for each place, and downwards a row for each step. A box is a bucket that is held, from its lock to its release; an arrow leads from a rehash to the lock after it; an arrow between two boxes marks the move of a split, and a triangle the step of its pointer.</desc>\n<rect width='100%' height='100%' fill='#ffffff'/>\n<text x='16' y='20'>a box is a bucket that is held, and a curved arrow a rehash</text>\n<text x='16' y='38'>a straight arrow is the move of a split, and a triangle the step of its pointer</text>\n")
 
 -- the name of a lane
 abbrev pub lane_name : ℕ → List ℕ

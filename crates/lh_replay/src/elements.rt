@@ -1,6 +1,7 @@
 //! The elements of a picture, each as the SVG text that a type displays.
 ghost use Rattle.std.specs.Prelude.{Some};
-ghost use Rattle.lh_replay.specs.PictureTexts.{end_text, heading_text, lane_name, picture_canvas_text, picture_caption_text, step_text};
+ghost use Rattle.lh_replay.specs.PictureTexts.{end_text, heading_text, lane_name, picture_canvas_text};
+ghost use Rattle.lh_replay.specs.PictureTexts.{picture_caption_text, step_text};
 
 use crate::shapes::Shape;
 use crate::words::Words;

@@ -1,7 +1,8 @@
 //! The parts of a picture, made of events and what was told of them.
 ghost use Rattle.std.specs.Prelude.{◌≡◌, ◌+◌, ◌*◌, ◌<◌, ◌≤◌, drop, false, length, true};
 ghost use Rattle.lh_replay.specs.Lanes.{lane_of, rows_until};
-ghost use Rattle.lh_replay.specs.Picture.{caption_of, event_at, heading_of, picture_canvas_of, shape_of, step_of, told_at};
+ghost use Rattle.lh_replay.specs.Picture.{caption_of, event_at, heading_of, picture_canvas_of, shape_of, step_of};
+ghost use Rattle.lh_replay.specs.Picture.{told_at};
 
 use crate::elements::{Canvas, Caption, Heading, Step};
 use crate::lanes::{lane_count, lane_of, rehashes, rows_until};

@@ -17,4 +17,5 @@ IsAscii-from_test (byte ∷ bytes) h =
 
 pub IsUtf8-encode_lower : (bytes : List ℕ) → IsUtf8 (encode_lower bytes)
 IsUtf8-encode_lower bytes =
-    IsUtf8-from_ascii (encode_lower bytes) (IsAscii-encode_with lower_digits bytes (IsAscii-from_test lower_digits refl))
+    IsUtf8-from_ascii (encode_lower bytes)
+    (IsAscii-encode_with lower_digits bytes (IsAscii-from_test lower_digits refl))

@@ -1,5 +1,7 @@
 -- Pairs of hexadecimal digits: the table of the digits' values, and the bytes that are read one after another.
-use Rattle.std.proofs.Common.{◌≡◌, ◌==◌, ◌&&◌, ℕ, ◌+◌, ◌-◌, ◌*◌, ◌/◌, ◌%◌, ◌<◌, ◌≤◌, suc, Bool, true, false, cond, List, [], ◌∷◌, ◌++◌, Option, None, Some, IfSome, length, take, drop, map, refl, ap, sym, ◌∙◌, arith, get_or, MatchBool, append_assoc, append-nil, set}
+use Rattle.std.proofs.Common.{◌≡◌, ◌==◌, ◌&&◌, ℕ, ◌+◌, ◌-◌, ◌*◌, ◌/◌, ◌%◌, ◌<◌, ◌≤◌, suc, Bool, true, false, cond, List}
+use Rattle.std.proofs.Common.{[], ◌∷◌, ◌++◌, Option, None, Some, IfSome, length, take, drop, map, refl, ap, sym, ◌∙◌}
+use Rattle.std.proofs.Common.{arith, get_or, MatchBool, append_assoc, append-nil, set}
 use Rattle.std.specs.Prelude.{is_some, nat_lt, nat_le, unwrap_or}
 use Rattle.std.specs.Int.Bits.{bit_or}
 use Rattle.std.specs.Option.{option_map}
@@ -21,7 +23,8 @@ pairs_length xs = cond ((length xs % 2 == 0) && list_all is_digit xs) (Some (len
 half : (n : ℕ) → ((suc (suc n)) % 2 ≡ n % 2) × ((suc (suc n)) / 2 ≡ suc (n / 2))
 half n = (omega arith, omega arith)
 
-by_digits : (d e : Option ℕ) (r : Option (List ℕ)) (b : Bool) (n : ℕ) → option_map length r ≡ cond (b) (Some n) None → option_map length (with_byte d e r) ≡ cond (is_some d && (is_some e && b)) (Some (suc n)) None
+by_digits : (d e : Option ℕ) (r : Option (List ℕ)) (b : Bool) (n : ℕ) → option_map length r ≡ cond (b) (Some n) None →
+    option_map length (with_byte d e r) ≡ cond (is_some d && (is_some e && b)) (Some (suc n)) None
 by_digits None e r b n h = refl
 by_digits (Some d) None r b n h = refl
 by_digits (Some d) (Some e) None true n h = cc
@@ -40,11 +43,15 @@ unfolding pairs
 pairs_length_is [] = refl
 pairs_length_is (c ∷ []) = refl
 pairs_length_is (c ∷ d ∷ cs) =
-    by_digits (digit c) (digit d) (pairs cs) ((length cs % 2 == 0) && list_all is_digit cs) (length cs / 2) (pairs_length_is cs)
-    ∙ (ap (λ b. cond b (Some (suc (length cs / 2))) None) (sym (regroup (length cs % 2 == 0) (is_digit c) (is_digit d) (list_all is_digit cs)))
+    by_digits (digit c) (digit d) (pairs cs) ((length cs % 2 == 0) && list_all is_digit cs) (length cs / 2)
+    (pairs_length_is cs)
+    ∙ (ap (λ b. cond b (Some (suc (length cs / 2))) None)
+    (sym (regroup (length cs % 2 == 0) (is_digit c) (is_digit d) (list_all is_digit cs)))
     ∙ rw ((half (length cs)).0, (half (length cs)).1) refl)
 
-pub length_of_pairs : (xs : List ℕ) → option_map length (pairs xs) ≡ cond ((length xs % 2 == 0) && list_all (λ c. is_some (digit c)) xs) (Some (length xs / 2)) None
+pub length_of_pairs : (xs : List ℕ) →
+    option_map length (pairs xs) ≡
+    cond ((length xs % 2 == 0) && list_all (λ c. is_some (digit c)) xs) (Some (length xs / 2)) None
 length_of_pairs xs = pairs_length_is xs
 
 -- digits
@@ -57,9 +64,11 @@ unfolding digit
 table_is = refl
 
 pub digit_from_table : (c : ℕ) → c < 256 → get_or DIGIT_VALUES c 0 ≡ unwrap_or (digit c) 16
-digit_from_table c lt = ap (λ table. get_or table c 0) table_is ∙ get_or-map-range_with_len value_or_mark 0 256 c c 0 lt (omega arith)
+digit_from_table c lt =
+    ap (λ table. get_or table c 0) table_is ∙ get_or-map-range_with_len value_or_mark 0 256 c c 0 lt (omega arith)
 
-by_three : (a b c : Bool) (x y z : ℕ) → (a ≡ true → x < 16) → (b ≡ true → y < 16) → (c ≡ true → z < 16) → IfSome (cond a (Some x) (cond b (Some y) (cond c (Some z) None))) (λ d. d < 16)
+by_three : (a b c : Bool) (x y z : ℕ) → (a ≡ true → x < 16) → (b ≡ true → y < 16) → (c ≡ true → z < 16) →
+    IfSome (cond a (Some x) (cond b (Some y) (cond c (Some z) None))) (λ d. d < 16)
 by_three true b c x y z f g h = f refl
 by_three false true c x y z f g h = g refl
 by_three false false true x y z f g h = h refl
@@ -76,7 +85,9 @@ lower_small c h = grind (arith, nat_tests)
 
 digit_small : (c : ℕ) → IfSome (digit c) (λ d. d < 16)
 unfolding digit
-digit_small c = by_three (nat_le 48 c && nat_le c 57) (nat_le 65 c && nat_le c 70) (nat_le 97 c && nat_le c 102) (c - 48) (c - 55) (c - 87) (decimal_small c) (upper_small c) (lower_small c)
+digit_small c =
+    by_three (nat_le 48 c && nat_le c 57) (nat_le 65 c && nat_le c 70) (nat_le 97 c && nat_le c 102) (c - 48) (c - 55)
+    (c - 87) (decimal_small c) (upper_small c) (lower_small c)
 
 mark_bound : (o : Option ℕ) → IfSome o (λ d. d < 16) → unwrap_or o 16 ≤ 16
 mark_bound None h = omega arith
@@ -97,7 +108,9 @@ digit_is_below c = mark_test (digit c) (digit_small c)
 
 -- the first byte
 
-good_byte : (a b : Option ℕ) (r : Option (List ℕ)) → IfSome a (λ d. d < 16) → IfSome b (λ d. d < 16) → unwrap_or a 16 < 16 → unwrap_or b 16 < 16 → with_byte a b r ≡ option_map (λ bytes. (16 * (unwrap_or a 16 % 16) + unwrap_or b 16 % 16) ∷ bytes) r
+good_byte : (a b : Option ℕ) (r : Option (List ℕ)) → IfSome a (λ d. d < 16) → IfSome b (λ d. d < 16) →
+    unwrap_or a 16 < 16 → unwrap_or b 16 < 16 →
+    with_byte a b r ≡ option_map (λ bytes. (16 * (unwrap_or a 16 % 16) + unwrap_or b 16 % 16) ∷ bytes) r
 good_byte None b r h k lt mt = absurd (omega arith)
 good_byte (Some d) None r h k lt mt = absurd (omega arith)
 good_byte (Some d) (Some e) None h k lt mt = refl
@@ -105,20 +118,25 @@ good_byte (Some d) (Some e) (Some bs) h k lt mt =
     let same : 16 * d + e ≡ 16 * (d % 16) + e % 16 = omega arith in
     ap (λ n. Some (n ∷ bs)) same
 
-pub pair_good : (xs : List ℕ) (high low : ℕ) → 1 < length xs → high ≡ unwrap_or (digit (get_or xs 0 0)) 16 → low ≡ unwrap_or (digit (get_or xs 1 0)) 16 → bit_or high low < 16 → pairs xs ≡ option_map (λ bytes. (16 * (high % 16) + low % 16) ∷ bytes) (pairs (drop 2 xs))
+pub pair_good : (xs : List ℕ) (high low : ℕ) → 1 < length xs → high ≡ unwrap_or (digit (get_or xs 0 0)) 16 →
+    low ≡ unwrap_or (digit (get_or xs 1 0)) 16 → bit_or high low < 16 →
+    pairs xs ≡ option_map (λ bytes. (16 * (high % 16) + low % 16) ∷ bytes) (pairs (drop 2 xs))
 unfolding pairs
 pair_good [] high low lt e f m = absurd (omega arith)
 pair_good (c ∷ []) high low lt e f m = absurd (omega arith)
 pair_good (c ∷ d ∷ cs) high low lt e f m =
-    good_byte (digit c) (digit d) (pairs cs) (digit_small c) (digit_small d) (omega (arith, le_or_l high low)) (omega (arith, le_or_r high low))
+    good_byte (digit c) (digit d) (pairs cs) (digit_small c) (digit_small d) (omega (arith, le_or_l high low))
+    (omega (arith, le_or_r high low))
     ∙ rw (e, f) refl
 
-bad_byte : (a b : Option ℕ) (r : Option (List ℕ)) → IfSome a (λ d. d < 16) → IfSome b (λ d. d < 16) → 16 ≤ bit_or (unwrap_or a 16) (unwrap_or b 16) → with_byte a b r ≡ None
+bad_byte : (a b : Option ℕ) (r : Option (List ℕ)) → IfSome a (λ d. d < 16) → IfSome b (λ d. d < 16) →
+    16 ≤ bit_or (unwrap_or a 16) (unwrap_or b 16) → with_byte a b r ≡ None
 bad_byte None b r h k m = refl
 bad_byte (Some d) None r h k m = refl
 bad_byte (Some d) (Some e) r h k m = absurd (omega (arith, or_lt 4 d e (omega arith) (omega arith)))
 
-pub pair_bad : (xs : List ℕ) (high low : ℕ) → 1 < length xs → high ≡ unwrap_or (digit (get_or xs 0 0)) 16 → low ≡ unwrap_or (digit (get_or xs 1 0)) 16 → 16 ≤ bit_or high low → pairs xs ≡ None
+pub pair_bad : (xs : List ℕ) (high low : ℕ) → 1 < length xs → high ≡ unwrap_or (digit (get_or xs 0 0)) 16 →
+    low ≡ unwrap_or (digit (get_or xs 1 0)) 16 → 16 ≤ bit_or high low → pairs xs ≡ None
 unfolding pairs
 pair_bad [] high low lt e f m = absurd (omega arith)
 pair_bad (c ∷ []) high low lt e f m = absurd (omega arith)
@@ -138,7 +156,8 @@ no_front (Some bs) = refl
 pub front_none : (xs : List ℕ) → pairs xs ≡ with_front [] (pairs xs)
 front_none xs = no_front (pairs xs)
 
-fronts : (front : List ℕ) (b : ℕ) (r : Option (List ℕ)) → with_front front (option_map (λ bytes. b ∷ bytes) r) ≡ with_front (front ++ b ∷ []) r
+fronts : (front : List ℕ) (b : ℕ) (r : Option (List ℕ)) →
+    with_front front (option_map (λ bytes. b ∷ bytes) r) ≡ with_front (front ++ b ∷ []) r
 fronts front b None = refl
 fronts front b (Some bs) = ap (λ m. Some m) (sym (append_assoc front (b ∷ []) bs))
 
@@ -146,21 +165,26 @@ front_grows : (out : List ℕ) (i b : ℕ) → i < length out → take i out ++ 
 front_grows out i b lt = grind (arith, common_steps)
 
 -- one more byte is written
-pub front_step : (word out rest behind : List ℕ) (i b : ℕ) → i < length out → pairs word ≡ with_front (take i out) (pairs rest) → pairs rest ≡ option_map (λ bytes. b ∷ bytes) (pairs behind) → pairs word ≡ with_front (take (i + 1) (set out i b)) (pairs behind)
+pub front_step : (word out rest behind : List ℕ) (i b : ℕ) → i < length out →
+    pairs word ≡ with_front (take i out) (pairs rest) → pairs rest ≡ option_map (λ bytes. b ∷ bytes) (pairs behind) →
+    pairs word ≡ with_front (take (i + 1) (set out i b)) (pairs behind)
 front_step word out rest behind i b lt h k =
     h ∙ (rw k (fronts (take i out) b (pairs behind)) ∙ ap (λ f. with_front f (pairs behind)) (front_grows out i b lt))
 
 -- the next byte is none
-pub front_breaks : (word front rest : List ℕ) → pairs word ≡ with_front front (pairs rest) → pairs rest ≡ None → pairs word ≡ None
+pub front_breaks : (word front rest : List ℕ) → pairs word ≡ with_front front (pairs rest) → pairs rest ≡ None →
+    pairs word ≡ None
 front_breaks word front rest h k = h ∙ rw k refl
 
 take_whole : (out : List ℕ) (i : ℕ) → i ≡ length out → take i out ≡ out
 take_whole out i e = grind (arith, common_steps)
 
 -- nothing is left to write
-pub front_whole : (word out rest : List ℕ) (i : ℕ) → pairs word ≡ with_front (take i out) (pairs rest) → length rest ≡ 0 → i ≡ length out → pairs word ≡ Some out
+pub front_whole : (word out rest : List ℕ) (i : ℕ) → pairs word ≡ with_front (take i out) (pairs rest) →
+    length rest ≡ 0 → i ≡ length out → pairs word ≡ Some out
 unfolding pairs
-front_whole word out [] i h e k = h ∙ (ap (λ m. Some m) (append-nil (take i out)) ∙ ap (λ m. Some m) (take_whole out i k))
+front_whole word out [] i h e k =
+    h ∙ (ap (λ m. Some m) (append-nil (take i out)) ∙ ap (λ m. Some m) (take_whole out i k))
 front_whole word out (c ∷ cs) i h e k = absurd (omega arith)
 
 -- what the marks say at the end
@@ -171,7 +195,8 @@ by_test false n P Q e f g = g (grind (arith, nat_tests))
 pub marks_decide : (n : ℕ) (P Q : Type 0) → (n < 16 → P) → (16 ≤ n → Q) → MatchBool (nat_lt n 16) P Q
 marks_decide n P Q f g = by_test (nat_lt n 16) n P Q refl f g
 
-one_bad : (c d : Bool) (a b : ℕ) (P : Type 0) → nat_lt a 16 ≡ c → nat_lt b 16 ≡ d → 16 ≤ bit_or a b → (16 ≤ a → P) → (a < 16 → 16 ≤ b → P) → P
+one_bad : (c d : Bool) (a b : ℕ) (P : Type 0) → nat_lt a 16 ≡ c → nat_lt b 16 ≡ d → 16 ≤ bit_or a b → (16 ≤ a → P) →
+    (a < 16 → 16 ≤ b → P) → P
 one_bad false d a b P e k m f g = f (grind (arith, nat_tests))
 one_bad true false a b P e k m f g = g (grind (arith, nat_tests)) (grind (arith, nat_tests))
 one_bad true true a b P e k m f g =
@@ -185,15 +210,18 @@ marks_break a b P m f g = one_bad (nat_lt a 16) (nat_lt b 16) a b P refl refl m 
 
 -- the whole word
 
-by_half : (b : Bool) (h n : ℕ) (o : Option ℕ) (P : ℕ → Type 0) → o ≡ cond b (Some h) None → n < h → IfSome o (λ m. m ≤ n → P m)
+by_half : (b : Bool) (h n : ℕ) (o : Option ℕ) (P : ℕ → Type 0) → o ≡ cond b (Some h) None → n < h →
+    IfSome o (λ m. m ≤ n → P m)
 by_half b h n None P e lt = tt
 by_half true h n (Some m) P e lt = λ le. let k : m ≡ h = cc in absurd (omega arith)
 by_half false h n (Some m) P e lt = let bad : Some m ≡ None = e in absurd cc
 
 -- longer words don't fit
-pub room_short : (xs room : List ℕ) (o : Option ℕ) → o ≡ option_map length (pairs xs) → length room < length xs / 2 → IfSome o (λ m. m ≤ length room → byte_string xs ≡ Some (take m room))
+pub room_short : (xs room : List ℕ) (o : Option ℕ) → o ≡ option_map length (pairs xs) → length room < length xs / 2 →
+    IfSome o (λ m. m ≤ length room → byte_string xs ≡ Some (take m room))
 room_short xs room o e lt =
-    by_half ((length xs % 2 == 0) && list_all (λ c. is_some (digit c)) xs) (length xs / 2) (length room) o (λ m. byte_string xs ≡ Some (take m room)) (e ∙ length_of_pairs xs) lt
+    by_half ((length xs % 2 == 0) && list_all (λ c. is_some (digit c)) xs) (length xs / 2) (length room) o
+    (λ m. byte_string xs ≡ Some (take m room)) (e ∙ length_of_pairs xs) lt
 
 pub odd_none : (xs : List ℕ) → length xs % 2 ≡ 1 → option_map length (pairs xs) ≡ None
 odd_none xs e = length_of_pairs xs ∙ rw e refl

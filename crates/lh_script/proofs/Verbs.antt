@@ -5,23 +5,27 @@ use Rattle.lh_script.specs.Calls.{then_key, then_pair, with_key, with_pair}
 use Rattle.lh_script.specs.declared.fault.LineFault.{LineFault}
 use Rattle.lh_script.specs.declared.fault.LineFault.TheVariants.{WordCount}
 
-pub not_one : {A : Type 0} (before : Result A LineFault) (ws : List (List ℕ)) → length ws ≢ 1 → with_key before ws ≡ Err WordCount
+pub not_one : {A : Type 0} (before : Result A LineFault) (ws : List (List ℕ)) → length ws ≢ 1 →
+    with_key before ws ≡ Err WordCount
 unfolding with_key
 not_one before [] h = refl
 not_one before (k ∷ []) h = absurd (h refl)
 not_one before (k ∷ l ∷ ws) h = refl
 
-pub one_key : {A : Type 0} (before : Result A LineFault) (ws : List (List ℕ)) (k : List ℕ) → ws ≡ k ∷ [] → with_key before ws ≡ then_key before k
+pub one_key : {A : Type 0} (before : Result A LineFault) (ws : List (List ℕ)) (k : List ℕ) → ws ≡ k ∷ [] →
+    with_key before ws ≡ then_key before k
 unfolding with_key
 one_key before ws k e = rw e refl
 
-pub not_two : {A : Type 0} (before : Result A LineFault) (ws : List (List ℕ)) → length ws ≢ 2 → with_pair before ws ≡ Err WordCount
+pub not_two : {A : Type 0} (before : Result A LineFault) (ws : List (List ℕ)) → length ws ≢ 2 →
+    with_pair before ws ≡ Err WordCount
 unfolding with_pair
 not_two before [] h = refl
 not_two before (k ∷ []) h = refl
 not_two before (k ∷ v ∷ []) h = absurd (h refl)
 not_two before (k ∷ v ∷ l ∷ ws) h = refl
 
-pub two_words : {A : Type 0} (before : Result A LineFault) (ws : List (List ℕ)) (k v : List ℕ) → ws ≡ k ∷ v ∷ [] → with_pair before ws ≡ then_pair before k v
+pub two_words : {A : Type 0} (before : Result A LineFault) (ws : List (List ℕ)) (k v : List ℕ) → ws ≡ k ∷ v ∷ [] →
+    with_pair before ws ≡ then_pair before k v
 unfolding with_pair
 two_words before ws k v e = rw e refl

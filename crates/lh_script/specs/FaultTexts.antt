@@ -2,7 +2,8 @@
 use Rattle.std.specs.Prelude.{ℕ, List, ◌++◌, codes}
 use Rattle.std.specs.Fmt.{decimal}
 use Rattle.lh_script.specs.declared.fault.LineFault.{LineFault}
-use Rattle.lh_script.specs.declared.fault.LineFault.TheVariants.{UnknownWord, WordCount, BadHexadecimal, KeyLength, ValueLength, WorkerNumber}
+use Rattle.lh_script.specs.declared.fault.LineFault.TheVariants.{UnknownWord, WordCount, BadHexadecimal, KeyLength}
+use Rattle.lh_script.specs.declared.fault.LineFault.TheVariants.{ValueLength, WorkerNumber}
 use Rattle.lh_script.specs.declared.fault.ScriptFault.{ScriptFault}
 use Rattle.lh_script.specs.declared.fault.ScriptFault.TheVariants.{TooLong, AtLine}
 

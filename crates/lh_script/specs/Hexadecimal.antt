@@ -1,5 +1,6 @@
 -- Byte strings as words: pairs of hexadecimal digits, or `-` for none.
-use Rattle.std.specs.Prelude.{ℕ, ◌+◌, ◌-◌, ◌*◌, ◌==◌, ◌&&◌, Bool, false, if◌then◌else◌, nat_le, List, [], ◌∷◌, Option, None, Some}
+use Rattle.std.specs.Prelude.{ℕ, ◌+◌, ◌-◌, ◌*◌, ◌==◌, ◌&&◌, Bool, false, if◌then◌else◌, nat_le, List, [], ◌∷◌, Option}
+use Rattle.std.specs.Prelude.{None, Some}
 
 -- the value of a digit: 0 to 9 have the codes from 48, A to F those from 65, a to f those from 97
 unfoldable pub digit : ℕ → Option ℕ

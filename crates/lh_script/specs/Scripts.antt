@@ -1,5 +1,6 @@
 -- What a script gives: its statements, or its first fault.
-use Rattle.std.specs.Prelude.{◌≡◌, ℕ, ◌+◌, if◌then◌else◌, nat_lt, List, [], ◌∷◌, ◌++◌, length, Option, None, Some, option_to_list, Result, Ok, Err}
+use Rattle.std.specs.Prelude.{◌≡◌, ℕ, ◌+◌, if◌then◌else◌, nat_lt, List, [], ◌∷◌, ◌++◌, length, Option, None, Some}
+use Rattle.std.specs.Prelude.{option_to_list, Result, Ok, Err}
 use Rattle.lh_script.specs.Lines.{lines, words, is_comment}
 use Rattle.lh_script.specs.Operands.{◌>>=◌}
 use Rattle.lh_script.specs.declared.fault.LineFault.{LineFault}

@@ -1,5 +1,6 @@
 -- The lines of a step script.
-use Rattle.std.specs.Prelude.{ℕ, ◌+◌, ◌-◌, ◌*◌, ◌&&◌, Bool, if◌then◌else◌, nat_le, List, [], ◌∷◌, Result, Ok, Err, codes}
+use Rattle.std.specs.Prelude.{ℕ, ◌+◌, ◌-◌, ◌*◌, ◌&&◌, Bool, if◌then◌else◌, nat_le, List, [], ◌∷◌, Result, Ok, Err}
+use Rattle.std.specs.Prelude.{codes}
 use Rattle.lh_script.specs.Calls.{call}
 use Rattle.lh_script.specs.Lines.{is_word}
 use Rattle.lh_script.specs.Operands.{◌>>=◌}

@@ -1,7 +1,8 @@
 //! The lines of a script and the words of a line, as parts of the script's bytes.
 ghost use Rattle.std.specs.Prelude.{◌≡◌, ◌≢◌, [], ◌∷◌, ◌<◌, ◌≤◌, true, not, length, MatchOption};
 ghost use Rattle.std.specs.List.{position, position_or_len};
-ghost use Rattle.lh_script.specs.Lines.{IsStatement, lines, words, is_blank, is_comment, is_lf, is_skipped, is_word, without_last_cr};
+ghost use Rattle.lh_script.specs.Lines.{IsStatement, lines, words, is_blank, is_comment, is_lf, is_skipped, is_word};
+ghost use Rattle.lh_script.specs.Lines.{without_last_cr};
 
 use memchr::memchr;
 

@@ -22,10 +22,14 @@ use Rattle.lh_serving.specs.declared.answer.Fault.TheVariants as fault
 sized : (v : WorldSeen) (file : FileSeen) (c : Call) (n : ℕ) → v.config ≡ file.settings → v.state.buckets ≡ file.size →
     (n ≡ size_after v.config (after file.map c) v.state.buckets (reply file.map c)) ⊎ (n ≡ v.state.buckets) →
     (n ≡ size_after file.settings (after file.map c) file.size (reply file.map c)) ⊎ (n ≡ file.size)
-sized v file c n same size (inl e) = inl (e ∙ ap (λ x. size_after x (after file.map c) v.state.buckets (reply file.map c)) same ∙ ap (λ k. size_after file.settings (after file.map c) k (reply file.map c)) size)
+sized v file c n same size (inl e) =
+    inl
+    (e ∙ ap (λ x. size_after x (after file.map c) v.state.buckets (reply file.map c)) same
+    ∙ ap (λ k. size_after file.settings (after file.map c) k (reply file.map c)) size)
 sized v file c n same size (inr e) = inr (e ∙ size)
 
-pub called : (v w : WorldSeen) (n m : ℕ) (c : Call) (y : Reply) (file : FileSeen) → Shows v n file → IsServedOn v file.map c y m w →
+pub called : (v w : WorldSeen) (n m : ℕ) (c : Call) (y : Reply) (file : FileSeen) → Shows v n file →
+    IsServedOn v file.map c y m w →
     (next : FileSeen) × AnswersCall file c (answer.Reply y) next × Shows w m next
 called v w n m c y file h d = (
   record { settings = file.settings; map = after file.map c; size = w.state.buckets },
@@ -52,7 +56,8 @@ pub uncounted : (v : WorldSeen) (n : ℕ) (c : Call) (file : FileSeen) → Shows
 uncounted v n c file h le = (file, (refl, inr (let e = h.count in omega (arith, e, le))), h)
 
 -- an empty file shows none
-pub shows_first : (s : Settings) (v : WorldSeen) → v.config ≡ s → v.state ≡ first s → StandsFor v empty → Shows v 0 (first_file s)
+pub shows_first : (s : Settings) (v : WorldSeen) → v.config ≡ s → v.state ≡ first s → StandsFor v empty →
+    Shows v 0 (first_file s)
 shows_first s v e f p = record {
   same = e;
   rest = record { workers = ap (λ (a : State). a.workers) f; splitter = ap (λ (a : State). a.splitter) f };
@@ -72,7 +77,8 @@ shows_opened l v n o e = record {
 }
 
 -- a listing of a world is one of the file that it shows
-pub copied : (v : WorldSeen) (n : ℕ) (file : FileSeen) (l : Lists) → Shows v n file → ((m : Records) → StandsFor v m → IsListed v.config m v.state.buckets l) →
+pub copied : (v : WorldSeen) (n : ℕ) (file : FileSeen) (l : Lists) → Shows v n file →
+    ((m : Records) → StandsFor v m → IsListed v.config m v.state.buckets l) →
     IsListed file.settings file.map file.size l
 copied v n file l h f =
     subst (λ k. IsListed file.settings file.map k l) h.size

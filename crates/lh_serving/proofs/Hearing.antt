@@ -1,5 +1,6 @@
 -- A conversation, as bytes come
-use Rattle.std.proofs.Common.{◌≡◌, ℕ, Bool, false, ◌||◌, List, [], ◌∷◌, ◌++◌, Option, refl, ap, sym, subst, ◌∙◌, append_assoc, append-nil, None, take, drop, length, ◌-◌, arith}
+use Rattle.std.proofs.Common.{◌≡◌, ℕ, Bool, false, ◌||◌, List, [], ◌∷◌, ◌++◌, Option, refl, ap, sym, subst, ◌∙◌}
+use Rattle.std.proofs.Common.{append_assoc, append-nil, None, take, drop, length, ◌-◌, arith}
 use Rattle.std.specs.List.{list_any}
 use Rattle.std.specs.Prelude.{Result}
 use Rattle.std.proofs.lemmas.Grind.{common_steps}
@@ -25,15 +26,27 @@ none_of_two b c e f = rw (e, f) refl
 no_lf : (xs ys : List ℕ) → list_any is_lf xs ≡ false → list_any is_lf ys ≡ false → list_any is_lf (xs ++ ys) ≡ false
 no_lf xs ys e f = list_any-append is_lf xs ys ∙ none_of_two (list_any is_lf xs) (list_any is_lf ys) e f
 
-pub begun : (start : FileSeen) (w : WorldSeen) (n : ℕ) (p : Option (List ℕ)) (waiting : List ℕ) → Shows w n start → p ≡ kept [] → waiting ≡ [] →
+pub begun : (start : FileSeen) (w : WorldSeen) (n : ℕ) (p : Option (List ℕ)) (waiting : List ℕ) → Shows w n start →
+    p ≡ kept [] → waiting ≡ [] →
     IsAt start (talk_of w n p waiting None) [] []
 begun start w n p waiting h e f =
-    record { turns = []; rest = []; each = tt; whole = refl; incomplete = refl; same = append-nil waiting ∙ f; part = e; file = h }
+    record {
+      turns = [];
+      rest = [];
+      each = tt;
+      whole = refl;
+      incomplete = refl;
+      same = append-nil waiting ∙ f;
+      part = e;
+      file = h;
+    }
 
 -- a part of a line has come
-pub came : (start : FileSeen) (w : WorldSeen) (n : ℕ) (p q : Option (List ℕ)) (waiting : List ℕ) (image : Option Lists) (heard answers more : List ℕ) →
+pub came : (start : FileSeen) (w : WorldSeen) (n : ℕ) (p q : Option (List ℕ)) (waiting : List ℕ) (image : Option Lists)
+    (heard answers more : List ℕ) →
     IsAt start (talk_of w n p waiting image) heard answers →
-    ((l : List ℕ) → p ≡ kept l → q ≡ kept (l ++ more)) → list_any is_lf more ≡ false → IsAt start (talk_of w n q waiting image) (heard ++ more) answers
+    ((l : List ℕ) → p ≡ kept l → q ≡ kept (l ++ more)) → list_any is_lf more ≡ false →
+    IsAt start (talk_of w n q waiting image) (heard ++ more) answers
 came start w n p q waiting image heard answers more h f e = record {
   turns = h.turns;
   rest = h.rest ++ more;
@@ -46,38 +59,54 @@ came start w n p q waiting image heard answers more h f e = record {
 }
 
 ended : (before rest said : List ℕ) → (before ++ rest) ++ line said ≡ (before ++ line (rest ++ said)) ++ []
-ended before rest said = append_assoc before rest (line said) ∙ ap (λ x. before ++ x) (sym (append_assoc rest said (10 ∷ []))) ∙ sym (append-nil (before ++ line (rest ++ said)))
+ended before rest said =
+    append_assoc before rest (line said) ∙ ap (λ x. before ++ x) (sym (append_assoc rest said (10 ∷ [])))
+    ∙ sym (append-nil (before ++ line (rest ++ said)))
 
 -- what is said waits behind what waited
-behind : (answers waiting text image : List ℕ) → answers ++ ((waiting ++ text) ++ image) ≡ (answers ++ (waiting ++ [])) ++ (text ++ image)
+behind : (answers waiting text image : List ℕ) →
+    answers ++ ((waiting ++ text) ++ image) ≡ (answers ++ (waiting ++ [])) ++ (text ++ image)
 behind answers waiting text image =
     ap (λ y. answers ++ y) (append_assoc waiting text image) ∙ sym (append_assoc answers waiting (text ++ image))
     ∙ ap (λ y. (answers ++ y) ++ (text ++ image)) (sym (append-nil waiting))
 
 -- a line has come to its end, and is answered
-pub answered : (start : FileSeen) (w x : WorldSeen) (n m : ℕ) (p q r : Option (List ℕ)) (waiting new heard answers said : List ℕ) (old image : Option Lists)
+pub answered : (start : FileSeen) (w x : WorldSeen) (n m : ℕ) (p q r : Option (List ℕ))
+    (waiting new heard answers said : List ℕ) (old image : Option Lists)
     (o : Result (Option Request) Fault) (a : Option Answer) → old ≡ None →
     IsAt start (talk_of w n p waiting old) heard answers →
     ((l : List ℕ) → p ≡ kept l → q ≡ kept (l ++ said)) → list_any is_lf said ≡ false →
-    o ≡ asked_by q → ((file : FileSeen) → Shows w n file → (next : FileSeen) × Answers file o (told a ++ image_text image) next × Shows x m next) →
+    o ≡ asked_by q →
+    ((file : FileSeen) → Shows w n file →
+    (next : FileSeen) × Answers file o (told a ++ image_text image) next × Shows x m next) →
     r ≡ kept [] → new ≡ waiting ++ told a → IsAt start (talk_of x m r new image) (heard ++ line said) answers
 answered start w x n m p q r waiting new heard answers said old image o a none h f e eo serve er en =
-    let served : (next : FileSeen) × Answers (file_after start h.turns) o (told a ++ image_text image) next × Shows x m next = serve (file_after start h.turns) h.file in
+    let served : (next : FileSeen) × Answers (file_after start h.turns) o (told a ++ image_text image) next
+    × Shows x m next =
+    serve (file_after start h.turns) h.file in
     let whole : o ≡ asked_by (kept (h.rest ++ said)) = eo ∙ ap asked_by (f h.rest h.part) in
-    let was : answers ++ (waiting ++ []) ≡ answers_of h.turns = subst (λ (i : Option Lists). answers ++ (waiting ++ image_text i) ≡ answers_of h.turns) none h.same in
+    let was : answers ++ (waiting ++ []) ≡ answers_of h.turns =
+    subst (λ (i : Option Lists). answers ++ (waiting ++ image_text i) ≡ answers_of h.turns) none h.same in
     record {
       turns = record { said = h.rest ++ said; answer = told a ++ image_text image; file = served.0 } ∷ h.turns;
       rest = [];
-      each = (h.each, no_lf h.rest said h.incomplete e, subst (λ z. Answers (file_after start h.turns) z (told a ++ image_text image) served.0) whole served.1);
+      each = (
+        h.each,
+        no_lf h.rest said h.incomplete e,
+        subst (λ z. Answers (file_after start h.turns) z (told a ++ image_text image) served.0) whole served.1,
+      );
       whole = ap (λ y. y ++ line said) h.whole ∙ ended (lines_of h.turns) h.rest said;
       incomplete = refl;
-      same = ap (λ y. answers ++ (y ++ image_text image)) en ∙ behind answers waiting (told a) (image_text image) ∙ ap (λ y. y ++ (told a ++ image_text image)) was;
+      same =
+          ap (λ y. answers ++ (y ++ image_text image)) en ∙ behind answers waiting (told a) (image_text image)
+          ∙ ap (λ y. y ++ (told a ++ image_text image)) was;
       part = er;
       file = served.2;
     }
 
 -- what waits is told
-pub told_all : (start : FileSeen) (w : WorldSeen) (n : ℕ) (p : Option (List ℕ)) (waiting new heard answers : List ℕ) (image : Option Lists) →
+pub told_all : (start : FileSeen) (w : WorldSeen) (n : ℕ) (p : Option (List ℕ)) (waiting new heard answers : List ℕ)
+    (image : Option Lists) →
     IsAt start (talk_of w n p waiting image) heard answers → new ≡ [] →
     IsAt start (talk_of w n p new None) heard (answers ++ (waiting ++ image_text image))
 told_all start w n p waiting new heard answers image h e = record {
@@ -86,7 +115,9 @@ told_all start w n p waiting new heard answers image h e = record {
   each = h.each;
   whole = h.whole;
   incomplete = h.incomplete;
-  same = ap (λ y. (answers ++ (waiting ++ image_text image)) ++ (y ++ [])) e ∙ append-nil (answers ++ (waiting ++ image_text image)) ∙ h.same;
+  same =
+      ap (λ y. (answers ++ (waiting ++ image_text image)) ++ (y ++ [])) e
+      ∙ append-nil (answers ++ (waiting ++ image_text image)) ∙ h.same;
   part = h.part;
   file = h.file;
 }

@@ -18,8 +18,8 @@ use std::marker::Model;
 /// How much room there is for answers that wait, before more memory is taken for them.
 const ROOM: usize = 66_000;
 
-/// A file, what has come of its client's next line, the answers that the client wasn't told yet, and the file whose image
-/// is to be told behind them.
+/// A file, what has come of its client's next line, the answers that the client wasn't told yet, and the file whose
+/// image is to be told behind them.
 #[derive(Drop)]
 pub struct Conversation {
     world: World<PagedBucket>,
@@ -92,8 +92,8 @@ impl Conversation {
     /// Hears bytes of the client up to the first LF, or all of them where there is none: what is behind it. A line that
     /// is complete then is answered, and the answer waits. In whatever pieces the bytes come, the answers are the same.
     ///
-    /// An image that waits has to be told first. It fails where there is no memory for an answer to wait; with less than
-    /// 65,536 bytes waiting there is.
+    /// An image that waits has to be told first. It fails where there is no memory for an answer to wait; with less
+    /// than 65,536 bytes waiting there is.
     pub fn hear<'a>(&mut self, bytes: &'a [u8]) -> Result<&'a [u8], Memory>
         requires { self.old.image ≡ None }
         ensures heard { (start : FileSeen) (heard answers : List ℕ) → IsAt start self.old heard answers →

@@ -1,5 +1,6 @@
 -- Records that stand in another bucket than that of their address
-use Rattle.std.proofs.Common.{◌≡◌, ◌≢◌, ℕ, ◌+◌, ◌<◌, ◌≤◌, ◌⊎◌, ⊎_elim, inl, inr, List, [], length, map, get_or, Option, Some, None, sym, ap, subst, ◌∙◌, arith}
+use Rattle.std.proofs.Common.{◌≡◌, ◌≢◌, ℕ, ◌+◌, ◌<◌, ◌≤◌, ◌⊎◌, ⊎_elim, inl, inr, List, [], length, map, get_or, Option}
+use Rattle.std.proofs.Common.{Some, None, sym, ap, subst, ◌∙◌, arith}
 use Rattle.std.specs.Option.{IfSome, MatchOption}
 use Rattle.std.proofs.lemmas.Bool.{cases_lt}
 use Rattle.std.proofs.lemmas.List.{get_or_default, get_or_past, length-map}

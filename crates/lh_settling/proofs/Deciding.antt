@@ -1,5 +1,6 @@
 -- Something can always be said of a closed file: it is settled, or a fault is due
-use Rattle.std.proofs.Common.{◌≡◌, ◌≢◌, ℕ, zero, suc, ◌%◌, ◌<◌, ◌≤◌, ◌⊎◌, inl, inr, ⊎_elim, List, [], ◌∷◌, length, Some, refl, sym, ◌∙◌, arith}
+use Rattle.std.proofs.Common.{◌≡◌, ◌≢◌, ℕ, zero, suc, ◌%◌, ◌<◌, ◌≤◌, ◌⊎◌, inl, inr, ⊎_elim, List, [], ◌∷◌, length, Some}
+use Rattle.std.proofs.Common.{refl, sym, ◌∙◌, arith}
 use Rattle.std.specs.List.{slice_get, range_with_len}
 use Rattle.std.proofs.lemmas.Bool.{cases_lt}
 use Rattle.std.proofs.lemmas.List.{length-map}
@@ -9,7 +10,8 @@ use Rattle.lh_bucket.specs.Listing.{Lists, IsHome, EachPlace}
 use Rattle.lh_bucket.specs.PlainMap.{replies}
 use Rattle.lh_settling.specs.declared.act.ActLine.{ActLine}
 use Rattle.lh_settling.specs.declared.settle_fault.SettleFault.{SettleFault}
-use Rattle.lh_settling.specs.declared.settle_fault.SettleFault.TheVariants.{SplitUnderWay, MissingStamp, Reply, Content, Placed, Memory}
+use Rattle.lh_settling.specs.declared.settle_fault.SettleFault.TheVariants.{SplitUnderWay, MissingStamp, Reply, Content}
+use Rattle.lh_settling.specs.declared.settle_fault.SettleFault.TheVariants.{Placed, Memory}
 use Rattle.lh_settling.specs.Acts.{stamps_of, calls_of, replies_of, FirstDiffer}
 use Rattle.lh_addr.specs.RootWord.{buckets_of}
 use Rattle.lh_settling.specs.ClosedFile.{ClosedFile, IsClosed}

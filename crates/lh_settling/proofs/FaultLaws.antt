@@ -15,7 +15,8 @@ use Rattle.lh_bucket.specs.Listing.{Lists, IsHome, list_at}
 use Rattle.lh_bucket.specs.PlainMap.{replies}
 use Rattle.lh_settling.specs.declared.act.ActLine.{ActLine}
 use Rattle.lh_settling.specs.declared.settle_fault.SettleFault.{SettleFault}
-use Rattle.lh_settling.specs.declared.settle_fault.SettleFault.TheVariants.{SplitUnderWay, MissingStamp, Reply, Content, Placed, Memory}
+use Rattle.lh_settling.specs.declared.settle_fault.SettleFault.TheVariants.{SplitUnderWay, MissingStamp, Reply, Content}
+use Rattle.lh_settling.specs.declared.settle_fault.SettleFault.TheVariants.{Placed, Memory}
 use Rattle.lh_settling.specs.Acts.{stamps_of, calls_of, replies_of}
 use Rattle.lh_addr.specs.RootWord.{buckets_of}
 use Rattle.lh_settling.specs.ClosedFile.{ClosedFile, IsClosed}

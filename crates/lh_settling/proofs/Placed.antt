@@ -1,5 +1,7 @@
 -- Records that are those of a map, each in the bucket of its address
-use Rattle.std.proofs.Common.{◌≡◌, ◌≢◌, ℕ, zero, suc, ◌+◌, ◌<◌, ◌≤◌, Bool, true, false, cond, ◌||◌, nat_eq, ⊎_elim, List, [], ◌∷◌, ◌++◌, map, length, Option, Some, None, is_some, refl, sym, ap, subst, ◌∙◌, arith, append-nil}
+use Rattle.std.proofs.Common.{◌≡◌, ◌≢◌, ℕ, zero, suc, ◌+◌, ◌<◌, ◌≤◌, Bool, true, false, cond, ◌||◌, nat_eq, ⊎_elim}
+use Rattle.std.proofs.Common.{List, [], ◌∷◌, ◌++◌, map, length, Option, Some, None, is_some, refl, sym, ap, subst, ◌∙◌}
+use Rattle.std.proofs.Common.{arith, append-nil}
 use Rattle.std.specs.Option.{option_to_list, IsSome}
 use Rattle.std.specs.Str.{bytes_eq}
 use Rattle.std.specs.List.{filter, slice_get, AllByRecursion, IsDistinct, list_any}
@@ -16,7 +18,8 @@ use Rattle.lh_bucket.specs.Listing.{IsHome, EachPlace, all_of, list_at}
 use Rattle.lh_bucket.specs.PlainMap.{Records}
 use Rattle.lh_bucket.specs.Records.{map_of}
 use Rattle.lh_settling.specs.Contents.{values_under, IsPlaced, StandsAs}
-use Rattle.lh_settling.proofs.Values.{apart, equals, itself, same_records, get_first, get-map_of-cons, get-retained, values_under-append}
+use Rattle.lh_settling.proofs.Values.{apart, equals, itself, same_records, get_first, get-map_of-cons, get-retained}
+use Rattle.lh_settling.proofs.Values.{values_under-append}
 
 abbrev Under : List ℕ → Pair → List Pair → Bool → List (List ℕ)
 Under q p ps b = map (λ (p : Pair). p.value)

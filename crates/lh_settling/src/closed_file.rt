@@ -1,5 +1,6 @@
 //! Files that are closed.
-ghost use Rattle.std.specs.Prelude.{◌≡◌, ℕ, ◌+◌, ◌-◌, ◌*◌, ◌/◌, ◌%◌, ◌^◌, ◌<◌, ◌≤◌, ◌↔◌, ◌⊎◌, false, length, map, min, take, IsTrue, IfOk, IfErr};
+ghost use Rattle.std.specs.Prelude.{◌≡◌, ℕ, ◌+◌, ◌-◌, ◌*◌, ◌/◌, ◌%◌, ◌^◌, ◌<◌, ◌≤◌, ◌↔◌, ◌⊎◌, false, length, map, min};
+ghost use Rattle.std.specs.Prelude.{take, IsTrue, IfOk, IfErr};
 ghost use Rattle.lh_addr.specs.Limits.{most_buckets};
 
 use lh_addr::{Config, RootWord};

@@ -18,7 +18,8 @@ use Rattle.lh_shards.proofs.Places.{there}
 
 -- the hand is the same, and has room for the acts of the second hand of its place
 abbrev pub HasRoom : List HandState → HandFact
-HasRoom second k old new = IsSame old new × ((other : HandState) → slice_get second k ≡ Some other → length other.acts ≤ new.room)
+HasRoom second k old new =
+    IsSame old new × ((other : HandState) → slice_get second k ≡ Some other → length other.acts ≤ new.room)
 
 same_of : (n i : ℕ) (f : FileState) (old new : HandState) → IsOfShard n i f old → IsSame old new → IsOfShard n i f new
 same_of n i f old new o s = record {
@@ -32,7 +33,8 @@ same_of n i f old new o s = record {
   home = subst (λ l. AreAtHome n i l) (sym s.acts) o.home;
 }
 
-pub same_are_of : (files : List FileState) (olds news : List HandState) → AreOf files olds → AreSame olds news → AreOf files news
+pub same_are_of : (files : List FileState) (olds news : List HandState) → AreOf files olds → AreSame olds news →
+    AreOf files news
 same_are_of files olds news o s = record {
   count = s.count ∙ o.count;
   each = λ i f h fi hi.
@@ -41,7 +43,8 @@ same_are_of files olds news o s = record {
       same_of (length files) i f was.0 h (o.each i f was.0 fi was.1) (s.each i was.0 h was.1 hi);
 }
 
-joined_of : (n i : ℕ) (f : FileState) (one other new : HandState) → IsOfShard n i f one → IsOfShard n i f other → IsJoined one other new → IsOfShard n i f new
+joined_of : (n i : ℕ) (f : FileState) (one other new : HandState) → IsOfShard n i f one → IsOfShard n i f other →
+    IsJoined one other new → IsOfShard n i f new
 joined_of n i f one other new o p j = record {
   of = record {
     table = j.table ∙ o.of.table;
@@ -50,10 +53,13 @@ joined_of n i f one other new o p j = record {
     recording = j.recording ∙ o.of.recording;
   };
   right = ap (λ (v : View). v.has_right) j.view ∙ o.right;
-  home = subst (λ l. AreAtHome n i l) (sym j.acts) (All-append (λ (act : ActLine). home_of n (key_of act.call) ≡ i) one.acts other.acts o.home p.home);
+  home =
+      subst (λ l. AreAtHome n i l) (sym j.acts)
+      (All-append (λ (act : ActLine). home_of n (key_of act.call) ≡ i) one.acts other.acts o.home p.home);
 }
 
-pub joined_are_of : (files : List FileState) (first second news : List HandState) → AreOf files first → AreOf files second → AreJoined first second news → AreOf files news
+pub joined_are_of : (files : List FileState) (first second news : List HandState) → AreOf files first →
+    AreOf files second → AreJoined first second news → AreOf files news
 joined_are_of files first second news o p j = record {
   count = j.count ∙ o.count;
   each = λ i f h fi hi.
@@ -62,7 +68,8 @@ joined_are_of files first second news o p j = record {
       let many_second : length second ≡ length files = p.count in
       let one : (x : HandState) × (slice_get first i ≡ Some x) = there first i (omega arith) in
       let other : (x : HandState) × (slice_get second i ≡ Some x) = there second i (omega arith) in
-      joined_of (length files) i f one.0 other.0 h (o.each i f one.0 fi one.1) (p.each i f other.0 fi other.1) (j.each i one.0 other.0 h one.1 other.1 hi);
+      joined_of (length files) i f one.0 other.0 h (o.each i f one.0 fi one.1) (p.each i f other.0 fi other.1)
+      (j.each i one.0 other.0 h one.1 other.1 hi);
 }
 
 joined_from_same : (one mid other new : HandState) → IsSame one mid → IsJoined mid other new → IsJoined one other new
@@ -76,7 +83,8 @@ joined_from_same one mid other new s j = record {
 }
 
 -- hands that were given room and joined then are the first ones joined
-pub joined_from : (first mids second news : List HandState) → AreSame first mids → AreJoined mids second news → AreJoined first second news
+pub joined_from : (first mids second news : List HandState) → AreSame first mids → AreJoined mids second news →
+    AreJoined first second news
 joined_from first mids second news s j = record {
   count = j.count ∙ s.count;
   each = λ k one other new ko kp kn.
@@ -86,7 +94,9 @@ joined_from first mids second news s j = record {
 }
 
 -- what is known of the room of hands that a loop has passed
-pub room_before : (second olds items : List HandState) (i k : ℕ) (one other : HandState) → Passed (HasRoom second) i olds items → k < i → slice_get items k ≡ Some one → slice_get second k ≡ Some other → length other.acts ≤ one.room
+pub room_before : (second olds items : List HandState) (i k : ℕ) (one other : HandState) →
+    Passed (HasRoom second) i olds items → k < i → slice_get items k ≡ Some one → slice_get second k ≡ Some other →
+    length other.acts ≤ one.room
 room_before second olds items i k one other passed lt ko kp =
     let in_olds : k < length olds = subst (λ n. k < n) passed.count (slice_get_within items k one ko) in
     let was : (x : HandState) × (slice_get olds k ≡ Some x) = there olds k in_olds in

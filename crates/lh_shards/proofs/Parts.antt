@@ -1,5 +1,6 @@
 -- A call on a part of a map is that call on the whole map
-use Rattle.std.proofs.Common.{◌≡◌, ℕ, Bool, true, false, cond, List, Option, Some, None, is_some, refl, sym, ap, ◌∙◌, subst}
+use Rattle.std.proofs.Common.{◌≡◌, ℕ, Bool, true, false, cond, List, Option, Some, None, is_some, refl, sym, ap, ◌∙◌}
+use Rattle.std.proofs.Common.{subst}
 use Rattle.std.specs.Ordering.{nat_cmp, eq_by_cmp}
 use Rattle.std.specs.Cmp.Lexicographic.{slice_cmp, nat_list_cmp_total, texts_ties}
 use Rattle.std.specs.FinMap.{get, insert, remove, contains_key, get-insert, get-remove}
@@ -31,13 +32,15 @@ get_cut : (m : Records) (k q : List ℕ) → get (remove m k) q ≡ cond (ties q
 unfolding ties
 get_cut m k q = get-remove nat_list_cmp_total m k q
 
-two_tests : {X : Type 0} (t b : Bool) (w o : Option X) → (t ≡ true → b ≡ true) → cond t w (cond b o None) ≡ cond b (cond t w o) None
+two_tests : {X : Type 0} (t b : Bool) (w o : Option X) → (t ≡ true → b ≡ true) →
+    cond t w (cond b o None) ≡ cond b (cond t w o) None
 two_tests true true w o h = refl
 two_tests true false w o h = absurd (no_flip (h refl))
 two_tests false true w o h = refl
 two_tests false false w o h = refl
 
-two_apart : {X : Type 0} (t b : Bool) (w o : Option X) → (t ≡ true → b ≡ false) → cond b o None ≡ cond b (cond t w o) None
+two_apart : {X : Type 0} (t b : Bool) (w o : Option X) → (t ≡ true → b ≡ false) →
+    cond b o None ≡ cond b (cond t w o) None
 two_apart true true w o h = absurd (no_flip (sym (h refl)))
 two_apart true false w o h = refl
 two_apart false true w o h = refl
@@ -75,7 +78,8 @@ module _ (p : List ℕ → Bool) (whole part : Records) (shows : Shows p whole p
   reply_here (Delete k) h = ap (λ o. cond (is_some o) Deleted Absent) (here k h)
   reply_here (Replace k v) h = ap (λ o. cond (is_some o) Replaced Absent) (here k h)
 
-either : (p : List ℕ → Bool) (b d : Bool) (a x u v : Records) → d ≡ b → Shows p a u → Shows p x v → Shows p (cond b a x) (cond d u v)
+either : (p : List ℕ → Bool) (b d : Bool) (a x u v : Records) → d ≡ b → Shows p a u → Shows p x v →
+    Shows p (cond b a x) (cond d u v)
 either p true d a x u v e h g = subst (λ t. Shows p a (cond t u v)) (sym e) h
 either p false d a x u v e h g = subst (λ t. Shows p x (cond t u v)) (sym e) g
 
@@ -83,14 +87,24 @@ same_part : (p : List ℕ → Bool) (b : Bool) (a x u : Records) → Shows p a u
 same_part p true a x u h g = h
 same_part p false a x u h g = g
 
-pub after_here : (p : List ℕ → Bool) (whole part : Records) → Shows p whole part → (c : Call) → p (key_of c) ≡ true → Shows p (after whole c) (after part c)
+pub after_here : (p : List ℕ → Bool) (whole part : Records) → Shows p whole part → (c : Call) → p (key_of c) ≡ true →
+    Shows p (after whole c) (after part c)
 after_here p w u s (Search k) h = s
-after_here p w u s (Insert k v) h = either p (contains_key w k) (contains_key u k) w (insert w k v) u (insert u k v) (ap is_some (here p w u s k h)) s (put_here p w u s k v h)
-after_here p w u s (Delete k) h = either p (contains_key w k) (contains_key u k) (remove w k) w (remove u k) u (ap is_some (here p w u s k h)) (cut_here p w u s k h) s
-after_here p w u s (Replace k v) h = either p (contains_key w k) (contains_key u k) (insert w k v) w (insert u k v) u (ap is_some (here p w u s k h)) (put_here p w u s k v h) s
+after_here p w u s (Insert k v) h =
+    either p (contains_key w k) (contains_key u k) w (insert w k v) u (insert u k v) (ap is_some (here p w u s k h)) s
+    (put_here p w u s k v h)
+after_here p w u s (Delete k) h =
+    either p (contains_key w k) (contains_key u k) (remove w k) w (remove u k) u (ap is_some (here p w u s k h))
+    (cut_here p w u s k h) s
+after_here p w u s (Replace k v) h =
+    either p (contains_key w k) (contains_key u k) (insert w k v) w (insert u k v) u (ap is_some (here p w u s k h))
+    (put_here p w u s k v h) s
 
-pub after_elsewhere : (p : List ℕ → Bool) (whole part : Records) → Shows p whole part → (c : Call) → p (key_of c) ≡ false → Shows p (after whole c) part
+pub after_elsewhere : (p : List ℕ → Bool) (whole part : Records) → Shows p whole part → (c : Call) →
+    p (key_of c) ≡ false → Shows p (after whole c) part
 after_elsewhere p w u s (Search k) h = s
-after_elsewhere p w u s (Insert k v) h = same_part p (contains_key w k) w (insert w k v) u s (put_elsewhere p w u s k v h)
+after_elsewhere p w u s (Insert k v) h =
+    same_part p (contains_key w k) w (insert w k v) u s (put_elsewhere p w u s k v h)
 after_elsewhere p w u s (Delete k) h = same_part p (contains_key w k) (remove w k) w u (cut_elsewhere p w u s k h) s
-after_elsewhere p w u s (Replace k v) h = same_part p (contains_key w k) (insert w k v) w u (put_elsewhere p w u s k v h) s
+after_elsewhere p w u s (Replace k v) h =
+    same_part p (contains_key w k) (insert w k v) w u (put_elsewhere p w u s k v h) s

@@ -13,10 +13,12 @@ HandFact = ℕ → HandState → HandState → Type 0
 -- the fact holds of the hands before a place, and the others are as they were
 pub record Passed (Fact : HandFact) (i : ℕ) (olds items : List HandState) : Type 0 where
   pub count : length items ≡ length olds
-  pub done : (k : ℕ) (old new : HandState) → suc k ≤ i → slice_get olds k ≡ Some old → slice_get items k ≡ Some new → Fact k old new
+  pub done : (k : ℕ) (old new : HandState) → suc k ≤ i → slice_get olds k ≡ Some old → slice_get items k ≡ Some new →
+      Fact k old new
   pub rest : (k : ℕ) → i ≤ k → slice_get items k ≡ slice_get olds k
 
-pub passed_next : (Fact : HandFact) (i : ℕ) (olds items : List HandState) (b a : HandState) → slice_get olds i ≡ Some b → Fact i b a → Passed Fact i olds items → Passed Fact (i + 1) olds (set items i a)
+pub passed_next : (Fact : HandFact) (i : ℕ) (olds items : List HandState) (b a : HandState) →
+    slice_get olds i ≡ Some b → Fact i b a → Passed Fact i olds items → Passed Fact (i + 1) olds (set items i a)
 passed_next Fact i olds items b a at new was = record {
   count = length-set items i a ∙ was.count;
   done = λ k old h lt ko kh.
@@ -29,7 +31,9 @@ passed_next Fact i olds items b a at new was = record {
 }
 
 -- hands before the place have passed by another fact that follows there
-pub passed_as : (Fact Other : HandFact) (i : ℕ) (olds items : List HandState) → ((k : ℕ) (old new : HandState) → suc k ≤ i → Fact k old new → Other k old new) → Passed Fact i olds items → Passed Other i olds items
+pub passed_as : (Fact Other : HandFact) (i : ℕ) (olds items : List HandState) →
+    ((k : ℕ) (old new : HandState) → suc k ≤ i → Fact k old new → Other k old new) → Passed Fact i olds items →
+    Passed Other i olds items
 passed_as Fact Other i olds items follows was = record {
   count = was.count;
   done = λ k old new lt ko kn. follows k old new lt (was.done k old new lt ko kn);

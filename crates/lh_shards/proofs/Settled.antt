@@ -25,13 +25,18 @@ abbrev pub SettledAs : Lists → ClosedShard → List ActLine → Type 0
 SettledAs opening closed history = IsSettled opening closed.closed closed.acts history
 
 -- a history has the acts that it settles, so their keys belong where those do
-pub history_home : (n i : ℕ) (opening : Lists) (closed : ClosedShard) (history : List ActLine) → IsSettled opening closed.closed closed.acts history → AreAtHome n i closed.acts → AreAtHome n i history
-history_home n i opening closed history s h = All-permutation (λ (act : ActLine). home_of n (key_of act.call) ≡ i) closed.acts history s.stamped.order.same h
+pub history_home : (n i : ℕ) (opening : Lists) (closed : ClosedShard) (history : List ActLine) →
+    IsSettled opening closed.closed closed.acts history → AreAtHome n i closed.acts → AreAtHome n i history
+history_home n i opening closed history s h =
+    All-permutation (λ (act : ActLine). home_of n (key_of act.call) ≡ i) closed.acts history s.stamped.order.same h
 
-mapped_at : (openings : List Lists) (i : ℕ) (o : Lists) → slice_get openings i ≡ Some o → slice_get (map map_in openings) i ≡ Some (map_in o)
+mapped_at : (openings : List Lists) (i : ℕ) (o : Lists) → slice_get openings i ≡ Some o →
+    slice_get (map map_in openings) i ≡ Some (map_in o)
 mapped_at openings i o at = slice_get-map map_in openings i ∙ ap (option_map map_in) at
 
-pub settled_are_one_map : (openings : List Lists) (shards : List ClosedShard) (histories : List (List ActLine)) → length openings ≡ length shards → AreShards shards → AreSettled openings shards histories → MakeOneMap openings shards histories
+pub settled_are_one_map : (openings : List Lists) (shards : List ClosedShard) (histories : List (List ActLine)) →
+    length openings ≡ length shards → AreShards shards → AreSettled openings shards histories →
+    MakeOneMap openings shards histories
 settled_are_one_map openings shards histories n are settled whole merged parts merge =
     let maps : List Records = map map_in openings in
     let many : length maps ≡ length openings = length_mapped map_in openings in
@@ -39,12 +44,15 @@ settled_are_one_map openings shards histories n are settled whole merged parts m
     let law = one_map_law whole maps histories merged (long ∙ sym n ∙ sym many)
     (λ i part at.
     let from : (o : Lists) × (slice_get openings i ≡ Some o) × (map_in o ≡ part) = at_map map_in openings i part at in
-    subst (λ k. IsPart k i whole part) (sym many) (subst (λ (m : Records). IsPart (length openings) i whole m) from.2 (parts i from.0 from.1)))
+    subst (λ k. IsPart k i whole part) (sym many)
+    (subst (λ (m : Records). IsPart (length openings) i whole m) from.2 (parts i from.0 from.1)))
     (λ i history at.
     let lt : i < length histories = slice_get_within histories i history at in
     let o : (x : Lists) × (slice_get openings i ≡ Some x) = there openings i (omega arith) in
     let c : (x : ClosedShard) × (slice_get shards i ≡ Some x) = there shards i (omega arith) in
-    subst (λ k. AreAtHome k i history) (sym (many ∙ n)) (history_home (length shards) i o.0 c.0 history (settled.each i o.0 c.0 history o.1 c.1 at) (are.home i c.0 c.1)))
+    subst (λ k. AreAtHome k i history) (sym (many ∙ n))
+    (history_home (length shards) i o.0 c.0 history (settled.each i o.0 c.0 history o.1 c.1 at)
+    (are.home i c.0 c.1)))
     (λ i part history at ah.
     let from : (o : Lists) × (slice_get openings i ≡ Some o) × (map_in o ≡ part) = at_map map_in openings i part at in
     let lt : i < length histories = slice_get_within histories i history ah in
@@ -57,12 +65,19 @@ settled_are_one_map openings shards histories n are settled whole merged parts m
           let o : (x : Lists) × (slice_get openings i ≡ Some x) = there openings i (omega arith) in
           let h : (x : List ActLine) × (slice_get histories i ≡ Some x) = there histories i (omega arith) in
           let is : IsSettled o.0 c.closed c.acts h.0 = settled.each i o.0 c h.0 o.1 at h.1 in
-          let map_at : slice_get maps i ≡ Some (map_in o.0) = mapped_at openings i o.0 o.1 in
-          (outcome (map_in o.0) (calls_of h.0), subst (λ k. IsPart k i (outcome whole (calls_of merged)) (outcome (map_in o.0) (calls_of h.0))) (many ∙ n) (law.1 i (map_in o.0) h.0 map_at h.1), is.placed),
+          let map_at : slice_get maps i ≡ Some (map_in o.0) = mapped_at openings i o.0 o.1 in (
+            outcome (map_in o.0) (calls_of h.0),
+            subst (λ k. IsPart k i (outcome whole (calls_of merged)) (outcome (map_in o.0) (calls_of h.0))) (many ∙ n)
+                (law.1 i (map_in o.0) h.0 map_at h.1),
+            is.placed,
+          ),
     )
 
 -- a fault of the shard whose turn it is, after those before it were settled
-pub first_due : (openings : List Lists) (shards : List ClosedShard) (histories : List (List ActLine)) (i : ℕ) (opening : Lists) (closed : ClosedShard) (at : ShardFault) → slice_get openings i ≡ Some opening → slice_get shards i ≡ Some closed → length histories ≡ i → EachThree SettledAs openings shards histories → at.shard ≡ i → IsDue opening closed.closed closed.acts at.fault → IsFirstDue openings shards at
+pub first_due : (openings : List Lists) (shards : List ClosedShard) (histories : List (List ActLine)) (i : ℕ)
+    (opening : Lists) (closed : ClosedShard) (at : ShardFault) → slice_get openings i ≡ Some opening →
+    slice_get shards i ≡ Some closed → length histories ≡ i → EachThree SettledAs openings shards histories →
+    at.shard ≡ i → IsDue opening closed.closed closed.acts at.fault → IsFirstDue openings shards at
 first_due openings shards histories i opening closed at o s many each is due = record {
   opening = opening;
   closed = closed;

@@ -1,5 +1,6 @@
 -- Listings whose records stand in their own shards are the parts of the map of them all.
-use Rattle.std.proofs.Common.{zero, suc, ◌≡◌, ◌≢◌, ℕ, ◌+◌, ◌<◌, ◌==◌, Bool, true, false, cond, eqb, List, [], ◌∷◌, ◌++◌, length, Option, Some, None, refl, sym, ap, ◌∙◌, subst, ⊎_elim, arith}
+use Rattle.std.proofs.Common.{zero, suc, ◌≡◌, ◌≢◌, ℕ, ◌+◌, ◌<◌, ◌==◌, Bool, true, false, cond, eqb, List, [], ◌∷◌, ◌++◌}
+use Rattle.std.proofs.Common.{length, Option, Some, None, refl, sym, ap, ◌∙◌, subst, ⊎_elim, arith}
 use Rattle.std.specs.FinMap.{get, get-empty, get-insert}
 use Rattle.std.specs.List.{slice_get}
 use Rattle.std.specs.Ordering.{nat_cmp, eq_by_cmp}
@@ -40,17 +41,20 @@ get_none : (q : List ℕ) → get (map_of []) q ≡ None
 unfolding map_of
 get_none q = get-empty (slice_cmp nat_cmp) q
 
-pub get_first : (p : Pair) (ps : List Pair) (q : List ℕ) → get (map_of (p ∷ ps)) q ≡ cond (ties q p.key) (Some p.value) (get (map_of ps) q)
+pub get_first : (p : Pair) (ps : List Pair) (q : List ℕ) →
+    get (map_of (p ∷ ps)) q ≡ cond (ties q p.key) (Some p.value) (get (map_of ps) q)
 unfolding map_of ties
 get_first p ps q = get-insert nat_list_cmp_total (map_of ps) p.key p.value q
 
-first_or : {X : Type 0} (b : Bool) (x : X) (o p : Option X) → cond b (Some x) (or_else o p) ≡ or_else (cond b (Some x) o) p
+first_or : {X : Type 0} (b : Bool) (x : X) (o p : Option X) →
+    cond b (Some x) (or_else o p) ≡ or_else (cond b (Some x) o) p
 unfolding or_else
 first_or true x o p = refl
 first_or false x o p = refl
 
 -- the map of two lists of records
-get_both : (ps qs : List Pair) (q : List ℕ) → get (map_of (ps ++ qs)) q ≡ or_else (get (map_of ps) q) (get (map_of qs) q)
+get_both : (ps qs : List Pair) (q : List ℕ) →
+    get (map_of (ps ++ qs)) q ≡ or_else (get (map_of ps) q) (get (map_of qs) q)
 unfolding or_else
 get_both [] qs q = ap (λ (o : Option (List ℕ)). or_else o (get (map_of qs) q)) (sym (get_none q))
 get_both (p ∷ ps) qs q =
@@ -70,7 +74,8 @@ skip true x o h = absurd (h refl)
 skip false x o h = refl
 
 -- a key that belongs elsewhere is in no map of such records
-none_elsewhere : (n shard : ℕ) (ps : List Pair) (q : List ℕ) → AllIn n shard ps → home_of n q ≢ shard → get (map_of ps) q ≡ None
+none_elsewhere : (n shard : ℕ) (ps : List Pair) (q : List ℕ) → AllIn n shard ps → home_of n q ≢ shard →
+    get (map_of ps) q ≡ None
 none_elsewhere n shard [] q h ne = get_none q
 none_elsewhere n shard (p ∷ ps) q h ne =
     get_first p ps q
@@ -81,27 +86,35 @@ none_elsewhere n shard (p ∷ ps) q h ne =
 all_both : (n shard : ℕ) (ps qs : List Pair) → AllIn n shard ps → AllIn n shard qs → AllIn n shard (ps ++ qs)
 all_both n shard [] qs h g place lt = g place lt
 all_both n shard (p ∷ ps) qs h g zero lt = h 0 (omega arith)
-all_both n shard (p ∷ ps) qs h g (suc place) lt = all_both n shard ps qs (all_later n shard p ps h) g place (omega arith)
+all_both n shard (p ∷ ps) qs h g (suc place) lt =
+    all_both n shard ps qs (all_later n shard p ps h) g place (omega arith)
 
 all_in : (n shard : ℕ) (lists : List (List Pair)) → EachPlace (IsHomeIn n shard) lists → AllIn n shard (all_of lists)
 all_in n shard [] h place lt = absurd (omega arith)
-all_in n shard (ps ∷ lists) h place lt = all_both n shard ps (all_of lists) (λ p within. h 0 p within) (all_in n shard lists (λ bucket p within. h (suc bucket) p within)) place lt
+all_in n shard (ps ∷ lists) h place lt =
+    all_both n shard ps (all_of lists) (λ p within. h 0 p within)
+    (all_in n shard lists (λ bucket p within. h (suc bucket) p within)) place lt
 
 -- listings from a shard on, each with keys of its own shard
 abbrev HomeFrom : ℕ → ℕ → List Lists → Type 0
-HomeFrom n first listings = (i : ℕ) (listing : Lists) → slice_get listings i ≡ Some listing → EachPlace (IsHomeIn n (first + i)) listing.lists
+HomeFrom n first listings =
+    (i : ℕ) (listing : Lists) → slice_get listings i ≡ Some listing → EachPlace (IsHomeIn n (first + i)) listing.lists
 
-home_later : (n first : ℕ) (listing : Lists) (listings : List Lists) → HomeFrom n first (listing ∷ listings) → HomeFrom n (suc first) listings
+home_later : (n first : ℕ) (listing : Lists) (listings : List Lists) → HomeFrom n first (listing ∷ listings) →
+    HomeFrom n (suc first) listings
 home_later n first listing listings h i other at =
     let e : first + suc i ≡ suc first + i = omega arith in
     subst (λ (k : ℕ). EachPlace (IsHomeIn n k) other.lists) e (h (suc i) other at)
 
-none_later : (n first : ℕ) (listings : List Lists) (q : List ℕ) → HomeFrom n first listings → home_of n q < first → get (map_of (records_of listings)) q ≡ None
+none_later : (n first : ℕ) (listings : List Lists) (q : List ℕ) → HomeFrom n first listings → home_of n q < first →
+    get (map_of (records_of listings)) q ≡ None
 unfolding or_else
 none_later n first [] q h lt = get_none q
 none_later n first (listing ∷ listings) q h lt =
     get_both (all_of listing.lists) (records_of listings) q
-    ∙ ap (λ (o : Option (List ℕ)). or_else o (get (map_of (records_of listings)) q)) (none_elsewhere n (first + 0) (all_of listing.lists) q (all_in n (first + 0) listing.lists (h 0 listing refl)) (λ e. omega (arith, lt, e)))
+    ∙ ap (λ (o : Option (List ℕ)). or_else o (get (map_of (records_of listings)) q))
+    (none_elsewhere n (first + 0) (all_of listing.lists) q (all_in n (first + 0) listing.lists (h 0 listing refl))
+    (λ e. omega (arith, lt, e)))
     ∙ none_later n (suc first) listings q (home_later n first listing listings h) (omega arith)
 
 or_none : {X : Type 0} (o : Option X) → or_else o None ≡ o
@@ -110,18 +123,23 @@ or_none (Some x) = refl
 or_none None = refl
 
 -- a key stands in the map of all listings as in that of its own
-found_in : (n first : ℕ) (listings : List Lists) (q : List ℕ) (i : ℕ) (listing : Lists) → HomeFrom n first listings → slice_get listings i ≡ Some listing → home_of n q ≡ first + i → get (map_of (records_of listings)) q ≡ get (map_in listing) q
+found_in : (n first : ℕ) (listings : List Lists) (q : List ℕ) (i : ℕ) (listing : Lists) → HomeFrom n first listings →
+    slice_get listings i ≡ Some listing → home_of n q ≡ first + i →
+    get (map_of (records_of listings)) q ≡ get (map_in listing) q
 unfolding or_else
 found_in n first [] q i listing h at is = absurd (none-some listing at)
 found_in n first (other ∷ listings) q zero listing h at is =
     let same : other ≡ listing = same_Some other listing at in
     get_both (all_of other.lists) (records_of listings) q
-    ∙ ap (λ (o : Option (List ℕ)). or_else (get (map_of (all_of other.lists)) q) o) (none_later n (suc first) listings q (home_later n first other listings h) (omega (arith, is)))
+    ∙ ap (λ (o : Option (List ℕ)). or_else (get (map_of (all_of other.lists)) q) o)
+    (none_later n (suc first) listings q (home_later n first other listings h) (omega (arith, is)))
     ∙ or_none (get (map_of (all_of other.lists)) q)
     ∙ ap (λ (l : Lists). get (map_in l) q) same
 found_in n first (other ∷ listings) q (suc i) listing h at is =
     get_both (all_of other.lists) (records_of listings) q
-    ∙ ap (λ (o : Option (List ℕ)). or_else o (get (map_of (records_of listings)) q)) (none_elsewhere n (first + 0) (all_of other.lists) q (all_in n (first + 0) other.lists (h 0 other refl)) (λ e. omega (arith, is, e)))
+    ∙ ap (λ (o : Option (List ℕ)). or_else o (get (map_of (records_of listings)) q))
+    (none_elsewhere n (first + 0) (all_of other.lists) q (all_in n (first + 0) other.lists (h 0 other refl))
+    (λ e. omega (arith, is, e)))
     ∙ found_in n (suc first) listings q i listing (home_later n first other listings h) at (omega (arith, is))
 
 part_of : (b : Bool) (p w : Option (List ℕ)) → (b ≡ true → w ≡ p) → (b ≡ false → p ≡ None) → p ≡ cond b w None
@@ -132,15 +150,23 @@ pub home_are_parts : (listings : List Lists) → AreHome listings → AreParts (
 home_are_parts listings home i listing at key =
     let n : ℕ = length listings in
     part_of (home_of n key == i) (get (map_in listing) key) (get (whole_of listings) key)
-    (λ is. found_in n 0 listings key i listing (λ k other ko. subst (λ (j : ℕ). EachPlace (IsHomeIn n j) other.lists) (omega arith) (home k other ko)) at (⊎_elim (λ e. e.1 ∙ omega arith) (λ e. absurd (true_false (sym is ∙ e.0))) (eqb_tells (home_of n key) i)))
-    (λ away. none_elsewhere n i (all_of listing.lists) key (all_in n i listing.lists (home i listing at)) (λ e. absurd (true_false (sym (eq-eqb (home_of n key) i e) ∙ away))))
+    (λ is.
+    found_in n 0 listings key i listing
+    (λ k other ko. subst (λ (j : ℕ). EachPlace (IsHomeIn n j) other.lists) (omega arith) (home k other ko)) at
+    (⊎_elim (λ e. e.1 ∙ omega arith) (λ e. absurd (true_false (sym is ∙ e.0))) (eqb_tells (home_of n key) i)))
+    (λ away.
+    none_elsewhere n i (all_of listing.lists) key (all_in n i listing.lists (home i listing at))
+    (λ e. absurd (true_false (sym (eq-eqb (home_of n key) i e) ∙ away))))
 
 own_cases : (b : Bool) (o : Option (List ℕ)) → (b ≡ false → o ≡ None) → o ≡ cond b o None
 own_cases true o away = refl
 own_cases false o away = away refl
 
 -- no key of the map of a listing whose records stand in their own shard belongs elsewhere
-pub in_own : (n shard : ℕ) (listing : Lists) → EachPlace (IsHomeIn n shard) listing.lists → (key : List ℕ) → get (map_in listing) key ≡ cond (eqb (home_of n key) shard) (get (map_in listing) key) None
+pub in_own : (n shard : ℕ) (listing : Lists) → EachPlace (IsHomeIn n shard) listing.lists → (key : List ℕ) →
+    get (map_in listing) key ≡ cond (eqb (home_of n key) shard) (get (map_in listing) key) None
 in_own n shard listing home key =
     own_cases (eqb (home_of n key) shard) (get (map_in listing) key)
-    (λ away. none_elsewhere n shard (all_of listing.lists) key (all_in n shard listing.lists home) (λ e. absurd (true_false (sym (eq-eqb (home_of n key) shard e) ∙ away))))
+    (λ away.
+    none_elsewhere n shard (all_of listing.lists) key (all_in n shard listing.lists home)
+    (λ e. absurd (true_false (sym (eq-eqb (home_of n key) shard e) ∙ away))))

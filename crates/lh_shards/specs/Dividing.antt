@@ -25,7 +25,8 @@ pub record HasGiven (calls : ℕ) (old new : HandState) : Type 0 where
 abbrev pub IsRefused : ℕ → List HandState → SplitFault → Type 0
 IsRefused calls hands (Spent shard left) =
     ((hand : HandState) × (slice_get hands shard ≡ Some hand) × (hand.view.left ≡ left) × (left < calls))
-    × ((earlier : ℕ) (hand : HandState) → earlier < shard → slice_get hands earlier ≡ Some hand → calls ≤ hand.view.left)
+    × ((earlier : ℕ) (hand : HandState) → earlier < shard → slice_get hands earlier ≡ Some hand →
+    calls ≤ hand.view.left)
 IsRefused calls hands Memory = AllHave calls hands
 
 -- Hands that were to give this many calls each to new ones

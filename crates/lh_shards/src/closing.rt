@@ -21,9 +21,9 @@ fn close_shard<R: Wait>(rt: &R, file: HashFile<NoGate>, hand: Hand) -> Result<Cl
 }
 
 impl Shards {
-    /// Closes all files, each by the hand of its shard: how far each has grown, with the records of its buckets, and the
-    /// acts of that hand. Hands that were not joined into these are lost with their acts. Without memory for the records,
-    /// the files and the hands are gone.
+    /// Closes all files, each by the hand of its shard: how far each has grown, with the records of its buckets, and
+    /// the acts of that hand. Hands that were not joined into these are lost with their acts. Without memory for the
+    /// records, the files and the hands are gone.
     pub fn close<R: Wait>(self, rt: &R, hands: Hands) -> Result<ClosedShards, Memory>
         requires { AreOf self hands }
         ensures { IfOk result (AreClosedBy self hands) }

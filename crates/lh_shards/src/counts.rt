@@ -23,8 +23,8 @@ fn added(first: Load, second: Load) -> Load
 }
 
 impl Shards {
-    /// The number of buckets of all shards: what each file answers to its hand, one after another. While other hands work
-    /// it may be a number that the shards never had at one time.
+    /// The number of buckets of all shards: what each file answers to its hand, one after another. While other hands
+    /// work it may be a number that the shards never had at one time.
     pub fn buckets(&self, hands: &mut Hands) -> u64
         requires { AreOf self.now hands.old }
         ensures sum { AreBuckets self.now hands.old result hands.new }
@@ -37,8 +37,8 @@ impl Shards {
         total
     }
 
-    /// How many records the shards were opened with, and how many were inserted and deleted since: each number is the sum
-    /// of what the files answer to their hands, one after another, or 2^64 - 1 where that is greater.
+    /// How many records the shards were opened with, and how many were inserted and deleted since: each number is the
+    /// sum of what the files answer to their hands, one after another, or 2^64 - 1 where that is greater.
     pub fn load(&self, hands: &mut Hands) -> Load
         requires { AreOf self.now hands.old }
         ensures sum { AreLoads self.now hands.old result hands.new }

@@ -1,5 +1,6 @@
 //! Hands of all shards divided in two.
-ghost use Rattle.std.specs.Prelude.{◌≡◌, ◌+◌, ◌<◌, ◌≤◌, ◌∷◌, ◌++◌, [], length, vec_capacity, vec_len, IfOk, IfNone, IfSome, OnOk, OnErr};
+ghost use Rattle.std.specs.Prelude.{◌≡◌, ◌+◌, ◌<◌, ◌≤◌, ◌∷◌, ◌++◌, [], length, vec_capacity, vec_len, IfOk, IfNone};
+ghost use Rattle.std.specs.Prelude.{IfSome, OnOk, OnErr};
 ghost use Rattle.lh_file.specs.FileState.{IsOf};
 ghost use Rattle.lh_file.specs.Words.HandState.{IsBranch};
 ghost use Rattle.lh_shards.specs.Dividing.{AllHave, AreDivided, EachPair, HasGiven, IsRefused};
@@ -55,8 +56,8 @@ fn put(hands: &mut Vec<Hand>, hand: Hand)
 }
 
 impl Shards {
-    /// Moves `calls` of the calls that each hand may make to a new hand of the same file, for another thread say. Where a
-    /// hand may make fewer, or memory runs out, all hands stay as they were.
+    /// Moves `calls` of the calls that each hand may make to a new hand of the same file, for another thread say. Where
+    /// a hand may make fewer, or memory runs out, all hands stay as they were.
     pub fn split_hands(&self, hands: &mut Hands, calls: u64) -> Result<Hands, SplitFault>
         requires { AreOf self.now hands.old }
         ensures divided { AreDivided calls hands.old result hands.new }

@@ -50,8 +50,8 @@ impl From<Memory> for SplitFault {
     }
 }
 
-/// Hands that were to be joined. There was no memory for the acts of the second hand of this shard, and of no shard before
-/// it. All hands are as they were.
+/// Hands that were to be joined. There was no memory for the acts of the second hand of this shard, and of no shard
+/// before it. All hands are as they were.
 #[derive(Debug, Drop, Error)]
 #[error("no memory in shard {shard}")]
 pub struct JoinFault {

@@ -3,7 +3,8 @@ use lh_file::Hand;
 use std::fmt;
 use std::marker::Model;
 
-/// A caller's own token of some shards: a [`Hand`] of each file, in their order. Each thread works with hands of its own.
+/// A caller's own token of some shards: a [`Hand`] of each file, in their order. Each thread works with hands of its
+/// own.
 #[derive(Drop)]
 pub struct Hands {
     pub(crate) hands: Vec<Hand>,

@@ -44,8 +44,8 @@ fn join(file: &HashFile<NoGate>, first: Hand, second: Hand) -> Hand
 }
 
 impl Shards {
-    /// Makes of two hands of each shard one: what they may do and what they did is added. Where there is no memory for the
-    /// acts of a second hand, the first shard where that is so is named, and all hands come back as they were.
+    /// Makes of two hands of each shard one: what they may do and what they did is added. Where there is no memory for
+    /// the acts of a second hand, the first shard where that is so is named, and all hands come back as they were.
     pub fn join_hands(&self, mut first: Hands, second: Hands) -> Result<Hands, JoinFault>
         requires first { AreOf self.now first }
         requires second { AreOf self.now second }
@@ -68,8 +68,8 @@ impl Shards {
         }
     }
 
-    /// The same, of hands that have room for the acts of the others. The list of the first hands turns round once, so that
-    /// no memory is taken.
+    /// The same, of hands that have room for the acts of the others. The list of the first hands turns round once, so
+    /// that no memory is taken.
     fn joined(&self, first: Hands, second: Hands) -> Hands
         requires first { AreOf self.now first }
         requires second { AreOf self.now second }

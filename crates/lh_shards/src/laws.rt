@@ -2,15 +2,15 @@
 ghost use Rattle.lh_shards.specs.Listings.{ListedLaw};
 ghost use Rattle.lh_shards.specs.OneMap.{OneMapLaw};
 
-/// Where each shard's history is legal, as settling answers it, every merge of these histories that keeps the order of each
-/// is a legal history of one plain map, with the same replies, and what the shards hold at last are the parts of what it
-/// leaves. So the shards together are linearizable where each file is (Herlihy and Wing, 1990: locality).
+/// Where each shard's history is legal, as settling answers it, every merge of these histories that keeps the order of
+/// each is a legal history of one plain map, with the same replies, and what the shards hold at last are the parts of
+/// what it leaves. So the shards together are linearizable where each file is (Herlihy and Wing, 1990: locality).
 pub fn shards_are_one_map()
     ensures { OneMapLaw }
 {}
 
-/// The listings of settled shards have each record in its own shard, where those that the shards were opened from had. So
-/// [`Shards::open_from`](crate::Shards::open_from) refuses no record of them.
+/// The listings of settled shards have each record in its own shard, where those that the shards were opened from had.
+/// So [`Shards::open_from`](crate::Shards::open_from) refuses no record of them.
 pub fn settled_shards_list_their_own()
     ensures { ListedLaw }
 {}

@@ -1,11 +1,11 @@
 //! Many tables as one: up to 1,024 linear hash files, of which the code of a key chooses one.
 //!
-//! One file has 65,536 buckets at most, and each call of each thread adds to its one stamp word. [`Shards`] has room for as
-//! many times more records as it has files, and calls on different files share no word.
+//! One file has 65,536 buckets at most, and each call of each thread adds to its one stamp word. [`Shards`] has room
+//! for as many times more records as it has files, and calls on different files share no word.
 //!
-//! A caller takes part with [`Hands`], one hand of each file. Each call is that of the key's file, and leaves the hands of
-//! the others as they were. The law [`shards_are_one_map`](laws::shards_are_one_map) joins legal histories of the files to
-//! those of one plain map.
+//! A caller takes part with [`Hands`], one hand of each file. Each call is that of the key's file, and leaves the hands
+//! of the others as they were. The law [`shards_are_one_map`](laws::shards_are_one_map) joins legal histories of the
+//! files to those of one plain map.
 //!
 //! The files are untraced: the type of a traced file names its own table, so no two traced files have one type, and no
 //! list holds several.

@@ -12,7 +12,8 @@ use lh_bucket::{Listing, ListingFault};
 use lh_file::Memory;
 use std::alloc::Global;
 
-/// Empty listings of a configuration, one a shard: what created shards are settled from. Together they are the empty map.
+/// Empty listings of a configuration, one a shard: what created shards are settled from. Together they are the empty
+/// map.
 pub fn empty_listings(alloc: Global, config: Config, shards: u32) -> Result<Vec<Listing>, Memory>
     ensures count { IfOk result (λ listings. length listings.items ≡ shards) }
     ensures each { IfOk result (λ listings. All (λ listing. listing
@@ -28,10 +29,11 @@ pub fn empty_listings(alloc: Global, config: Config, shards: u32) -> Result<Vec<
 }
 
 impl ClosedShards {
-    /// The closed files as listings of their buckets, one a shard, or the fault that one has as such, with its shard. The
-    /// records are moved, so that none is copied; with a fault they are gone.
+    /// The closed files as listings of their buckets, one a shard, or the fault that one has as such, with its shard.
+    /// The records are moved, so that none is copied; with a fault they are gone.
     ///
-    /// The listings of shards that were settled are those that [`Shards::open_from`](crate::Shards::open_from) takes back.
+    /// The listings of shards that were settled are those that [`Shards::open_from`](crate::Shards::open_from) takes
+    /// back.
     pub fn into_listings(self) -> Result<Vec<Listing>, ListingsFault>
         ensures ok { IfOk result (λ listings. AreListed self listings.items) }
         ensures err { IfErr result (IsListingsFault self) }

@@ -5,11 +5,11 @@ ghost use Rattle.lh_shards.specs.Number.{mixed as mixed_code, shard_of as shard_
 /// The greatest number of shards.
 pub const MOST_SHARDS: u32 = 1024;
 
-/// A code with its bits mixed, so that each of them depends on all bits of the code: the 64-bit finalizer of MurmurHash3
-/// (Austin Appleby, `fmix64`).
+/// A code with its bits mixed, so that each of them depends on all bits of the code: the 64-bit finalizer of
+/// MurmurHash3 (Austin Appleby, `fmix64`).
 ///
-/// The code of a key chooses its bucket by its remainder, that is by its low bits. The mixed one has the same chance to be
-/// anything among codes that agree in these, so the choice of the shard leaves no bucket empty.
+/// The code of a key chooses its bucket by its remainder, that is by its low bits. The mixed one has the same chance to
+/// be anything among codes that agree in these, so the choice of the shard leaves no bucket empty.
 #[tactic(auto, unfolding(crate::specs::Number::mixed))]
 pub fn mixed(code: u64) -> u64
     ensures { result ≡ mixed_code code }
@@ -19,8 +19,8 @@ pub fn mixed(code: u64) -> u64
     second ^ (second >> 33)
 }
 
-/// The shard of a key with this code, counted from 0: the upper 32 bits of the mixed code, of 2^32, in proportion to the
-/// number of shards (Daniel Lemire's multiply-shift, which takes no division).
+/// The shard of a key with this code, counted from 0: the upper 32 bits of the mixed code, of 2^32, in proportion to
+/// the number of shards (Daniel Lemire's multiply-shift, which takes no division).
 #[tactic(auto, unfolding(crate::specs::Number::shard_of))]
 pub fn shard_of(code: u64, shards: u32) -> u32
     requires least { 1 ≤ shards }

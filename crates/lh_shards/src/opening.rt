@@ -3,7 +3,8 @@ ghost use Rattle.std.specs.Prelude.{◌≡◌, ◌≢◌, ℕ, ◌<◌, length, 
 ghost use Rattle.std.specs.Bool.{OnTrue, OnFalse};
 ghost use Rattle.lh_bucket.specs.Listing.{EachPlace, IsFirst};
 ghost use Rattle.lh_shards.specs.Hands.{IsCount};
-ghost use Rattle.lh_shards.specs.Opening.{AreAlike, AreHome, AreOpened, IsAwayIn, IsFirstAway, IsFirstOther, IsHomeIn, whole_of};
+ghost use Rattle.lh_shards.specs.Opening.{AreAlike, AreHome, AreOpened, IsAwayIn, IsFirstAway, IsFirstOther, IsHomeIn};
+ghost use Rattle.lh_shards.specs.Opening.{whole_of};
 ghost use Rattle.lh_shards.specs.OpenFault.{IsOpenFault};
 ghost use Rattle.lh_shards.specs.Settling.{AreParts};
 
@@ -87,10 +88,11 @@ fn first_away(listings: &[Listing]) -> Option<(u32, u32, usize)>
 }
 
 impl Shards {
-    /// Shards with the records of listings, one a shard, each record in the bucket where it stands, and the first hand of
-    /// each, which may make 2^63 calls. With `recording` each hand keeps its acts.
+    /// Shards with the records of listings, one a shard, each record in the bucket where it stands, and the first hand
+    /// of each, which may make 2^63 calls. With `recording` each hand keeps its acts.
     ///
-    /// It is the way back from closed shards: the listings of shards that were settled have each record in its own shard.
+    /// It is the way back from closed shards: the listings of shards that were settled have each record in its own
+    /// shard.
     pub fn open_from(
         alloc: Global,
         listings: &[Listing],

@@ -29,9 +29,9 @@ fn settle_shard(
 }
 
 impl ClosedShards {
-    /// Settles each shard that was opened from the listing at its place: whether its acts are one legal history of a plain
-    /// map that begins as the listing, and its file holds just what they leave. Answers the histories, one a shard, or the
-    /// first fault with its shard.
+    /// Settles each shard that was opened from the listing at its place: whether its acts are one legal history of a
+    /// plain map that begins as the listing, and its file holds just what they leave. Answers the histories, one a
+    /// shard, or the first fault with its shard.
     ///
     /// Where all are settled, they are one map: every merge of the histories that keeps the order of each is a legal
     /// history of one plain map, and the closed shards hold the parts of what it leaves.

@@ -1,5 +1,5 @@
-//! Calls, with an answer and without one, snapshots and scans: beside calls that are held, in a crowd, and where memory is
-//! refused. Each scene is played in an untraced file and in a traced one.
+//! Calls, with an answer and without one, snapshots and scans: beside calls that are held, in a crowd, and where memory
+//! is refused. Each scene is played in an untraced file and in a traced one.
 mod calls;
 mod crowd;
 mod lean;

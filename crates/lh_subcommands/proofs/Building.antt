@@ -18,7 +18,8 @@ use Rattle.lh_core.specs.Serial.{IsSerialFrom, size_from}
 use Rattle.lh_core.specs.Opened.{lists_in}
 use Rattle.lh_core.specs.World.{WorldSeen, no_bucket}
 use Rattle.lh_image.specs.declared.fault.WriteImageFault.{WriteImageFault}
-use Rattle.lh_image.specs.declared.fault.WriteImageFault.TheVariants.{OldCapacity, OldRecord, TooLarge, WriteFault, Memory as MemoryToWrite}
+use Rattle.lh_image.specs.declared.fault.WriteImageFault.TheVariants.{OldCapacity, OldRecord, TooLarge, WriteFault}
+use Rattle.lh_image.specs.declared.fault.WriteImageFault.TheVariants.{Memory as MemoryToWrite}
 use Rattle.lh_image.specs.declared.version.Version.{Version}
 use Rattle.lh_image.specs.Canonical.{canonical}
 use Rattle.lh_image.specs.Writing.{IsWritten}
@@ -33,12 +34,15 @@ use Rattle.lh_subcommands.specs.declared.status.Status.{Status}
 use Rattle.lh_subcommands.specs.declared.status.Status.TheVariants.{Done, Input, Words, Device, Memory, NotSettled}
 
 -- the listing of a world after calls is one of the file that they lead to
-pub led_from : (settings : Settings) (map : Records) (start : ℕ) (calls : List Call) (told : List Reply) (world : WorldSeen) (l : Lists) →
-    IsSerialFrom settings map start calls told world → l ≡ record { config = world.config; lists = lists_in world.buckets } → IsListing l →
+pub led_from : (settings : Settings) (map : Records) (start : ℕ) (calls : List Call) (told : List Reply)
+    (world : WorldSeen) (l : Lists) →
+    IsSerialFrom settings map start calls told world →
+    l ≡ record { config = world.config; lists = lists_in world.buckets } → IsListing l →
     IsLedFrom settings map start calls l
 led_from settings map start calls told world l serial is kept =
     let pairs : Seen → List _ = λ b. b.pairs in
-    let buckets : size l ≡ size_from settings map start calls = ap (λ (x : Lists). size x) is ∙ length-map world.buckets pairs ∙ serial.placed.all in
+    let buckets : size l ≡ size_from settings map start calls =
+    ap (λ (x : Lists). size x) is ∙ length-map world.buckets pairs ∙ serial.placed.all in
     record {
       config = ap (λ (x : Lists). x.config) is ∙ serial.same;
       buckets = buckets;
@@ -46,7 +50,8 @@ led_from settings map start calls told world l serial is kept =
           ap (λ (x : Lists). map_of (list_at x.lists i)) is
           ∙ ap map_of (get_or-map pairs world.buckets i no_bucket)
           ∙ serial.placed.each i (subst (λ (n : ℕ). i < n) buckets lt)
-          ∙ ap (λ (n : ℕ). retain_keys (outcome map calls) (λ key. address settings.initial n (code_of key) == i)) (sym buckets);
+          ∙ ap (λ (n : ℕ). retain_keys (outcome map calls) (λ key. address settings.initial n (code_of key) == i))
+          (sym buckets);
       listing = kept;
     }
 
@@ -55,7 +60,8 @@ abbrev pub Leading : Type 1
 Leading = List Call → Lists → Type 0
 
 -- a run that read no script ends without a write
-pub unmade : (LeadsTo : Leading) (version : Version) (status : Status) (given : Result (List Call) ScriptFault) (a : Option (List ℕ)) →
+pub unmade : (LeadsTo : Leading) (version : Version) (status : Status) (given : Result (List Call) ScriptFault)
+    (a : Option (List ℕ)) →
     ReadsScript {A = Call} (Err status) given → EndsInImage LeadsTo version status given a a
 unmade LeadsTo version Done given a h = absurd h
 unmade LeadsTo version (Input (Script fault)) given a h = (h, Keeps-refl a)
@@ -93,12 +99,15 @@ abbrev pub IsScriptOf : Option (List ℕ) → List Call → Type 0
 IsScriptOf left calls = IfSome left (λ input. script command input ≡ Ok calls)
 
 -- the whole image was written
-pub made_whole : (LeadsTo : Leading) (version : Version) (calls : List Call) (l : Lists) (given : Result (List Call) ScriptFault) (before now : Option (List ℕ)) →
-    given ≡ Ok calls → LeadsTo calls l → IsWritten version l (Ok tt) before now → EndsInImage LeadsTo version Done given before now
+pub made_whole : (LeadsTo : Leading) (version : Version) (calls : List Call) (l : Lists)
+    (given : Result (List Call) ScriptFault) (before now : Option (List ℕ)) →
+    given ≡ Ok calls → LeadsTo calls l → IsWritten version l (Ok tt) before now →
+    EndsInImage LeadsTo version Done given before now
 made_whole LeadsTo version calls l given before now is led written =
     (calls, canonical version l, is, record { listing = l; led = led; fits = written.0; bytes = refl }, written.1)
 
-pub built_whole : (version : Version) (settings : Settings) (calls : List Call) (l : Lists) (left before now : Option (List ℕ)) →
+pub built_whole : (version : Version) (settings : Settings) (calls : List Call) (l : Lists)
+    (left before now : Option (List ℕ)) →
     IsScriptOf left calls → IsLedTo settings calls l → IsWritten version l (Ok tt) before now →
     IfSome left (λ input. EndsBuilding version settings input Done before now)
 unfolding EndsBuilding
@@ -107,7 +116,8 @@ built_whole version settings calls l (Some input) before now given led written =
     made_whole (IsLedTo settings) version calls l (script command input) before now given led written
 
 -- a beginning of it was written, or nothing, since the file has no image
-pub made_not : (LeadsTo : Leading) (version : Version) (calls : List Call) (l : Lists) (fault : WriteImageFault) (given : Result (List Call) ScriptFault)
+pub made_not : (LeadsTo : Leading) (version : Version) (calls : List Call) (l : Lists) (fault : WriteImageFault)
+    (given : Result (List Call) ScriptFault)
     (before now : Option (List ℕ)) → given ≡ Ok calls → LeadsTo calls l → IsWritten version l (Err fault) before now →
     EndsInImage LeadsTo version (unwritten_as fault) given before now
 made_not LeadsTo version calls l WriteFault given before now is led written =
@@ -120,9 +130,12 @@ made_not LeadsTo version calls l (OldRecord bucket place) given before now is le
 made_not LeadsTo version calls l TooLarge given before now is led written =
     (calls, is, record { listing = l; led = led; refused = written.0 }, written.1)
 
-pub built_not : (version : Version) (settings : Settings) (calls : List Call) (l : Lists) (fault : WriteImageFault) (status : Status)
-    (left before now : Option (List ℕ)) → status ≡ unwritten_as fault → IsScriptOf left calls → IsLedTo settings calls l →
-    IsWritten version l (Err fault) before now → IfSome left (λ input. EndsBuilding version settings input status before now)
+pub built_not : (version : Version) (settings : Settings) (calls : List Call) (l : Lists) (fault : WriteImageFault)
+    (status : Status)
+    (left before now : Option (List ℕ)) → status ≡ unwritten_as fault → IsScriptOf left calls →
+    IsLedTo settings calls l →
+    IsWritten version l (Err fault) before now →
+    IfSome left (λ input. EndsBuilding version settings input status before now)
 unfolding EndsBuilding
 built_not version settings calls l fault status None before now is given led written = tt
 built_not version settings calls l fault status (Some input) before now is given led written =

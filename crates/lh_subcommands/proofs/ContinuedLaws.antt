@@ -6,7 +6,8 @@ use Rattle.lh_bucket.specs.declared.call.Call.{Call}
 use Rattle.lh_bucket.specs.Listing.{Lists}
 use Rattle.lh_image.specs.declared.fault.ImageFault.{ImageFault}
 use Rattle.lh_image.specs.declared.fault.WriteImageFault.{WriteImageFault}
-use Rattle.lh_image.specs.declared.fault.WriteImageFault.TheVariants.{OldCapacity, OldRecord, TooLarge, WriteFault, Memory as MemoryToWrite}
+use Rattle.lh_image.specs.declared.fault.WriteImageFault.TheVariants.{OldCapacity, OldRecord, TooLarge, WriteFault}
+use Rattle.lh_image.specs.declared.fault.WriteImageFault.TheVariants.{Memory as MemoryToWrite}
 use Rattle.lh_image.specs.declared.version.Version.TheVariants.{Two}
 use Rattle.lh_image.specs.Canonical.{canonical}
 use Rattle.lh_image.specs.Counted.{CensusLaw}
@@ -36,7 +37,8 @@ image_read one image l h =
     let is = one image l h in
     ap (λ f. judged_by f (view_of image)) is.0 ∙ ap Ok (sym is.1)
 
-leading_read : LeadingLaw → OneListingLaw → (image text : List ℕ) (l : Lists) → IsImage image l → reading_of (leading (image ++ text)) ≡ Ok l
+leading_read : LeadingLaw → OneListingLaw → (image text : List ℕ) (l : Lists) → IsImage image l →
+    reading_of (leading (image ++ text)) ≡ Ok l
 leading_read leads one image text l h = ap reading_of (leads image text l h).0 ∙ image_read one image l h
 
 pub query_law : LeadingLaw → OneListingLaw → QueryLaw
@@ -49,11 +51,16 @@ query_law leads one image text l h =
 pub apply_law : LeadingLaw → OneListingLaw → ApplyLaw
 unfolding EndsApplying
 apply_law leads one version image text l status before now h ends =
-    subst (λ (file : Result Lists ImageFault). EndsLeaving version status file (script command text) before now) (leading_read leads one image text l h)
-    (subst (λ (t : List ℕ). EndsLeaving version status (reading_of (leading (image ++ text))) (script command t) before now) (leads image text l h).1 ends)
+    subst (λ (file : Result Lists ImageFault). EndsLeaving version status file (script command text) before now)
+    (leading_read leads one image text l h)
+    (subst
+    (λ (t : List ℕ).
+    EndsLeaving version status (reading_of (leading (image ++ text))) (script command t) before now)
+    (leads image text l h).1 ends)
 
 -- the listing of an image has an image of version 2
-never_refused : CensusLaw → (image : List ℕ) (l : Lists) → IsImage image l → (fault : WriteImageFault) → IsWriteRefusal Two l fault → ⊥
+never_refused : CensusLaw → (image : List ℕ) (l : Lists) → IsImage image l → (fault : WriteImageFault) →
+    IsWriteRefusal Two l fault → ⊥
 never_refused census image l h OldCapacity r = omega (arith, r, h.2.shown.listing.config.capacity.1)
 never_refused census image l h (OldRecord bucket place) r =
     let fits = h.2.shown.listing.records bucket place no_pair r.1.within in
@@ -62,10 +69,12 @@ never_refused census image l h TooLarge r = omega (arith, r.1, few_pages census 
 never_refused census image l h WriteFault r = r
 never_refused census image l h MemoryToWrite r = r
 
-same_calls : (given : Result (List Call) ScriptFault) (calls : List Call) → given ≡ Ok [] → given ≡ Ok calls → calls ≡ []
+same_calls : (given : Result (List Call) ScriptFault) (calls : List Call) → given ≡ Ok [] → given ≡ Ok calls →
+    calls ≡ []
 same_calls given calls none is = cc
 
-no_fault : {P : Type 0} (given : Result (List Call) ScriptFault) (fault : ScriptFault) → given ≡ Ok [] → given ≡ Err fault → P
+no_fault : {P : Type 0} (given : Result (List Call) ScriptFault) (fault : ScriptFault) → given ≡ Ok [] →
+    given ≡ Err fault → P
 no_fault given fault none is = cc
 
 -- without calls the image's own listing is written
@@ -75,11 +84,13 @@ without_calls : CensusLaw → (image : List ℕ) (l : Lists) → IsImage image l
 without_calls census image l h due Done given before now none (calls, output, is, made, took) =
     let same = made.led.unchanged (same_calls given calls none is) in
     (canonical Two l, due, subst (Appends before now) (made.bytes ∙ ap (canonical Two) same) took)
-without_calls census image l h due (Input (Script fault)) given before now none (is, keeps) = no_fault given fault none is
+without_calls census image l h due (Input (Script fault)) given before now none (is, keeps) =
+    no_fault given fault none is
 without_calls census image l h due (Input (Image fault)) given before now none ends = absurd ends
 without_calls census image l h due (Input (Unwritten fault)) given before now none (calls, is, refused, keeps) =
     let same = refused.led.unchanged (same_calls given calls none is) in
-    absurd (never_refused census image l h fault (subst (λ (x : Lists). IsWriteRefusal Two x fault) same refused.refused))
+    absurd (never_refused census image l h fault
+    (subst (λ (x : Lists). IsWriteRefusal Two x fault) same refused.refused))
 without_calls census image l h due (Words text) given before now none ends = absurd ends
 without_calls census image l h due (Device Read) given before now none ends = ends
 without_calls census image l h due (Device Write) given before now none (calls, output, is, made, took) =
@@ -91,5 +102,6 @@ without_calls census image l h due (NotSettled fault) given before now none ends
 pub migrate_law : LeadingLaw → OneListingLaw → CensusLaw → MigrateLaw
 unfolding migrate_due
 migrate_law leads one census image text l status before now h none ends =
-    without_calls census image l h (ap (told_of (canonical Two)) (image_read one image l h)) status (script command text) before now none
+    without_calls census image l h (ap (told_of (canonical Two)) (image_read one image l h)) status
+    (script command text) before now none
     (apply_law leads one Two image text l status before now h ends)

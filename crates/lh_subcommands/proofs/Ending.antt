@@ -13,7 +13,8 @@ use Rattle.lh_core.specs.Log.{Entry}
 use Rattle.lh_core.specs.Serial.{size_from}
 use Rattle.lh_core.specs.declared.event.Event.{Event}
 use Rattle.lh_subcommands.specs.Devices.{IsReadOf, TakesBeginning}
-use Rattle.lh_subcommands.specs.Run.{Ends, EndsReplay, EndsSteps, EndsTelling, HaveEntries, IsPictured, IsTold, ReadsScript, commands_due, due, replies_text}
+use Rattle.lh_subcommands.specs.Run.{Ends, EndsReplay, EndsSteps, EndsTelling, HaveEntries, IsPictured, IsTold}
+use Rattle.lh_subcommands.specs.Run.{ReadsScript, commands_due, due, replies_text}
 use Rattle.lh_replay.specs.Picture.{picture_of}
 use Rattle.lh_script.specs.Commands.{command}
 use Rattle.lh_script.specs.Texts.{commands_text}
@@ -28,7 +29,8 @@ use Rattle.lh_subcommands.specs.declared.status.Status.TheVariants.{Done, Input,
 use Rattle.lh_script.specs.Scripts.{Reading, script}
 
 -- a run that read no script ends without a write
-pub unread : {A : Type 0} (status : Status) (given : Result (List A) ScriptFault) (output : List A → List ℕ) (a : Option (List ℕ)) →
+pub unread : {A : Type 0} (status : Status) (given : Result (List A) ScriptFault) (output : List A → List ℕ)
+    (a : Option (List ℕ)) →
     ReadsScript {A = A} (Err status) given → Ends status (due output given) a a
 unread Done given output a h = absurd h
 unread (Input (Script fault)) given output a h = (ap (due output) h, Keeps-refl a)
@@ -41,13 +43,15 @@ unread Memory given output a h = Keeps-refl a
 unread (NotSettled fault) given output a h = absurd h
 
 -- what was told of a script's calls is what is due
-pub told_due : (settings : Settings) (map : Records) (start : ℕ) (given : Result (List Call) ScriptFault) (calls : List Call) (told : List Reply) (buckets : ℕ) →
+pub told_due : (settings : Settings) (map : Records) (start : ℕ) (given : Result (List Call) ScriptFault)
+    (calls : List Call) (told : List Reply) (buckets : ℕ) →
     given ≡ Ok calls → told ≡ replies map calls → buckets ≡ size_from settings map start calls →
     Ok (commands_text told buckets) ≡ due (replies_text settings map start) given
 told_due settings map start given calls told buckets is replied size =
     ap Ok (ap₂ commands_text replied size) ∙ sym (ap (due (replies_text settings map start)) is)
 
-pub answered : (settings : Settings) (status : Status) (left before now : Option (List ℕ)) (calls : List Call) (told : List Reply) (buckets : ℕ) →
+pub answered : (settings : Settings) (status : Status) (left before now : Option (List ℕ)) (calls : List Call)
+    (told : List Reply) (buckets : ℕ) →
     IfSome left (λ input. script command input ≡ Ok calls) → Ends status (Ok (commands_text told buckets)) before now →
     told ≡ replies empty calls → buckets ≡ size_from settings empty settings.initial calls →
     IfSome left (λ input. Ends status (commands_due settings input) before now)
@@ -58,7 +62,8 @@ answered settings status (Some input) before now calls told buckets given ends r
     (told_due settings empty settings.initial (script command input) calls told buckets given replied size) ends
 
 -- a run that read no script ends without a write
-untold : {A : Type 0} (IsOutput : List A → List ℕ → Type 0) (status : Status) (given : Result (List A) ScriptFault) (a : Option (List ℕ)) →
+untold : {A : Type 0} (IsOutput : List A → List ℕ → Type 0) (status : Status) (given : Result (List A) ScriptFault)
+    (a : Option (List ℕ)) →
     ReadsScript {A = A} (Err status) given → EndsTelling IsOutput status given a a
 untold IsOutput Done given a h = absurd h
 untold IsOutput (Input (Script fault)) given a h = (h, Keeps-refl a)
@@ -86,8 +91,10 @@ unfolding EndsSteps
 no_memory settings input a = Keeps-refl a
 
 -- the lines of all entries were written
-pub steps_told : (settings : Settings) (left before now : Option (List ℕ)) (events : List Event) (entries : List Entry) →
-    IfSome left (λ input. script step input ≡ Ok events) → HaveEntries settings events entries → Appends before now (steps_text entries) →
+pub steps_told : (settings : Settings) (left before now : Option (List ℕ)) (events : List Event)
+    (entries : List Entry) →
+    IfSome left (λ input. script step input ≡ Ok events) → HaveEntries settings events entries →
+    Appends before now (steps_text entries) →
     IfSome left (λ input. EndsSteps settings input Done before now)
 unfolding EndsSteps
 steps_told settings None before now events entries given had written = tt
@@ -95,8 +102,10 @@ steps_told settings (Some input) before now events entries given had written =
     (events, steps_text entries, given, record { entries = entries; had = had; lines = refl }, written)
 
 -- a beginning of the lines of all entries was written
-pub steps_begun : (settings : Settings) (left before now : Option (List ℕ)) (events : List Event) (entries : List Entry) →
-    IfSome left (λ input. script step input ≡ Ok events) → HaveEntries settings events entries → TakesBeginning before now (steps_text entries) →
+pub steps_begun : (settings : Settings) (left before now : Option (List ℕ)) (events : List Event)
+    (entries : List Entry) →
+    IfSome left (λ input. script step input ≡ Ok events) → HaveEntries settings events entries →
+    TakesBeginning before now (steps_text entries) →
     IfSome left (λ input. EndsSteps settings input (Device Write) before now)
 unfolding EndsSteps
 steps_begun settings None before now events entries given had written = tt
@@ -104,8 +113,10 @@ steps_begun settings (Some input) before now events entries given had written =
     (events, steps_text entries, given, record { entries = entries; had = had; lines = refl }, written)
 
 -- the picture was written
-pub schedule_drawn : (settings : Settings) (left before now : Option (List ℕ)) (events : List Event) (entries : List Entry) →
-    IfSome left (λ input. script step input ≡ Ok events) → HaveEntries settings events entries → Appends before now (picture_of events entries) →
+pub schedule_drawn : (settings : Settings) (left before now : Option (List ℕ)) (events : List Event)
+    (entries : List Entry) →
+    IfSome left (λ input. script step input ≡ Ok events) → HaveEntries settings events entries →
+    Appends before now (picture_of events entries) →
     IfSome left (λ input. EndsReplay settings input Done before now)
 unfolding EndsReplay
 schedule_drawn settings None before now events entries given had written = tt
@@ -113,14 +124,17 @@ schedule_drawn settings (Some input) before now events entries given had written
     (events, picture_of events entries, given, record { entries = entries; had = had; picture = refl }, written)
 
 -- a beginning of the picture was written
-pub schedule_begun : (settings : Settings) (left before now : Option (List ℕ)) (events : List Event) (entries : List Entry) →
-    IfSome left (λ input. script step input ≡ Ok events) → HaveEntries settings events entries → TakesBeginning before now (picture_of events entries) →
+pub schedule_begun : (settings : Settings) (left before now : Option (List ℕ)) (events : List Event)
+    (entries : List Entry) →
+    IfSome left (λ input. script step input ≡ Ok events) → HaveEntries settings events entries →
+    TakesBeginning before now (picture_of events entries) →
     IfSome left (λ input. EndsReplay settings input (Device Write) before now)
 unfolding EndsReplay
 schedule_begun settings None before now events entries given had written = tt
 schedule_begun settings (Some input) before now events entries given had written =
     (events, picture_of events entries, given, record { entries = entries; had = had; picture = refl }, written)
 
-pub same_script : {A : Type 0} (read : Reading A) (input bytes : List ℕ) → IsReadOf 16777216 input bytes → script read bytes ≡ script read input
+pub same_script : {A : Type 0} (read : Reading A) (input bytes : List ℕ) → IsReadOf 16777216 input bytes →
+    script read bytes ≡ script read input
 same_script read input bytes (inl e) = ap (script read) e
 same_script read input bytes (inr h) = grind (arith, nat_tests, h.0, h.1)

@@ -8,7 +8,8 @@ use Rattle.lh_image.specs.declared.census.Census.{Census}
 use Rattle.lh_image.specs.declared.fault.ImageFault.{ImageFault}
 use Rattle.lh_image.specs.declared.fault.ImageFault.TheVariants.{ReadFault, Memory}
 use Rattle.lh_image.specs.declared.fault.WriteImageFault.{WriteImageFault}
-use Rattle.lh_image.specs.declared.fault.WriteImageFault.TheVariants.{OldCapacity, OldRecord, TooLarge, WriteFault, Memory as MemoryToWrite}
+use Rattle.lh_image.specs.declared.fault.WriteImageFault.TheVariants.{OldCapacity, OldRecord, TooLarge, WriteFault}
+use Rattle.lh_image.specs.declared.fault.WriteImageFault.TheVariants.{Memory as MemoryToWrite}
 use Rattle.lh_image.specs.declared.version.Version.TheVariants.{Two}
 use Rattle.lh_image.specs.Canonical.{canonical, page_total}
 use Rattle.lh_image.specs.Census.{census_of}
@@ -29,23 +30,27 @@ use Rattle.lh_subcommands.specs.declared.status.Status.{Status}
 use Rattle.lh_subcommands.specs.declared.status.Status.TheVariants.{Done, Input, Device, Memory as NoMemory}
 
 -- a fault that is neither a failed read nor out of memory
-pub refused_for_bytes : (fault : ImageFault) → (fault ≡ ReadFault → ⊥) → (fault ≡ Memory → ⊥) → Input (Image fault) ≡ refused_as fault
+pub refused_for_bytes : (fault : ImageFault) → (fault ≡ ReadFault → ⊥) → (fault ≡ Memory → ⊥) →
+    Input (Image fault) ≡ refused_as fault
 refused_for_bytes ReadFault a b = absurd (a refl)
 refused_for_bytes Memory a b = absurd (b refl)
 refused_for_bytes fault a b = refl
 
 -- a run that read no image ends without a write
-unread : (text : Lists → List ℕ) (fault : ImageFault) (due : Result Lists ImageFault) (a : Option (List ℕ)) → IsDueFault fault due → Ends (refused_as fault) (told_of text due) a a
+unread : (text : Lists → List ℕ) (fault : ImageFault) (due : Result Lists ImageFault) (a : Option (List ℕ)) →
+    IsDueFault fault due → Ends (refused_as fault) (told_of text due) a a
 unread text ReadFault due a h = Keeps-refl a
 unread text Memory due a h = Keeps-refl a
 unread text fault due a h = (ap (told_of text) h, Keeps-refl a)
 
 pub unchecked : (fault : ImageFault) (status : Status) (left a : Option (List ℕ)) → status ≡ refused_as fault →
-    IfSome left (λ input. IsDueFault fault (reading_of input)) → IfSome left (λ input. Ends status (check_due input) a a)
+    IfSome left (λ input. IsDueFault fault (reading_of input)) →
+    IfSome left (λ input. Ends status (check_due input) a a)
 unfolding check_due
 unchecked fault status None a is h = tt
 unchecked fault status (Some input) a is h =
-    subst (λ (s : Status). Ends s (check_due input) a a) (sym is) (unread (λ l. check_text (census_of l)) fault (reading_of input) a h)
+    subst (λ (s : Status). Ends s (check_due input) a a) (sym is)
+    (unread (λ l. check_text (census_of l)) fault (reading_of input) a h)
 
 pub undumped : (fault : ImageFault) (status : Status) (left a : Option (List ℕ)) → status ≡ refused_as fault →
     IfSome left (λ input. IsDueFault fault (reading_of input)) → IfSome left (λ input. Ends status (dump_due input) a a)
@@ -59,17 +64,21 @@ abbrev pub Shows : Option (List ℕ) → (Lists → Type 0) → Type 0
 Shows left IsSeen = IfSome left (λ input. (l : Lists) × (reading_of input ≡ Ok l) × IsSeen l)
 
 -- the census of the listing is what is due
-census_due : (census : Census) (l : Lists) (input : List ℕ) → reading_of input ≡ Ok l → census ≡ census_of l → check_due input ≡ Ok (check_text census)
+census_due : (census : Census) (l : Lists) (input : List ℕ) → reading_of input ≡ Ok l → census ≡ census_of l →
+    check_due input ≡ Ok (check_text census)
 unfolding check_due
-census_due census l input e is = ap (told_of (λ l. check_text (census_of l))) e ∙ ap (λ (c : Census). Ok (check_text c)) (sym is)
+census_due census l input e is =
+    ap (told_of (λ l. check_text (census_of l))) e ∙ ap (λ (c : Census). Ok (check_text c)) (sym is)
 
-pub checked : (census : Census) (text : List ℕ) (left before now : Option (List ℕ)) → Shows left (λ l. census ≡ census_of l) → text ≡ check_text census →
+pub checked : (census : Census) (text : List ℕ) (left before now : Option (List ℕ)) →
+    Shows left (λ l. census ≡ census_of l) → text ≡ check_text census →
     Appends before now text → IfSome left (λ input. Ends Done (check_due input) before now)
 checked census text None before now shows is h = tt
 checked census text (Some input) before now shows is h =
     (check_text census, census_due census shows.0 input shows.1 shows.2, subst (Appends before now) is h)
 
-pub check_begun : (census : Census) (text : List ℕ) (left before now : Option (List ℕ)) → Shows left (λ l. census ≡ census_of l) → text ≡ check_text census →
+pub check_begun : (census : Census) (text : List ℕ) (left before now : Option (List ℕ)) →
+    Shows left (λ l. census ≡ census_of l) → text ≡ check_text census →
     TakesBeginning before now text → IfSome left (λ input. Ends (Device Write) (check_due input) before now)
 check_begun census text None before now shows is h = tt
 check_begun census text (Some input) before now shows is h =
@@ -80,22 +89,27 @@ check_unwritten None a = tt
 check_unwritten (Some input) a = Keeps-refl a
 
 -- and so are its records
-records_due : (listing l : Lists) (input : List ℕ) → reading_of input ≡ Ok l → listing ≡ l → dump_due input ≡ Ok (dump_text listing)
+records_due : (listing l : Lists) (input : List ℕ) → reading_of input ≡ Ok l → listing ≡ l →
+    dump_due input ≡ Ok (dump_text listing)
 unfolding dump_due
 records_due listing l input e is = ap (told_of dump_text) e ∙ ap (λ (x : Lists). Ok (dump_text x)) (sym is)
 
 pub dumped : (listing : Lists) (left before now : Option (List ℕ)) → Shows left (λ l. listing ≡ l) →
     Appends before now (dump_text listing) → IfSome left (λ input. Ends Done (dump_due input) before now)
 dumped listing None before now shows h = tt
-dumped listing (Some input) before now shows h = (dump_text listing, records_due listing shows.0 input shows.1 shows.2, h)
+dumped listing (Some input) before now shows h =
+    (dump_text listing, records_due listing shows.0 input shows.1 shows.2, h)
 
 pub dump_begun : (listing : Lists) (left before now : Option (List ℕ)) → Shows left (λ l. listing ≡ l) →
-    TakesBeginning before now (dump_text listing) → IfSome left (λ input. Ends (Device Write) (dump_due input) before now)
+    TakesBeginning before now (dump_text listing) →
+    IfSome left (λ input. Ends (Device Write) (dump_due input) before now)
 dump_begun listing None before now shows h = tt
-dump_begun listing (Some input) before now shows h = (dump_text listing, records_due listing shows.0 input shows.1 shows.2, h)
+dump_begun listing (Some input) before now shows h =
+    (dump_text listing, records_due listing shows.0 input shows.1 shows.2, h)
 
 -- and so is its drawing
-drawing_due : (listing l : Lists) (input : List ℕ) → reading_of input ≡ Ok l → listing ≡ l → draw_due input ≡ Ok (drawing_of listing)
+drawing_due : (listing l : Lists) (input : List ℕ) → reading_of input ≡ Ok l → listing ≡ l →
+    draw_due input ≡ Ok (drawing_of listing)
 unfolding draw_due
 drawing_due listing l input e is = ap (told_of drawing_of) e ∙ ap (λ (x : Lists). Ok (drawing_of x)) (sym is)
 
@@ -109,29 +123,36 @@ undrawn fault status (Some input) a is h =
 pub drawn : (listing : Lists) (left before now : Option (List ℕ)) → Shows left (λ l. listing ≡ l) →
     Appends before now (drawing_of listing) → IfSome left (λ input. Ends Done (draw_due input) before now)
 drawn listing None before now shows h = tt
-drawn listing (Some input) before now shows h = (drawing_of listing, drawing_due listing shows.0 input shows.1 shows.2, h)
+drawn listing (Some input) before now shows h =
+    (drawing_of listing, drawing_due listing shows.0 input shows.1 shows.2, h)
 
 pub draw_begun : (listing : Lists) (left before now : Option (List ℕ)) → Shows left (λ l. listing ≡ l) →
-    TakesBeginning before now (drawing_of listing) → IfSome left (λ input. Ends (Device Write) (draw_due input) before now)
+    TakesBeginning before now (drawing_of listing) →
+    IfSome left (λ input. Ends (Device Write) (draw_due input) before now)
 draw_begun listing None before now shows h = tt
-draw_begun listing (Some input) before now shows h = (drawing_of listing, drawing_due listing shows.0 input shows.1 shows.2, h)
+draw_begun listing (Some input) before now shows h =
+    (drawing_of listing, drawing_due listing shows.0 input shows.1 shows.2, h)
 
 -- and so is its image of version 2
-image_due : (listing l : Lists) (input : List ℕ) → reading_of input ≡ Ok l → listing ≡ l → migrate_due input ≡ Ok (canonical Two listing)
+image_due : (listing l : Lists) (input : List ℕ) → reading_of input ≡ Ok l → listing ≡ l →
+    migrate_due input ≡ Ok (canonical Two listing)
 unfolding migrate_due
 image_due listing l input e is = ap (told_of (canonical Two)) e ∙ ap (λ (x : Lists). Ok (canonical Two x)) (sym is)
 
 pub unmigrated : (fault : ImageFault) (status : Status) (left a : Option (List ℕ)) → status ≡ refused_as fault →
-    IfSome left (λ input. IsDueFault fault (reading_of input)) → IfSome left (λ input. Ends status (migrate_due input) a a)
+    IfSome left (λ input. IsDueFault fault (reading_of input)) →
+    IfSome left (λ input. Ends status (migrate_due input) a a)
 unfolding migrate_due
 unmigrated fault status None a is h = tt
 unmigrated fault status (Some input) a is h =
-    subst (λ (s : Status). Ends s (migrate_due input) a a) (sym is) (unread (canonical Two) fault (reading_of input) a h)
+    subst (λ (s : Status). Ends s (migrate_due input) a a) (sym is)
+    (unread (canonical Two) fault (reading_of input) a h)
 
 pub migrated : (listing : Lists) (left before now : Option (List ℕ)) → Shows left (λ l. listing ≡ l) →
     IsWritten Two listing (Ok tt) before now → IfSome left (λ input. Ends Done (migrate_due input) before now)
 migrated listing None before now shows h = tt
-migrated listing (Some input) before now shows h = (canonical Two listing, image_due listing shows.0 input shows.1 shows.2, h.1)
+migrated listing (Some input) before now shows h =
+    (canonical Two listing, image_due listing shows.0 input shows.1 shows.2, h.1)
 
 -- an image's listing needs no more pages than the image has
 pub few_pages : CensusLaw → (input : List ℕ) (l : Lists) → IsImage input l → page_total l ≤ most_pages
@@ -141,7 +162,8 @@ few_pages census input l image =
     omega (arith, pages, count, image.2.shown.few)
 
 -- a write of it failed: it is neither too large nor too wide
-failed : CensusLaw → (listing : Lists) (fault : WriteImageFault) (input : List ℕ) (before now : Option (List ℕ)) → IsImage input listing →
+failed : CensusLaw → (listing : Lists) (fault : WriteImageFault) (input : List ℕ) (before now : Option (List ℕ)) →
+    IsImage input listing →
     migrate_due input ≡ Ok (canonical Two listing) → IsNotOld fault → IsWritten Two listing (Err fault) before now →
     Ends (unwritten_as fault) (migrate_due input) before now
 failed census listing WriteFault input before now image due new h = (canonical Two listing, due, h.1)
@@ -151,8 +173,10 @@ failed census listing (OldRecord bucket place) input before now image due new h 
 failed census listing TooLarge input before now image due new h =
     absurd (omega (arith, few_pages census input listing image, h.0.1))
 
-pub migrate_begun : CensusLaw → (listing : Lists) (fault : WriteImageFault) (status : Status) (left before now : Option (List ℕ)) →
-    status ≡ unwritten_as fault → Shows left (λ l. listing ≡ l) → IfSome left (λ input. IsImage input listing) → IsNotOld fault →
+pub migrate_begun : CensusLaw →
+    (listing : Lists) (fault : WriteImageFault) (status : Status) (left before now : Option (List ℕ)) →
+    status ≡ unwritten_as fault → Shows left (λ l. listing ≡ l) → IfSome left (λ input. IsImage input listing) →
+    IsNotOld fault →
     IsWritten Two listing (Err fault) before now → IfSome left (λ input. Ends status (migrate_due input) before now)
 migrate_begun census listing fault status None before now is shows image new h = tt
 migrate_begun census listing fault status (Some input) before now is shows image new h =

@@ -1,5 +1,6 @@
 -- How long the lines are that the program writes
-use Rattle.std.proofs.Common.{ℕ, ◌*◌, ◌<◌, ◌≤◌, ◌^◌, List, [], ◌∷◌, ◌++◌, Ok, Err, length, codes, decimal, arith, length-append}
+use Rattle.std.proofs.Common.{ℕ, ◌*◌, ◌<◌, ◌≤◌, ◌^◌, List, [], ◌∷◌, ◌++◌, Ok, Err, length, codes, decimal, arith}
+use Rattle.std.proofs.Common.{length-append}
 use Rattle.std.proofs.lemmas.Fmt.{length-decimal-le}
 use Rattle.hex.specs.Hex.{lower_digits}
 use Rattle.hex.proofs.HexLemmas.{length-encode_with}
@@ -18,19 +19,30 @@ use Rattle.lh_subcommands.specs.ImageTexts.{record_text}
 use Rattle.lh_subcommands.specs.LongestLine.{IsEffectInLimits, IsEntryInLimits, IsRecordInLimits, IsReplyInLimits}
 
 -- two digits a byte, or the dash in the place of none
-pub digits_fit : (most : ℕ) (bytes : List ℕ) → 1 ≤ most → length bytes ≤ most → length (hexadecimal_text bytes) ≤ 2 * most
+pub digits_fit : (most : ℕ) (bytes : List ℕ) → 1 ≤ most → length bytes ≤ most →
+    length (hexadecimal_text bytes) ≤ 2 * most
 digits_fit most [] one few = omega arith
 digits_fit most (byte ∷ bytes) one few = omega (arith, length-encode_with lower_digits (byte ∷ bytes))
 
 pub size_fits : (buckets : ℕ) → buckets < 2 ^ 32 → length (line (size_text buckets)) ≤ longest_line
 size_fits buckets few =
     let digits = length-decimal-le 10 buckets (omega arith) (omega arith) (omega arith) in
-    omega (arith, digits, length-append (codes "buckets ") (decimal buckets), length-append (size_text buckets) (10 ∷ []))
+    omega (
+      arith,
+      digits,
+      length-append (codes "buckets ") (decimal buckets),
+      length-append (size_text buckets) (10 ∷ []),
+    )
 
 pub reply_fits : (reply : Reply) → IsReplyInLimits reply → length (line (reply_text reply)) ≤ longest_line
 reply_fits (Found value) few =
     let digits = digits_fit longest_value value (omega arith) few in
-    omega (arith, digits, length-append (codes "found ") (hexadecimal_text value), length-append (reply_text (Found value)) (10 ∷ []))
+    omega (
+      arith,
+      digits,
+      length-append (codes "found ") (hexadecimal_text value),
+      length-append (reply_text (Found value)) (10 ∷ []),
+    )
 reply_fits Absent few = omega arith
 reply_fits Inserted few = omega arith
 reply_fits Exists few = omega arith
@@ -53,7 +65,8 @@ record_fits bucket pair few limits =
       length-append (codes " ") (hexadecimal_text pair.value),
       length-append (hexadecimal_text pair.key) (codes " " ++ hexadecimal_text pair.value),
       length-append (codes " ") (hexadecimal_text pair.key ++ (codes " " ++ hexadecimal_text pair.value)),
-      length-append (decimal bucket) (codes " " ++ (hexadecimal_text pair.key ++ (codes " " ++ hexadecimal_text pair.value))),
+      length-append (decimal bucket)
+          (codes " " ++ (hexadecimal_text pair.key ++ (codes " " ++ hexadecimal_text pair.value))),
       length-append (record_text bucket pair) (10 ∷ []),
     )
 
@@ -83,7 +96,12 @@ effect_fits (effect.Both old new) few = two_fit (codes "both ") old new (omega a
 effect_fits (effect.Moved old new) few = two_fit (codes "moved ") old new (omega arith) few.0 few.1
 effect_fits effect.Freed few = omega arith
 effect_fits (effect.Point buckets) few =
-    omega (arith, number_fits buckets few, length-append (codes "point ") (decimal buckets), length-append (codes "point " ++ decimal buckets) (10 ∷ []))
+    omega (
+      arith,
+      number_fits buckets few,
+      length-append (codes "point ") (decimal buckets),
+      length-append (codes "point " ++ decimal buckets) (10 ∷ []),
+    )
 effect_fits effect.Dropped few = omega arith
 
 pub entry_fits : (entry : Entry) → IsEntryInLimits entry → length (line (entry_text entry)) ≤ longest_line

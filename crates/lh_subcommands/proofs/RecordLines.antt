@@ -1,5 +1,6 @@
 -- The lines of records, up to one of them and behind it
-use Rattle.std.proofs.Common.{◌≡◌, ◌∙◌, ℕ, zero, suc, ◌+◌, ◌<◌, ◌≤◌, List, [], ◌∷◌, ◌++◌, Option, Some, length, take, drop, get_or, sym, ap, subst, arith, append_assoc, append-nil, flat_map}
+use Rattle.std.proofs.Common.{◌≡◌, ◌∙◌, ℕ, zero, suc, ◌+◌, ◌<◌, ◌≤◌, List, [], ◌∷◌, ◌++◌, Option, Some, length, take}
+use Rattle.std.proofs.Common.{drop, get_or, sym, ap, subst, arith, append_assoc, append-nil, flat_map}
 use Rattle.std.specs.Prelude.{slice_get}
 use Rattle.std.specs.List.{range_with_len}
 use Rattle.std.proofs.lemmas.List.{take_all}
@@ -26,12 +27,14 @@ pieces-more f (x ∷ xs) (suc i) some h =
 sent-more : {X : Type 0} (f : X → List ℕ) (sent : List ℕ) (xs : List X) (i : ℕ) (some : X) → i < length xs →
     (sent ++ flat_map f (take i xs)) ++ f (get_or xs i some) ≡ sent ++ flat_map f (take (suc i) xs)
 sent-more f sent xs i some h =
-    append_assoc sent (flat_map f (take i xs)) (f (get_or xs i some)) ∙ ap (λ more. sent ++ more) (sym (pieces-more f xs i some h))
+    append_assoc sent (flat_map f (take i xs)) (f (get_or xs i some))
+    ∙ ap (λ more. sent ++ more) (sym (pieces-more f xs i some h))
 
 sent-all : {X : Type 0} (f : X → List ℕ) (sent : List ℕ) (xs : List X) (i : ℕ) (some : X) → i < length xs →
     ((sent ++ flat_map f (take i xs)) ++ f (get_or xs i some)) ++ flat_map f (drop (suc i) xs) ≡ sent ++ flat_map f xs
 sent-all f sent xs i some h =
-    ap (λ more. more ++ flat_map f (drop (suc i) xs)) (append_assoc sent (flat_map f (take i xs)) (f (get_or xs i some)))
+    ap (λ more. more ++ flat_map f (drop (suc i) xs))
+    (append_assoc sent (flat_map f (take i xs)) (f (get_or xs i some)))
     ∙ append_assoc sent (flat_map f (take i xs) ++ f (get_or xs i some)) (flat_map f (drop (suc i) xs))
     ∙ ap (λ more. sent ++ more) (sym (pieces-split f xs i some h))
 
@@ -40,8 +43,10 @@ abbrev pub lines_before : ℕ → List Pair → ℕ → List ℕ
 lines_before bucket pairs place = bucket_text bucket (take place pairs)
 
 -- the lines of a record follow those before it
-pub record_follows : (before now : Option (List ℕ)) (waiting sent : List ℕ) (bucket : ℕ) (pairs : List Pair) (i : ℕ) (pair : Pair) →
-    slice_get pairs i ≡ Some pair → Sends before now waiting ((sent ++ lines_before bucket pairs i) ++ line (record_text bucket pair)) →
+pub record_follows : (before now : Option (List ℕ)) (waiting sent : List ℕ) (bucket : ℕ) (pairs : List Pair) (i : ℕ)
+    (pair : Pair) →
+    slice_get pairs i ≡ Some pair →
+    Sends before now waiting ((sent ++ lines_before bucket pairs i) ++ line (record_text bucket pair)) →
     Sends before now waiting (sent ++ lines_before bucket pairs (i + 1))
 record_follows before now waiting sent bucket pairs i pair at h =
     let same : get_or pairs i pair ≡ pair = get_or_from_slice_get pairs i pair pair at in
@@ -51,13 +56,18 @@ record_follows before now waiting sent bucket pairs i pair at h =
     ∙ sent-more (λ p. line (record_text bucket p)) sent pairs i pair (slice_get_within pairs i pair at)
     ∙ ap (λ (n : ℕ). sent ++ lines_before bucket pairs n) next) h
 
-pub record_begins : (before now : Option (List ℕ)) (sent : List ℕ) (bucket : ℕ) (pairs : List Pair) (i : ℕ) (pair : Pair) →
-    slice_get pairs i ≡ Some pair → TakesBeginning before now ((sent ++ lines_before bucket pairs i) ++ line (record_text bucket pair)) →
+pub record_begins : (before now : Option (List ℕ)) (sent : List ℕ) (bucket : ℕ) (pairs : List Pair) (i : ℕ)
+    (pair : Pair) →
+    slice_get pairs i ≡ Some pair →
+    TakesBeginning before now ((sent ++ lines_before bucket pairs i) ++ line (record_text bucket pair)) →
     TakesBeginning before now (sent ++ bucket_text bucket pairs)
 record_begins before now sent bucket pairs i pair at h =
     let same : get_or pairs i pair ≡ pair = get_or_from_slice_get pairs i pair pair at in
     subst (TakesBeginning before now)
-    (ap (λ (p : Pair). ((sent ++ lines_before bucket pairs i) ++ line (record_text bucket p)) ++ bucket_text bucket (drop (suc i) pairs)) (sym same)
+    (ap
+    (λ (p : Pair).
+    ((sent ++ lines_before bucket pairs i) ++ line (record_text bucket p))
+    ++ bucket_text bucket (drop (suc i) pairs)) (sym same)
     ∙ sent-all (λ p. line (record_text bucket p)) sent pairs i pair (slice_get_within pairs i pair at))
     (begins_longer before now _ (bucket_text bucket (drop (suc i) pairs)) h)
 
@@ -65,8 +75,10 @@ pub no_lines : (before now : Option (List ℕ)) (waiting sent : List ℕ) (bucke
     Sends before now waiting sent → Sends before now waiting (sent ++ lines_before bucket pairs 0)
 no_lines before now waiting sent bucket pairs h = subst (Sends before now waiting) (sym (append-nil sent)) h
 
-pub all_lines : (before now : Option (List ℕ)) (waiting sent : List ℕ) (bucket : ℕ) (pairs : List Pair) (i : ℕ) → length pairs ≤ i →
-    Sends before now waiting (sent ++ lines_before bucket pairs i) → Sends before now waiting (sent ++ bucket_text bucket pairs)
+pub all_lines : (before now : Option (List ℕ)) (waiting sent : List ℕ) (bucket : ℕ) (pairs : List Pair) (i : ℕ) →
+    length pairs ≤ i →
+    Sends before now waiting (sent ++ lines_before bucket pairs i) →
+    Sends before now waiting (sent ++ bucket_text bucket pairs)
 all_lines before now waiting sent bucket pairs i many h =
     subst (λ (ps : List Pair). Sends before now waiting (sent ++ bucket_text bucket ps)) (take_all i pairs many) h
 
@@ -79,24 +91,28 @@ bucket_is l i h = let e = get_or-range_with_len 0 (size l) i 0 h in omega (arith
 
 -- the lines of a bucket follow those before it
 pub bucket_follows : (before now : Option (List ℕ)) (waiting : List ℕ) (l : Lists) (i : ℕ) → i < size l →
-    Sends before now waiting (buckets_before l i ++ bucket_text i (list_at l.lists i)) → Sends before now waiting (buckets_before l (i + 1))
+    Sends before now waiting (buckets_before l i ++ bucket_text i (list_at l.lists i)) →
+    Sends before now waiting (buckets_before l (i + 1))
 bucket_follows before now waiting l i lt h =
     let f : ℕ → List ℕ = λ i. bucket_text i (list_at l.lists i) in
     let within : i < length (range_with_len 0 (size l)) = omega (arith, lt, length-range_with_len 0 (size l)) in
     let next : suc i ≡ i + 1 = omega arith in
     subst (Sends before now waiting)
-    (ap (λ (j : ℕ). buckets_before l i ++ f j) (sym (bucket_is l i lt)) ∙ sym (pieces-more f (range_with_len 0 (size l)) i 0 within)
+    (ap (λ (j : ℕ). buckets_before l i ++ f j) (sym (bucket_is l i lt))
+    ∙ sym (pieces-more f (range_with_len 0 (size l)) i 0 within)
     ∙ ap (buckets_before l) next) h
 
 pub bucket_begins : (before now : Option (List ℕ)) (l : Lists) (i : ℕ) → i < size l →
-    TakesBeginning before now (buckets_before l i ++ bucket_text i (list_at l.lists i)) → TakesBeginning before now (dump_text l)
+    TakesBeginning before now (buckets_before l i ++ bucket_text i (list_at l.lists i)) →
+    TakesBeginning before now (dump_text l)
 unfolding dump_text
 bucket_begins before now l i lt h =
     let f : ℕ → List ℕ = λ i. bucket_text i (list_at l.lists i) in
     let row = range_with_len 0 (size l) in
     let within : i < length row = omega (arith, lt, length-range_with_len 0 (size l)) in
     subst (TakesBeginning before now)
-    (ap (λ (j : ℕ). (buckets_before l i ++ f j) ++ flat_map f (drop (suc i) row)) (sym (bucket_is l i lt)) ∙ sym (pieces-split f row i 0 within))
+    (ap (λ (j : ℕ). (buckets_before l i ++ f j) ++ flat_map f (drop (suc i) row)) (sym (bucket_is l i lt))
+    ∙ sym (pieces-split f row i 0 within))
     (begins_longer before now _ (flat_map f (drop (suc i) row)) h)
 
 pub all_buckets : (l : Lists) (i : ℕ) → size l ≤ i → buckets_before l i ≡ dump_text l

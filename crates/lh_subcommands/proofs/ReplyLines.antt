@@ -1,5 +1,6 @@
 -- The lines of replies and of entries, up to one of them and behind it.
-use Rattle.std.proofs.Common.{◌≡◌, ℕ, zero, suc, ◌<◌, ◌≤◌, List, [], ◌∷◌, ◌++◌, Option, length, take, drop, get_or, refl, sym, ap, subst, ◌∙◌, arith, append_assoc, flat_map}
+use Rattle.std.proofs.Common.{◌≡◌, ℕ, zero, suc, ◌<◌, ◌≤◌, List, [], ◌∷◌, ◌++◌, Option, length, take, drop, get_or}
+use Rattle.std.proofs.Common.{refl, sym, ap, subst, ◌∙◌, arith, append_assoc, flat_map}
 use Rattle.std.proofs.lemmas.List.{take_all}
 use Rattle.lh_bucket.specs.declared.call.Reply.{Reply}
 use Rattle.lh_core.specs.Log.{Entry}
@@ -19,14 +20,16 @@ pieces-split f (x ∷ xs) zero some h = refl
 pieces-split f (x ∷ xs) (suc i) some h =
     ap (λ more. f x ++ more) (pieces-split f xs i some (omega arith))
     ∙ (sym (append_assoc (f x) (flat_map f (take i xs) ++ f (get_or xs i some)) (flat_map f (drop (suc i) xs)))
-    ∙ ap (λ more. more ++ flat_map f (drop (suc i) xs)) (sym (append_assoc (f x) (flat_map f (take i xs)) (f (get_or xs i some)))))
+    ∙ ap (λ more. more ++ flat_map f (drop (suc i) xs))
+    (sym (append_assoc (f x) (flat_map f (take i xs)) (f (get_or xs i some)))))
 
 lines_of-split : {X : Type 0} (text : X → List ℕ) (xs : List X) (i : ℕ) (some : X) → i < length xs →
     lines_of text xs ≡ (lines_of text (take i xs) ++ line (text (get_or xs i some))) ++ lines_of text (drop (suc i) xs)
 lines_of-split text xs i some h = pieces-split (λ x. line (text x)) xs i some h
 
 -- a beginning of the lines up to one of them
-begins_lines : {X : Type 0} (text : X → List ℕ) (before now : Option (List ℕ)) (xs : List X) (i : ℕ) (x : X) → i < length xs →
+begins_lines : {X : Type 0} (text : X → List ℕ) (before now : Option (List ℕ)) (xs : List X) (i : ℕ) (x : X) →
+    i < length xs →
     x ≡ get_or xs i x → TakesBeginning before now (lines_of text (take i xs) ++ line (text x)) →
     TakesBeginning before now (lines_of text xs)
 begins_lines text before now xs i x h e begins =
@@ -39,12 +42,15 @@ abbrev pub reply_lines : List Reply → List ℕ
 reply_lines = lines_of reply_text
 
 -- a beginning of the lines up to a reply's
-pub begins_commands : (before now : Option (List ℕ)) (replies : List Reply) (i : ℕ) (reply : Reply) (buckets : ℕ) → i < length replies →
-    reply ≡ get_or replies i reply → TakesBeginning before now (reply_lines (take i replies) ++ line (reply_text reply)) →
+pub begins_commands : (before now : Option (List ℕ)) (replies : List Reply) (i : ℕ) (reply : Reply) (buckets : ℕ) →
+    i < length replies →
+    reply ≡ get_or replies i reply →
+    TakesBeginning before now (reply_lines (take i replies) ++ line (reply_text reply)) →
     TakesBeginning before now (commands_text replies buckets)
 unfolding commands_text
 begins_commands before now replies i reply buckets h e begins =
-    begins_longer before now (reply_lines replies) (line (size_text buckets)) (begins_lines reply_text before now replies i reply h e begins)
+    begins_longer before now (reply_lines replies) (line (size_text buckets))
+    (begins_lines reply_text before now replies i reply h e begins)
 
 -- the lines of all replies, and the size's
 pub commands_text-all : (replies : List Reply) (i buckets : ℕ) → length replies ≤ i →
@@ -57,12 +63,14 @@ entry_lines = lines_of entry_text
 
 -- a beginning of the lines up to an entry's
 pub begins_steps : (before now : Option (List ℕ)) (entries : List Entry) (i : ℕ) (entry : Entry) → i < length entries →
-    entry ≡ get_or entries i entry → TakesBeginning before now (entry_lines (take i entries) ++ line (entry_text entry)) →
+    entry ≡ get_or entries i entry →
+    TakesBeginning before now (entry_lines (take i entries) ++ line (entry_text entry)) →
     TakesBeginning before now (steps_text entries)
 unfolding steps_text
 begins_steps before now entries i entry h e begins = begins_lines entry_text before now entries i entry h e begins
 
 -- the lines of all entries
-pub steps_text-all : (entries : List Entry) (i : ℕ) → length entries ≤ i → entry_lines (take i entries) ≡ steps_text entries
+pub steps_text-all : (entries : List Entry) (i : ℕ) → length entries ≤ i →
+    entry_lines (take i entries) ≡ steps_text entries
 unfolding steps_text
 steps_text-all entries i h = ap entry_lines (take_all i entries h)

@@ -1,5 +1,6 @@
 -- The lines of a client that asks for calls alone, as a command script
-use Rattle.std.proofs.Common.{◌≡◌, ◌∙◌, refl, sym, ap, ap₂, ℕ, ◌≤◌, ◌+◌, ◌==◌, ◌&&◌, Bool, true, false, cond, List, [], ◌∷◌, ◌++◌, Option, None, Some, append_assoc, append-nil, length, arith}
+use Rattle.std.proofs.Common.{◌≡◌, ◌∙◌, refl, sym, ap, ap₂, ℕ, ◌≤◌, ◌+◌, ◌==◌, ◌&&◌, Bool, true, false, cond, List, []}
+use Rattle.std.proofs.Common.{◌∷◌, ◌++◌, Option, None, Some, append_assoc, append-nil, length, arith}
 use Rattle.std.specs.Prelude.{Result, Ok, Err, codes, flat_map, nat_lt, option_to_list}
 use Rattle.std.specs.List.{list_any}
 use Rattle.std.specs.FinMap.{empty}
@@ -30,7 +31,8 @@ use Rattle.lh_subcommands.specs.Run.{commands_due, due, replies_text}
 use Rattle.lh_subcommands.specs.ServeLaws.{AreCalled, IsCalled, SameRepliesLaw}
 
 -- a line at the front of a text is the first of its lines
-lf_next : (b : Bool) (c : ℕ) (rest : List (List ℕ)) → cond (b && true) ([] ∷ rest) (onto c ([] ∷ rest)) ≡ cond b [] (c ∷ []) ∷ rest
+lf_next : (b : Bool) (c : ℕ) (rest : List (List ℕ)) →
+    cond (b && true) ([] ∷ rest) (onto c ([] ∷ rest)) ≡ cond b [] (c ∷ []) ∷ rest
 lf_next true c rest = refl
 lf_next false c rest = refl
 
@@ -38,11 +40,13 @@ no_cr : (b : Bool) (x y : List (List ℕ)) → cond (b && false) x y ≡ y
 no_cr true x y = refl
 no_cr false x y = refl
 
-lines_plain : (c : ℕ) (cs : List ℕ) → is_lf c ≡ false → lines (c ∷ cs) ≡ cond ((c == 13) && begins_with_lf cs) (lines cs) (onto c (lines cs))
+lines_plain : (c : ℕ) (cs : List ℕ) → is_lf c ≡ false →
+    lines (c ∷ cs) ≡ cond ((c == 13) && begins_with_lf cs) (lines cs) (onto c (lines cs))
 unfolding lines
 lines_plain c cs h = rw h refl
 
-line_first : (said zs : List ℕ) → list_any is_lf said ≡ false → lines (line said ++ zs) ≡ without_last_cr said ∷ lines zs
+line_first : (said zs : List ℕ) → list_any is_lf said ≡ false →
+    lines (line said ++ zs) ≡ without_last_cr said ∷ lines zs
 unfolding lines is_lf
 line_first [] zs h = refl
 line_first (c ∷ []) zs h = lines_plain c (10 ∷ zs) (or_parts (is_lf c) false h).0 ∙ lf_next (c == 13) c (lines zs)
@@ -71,9 +75,11 @@ asked_as comment buckets records image rest read =
     cond comment (Ok None) (cond buckets (if_alone ask.Buckets rest) (cond records (if_alone ask.Records rest)
     (cond image (if_alone ask.Image rest) (read >>= λ call. Ok (ask.Call call)))) >>= λ r. Ok (Some r))
 
-reads_as : (comment buckets records image : Bool) (rest : List (List ℕ)) (read : Result Call LineFault) (said : List ℕ) →
+reads_as : (comment buckets records image : Bool) (rest : List (List ℕ)) (read : Result Call LineFault)
+    (said : List ℕ) →
     IsCalled (in_line (asked_as comment buckets records image rest read)) said →
-    cond comment (Ok None) (read >>= λ call. Ok (Some call)) ≡ Ok (called (in_line (asked_as comment buckets records image rest read)))
+    cond comment (Ok None) (read >>= λ call. Ok (Some call)) ≡
+    Ok (called (in_line (asked_as comment buckets records image rest read)))
 reads_as true buckets records image rest read said h = refl
 reads_as false true records image rest read said h = absurd (alone ask.Buckets rest said (λ no. no) h)
 reads_as false false true image rest read said h = absurd (alone ask.Records rest said (λ no. no) h)
@@ -82,11 +88,13 @@ reads_as false false false false rest (Ok call) said h = refl
 reads_as false false false false rest (Err f) said h = absurd h
 
 -- a line that asks for a call or nothing is one of a command script
-command_reads : (ws : List (List ℕ)) (said : List ℕ) → IsCalled (in_line (request ws)) said → command ws ≡ Ok (called (in_line (request ws)))
+command_reads : (ws : List (List ℕ)) (said : List ℕ) → IsCalled (in_line (request ws)) said →
+    command ws ≡ Ok (called (in_line (request ws)))
 unfolding command request request_of
 command_reads [] said h = refl
 command_reads (word ∷ rest) said h =
-    reads_as (is_comment word) (is_word word (codes "buckets")) (is_word word (codes "records")) (is_word word (codes "image")) rest (call_alone word rest) said h
+    reads_as (is_comment word) (is_word word (codes "buckets")) (is_word word (codes "records"))
+    (is_word word (codes "image")) rest (call_alone word rest) said h
 
 line_reads : (b : Bool) (text said : List ℕ) → IsCalled (asked_by (cond b None (Some text))) said →
     command (words (without_last_cr text)) ≡ Ok (called (asked_by (cond b None (Some text))))
@@ -99,13 +107,16 @@ calls_onto [] calls = calls
 calls_onto (turn ∷ turns) calls = calls_onto turns (option_to_list (called (asked_by (kept turn.said))) ++ calls)
 
 -- the lines of turns are a script of their calls
-calls_read : (start : FileSeen) (turns : List Turn) (rest : List ℕ) (calls : List Call) → AreTurns start turns → AreCalled turns →
-    ((n : ℕ) → from_line command n (lines rest) ≡ Ok calls) → (n : ℕ) → from_line command n (lines (lines_of turns ++ rest)) ≡ Ok (calls_onto turns calls)
+calls_read : (start : FileSeen) (turns : List Turn) (rest : List ℕ) (calls : List Call) → AreTurns start turns →
+    AreCalled turns →
+    ((n : ℕ) → from_line command n (lines rest) ≡ Ok calls) → (n : ℕ) →
+    from_line command n (lines (lines_of turns ++ rest)) ≡ Ok (calls_onto turns calls)
 unfolding from_line
 calls_read start [] rest calls h are behind n = behind n
 calls_read start (turn ∷ turns) rest calls h are behind n =
     ap (λ text. from_line command n (lines text)) (append_assoc (lines_of turns) (line turn.said) rest)
-    ∙ calls_read start turns (line turn.said ++ rest) (option_to_list (called (asked_by (kept turn.said))) ++ calls) h.0 are.0
+    ∙ calls_read start turns (line turn.said ++ rest) (option_to_list (called (asked_by (kept turn.said))) ++ calls) h.0
+    are.0
     (λ m. ap (from_line command m) (line_first turn.said rest h.1)
     ∙ rw (line_reads (nat_lt longest_line (length turn.said)) turn.said turn.answer are.1, behind (m + 1)) refl) n
 
@@ -114,12 +125,16 @@ abbrev reply_lines : List Reply → List ℕ
 reply_lines given = flat_map (λ reply. line (reply_text reply)) given
 
 -- the answer to a line is the reply to its call, if it has one, before those to the calls that follow
-answer_first : (file next : FileSeen) (asked : Result (Option Request) Fault) (said : List ℕ) (calls : List Call) → IsCalled asked said → Answers file asked said next →
-    said ++ reply_lines (replies next.map calls) ≡ reply_lines (replies file.map (option_to_list (called asked) ++ calls))
-answer_first file next (Ok None) said calls is h = ap₂ (λ (x : List ℕ) (f : FileSeen). x ++ reply_lines (replies f.map calls)) h.0 h.1
+answer_first : (file next : FileSeen) (asked : Result (Option Request) Fault) (said : List ℕ) (calls : List Call) →
+    IsCalled asked said → Answers file asked said next →
+    said ++ reply_lines (replies next.map calls) ≡
+    reply_lines (replies file.map (option_to_list (called asked) ++ calls))
+answer_first file next (Ok None) said calls is h =
+    ap₂ (λ (x : List ℕ) (f : FileSeen). x ++ reply_lines (replies f.map calls)) h.0 h.1
 answer_first file next (Ok (Some (ask.Call call))) said calls is (a, text, h) = of_call a is text h
   where
-    of_call : (a : Answer) → IsCalled (Ok (Some (ask.Call call))) said → said ≡ told (Some a) → AnswersCall file call a next →
+    of_call : (a : Answer) → IsCalled (Ok (Some (ask.Call call))) said → said ≡ told (Some a) →
+        AnswersCall file call a next →
         said ++ reply_lines (replies next.map calls) ≡ reply_lines (replies file.map (call ∷ calls))
     of_call (answer.Reply given) is text h =
         ap₂ (λ x m. x ++ reply_lines (replies m calls)) (text ∙ ap (λ r. line (reply_text r)) h.0) h.1.map
@@ -129,15 +144,18 @@ answer_first file next _ said calls is h = absurd is
 
 -- the answers of turns are the replies to their calls
 calls_answered : (start : FileSeen) (turns : List Turn) (calls : List Call) → AreTurns start turns → AreCalled turns →
-    answers_of turns ++ reply_lines (replies (file_after start turns).map calls) ≡ reply_lines (replies start.map (calls_onto turns calls))
+    answers_of turns ++ reply_lines (replies (file_after start turns).map calls) ≡
+    reply_lines (replies start.map (calls_onto turns calls))
 calls_answered start [] calls h are = refl
 calls_answered start (turn ∷ turns) calls h are =
     append_assoc (answers_of turns) turn.answer (reply_lines (replies turn.file.map calls))
-    ∙ ap (λ x. answers_of turns ++ x) (answer_first (file_after start turns) turn.file (asked_by (kept turn.said)) turn.answer calls are.1 h.2)
+    ∙ ap (λ x. answers_of turns ++ x)
+    (answer_first (file_after start turns) turn.file (asked_by (kept turn.said)) turn.answer calls are.1 h.2)
     ∙ calls_answered start turns (option_to_list (called (asked_by (kept turn.said))) ++ calls) h.0 are.0
 
 -- a text that isn't too long is a script by its lines
-script_of : (text : List ℕ) (calls : List Call) → length text ≤ 16777216 → from_line command 1 (lines text) ≡ Ok calls → script command text ≡ Ok calls
+script_of : (text : List ℕ) (calls : List Call) → length text ≤ 16777216 → from_line command 1 (lines text) ≡ Ok calls →
+    script command text ≡ Ok calls
 script_of text calls short is = grind (arith, nat_tests)
 
 no_line : (rest : List ℕ) → rest ≡ [] → (n : ℕ) → from_line command n (lines rest) ≡ Ok []
@@ -149,8 +167,11 @@ unfolding commands_due commands_text
 same_replies settings input answers h rest are short =
     let calls : List Call = calls_onto h.turns [] in
     let read : script command input ≡ Ok calls =
-    script_of input calls short (ap (λ text. from_line command 1 (lines text)) h.whole ∙ calls_read _ h.turns h.rest [] h.each are (no_line h.rest rest) 1) in
-    let same : reply_lines (replies empty calls) ≡ answers = sym (calls_answered _ h.turns [] h.each are) ∙ append-nil (answers_of h.turns) ∙ sym h.same in (
+    script_of input calls short
+    (ap (λ text. from_line command 1 (lines text)) h.whole
+    ∙ calls_read _ h.turns h.rest [] h.each are (no_line h.rest rest) 1) in
+    let same : reply_lines (replies empty calls) ≡ answers =
+    sym (calls_answered _ h.turns [] h.each are) ∙ append-nil (answers_of h.turns) ∙ sym h.same in (
       calls,
       read,
       ap (due (replies_text settings empty settings.initial)) read

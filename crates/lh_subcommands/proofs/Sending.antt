@@ -1,5 +1,6 @@
 -- Lines that wait, and lines that were written.
-use Rattle.std.proofs.Common.{◌≡◌, ℕ, List, [], ◌++◌, Option, None, Some, IfSome, sym, ap, subst, ◌∙◌, append_assoc, append-nil}
+use Rattle.std.proofs.Common.{◌≡◌, ℕ, List, [], ◌++◌, Option, None, Some, IfSome, sym, ap, subst, ◌∙◌, append_assoc}
+use Rattle.std.proofs.Common.{append-nil}
 use Rattle.std.specs.Prelude.{Result, Ok, Err, OnOk, OnErr}
 use Rattle.std.specs.Fmt.{AppendsText, with_newline}
 use Rattle.std.specs.Io.KnownBytes.{Appends}
@@ -17,7 +18,8 @@ pub sends_later : (before now : Option (List ℕ)) (old new sent more : List ℕ
 sends_later before now old new sent more h e = record {
   taken = h.taken;
   appended = h.appended;
-  whole = ap (λ waiting. h.taken ++ waiting) e ∙ (sym (append_assoc h.taken old more) ∙ ap (λ text. text ++ more) h.whole);
+  whole =
+      ap (λ waiting. h.taken ++ waiting) e ∙ (sym (append_assoc h.taken old more) ∙ ap (λ text. text ++ more) h.whole);
 }
 
 -- all that waits is written
@@ -62,7 +64,8 @@ begins_longer before now text more h = record {
 -- all was sent
 pub sends_all : (before now after : Option (List ℕ)) (waiting text : List ℕ) →
     Sends before now waiting text → Appends now after waiting → Appends before after text
-sends_all before now after waiting text h k = subst (Appends before after) h.whole (Appends-trans before now after h.taken waiting h.appended k)
+sends_all before now after waiting text h k =
+    subst (Appends before after) h.whole (Appends-trans before now after h.taken waiting h.appended k)
 
 ok_anyway : {T E : Type 0} (r : Result T E) → OnOk r (Unit {0})
 ok_anyway (Ok x) = tt
@@ -73,19 +76,23 @@ err_anyway (Ok x) = tt
 err_anyway (Err e) = tt
 
 -- a displayed line, on its way
-pub line_sent : {T E : Type 0} (r : Result T E) (shown : Option (List ℕ)) (before now after : Option (List ℕ)) (old mid new sent : List ℕ) →
+pub line_sent : {T E : Type 0} (r : Result T E) (shown : Option (List ℕ)) (before now after : Option (List ℕ))
+    (old mid new sent : List ℕ) →
     Sends before now old sent → AppendsText old mid (with_newline shown) →
     ((text : List ℕ) → Sends before now mid text → OnOk r (Sends before after new text)) →
     OnOk r (IfSome shown (λ bytes. Sends before after new (sent ++ line bytes)))
 line_sent r None before now after old mid new sent h e f = ok_anyway r
-line_sent r (Some bytes) before now after old mid new sent h e f = f (sent ++ line bytes) (sends_later before now old mid sent (line bytes) h e)
+line_sent r (Some bytes) before now after old mid new sent h e f =
+    f (sent ++ line bytes) (sends_later before now old mid sent (line bytes) h e)
 
-pub line_stopped : {T E : Type 0} (r : Result T E) (shown : Option (List ℕ)) (before now after : Option (List ℕ)) (old mid sent : List ℕ) →
+pub line_stopped : {T E : Type 0} (r : Result T E) (shown : Option (List ℕ)) (before now after : Option (List ℕ))
+    (old mid sent : List ℕ) →
     Sends before now old sent → AppendsText old mid (with_newline shown) →
     ((text : List ℕ) → Sends before now mid text → OnErr r (TakesBeginning before after text)) →
     OnErr r (IfSome shown (λ bytes. TakesBeginning before after (sent ++ line bytes)))
 line_stopped r None before now after old mid sent h e f = err_anyway r
-line_stopped r (Some bytes) before now after old mid sent h e f = f (sent ++ line bytes) (sends_later before now old mid sent (line bytes) h e)
+line_stopped r (Some bytes) before now after old mid sent h e f =
+    f (sent ++ line bytes) (sends_later before now old mid sent (line bytes) h e)
 
 -- a line that was not made
 pub line_missed : (shown : Option (List ℕ)) (before now : Option (List ℕ)) (old sent : List ℕ) →

@@ -1,5 +1,6 @@
 -- A client that is told what it is due.
-use Rattle.std.proofs.Common.{◌≡◌, inl, inr, ℕ, List, [], ◌∷◌, ◌++◌, Option, None, Some, IfSome, length, refl, sym, ap, subst, ◌∙◌, append_assoc, append-nil, arith}
+use Rattle.std.proofs.Common.{◌≡◌, inl, inr, ℕ, List, [], ◌∷◌, ◌++◌, Option, None, Some, IfSome, length, refl, sym, ap}
+use Rattle.std.proofs.Common.{subst, ◌∙◌, append_assoc, append-nil, arith}
 use Rattle.std.specs.Prelude.{Result, Ok, Err}
 use Rattle.std.specs.Io.KnownBytes.{Appends, Consumes, IsAtEnd, Keeps}
 use Rattle.std.proofs.KnownBytes.{Appends-trans, Appends-nil, Consumes-trans, Keeps-refl}
@@ -13,7 +14,8 @@ use Rattle.lh_serving.specs.Texts.{image_text}
 use Rattle.lh_subcommands.specs.Devices.{TakesBeginning}
 use Rattle.lh_subcommands.specs.Images.{refused_as}
 use Rattle.lh_subcommands.specs.Run.{Ends}
-use Rattle.lh_subcommands.specs.Serve.{Breaks, EndsGoingOn, EndsServing, EndsServingFrom, HasTold, IsCutShort, IsTelling, IsUnopened}
+use Rattle.lh_subcommands.specs.Serve.{Breaks, EndsGoingOn, EndsServing, EndsServingFrom, HasTold, IsCutShort}
+use Rattle.lh_subcommands.specs.Serve.{IsTelling, IsUnopened}
 use Rattle.lh_subcommands.specs.declared.status.DeviceFault.{DeviceFault}
 use Rattle.lh_subcommands.specs.declared.status.DeviceFault.TheVariants.{Read, Write}
 use Rattle.lh_subcommands.specs.declared.status.InputFault.{InputFault}
@@ -31,16 +33,20 @@ quiet : (t : ConversationSeen) → IsQuiet t → pending t ≡ []
 quiet t h = ap (λ w. w ++ image_text t.image) h.waiting ∙ ap image_text h.image
 
 -- with what waits, a conversation has the answers to what was heard
-pub due : (s : FileSeen) (t : ConversationSeen) (heard answers : List ℕ) → IsAt s t heard answers → IsAnswered s heard (answers ++ pending t)
-due s t heard answers h = record { turns = h.turns; rest = h.rest; each = h.each; whole = h.whole; incomplete = h.incomplete; same = h.same }
+pub due : (s : FileSeen) (t : ConversationSeen) (heard answers : List ℕ) → IsAt s t heard answers →
+    IsAnswered s heard (answers ++ pending t)
+due s t heard answers h =
+    record { turns = h.turns; rest = h.rest; each = h.each; whole = h.whole; incomplete = h.incomplete; same = h.same }
 
 -- nothing was heard yet
 pub telling_begins : (s : FileSeen) (t : ConversationSeen) (a : Option (List ℕ)) → IsAt s t [] [] → IsTelling s t a a []
 telling_begins s t a h = record { answers = []; held = h; appended = Appends-nil a }
 
 -- what waits was written
-pub telling_now : (s : FileSeen) (t u : ConversationSeen) (before now after : Option (List ℕ)) (heard : List ℕ) → IsTelling s t before now heard →
-    ((answers : List ℕ) → IsAt s t heard answers → IsAt s u heard (answers ++ pending t)) → Appends now after (pending t) → IsTelling s u before after heard
+pub telling_now : (s : FileSeen) (t u : ConversationSeen) (before now after : Option (List ℕ)) (heard : List ℕ) →
+    IsTelling s t before now heard →
+    ((answers : List ℕ) → IsAt s t heard answers → IsAt s u heard (answers ++ pending t)) →
+    Appends now after (pending t) → IsTelling s u before after heard
 telling_now s t u before now after heard h f k = record {
   answers = h.answers ++ pending t;
   held = f h.answers h.held;
@@ -48,15 +54,19 @@ telling_now s t u before now after heard h f k = record {
 }
 
 -- all that waits is told
-pub told_by_now : (s : FileSeen) (t : ConversationSeen) (before now : Option (List ℕ)) (heard : List ℕ) → IsTelling s t before now heard → IsQuiet t → HasTold s before now heard
+pub told_by_now : (s : FileSeen) (t : ConversationSeen) (before now : Option (List ℕ)) (heard : List ℕ) →
+    IsTelling s t before now heard → IsQuiet t → HasTold s before now heard
 told_by_now s t before now heard h e = record {
   answers = h.answers;
-  answered = subst (IsAnswered s heard) (ap (λ w. h.answers ++ w) (quiet t e) ∙ append-nil h.answers) (due s t heard h.answers h.held);
+  answered =
+      subst (IsAnswered s heard) (ap (λ w. h.answers ++ w) (quiet t e) ∙ append-nil h.answers)
+      (due s t heard h.answers h.held);
   appended = h.appended;
 }
 
 -- a write of what waits failed
-pub cut_within : (s : FileSeen) (t : ConversationSeen) (before now after : Option (List ℕ)) (heard : List ℕ) → IsTelling s t before now heard → TakesBeginning now after (pending t) → IsCutShort s before after heard
+pub cut_within : (s : FileSeen) (t : ConversationSeen) (before now after : Option (List ℕ)) (heard : List ℕ) →
+    IsTelling s t before now heard → TakesBeginning now after (pending t) → IsCutShort s before after heard
 cut_within s t before now after heard h k = record {
   served = heard;
   left = [];
@@ -72,7 +82,8 @@ cut_within s t before now after heard h k = record {
 }
 
 -- an answer was not made
-pub cut_before : (s : FileSeen) (t : ConversationSeen) (before now : Option (List ℕ)) (heard : List ℕ) → IsTelling s t before now heard → IsCutShort s before now heard
+pub cut_before : (s : FileSeen) (t : ConversationSeen) (before now : Option (List ℕ)) (heard : List ℕ) →
+    IsTelling s t before now heard → IsCutShort s before now heard
 cut_before s t before now heard h = record {
   served = heard;
   left = [];
@@ -83,7 +94,8 @@ cut_before s t before now heard h = record {
 }
 
 -- more was heard than is served
-pub cut_longer : (s : FileSeen) (before now : Option (List ℕ)) (heard more : List ℕ) → IsCutShort s before now heard → IsCutShort s before now (heard ++ more)
+pub cut_longer : (s : FileSeen) (before now : Option (List ℕ)) (heard more : List ℕ) → IsCutShort s before now heard →
+    IsCutShort s before now (heard ++ more)
 cut_longer s before now heard more h = record {
   served = h.served;
   left = h.left ++ more;
@@ -94,29 +106,40 @@ cut_longer s before now heard more h = record {
 }
 
 -- the input has ended
-at_end : (input heard : List ℕ) (rest : Option (List ℕ)) → Consumes (Some input) rest heard → IsAtEnd rest → input ≡ heard
+at_end : (input heard : List ℕ) (rest : Option (List ℕ)) → Consumes (Some input) rest heard → IsAtEnd rest →
+    input ≡ heard
 at_end input heard None c e = absurd c
 at_end input heard (Some left) c e = c ∙ ap (λ x. heard ++ x) e ∙ append-nil heard
 
-pub ends_done : (s : FileSeen) (left rest before now : Option (List ℕ)) (heard : List ℕ) → Consumes left rest heard → IsAtEnd rest → HasTold s before now heard →
+pub ends_done : (s : FileSeen) (left rest before now : Option (List ℕ)) (heard : List ℕ) → Consumes left rest heard →
+    IsAtEnd rest → HasTold s before now heard →
     IfSome left (λ input. EndsServing s input Done rest before now)
 ends_done s None rest before now heard c e h = tt
-ends_done s (Some input) rest before now heard c e h = subst (HasTold s before now) (sym (at_end input heard rest c e)) h
+ends_done s (Some input) rest before now heard c e h =
+    subst (HasTold s before now) (sym (at_end input heard rest c e)) h
 
-pub ends_broken : (s : FileSeen) (fault : DeviceFault) (left mid rest before now : Option (List ℕ)) (heard bytes : List ℕ) → Consumes left mid heard → Consumes mid rest bytes → Breaks s fault before now heard bytes →
+pub ends_broken : (s : FileSeen) (fault : DeviceFault) (left mid rest before now : Option (List ℕ))
+    (heard bytes : List ℕ) → Consumes left mid heard → Consumes mid rest bytes →
+    Breaks s fault before now heard bytes →
     IfSome left (λ input. EndsServing s input (Device fault) rest before now)
 ends_broken s fault None mid rest before now heard bytes c d h = tt
-ends_broken s Read (Some input) mid rest before now heard bytes c d h =
-    (heard, subst (Consumes (Some input) rest) (ap (λ x. heard ++ x) h.0 ∙ append-nil heard) (Consumes-trans (Some input) mid rest heard bytes c d), h.1)
+ends_broken s Read (Some input) mid rest before now heard bytes c d h = (
+  heard,
+  subst (Consumes (Some input) rest) (ap (λ x. heard ++ x) h.0 ∙ append-nil heard)
+      (Consumes-trans (Some input) mid rest heard bytes c d),
+  h.1,
+)
 ends_broken s Write (Some input) mid rest before now heard bytes c d h =
     (heard ++ bytes, Consumes-trans (Some input) mid rest heard bytes c d, h)
 
-pub ends_read : (s : FileSeen) (left rest before now : Option (List ℕ)) (heard : List ℕ) → Consumes left rest heard → HasTold s before now heard →
+pub ends_read : (s : FileSeen) (left rest before now : Option (List ℕ)) (heard : List ℕ) → Consumes left rest heard →
+    HasTold s before now heard →
     IfSome left (λ input. EndsServing s input (Device Read) rest before now)
 ends_read s None rest before now heard c h = tt
 ends_read s (Some input) rest before now heard c h = (heard, c, h)
 
-pub ends_wanting : (s : FileSeen) (left before : Option (List ℕ)) → IfSome left (λ input. EndsServing s input Memory left before before)
+pub ends_wanting : (s : FileSeen) (left before : Option (List ℕ)) →
+    IfSome left (λ input. EndsServing s input Memory left before before)
 ends_wanting s None before = tt
 ends_wanting s (Some input) before = (Keeps-refl (Some input), Keeps-refl before)
 
@@ -126,50 +149,66 @@ unread MemoryToRead due h = inl (inr refl)
 unread fault due h = inr (fault, h, refl)
 
 -- a file that was not opened is not served
-unserved : (status : Status) (due : Result Lists ImageFault) (lines : List ℕ) (rest before : Option (List ℕ)) → IsUnopened status due → EndsGoingOn due lines status rest before before
+unserved : (status : Status) (due : Result Lists ImageFault) (lines : List ℕ) (rest before : Option (List ℕ)) →
+    IsUnopened status due → EndsGoingOn due lines status rest before before
 unserved status (Ok l) lines rest before (inl u) = inr (u, Keeps-refl before)
 unserved status (Ok l) lines rest before (inr d) = absurd (let bad : Ok l ≡ Err d.0 = d.1 in cc)
-unserved status (Err fault) lines rest before (inl (inl e)) = subst (λ (s : Status). Ends s (Err (Image fault)) before before) (sym e) (Keeps-refl before)
-unserved status (Err fault) lines rest before (inl (inr e)) = subst (λ (s : Status). Ends s (Err (Image fault)) before before) (sym e) (Keeps-refl before)
+unserved status (Err fault) lines rest before (inl (inl e)) =
+    subst (λ (s : Status). Ends s (Err (Image fault)) before before) (sym e) (Keeps-refl before)
+unserved status (Err fault) lines rest before (inl (inr e)) =
+    subst (λ (s : Status). Ends s (Err (Image fault)) before before) (sym e) (Keeps-refl before)
 unserved status (Err fault) lines rest before (inr d) =
     subst (λ (s : Status). Ends s (Err (Image fault)) before before) (sym d.2) (ap image_of d.1, Keeps-refl before)
 
-pub ends_unopened : (status : Status) (left rest before : Option (List ℕ)) → IfSome left (λ input. IsUnopened status (reading_of (leading input))) →
+pub ends_unopened : (status : Status) (left rest before : Option (List ℕ)) →
+    IfSome left (λ input. IsUnopened status (reading_of (leading input))) →
     IfSome left (λ input. EndsServingFrom input status rest before before)
 unfolding EndsServingFrom
 ends_unopened status None rest before h = tt
-ends_unopened status (Some input) rest before h = unserved status (reading_of (leading input)) (following input) rest before h
+ends_unopened status (Some input) rest before h =
+    unserved status (reading_of (leading input)) (following input) rest before h
 
 -- a file that was opened is served
 pub ends_opened : (talk : ConversationSeen) (status : Status) (left mid rest before now : Option (List ℕ)) →
     IfSome left (λ input. (l : Lists) × (reading_of (leading input) ≡ Ok l) × IsAt (file_of l) talk [] []) →
     IfSome left (λ input. mid ≡ Some (following input)) →
-    ((start : FileSeen) → IsAt start talk [] [] → IfSome mid (λ lines. EndsServing start lines status rest before now)) →
+    ((start : FileSeen) → IsAt start talk [] [] →
+    IfSome mid (λ lines. EndsServing start lines status rest before now)) →
     IfSome left (λ input. EndsServingFrom input status rest before now)
 unfolding EndsServingFrom
 ends_opened talk status None mid rest before now h e f = tt
 ends_opened talk status (Some input) mid rest before now h e f =
     subst (λ (due : Result Lists ImageFault). EndsGoingOn due (following input) status rest before now) (sym h.1)
-    (inl (subst (λ (o : Option (List ℕ)). IfSome o (λ lines. EndsServing (file_of h.0) lines status rest before now)) e (f (file_of h.0) h.2)))
+    (inl
+    (subst (λ (o : Option (List ℕ)). IfSome o (λ lines. EndsServing (file_of h.0) lines status rest before now)) e
+    (f (file_of h.0) h.2)))
 
 -- bytes were heard up to an LF
-pub hears : (s : FileSeen) (t u : ConversationSeen) (before now : Option (List ℕ)) (heard bytes behind : List ℕ) → IsTelling s t before now heard →
-    ((answers : List ℕ) → IsAt s t heard answers → (taken : List ℕ) × (bytes ≡ taken ++ behind) × IsAt s u (heard ++ taken) answers) →
+pub hears : (s : FileSeen) (t u : ConversationSeen) (before now : Option (List ℕ)) (heard bytes behind : List ℕ) →
+    IsTelling s t before now heard →
+    ((answers : List ℕ) → IsAt s t heard answers →
+    (taken : List ℕ) × (bytes ≡ taken ++ behind) × IsAt s u (heard ++ taken) answers) →
     (taken : List ℕ) × (bytes ≡ taken ++ behind) × IsTelling s u before now (heard ++ taken)
 hears s t u before now heard bytes behind h f =
     let d = f h.answers h.held in (d.0, d.1, record { answers = h.answers; held = d.2; appended = h.appended })
 
 -- heard is more than what was taken
-pub cut_rest : (s : FileSeen) (before now : Option (List ℕ)) (heard bytes taken behind : List ℕ) → bytes ≡ taken ++ behind → IsCutShort s before now (heard ++ taken) → IsCutShort s before now (heard ++ bytes)
+pub cut_rest : (s : FileSeen) (before now : Option (List ℕ)) (heard bytes taken behind : List ℕ) →
+    bytes ≡ taken ++ behind → IsCutShort s before now (heard ++ taken) → IsCutShort s before now (heard ++ bytes)
 cut_rest s before now heard bytes taken behind e h =
-    subst (IsCutShort s before now) (append_assoc heard taken behind ∙ ap (λ x. heard ++ x) (sym e)) (cut_longer s before now (heard ++ taken) behind h)
+    subst (IsCutShort s before now) (append_assoc heard taken behind ∙ ap (λ x. heard ++ x) (sym e))
+    (cut_longer s before now (heard ++ taken) behind h)
 
 -- a beginning was taken, and then more
-pub takes_more : (bytes taken rest more behind : List ℕ) → bytes ≡ taken ++ rest → rest ≡ more ++ behind → bytes ≡ (taken ++ more) ++ behind
+pub takes_more : (bytes taken rest more behind : List ℕ) → bytes ≡ taken ++ rest → rest ≡ more ++ behind →
+    bytes ≡ (taken ++ more) ++ behind
 takes_more bytes taken rest more behind e f = e ∙ ap (λ x. taken ++ x) f ∙ sym (append_assoc taken more behind)
 
-pub cut_in_rest : (s : FileSeen) (before now : Option (List ℕ)) (heard bytes taken rest : List ℕ) → bytes ≡ taken ++ rest → IsCutShort s before now ((heard ++ taken) ++ rest) → IsCutShort s before now (heard ++ bytes)
-cut_in_rest s before now heard bytes taken rest e h = subst (IsCutShort s before now) (append_assoc heard taken rest ∙ ap (λ x. heard ++ x) (sym e)) h
+pub cut_in_rest : (s : FileSeen) (before now : Option (List ℕ)) (heard bytes taken rest : List ℕ) →
+    bytes ≡ taken ++ rest → IsCutShort s before now ((heard ++ taken) ++ rest) →
+    IsCutShort s before now (heard ++ bytes)
+cut_in_rest s before now heard bytes taken rest e h =
+    subst (IsCutShort s before now) (append_assoc heard taken rest ∙ ap (λ x. heard ++ x) (sym e)) h
 
 pub keeps_consumes : (a b : Option (List ℕ)) → Keeps a b → Consumes a b []
 keeps_consumes None b h = tt
@@ -181,13 +220,16 @@ empty_list [] e = refl
 empty_list (x ∷ xs) e = absurd (omega arith)
 
 -- all bytes were taken
-pub heard_all : (s : FileSeen) (t : ConversationSeen) (before now : Option (List ℕ)) (heard bytes taken rest : List ℕ) → bytes ≡ taken ++ rest → length rest ≡ 0 →
+pub heard_all : (s : FileSeen) (t : ConversationSeen) (before now : Option (List ℕ)) (heard bytes taken rest : List ℕ) →
+    bytes ≡ taken ++ rest → length rest ≡ 0 →
     IsTelling s t before now (heard ++ taken) → IsTelling s t before now (heard ++ bytes)
 heard_all s t before now heard bytes taken rest e n h =
-    subst (IsTelling s t before now) (ap (λ x. heard ++ x) (sym (e ∙ ap (λ x. taken ++ x) (empty_list rest n) ∙ append-nil taken))) h
+    subst (IsTelling s t before now)
+    (ap (λ x. heard ++ x) (sym (e ∙ ap (λ x. taken ++ x) (empty_list rest n) ∙ append-nil taken))) h
 
 -- a write of what waits failed before its image
-pub line_cut : (t : ConversationSeen) (before now : Option (List ℕ)) → TakesBeginning before now t.waiting → TakesBeginning before now (pending t)
+pub line_cut : (t : ConversationSeen) (before now : Option (List ℕ)) → TakesBeginning before now t.waiting →
+    TakesBeginning before now (pending t)
 line_cut t before now h = record {
   taken = h.taken;
   left = h.left ++ image_text t.image;
@@ -197,13 +239,17 @@ line_cut t before now h = record {
 
 -- an image was read, and its file opened
 pub is_opened : (listing : Lists) (talk : ConversationSeen) (left : Option (List ℕ)) →
-    IfSome left (λ input. (l : Lists) × (reading_of (leading input) ≡ Ok l) × (listing ≡ l)) → IsAt (file_of listing) talk [] [] →
+    IfSome left (λ input. (l : Lists) × (reading_of (leading input) ≡ Ok l) × (listing ≡ l)) →
+    IsAt (file_of listing) talk [] [] →
     IfSome left (λ input. (l : Lists) × (reading_of (leading input) ≡ Ok l) × IsAt (file_of l) talk [] [])
 is_opened listing talk None h k = tt
 is_opened listing talk (Some input) h k = (h.0, h.1, subst (λ (l : Lists). IsAt (file_of l) talk [] []) h.2 k)
 
 -- an image was not read
 pub not_opened : (fault : ImageFault) (status : Status) (left : Option (List ℕ)) → status ≡ refused_as fault →
-    IfSome left (λ input. IsDueFault fault (reading_of (leading input))) → IfSome left (λ input. IsUnopened status (reading_of (leading input)))
+    IfSome left (λ input. IsDueFault fault (reading_of (leading input))) →
+    IfSome left (λ input. IsUnopened status (reading_of (leading input)))
 not_opened fault status None is h = tt
-not_opened fault status (Some input) is h = subst (λ (s : Status). IsUnopened s (reading_of (leading input))) (sym is) (unread fault (reading_of (leading input)) h)
+not_opened fault status (Some input) is h =
+    subst (λ (s : Status). IsUnopened s (reading_of (leading input))) (sym is)
+    (unread fault (reading_of (leading input)) h)

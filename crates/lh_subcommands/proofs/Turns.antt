@@ -1,5 +1,6 @@
 -- The texts of a drawing, up to one of them and behind it.
-use Rattle.std.proofs.Common.{◌≡◌, ◌∙◌, true, false, if◌then◌else◌, ℕ, zero, suc, ◌+◌, ◌<◌, ◌≤◌, List, [], ◌++◌, Option, sym, ap, subst, inl, inr, arith, append_assoc, append-nil}
+use Rattle.std.proofs.Common.{◌≡◌, ◌∙◌, true, false, if◌then◌else◌, ℕ, zero, suc, ◌+◌, ◌<◌, ◌≤◌, List, [], ◌++◌, Option}
+use Rattle.std.proofs.Common.{sym, ap, subst, inl, inr, arith, append_assoc, append-nil}
 use Rattle.std.proofs.Math.Numerals.{add-one}
 use Rattle.std.proofs.lemmas.Bool.{cases_lt}
 use Rattle.lh_bucket.specs.Listing.{Lists, size}
@@ -21,10 +22,14 @@ in_turn-rest text zero i low =
     let none : zero ≡ i = omega (arith, low) in ([], ap (in_turn text) none ∙ sym (append-nil (in_turn text i)))
 in_turn-rest text (suc n) i low = elim (cases_lt n i) [
   | inl above ↦
-      let same : suc n ≡ i = omega (arith, low, above) in ([], ap (in_turn text) same ∙ sym (append-nil (in_turn text i)))
+      let same : suc n ≡ i = omega (arith, low, above) in
+      ([], ap (in_turn text) same ∙ sym (append-nil (in_turn text i)))
   | inr within ↦
-      let before = in_turn-rest text n i (omega (arith, within)) in
-      (before.0 ++ text n, ap (λ (some : List ℕ). some ++ text n) before.1 ∙ append_assoc (in_turn text i) before.0 (text n))
+      let before = in_turn-rest text n i (omega (arith, within)) in (
+        before.0 ++ text n,
+        ap (λ (some : List ℕ). some ++ text n) before.1
+            ∙ append_assoc (in_turn text i) before.0 (text n),
+      )
 ]
 
 -- nothing was sent of some texts
@@ -34,8 +39,10 @@ unfolding in_turn
 turn_begins before now waiting sent text h = subst (Sends before now waiting) (sym (append-nil sent)) h
 
 -- a text more was sent
-pub turn_goes_on : (before now : Option (List ℕ)) (waiting sent : List ℕ) (text : ℕ → List ℕ) (i : ℕ) (some : List ℕ) → some ≡ text i →
-    Sends before now waiting ((sent ++ in_turn text i) ++ some) → Sends before now waiting (sent ++ in_turn text (i + 1))
+pub turn_goes_on : (before now : Option (List ℕ)) (waiting sent : List ℕ) (text : ℕ → List ℕ) (i : ℕ) (some : List ℕ) →
+    some ≡ text i →
+    Sends before now waiting ((sent ++ in_turn text i) ++ some) →
+    Sends before now waiting (sent ++ in_turn text (i + 1))
 turn_goes_on before now waiting sent text i some is h =
     subst (Sends before now waiting)
     (append_assoc sent (in_turn text i) some
@@ -45,10 +52,12 @@ turn_goes_on before now waiting sent text i some is h =
 -- all texts were sent
 pub turn_ends : (before now : Option (List ℕ)) (waiting sent : List ℕ) (text : ℕ → List ℕ) (n i : ℕ) → i ≡ n →
     Sends before now waiting (sent ++ in_turn text i) → Sends before now waiting (sent ++ in_turn text n)
-turn_ends before now waiting sent text n i same h = subst (λ (m : ℕ). Sends before now waiting (sent ++ in_turn text m)) same h
+turn_ends before now waiting sent text n i same h =
+    subst (λ (m : ℕ). Sends before now waiting (sent ++ in_turn text m)) same h
 
 -- a beginning of the texts was taken
-pub turn_stops : (before now : Option (List ℕ)) (sent : List ℕ) (text : ℕ → List ℕ) (n i : ℕ) (some : List ℕ) → i < n → some ≡ text i →
+pub turn_stops : (before now : Option (List ℕ)) (sent : List ℕ) (text : ℕ → List ℕ) (n i : ℕ) (some : List ℕ) → i < n →
+    some ≡ text i →
     TakesBeginning before now ((sent ++ in_turn text i) ++ some) → TakesBeginning before now (sent ++ in_turn text n)
 turn_stops before now sent text n i some low is h =
     let rest = in_turn-rest text n (i + 1) (omega (arith, low)) in
@@ -57,19 +66,22 @@ turn_stops before now sent text n i some low is h =
     ∙ append_assoc sent (in_turn text i) (some ++ rest.0)
     ∙ ap (λ (more : List ℕ). sent ++ (in_turn text i ++ (more ++ rest.0))) is
     ∙ ap (λ (more : List ℕ). sent ++ more)
-    (sym (append_assoc (in_turn text i) (text i) rest.0) ∙ ap (λ (more : List ℕ). more ++ rest.0) (sym (in_turn-more text i)) ∙ sym rest.1))
+    (sym (append_assoc (in_turn text i) (text i) rest.0)
+    ∙ ap (λ (more : List ℕ). more ++ rest.0) (sym (in_turn-more text i)) ∙ sym rest.1))
     (begins_longer before now ((sent ++ in_turn text i) ++ some) rest.0 h)
 
 -- a text was sent, and another one behind it
 pub part_sent : (before now : Option (List ℕ)) (waiting sent first some more : List ℕ) → some ≡ more →
     Sends before now waiting ((sent ++ first) ++ some) → Sends before now waiting (sent ++ (first ++ more))
 part_sent before now waiting sent first some more is h =
-    subst (Sends before now waiting) (append_assoc sent first some ∙ ap (λ (text : List ℕ). sent ++ (first ++ text)) is) h
+    subst (Sends before now waiting) (append_assoc sent first some ∙ ap (λ (text : List ℕ). sent ++ (first ++ text)) is)
+    h
 
 pub part_stopped : (before now : Option (List ℕ)) (sent first some more : List ℕ) → some ≡ more →
     TakesBeginning before now ((sent ++ first) ++ some) → TakesBeginning before now (sent ++ (first ++ more))
 part_stopped before now sent first some more is h =
-    subst (TakesBeginning before now) (append_assoc sent first some ∙ ap (λ (text : List ℕ). sent ++ (first ++ text)) is) h
+    subst (TakesBeginning before now)
+    (append_assoc sent first some ∙ ap (λ (text : List ℕ). sent ++ (first ++ text)) is) h
 
 -- and another one was to follow
 pub stops_longer : (before now : Option (List ℕ)) (sent first more : List ℕ) →
@@ -80,7 +92,8 @@ stops_longer before now sent first more h =
 -- a text was sent
 pub text_sent : (before now : Option (List ℕ)) (waiting sent some more : List ℕ) → some ≡ more →
     Sends before now waiting (sent ++ some) → Sends before now waiting (sent ++ more)
-text_sent before now waiting sent some more is h = subst (λ (text : List ℕ). Sends before now waiting (sent ++ text)) is h
+text_sent before now waiting sent some more is h =
+    subst (λ (text : List ℕ). Sends before now waiting (sent ++ text)) is h
 
 pub text_stopped : (before now : Option (List ℕ)) (sent some more : List ℕ) → some ≡ more →
     TakesBeginning before now (sent ++ some) → TakesBeginning before now (sent ++ more)
@@ -89,8 +102,17 @@ text_stopped before now sent some more is h = subst (λ (text : List ℕ). Takes
 -- the columns of few buckets, and of many
 pub columns_of_few : (l : Lists) → is_detailed (size l) ≡ true → in_turn (chain_text l) (size l) ≡ columns_text l
 unfolding columns_text
-columns_of_few l few = ap (λ b. if b then in_turn (chain_text l) (size l) else in_turn (λ column. bar_text (group_bar l column)) (column_count (size l))) (sym few)
+columns_of_few l few =
+    ap
+    (λ b.
+    if b then in_turn (chain_text l) (size l)
+    else in_turn (λ column. bar_text (group_bar l column)) (column_count (size l))) (sym few)
 
-pub columns_of_many : (l : Lists) → is_detailed (size l) ≡ false → in_turn (λ column. bar_text (group_bar l column)) (column_count (size l)) ≡ columns_text l
+pub columns_of_many : (l : Lists) → is_detailed (size l) ≡ false →
+    in_turn (λ column. bar_text (group_bar l column)) (column_count (size l)) ≡ columns_text l
 unfolding columns_text
-columns_of_many l many = ap (λ b. if b then in_turn (chain_text l) (size l) else in_turn (λ column. bar_text (group_bar l column)) (column_count (size l))) (sym many)
+columns_of_many l many =
+    ap
+    (λ b.
+    if b then in_turn (chain_text l) (size l)
+    else in_turn (λ column. bar_text (group_bar l column)) (column_count (size l))) (sym many)

@@ -17,7 +17,8 @@ IsReadOf most input read = (read ≡ input) ⊎ ((most < length input) × (most 
 abbrev pub written_at_once : ℕ
 written_at_once = 65536
 
--- no line has more bytes: key and value, of 56 and 112 bytes at most, take two digits a byte, and all else less than 256
+-- no line has more bytes: key and value, of 56 and 112 bytes at most, take two digits a byte, and all else less than
+-- 256
 abbrev pub longest_line : ℕ
 longest_line = 592
 

@@ -41,9 +41,9 @@ abbrev pub Breaks : FileSeen → DeviceFault → Option (List ℕ) → Option (L
 Breaks start Read before now heard bytes = (bytes ≡ []) × HasTold start before now heard
 Breaks start Write before now heard bytes = IsCutShort start before now (heard ++ bytes)
 
--- How `serve` of a file ends on an input, with what the reader has left: done, and it told the answers to all lines of the input;
--- a failed read, and it told just the answers to the lines that had come by then; a failed write, and it told a
--- beginning of such answers; out of memory at once, and it heard and told nothing.
+-- How `serve` of a file ends on an input, with what the reader has left: done, and it told the answers to all lines of
+-- the input; a failed read, and it told just the answers to the lines that had come by then; a failed write, and it
+-- told a beginning of such answers; out of memory at once, and it heard and told nothing.
 abbrev pub EndsServing : FileSeen → List ℕ → Status → Option (List ℕ) → Option (List ℕ) → Option (List ℕ) → Type 0
 EndsServing start input Done rest before now = HasTold start before now input
 EndsServing start input (Device Read) rest before now =
@@ -57,13 +57,15 @@ EndsServing start input _ rest before now = ⊥
 abbrev pub IsUnread : Status → Type 0
 IsUnread status = (status ≡ Device Read) ⊎ (status ≡ Memory)
 
--- how a run ends whose input begins with no image that is read, by what it is read as: unread, or with the image's fault
+-- how a run ends whose input begins with no image that is read, by what it is read as: unread, or with the image's
+-- fault
 abbrev pub IsUnopened : Status → Result Lists ImageFault → Type 0
 IsUnopened status due = IsUnread status ⊎ ((fault : ImageFault) × (due ≡ Err fault) × (status ≡ Input (Image fault)))
 
--- how `serve` ends whose input begins with an image, by what that is read as and what follows it: the file of its listing
--- is served, or nothing is told, since reads or memory failed, or since it is none
-abbrev pub EndsGoingOn : Result Lists ImageFault → List ℕ → Status → Option (List ℕ) → Option (List ℕ) → Option (List ℕ) → Type 0
+-- how `serve` ends whose input begins with an image, by what that is read as and what follows it: the file of its
+-- listing is served, or nothing is told, since reads or memory failed, or since it is none
+abbrev pub EndsGoingOn : Result Lists ImageFault → List ℕ → Status → Option (List ℕ) → Option (List ℕ) →
+    Option (List ℕ) → Type 0
 EndsGoingOn (Ok l) lines status rest before now =
     EndsServing (file_of l) lines status rest before now ⊎ (IsUnread status × Keeps before now)
 EndsGoingOn (Err fault) lines status rest before now = Ends status (Err (Image fault)) before now

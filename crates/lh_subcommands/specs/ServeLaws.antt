@@ -30,8 +30,8 @@ AreCalled [] = Unit {0}
 AreCalled (turn ∷ turns) = AreCalled turns × IsCalled (asked_by (kept turn.said)) turn.answer
 
 -- Where an input is no longer than a script may be, each of its lines is complete and asks for nothing or a call, and
--- memory didn't run out, `commands` has the answers written that `serve` gave from an empty file on, and then the number
--- of buckets: so the script that `commands` makes of it has no fault.
+-- memory didn't run out, `commands` has the answers written that `serve` gave from an empty file on, and then the
+-- number of buckets: so the script that `commands` makes of it has no fault.
 abbrev pub SameRepliesLaw : Type 0
 SameRepliesLaw =
     (settings : Settings) (input answers : List ℕ) (h : IsAnswered (first_file settings) input answers) →

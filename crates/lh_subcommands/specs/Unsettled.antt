@@ -3,7 +3,8 @@ use Rattle.std.specs.Prelude.{ℕ, List, ◌++◌, codes}
 use Rattle.std.specs.Fmt.{decimal}
 use Rattle.lh_script.specs.Texts.{hexadecimal_text}
 use Rattle.lh_subcommands.specs.declared.unsettled.Unsettled.{Unsettled}
-use Rattle.lh_subcommands.specs.declared.unsettled.Unsettled.TheVariants.{SplitUnderWay, MissingStamp, Reply, Content, Placed, Call}
+use Rattle.lh_subcommands.specs.declared.unsettled.Unsettled.TheVariants.{SplitUnderWay, MissingStamp, Reply, Content}
+use Rattle.lh_subcommands.specs.declared.unsettled.Unsettled.TheVariants.{Placed, Call}
 
 -- the text of such a fault
 abbrev pub unsettled_text : Unsettled → List ℕ

@@ -3,7 +3,8 @@
 ghost use Rattle.std.specs.Prelude.{◌≡◌, IfOk, IfSome};
 ghost use Rattle.lh_image.specs.Reading.{IsDueAnswer};
 ghost use Rattle.lh_image.specs.Writing.{IsWritten};
-ghost use Rattle.lh_subcommands.specs.Images.{EndsBuilding, IsLedTo, check_due, dump_due, migrate_due, refused_as, unwritten_as};
+ghost use Rattle.lh_subcommands.specs.Images.{EndsBuilding, IsLedTo, check_due, dump_due, migrate_due, refused_as};
+ghost use Rattle.lh_subcommands.specs.Images.{unwritten_as};
 ghost use Rattle.lh_subcommands.specs.Run.{Ends};
 
 use crate::answer::read_script;

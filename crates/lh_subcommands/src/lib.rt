@@ -2,11 +2,11 @@
 //! status. They rest on no running file, so they are proved beside it.
 //!
 //! `commands` reads a command script, answers its calls and writes their replies. `steps` reads a step script, takes
-//! its steps and writes the effect of each; `replay` draws them. `build` reads a command script and writes the resulting
-//! file as an image; `check` reads an image and writes its counts, `dump` its records, `draw` a drawing, and `migrate`
-//! its image in version 2. `query` and `apply` read an image and behind it a command script: `query` writes the replies,
-//! and `apply` the image of the file that the calls leave. `serve` answers lines as they come. What the one
-//! that works in threads shares with them stands here too.
+//! its steps and writes the effect of each; `replay` draws them. `build` reads a command script and writes the
+//! resulting file as an image; `check` reads an image and writes its counts, `dump` its records, `draw` a drawing, and
+//! `migrate` its image in version 2. `query` and `apply` read an image and behind it a command script: `query` writes
+//! the replies, and `apply` the image of the file that the calls leave. `serve` answers lines as they come. What the
+//! one that works in threads shares with them stands here too.
 #![tactic(auto)]
 
 mod answer;

@@ -1,5 +1,6 @@
 //! Lines on their way to a writer: they wait until there are enough of them for one write.
-ghost use Rattle.std.specs.Prelude.{◌≡◌, ◌<◌, ◌++◌, ℕ, List, Option, OnOk, OnErr, IfOk, IfSome, flat_map, length, Some, []};
+ghost use Rattle.std.specs.Prelude.{◌≡◌, ◌<◌, ◌++◌, ℕ, List, Option, OnOk, OnErr, IfOk, IfSome, flat_map, length, Some};
+ghost use Rattle.std.specs.Prelude.{[]};
 ghost use Rattle.std.specs.String.{string_bytes};
 ghost use Rattle.std.specs.Io.KnownBytes.{Appends};
 ghost use Rattle.lh_bucket.specs.Listing.{list_at, size};
@@ -22,8 +23,8 @@ use std::io::Write;
 const CHUNK: usize = 65_536;
 
 /// No line is longer ([a law](crate::laws::lines_have_room)): key and value take two digits a byte, and all else takes
-/// less than 256 bytes. A step of a picture has none of them, and takes less than 550. What stands above a picture's steps is longer, and comes first, when
-/// nothing waits.
+/// less than 256 bytes. A step of a picture has none of them, and takes less than 550. What stands above a picture's
+/// steps is longer, and comes first, when nothing waits.
 const LONGEST_LINE: usize = 256 + 2 * (LONGEST_KEY + LONGEST_VALUE);
 
 /// Room for the lines that wait, so that none of them needs memory later.

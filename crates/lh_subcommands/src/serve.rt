@@ -1,5 +1,6 @@
 //! The subcommand `serve`: each line of the input is answered by a line of the output, while both stay open.
-ghost use Rattle.std.specs.Prelude.{◌≡◌, ◌<◌, ◌≤◌, ◌++◌, ℕ, List, None, Option, [], false, IfErr, IfOk, IfSome, Ok, OnErr, OnOk, Some, length, take};
+ghost use Rattle.std.specs.Prelude.{◌≡◌, ◌<◌, ◌≤◌, ◌++◌, ℕ, List, None, Option, [], false, IfErr, IfOk, IfSome, Ok};
+ghost use Rattle.std.specs.Prelude.{OnErr, OnOk, Some, length, take};
 ghost use Rattle.std.specs.Io.{ReadsAtMost};
 ghost use Rattle.std.specs.Io.KnownBytes.{Appends, Consumes, IsAtEnd, Keeps, ReadConsumes};
 ghost use Rattle.lh_bucket.specs.Listing.{Lists};
@@ -180,8 +181,8 @@ fn take_turn<R: Read, W: Write>(
     }
 }
 
-/// Answers each line of the input until it ends. At each read just the answers to the complete lines before it have been
-/// written, and flushed.
+/// Answers each line of the input until it ends. At each read just the answers to the complete lines before it have
+/// been written, and flushed.
 fn converse<R: Read, W: Write>(
     alloc: Global,
     mut talk: Conversation,

@@ -1,5 +1,6 @@
 -- From the calls of a script to the totals of a run in threads
-use Rattle.std.proofs.Common.{◌≡◌, ◌∙◌, ℕ, ◌+◌, ◌%◌, ◌^◌, true, List, ◌++◌, All, Option, None, Some, IfSome, length, take, refl, sym, subst, inl, inr, arith}
+use Rattle.std.proofs.Common.{◌≡◌, ◌∙◌, ℕ, ◌+◌, ◌%◌, ◌^◌, true, List, ◌++◌, All, Option, None, Some, IfSome, length}
+use Rattle.std.proofs.Common.{take, refl, sym, subst, inl, inr, arith}
 use Rattle.std.specs.Prelude.{Ok, Err}
 use Rattle.std.specs.Io.KnownBytes.{Appends}
 use Rattle.std.proofs.KnownBytes.{Keeps-refl}
@@ -22,7 +23,8 @@ use Rattle.lh_file.specs.Words.HandState.{HandState}
 use Rattle.lh_script.specs.Commands.{command}
 use Rattle.lh_subcommands.specs.Devices.{TakesBeginning}
 use Rattle.lhash.specs.Driven.{driven_text, snapshots_text}
-use Rattle.lhash.specs.Driving.{AreSettled, EndsDriving, IsDrivenWith, IsDriveFault, IsDriveFaultWith, IsFaultOfOne, IsSettledBefore, empty_file, ended_by}
+use Rattle.lhash.specs.Driving.{AreSettled, EndsDriving, IsDrivenWith, IsDriveFault, IsDriveFaultWith, IsFaultOfOne}
+use Rattle.lhash.specs.Driving.{IsSettledBefore, empty_file, ended_by}
 use Rattle.lh_subcommands.specs.Run.{ReadsScript}
 use Rattle.lh_script.specs.Scripts.{script}
 use Rattle.lhash.specs.declared.drive.DriveFault.{DriveFault}
@@ -32,7 +34,8 @@ use Rattle.lhash.specs.Workers.{HasTakenOne}
 use Rattle.lh_subcommands.specs.declared.status.DeviceFault.TheVariants.{Read, Write}
 use Rattle.lh_subcommands.specs.declared.status.InputFault.TheVariants.{Script, Image, Unwritten}
 use Rattle.lh_subcommands.specs.declared.status.Status.{Status}
-use Rattle.lh_subcommands.specs.declared.status.Status.TheVariants.{Done, Input, Words, Device, NotSettled, Memory as NoMemory}
+use Rattle.lh_subcommands.specs.declared.status.Status.TheVariants.{Done, Input, Words, Device, NotSettled}
+use Rattle.lh_subcommands.specs.declared.status.Status.TheVariants.{Memory as NoMemory}
 
 -- a run that read no script ends without a write
 unread : (settings : Settings) (snapshots : ℕ) (status : Status) (input : List ℕ) (a : Option (List ℕ)) →
@@ -49,12 +52,14 @@ unread settings snapshots NoMemory input a h = Keeps-refl a
 unread settings snapshots (NotSettled reason) input a h = absurd h
 
 pub unrun : (settings : Settings) (snapshots : ℕ) (status : Status) (left a : Option (List ℕ)) →
-    IfSome left (λ input. ReadsScript {A = CallOf} (Err status) (script command input)) → IfSome left (λ input. EndsDriving settings snapshots input status a a)
+    IfSome left (λ input. ReadsScript {A = CallOf} (Err status) (script command input)) →
+    IfSome left (λ input. EndsDriving settings snapshots input status a a)
 unrun settings snapshots status None a h = tt
 unrun settings snapshots status (Some input) a h = unread settings snapshots status input a h
 
 -- a run that is out of memory ends without a write
-pub undriven_memory : (settings : Settings) (snapshots : ℕ) (left a : Option (List ℕ)) → IfSome left (λ input. EndsDriving settings snapshots input NoMemory a a)
+pub undriven_memory : (settings : Settings) (snapshots : ℕ) (left a : Option (List ℕ)) →
+    IfSome left (λ input. EndsDriving settings snapshots input NoMemory a a)
 unfolding EndsDriving
 undriven_memory settings snapshots None a = tt
 undriven_memory settings snapshots (Some input) a = Keeps-refl a
@@ -64,51 +69,71 @@ abbrev pub IsScriptOf : Option (List ℕ) → List CallOf → Type 0
 IsScriptOf left calls = IfSome left (λ input. script command input ≡ Ok calls)
 
 -- and so does one that has no totals
-ends_so : (settings : Settings) (snapshots : ℕ) (input : List ℕ) (calls : List CallOf) (fault : DriveFault) (a : Option (List ℕ)) → script command input ≡ Ok calls →
+ends_so : (settings : Settings) (snapshots : ℕ) (input : List ℕ) (calls : List CallOf) (fault : DriveFault)
+    (a : Option (List ℕ)) → script command input ≡ Ok calls →
     IsDriveFaultWith settings snapshots fault → EndsDriving settings snapshots input (ended_by fault) a a
 unfolding EndsDriving
-ends_so settings snapshots input calls (Settle settle.SplitUnderWay) a given h = (calls, given, (Settle settle.SplitUnderWay, h, refl), Keeps-refl a)
-ends_so settings snapshots input calls (Settle (settle.MissingStamp stamp)) a given h = (calls, given, (Settle (settle.MissingStamp stamp), h, refl), Keeps-refl a)
-ends_so settings snapshots input calls (Settle (settle.Reply stamp was due)) a given h = (calls, given, (Settle (settle.Reply stamp was due), h, refl), Keeps-refl a)
-ends_so settings snapshots input calls (Settle (settle.Content key)) a given h = (calls, given, (Settle (settle.Content key), h, refl), Keeps-refl a)
-ends_so settings snapshots input calls (Settle (settle.Placed bucket key)) a given h = (calls, given, (Settle (settle.Placed bucket key), h, refl), Keeps-refl a)
+ends_so settings snapshots input calls (Settle settle.SplitUnderWay) a given h =
+    (calls, given, (Settle settle.SplitUnderWay, h, refl), Keeps-refl a)
+ends_so settings snapshots input calls (Settle (settle.MissingStamp stamp)) a given h =
+    (calls, given, (Settle (settle.MissingStamp stamp), h, refl), Keeps-refl a)
+ends_so settings snapshots input calls (Settle (settle.Reply stamp was due)) a given h =
+    (calls, given, (Settle (settle.Reply stamp was due), h, refl), Keeps-refl a)
+ends_so settings snapshots input calls (Settle (settle.Content key)) a given h =
+    (calls, given, (Settle (settle.Content key), h, refl), Keeps-refl a)
+ends_so settings snapshots input calls (Settle (settle.Placed bucket key)) a given h =
+    (calls, given, (Settle (settle.Placed bucket key), h, refl), Keeps-refl a)
 ends_so settings snapshots input calls (Settle settle.Memory) a given h = Keeps-refl a
 ends_so settings snapshots input calls (Call fault) a given h = (calls, given, (Call fault, h, refl), Keeps-refl a)
 ends_so settings snapshots input calls Thread a given h = Keeps-refl a
 ends_so settings snapshots input calls Memory a given h = Keeps-refl a
 
-pub undriven_so : (settings : Settings) (snapshots : ℕ) (calls : List CallOf) (fault : DriveFault) (status : Status) (left a : Option (List ℕ)) → IsScriptOf left calls →
-    IsDriveFaultWith settings snapshots fault → status ≡ ended_by fault → IfSome left (λ input. EndsDriving settings snapshots input status a a)
+pub undriven_so : (settings : Settings) (snapshots : ℕ) (calls : List CallOf) (fault : DriveFault) (status : Status)
+    (left a : Option (List ℕ)) → IsScriptOf left calls →
+    IsDriveFaultWith settings snapshots fault → status ≡ ended_by fault →
+    IfSome left (λ input. EndsDriving settings snapshots input status a a)
 undriven_so settings snapshots calls fault status None a given h is = tt
 undriven_so settings snapshots calls fault status (Some input) a given h is =
-    subst (λ (s : Status). EndsDriving settings snapshots input s a a) (sym is) (ends_so settings snapshots input calls fault a given h)
+    subst (λ (s : Status). EndsDriving settings snapshots input s a a) (sym is)
+    (ends_so settings snapshots input calls fault a given h)
 
 -- the totals were written
-pub totals_told : (settings : Settings) (snapshots : ℕ) (calls : List CallOf) (d : Driven) (text : List ℕ) (left before now : Option (List ℕ)) → IsScriptOf left calls →
-    IsDrivenWith settings calls snapshots d → text ≡ driven_text d ++ snapshots_text snapshots → Appends before now text → IfSome left (λ input. EndsDriving settings snapshots input Done before now)
+pub totals_told : (settings : Settings) (snapshots : ℕ) (calls : List CallOf) (d : Driven) (text : List ℕ)
+    (left before now : Option (List ℕ)) → IsScriptOf left calls →
+    IsDrivenWith settings calls snapshots d → text ≡ driven_text d ++ snapshots_text snapshots →
+    Appends before now text → IfSome left (λ input. EndsDriving settings snapshots input Done before now)
 unfolding EndsDriving
 totals_told settings snapshots calls d text None before now given driven is h = tt
-totals_told settings snapshots calls d text (Some input) before now given driven is h = (calls, text, given, (d, driven, is), h)
+totals_told settings snapshots calls d text (Some input) before now given driven is h =
+    (calls, text, given, (d, driven, is), h)
 
 -- a beginning of them was written
-pub totals_begun : (settings : Settings) (snapshots : ℕ) (calls : List CallOf) (d : Driven) (text : List ℕ) (left before now : Option (List ℕ)) → IsScriptOf left calls →
-    IsDrivenWith settings calls snapshots d → text ≡ driven_text d ++ snapshots_text snapshots → TakesBeginning before now text → IfSome left (λ input. EndsDriving settings snapshots input (Device Write) before now)
+pub totals_begun : (settings : Settings) (snapshots : ℕ) (calls : List CallOf) (d : Driven) (text : List ℕ)
+    (left before now : Option (List ℕ)) → IsScriptOf left calls →
+    IsDrivenWith settings calls snapshots d → text ≡ driven_text d ++ snapshots_text snapshots →
+    TakesBeginning before now text →
+    IfSome left (λ input. EndsDriving settings snapshots input (Device Write) before now)
 unfolding EndsDriving
 totals_begun settings snapshots calls d text None before now given driven is h = tt
-totals_begun settings snapshots calls d text (Some input) before now given driven is h = (calls, text, given, (d, driven, is), h)
+totals_begun settings snapshots calls d text (Some input) before now given driven is h =
+    (calls, text, given, (d, driven, is), h)
 
 -- a history has a reply for each call of its acts
-pub replies_made : (acts history : List ActLine) → IsInOrder acts history → length (replies_of history) ≡ length (calls_of acts)
+pub replies_made : (acts history : List ActLine) → IsInOrder acts history →
+    length (replies_of history) ≡ length (calls_of acts)
 replies_made acts history order =
-    length-map history (λ act. act.reply) ∙ length_permutation acts history order.same ∙ sym (length-map acts (λ act. act.call))
+    length-map history (λ act. act.reply) ∙ length_permutation acts history order.same
+    ∙ sym (length-map acts (λ act. act.call))
 
 -- without snapshots there is no fault of one
-pub none_taken : (settings : Settings) (fault : DriveFault) → IsDriveFaultWith settings 0 fault → IsDriveFault settings fault
+pub none_taken : (settings : Settings) (fault : DriveFault) → IsDriveFaultWith settings 0 fault →
+    IsDriveFault settings fault
 none_taken settings fault (inl h) = h
 none_taken settings fault (inr h) = absurd (omega (arith, h.0))
 
 -- totals of as many calls and snapshots
-pub driven_as : (s t : Settings) (calls other : List CallOf) (n m : ℕ) (d : Driven) → s ≡ t → length calls ≡ length other → n ≡ m →
+pub driven_as : (s t : Settings) (calls other : List CallOf) (n m : ℕ) (d : Driven) → s ≡ t →
+    length calls ≡ length other → n ≡ m →
     IsDrivenWith s calls n d → IsDrivenWith t other m d
 driven_as s t calls other n m d is same count h = subst (λ (x : Settings). IsDrivenWith x other m d) is (record {
   driven = record {
@@ -128,19 +153,27 @@ driven_as s t calls other n m d is same count h = subst (λ (x : Settings). IsDr
 })
 
 -- the history of the acts before each snapshot is the first part of that of all
-pub first_of : BeforeLaw → (settings : Settings) (closed : ClosedFile) (acts history : List ActLine) (taken : List ClosedFile) → IsHistory closed acts history →
-    All (IsSettledBefore settings acts) taken → All (λ snapshot. IsSettledFirst (empty_file settings) snapshot acts history) taken
+pub first_of : BeforeLaw →
+    (settings : Settings) (closed : ClosedFile) (acts history : List ActLine) (taken : List ClosedFile) →
+    IsHistory closed acts history →
+    All (IsSettledBefore settings acts) taken →
+    All (λ snapshot. IsSettledFirst (empty_file settings) snapshot acts history) taken
 first_of law settings closed acts history taken is each =
     All-weaker (IsSettledBefore settings acts) (λ snapshot. IsSettledFirst (empty_file settings) snapshot acts history)
-    (λ snapshot h. subst (IsSettled (empty_file settings) snapshot (acts_before snapshot.stamps acts)) (law snapshot closed acts h.1.0 history h.1.1.stamped is) h.1.1)
+    (λ snapshot h.
+    subst (IsSettled (empty_file settings) snapshot (acts_before snapshot.stamps acts))
+    (law snapshot closed acts h.1.0 history h.1.1.stamped is) h.1.1)
     taken each
 
 -- none comes where the closed file was gathered
-pub snapshot_fault : (settings : Settings) (closed : ClosedFile) (acts history : List ActLine) (taken : List ClosedFile) (fault : DriveFault) → closed.config ≡ settings →
-    IsSettled (empty_file settings) closed acts history → All (λ (snapshot : ClosedFile). snapshot.config ≡ settings) taken →
+pub snapshot_fault : (settings : Settings) (closed : ClosedFile) (acts history : List ActLine) (taken : List ClosedFile)
+    (fault : DriveFault) → closed.config ≡ settings →
+    IsSettled (empty_file settings) closed acts history →
+    All (λ (snapshot : ClosedFile). snapshot.config ≡ settings) taken →
     (closed.gathered ≡ true → closed.root % 2 ≡ 0 → AreSettled (empty_file settings) closed acts taken) →
     IsFaultOfOne settings acts taken fault → IsDriveFaultWith settings (length taken) fault
-snapshot_fault settings closed acts history taken (Settle fault) is settled configs known (snapshot, there, due, ne, un) =
+snapshot_fault settings closed acts history taken (Settle fault) is settled configs known
+    (snapshot, there, due, ne, un) =
     let some = there.1 in
     inr (
       omega arith,
@@ -155,7 +188,11 @@ snapshot_fault settings closed acts history taken (Settle fault) is settled conf
         ne,
         λ all.
             let k = known all settled.stamped.whole in
-            un (take snapshot.stamps k.0, All-contains (λ (s : ClosedFile). IsSettledFirst (empty_file settings) s acts k.0) taken snapshot k.2 there),
+            un (
+              take snapshot.stamps k.0,
+              All-contains (λ (s : ClosedFile). IsSettledFirst (empty_file settings) s acts k.0) taken snapshot
+                  k.2 there,
+            ),
       ),
     )
 snapshot_fault settings closed acts history taken (Call fault) is settled configs known h = absurd h
@@ -163,16 +200,24 @@ snapshot_fault settings closed acts history taken Thread is settled configs know
 snapshot_fault settings closed acts history taken Memory is settled configs known h = inl tt
 
 -- where the file has its history and all calls are at home, all of its snapshots are settled
-pub all_settled : SnapshotLaw → (file : FileState) (opening : Lists) (closed : ClosedFile) (acts : List ActLine) (hand : HandState) (taken : List ClosedFile) → file.listing ≡ opening →
-    HasHistory file.listing closed acts hand → hand.view.left + length hand.acts ≡ 2 ^ 63 → NoneLent hand.entries → All (HasTakenOne file hand) taken → AreSettled opening closed acts taken
+pub all_settled : SnapshotLaw →
+    (file : FileState) (opening : Lists) (closed : ClosedFile) (acts : List ActLine) (hand : HandState)
+    (taken : List ClosedFile) → file.listing ≡ opening →
+    HasHistory file.listing closed acts hand → hand.view.left + length hand.acts ≡ 2 ^ 63 → NoneLent hand.entries →
+    All (HasTakenOne file hand) taken → AreSettled opening closed acts taken
 all_settled law file opening closed acts hand taken from held full none each =
     let own = (held.2 full none).0 in
     subst (λ (l : Lists). AreSettled l closed acts taken) from (
       lines_of held.0,
       own,
       All-weaker (HasTakenOne file hand) (λ (s : ClosedFile). IsSettledFirst file.listing s acts (lines_of held.0))
-          (λ s t. law file.listing s closed t.entries t.logs t.log hand acts (lines_of held.0) t.whole t.is t.told held full none own) taken each,
+          (λ s t.
+          law file.listing s closed t.entries t.logs t.log hand acts (lines_of held.0) t.whole t.is t.told held
+          full none own) taken each,
     )
 
-pub configs_taken : (file : FileState) (settings : Settings) (hand : HandState) (taken : List ClosedFile) → file.config ≡ settings → All (HasTakenOne file hand) taken → All (λ (snapshot : ClosedFile). snapshot.config ≡ settings) taken
-configs_taken file settings hand taken is each = All-weaker (HasTakenOne file hand) (λ (s : ClosedFile). s.config ≡ settings) (λ s t. t.config ∙ is) taken each
+pub configs_taken : (file : FileState) (settings : Settings) (hand : HandState) (taken : List ClosedFile) →
+    file.config ≡ settings → All (HasTakenOne file hand) taken →
+    All (λ (snapshot : ClosedFile). snapshot.config ≡ settings) taken
+configs_taken file settings hand taken is each =
+    All-weaker (HasTakenOne file hand) (λ (s : ClosedFile). s.config ≡ settings) (λ s t. t.config ∙ is) taken each

@@ -1,7 +1,8 @@
 -- Hands that look at their file, and make no call
 use Rattle.std.proofs.Common.{◌≡◌, ◌∙◌, ℕ, ◌%◌, List, [], ◌∷◌, ◌++◌, All, inl, inr, refl, sym, ap, subst}
 use Rattle.std.specs.Prelude.{Contains}
-use Rattle.std.proofs.lemmas.List.Elements.{All-weaker, All-push, Contains-append_left, Contains-append_right, Contains-push}
+use Rattle.std.proofs.lemmas.List.Elements.{All-weaker, All-push, Contains-append_left, Contains-append_right}
+use Rattle.std.proofs.lemmas.List.Elements.{Contains-push}
 use Rattle.lh_settling.specs.ClosedFile.{ClosedFile}
 use Rattle.lh_file.specs.Closing.{NoneLent}
 use Rattle.lh_file.specs.FileState.{FileState, IsOf}
@@ -14,18 +15,22 @@ use Rattle.lhash.specs.Workers.{HasLookedOn, HasTakenOne, KnowsOf}
 
 -- a hand that was told of more forgets nothing
 knows_more : (old new : HandState) (more : List (List Entry)) → new.logs ≡ old.logs ++ more → KnowsOf old new
-knows_more old new more is log in_old = subst (λ logs. Contains logs log) (sym is) (Contains-append_left old.logs more log in_old)
+knows_more old new more is log in_old =
+    subst (λ logs. Contains logs log) (sym is) (Contains-append_left old.logs more log in_old)
 
 -- and nor does one that two were joined into
 pub joined_knows : (first second new : HandState) → IsJoined first second new → KnowsOf first new × KnowsOf second new
 joined_knows first second new j = (
   knows_more first new second.logs j.logs,
-  λ log in_second. subst (λ logs. Contains logs log) (sym j.logs) (Contains-append_right first.logs second.logs log in_second),
+  λ log in_second.
+      subst (λ logs. Contains logs log) (sym j.logs) (Contains-append_right first.logs second.logs log in_second),
 )
 
 -- one that has looked on, and again
-looked : (file : FileState) (first old new same : HandState) → new ≡ same → same.entries ≡ old.entries → same.acts ≡ old.acts →
-    share_of same ≡ share_of old → KnowsOf old same → IsOf file new → HasLookedOn file first old → HasLookedOn file first new
+looked : (file : FileState) (first old new same : HandState) → new ≡ same → same.entries ≡ old.entries →
+    same.acts ≡ old.acts →
+    share_of same ≡ share_of old → KnowsOf old same → IsOf file new → HasLookedOn file first old →
+    HasLookedOn file first new
 looked file first old new same is entries acts share knows of k = record {
   own = record { of = of; own = subst NoneLent (sym (ap (λ (h : HandState). h.entries) is ∙ entries)) k.own.own };
   acts = ap (λ (h : HandState). h.acts) is ∙ acts ∙ k.acts;
@@ -36,7 +41,8 @@ looked file first old new same is entries acts share knows of k = record {
 pub looked_first : (file : FileState) (hand : HandState) → IsOwn file hand → HasLookedOn file hand hand
 looked_first file hand own = record { own = own; acts = refl; share = refl; knows = λ log there. there }
 
-pub looked_told : (file : FileState) (first old new : HandState) (count : ℕ) (log : List Entry) → new ≡ told_of old count log →
+pub looked_told : (file : FileState) (first old new : HandState) (count : ℕ) (log : List Entry) →
+    new ≡ told_of old count log →
     HasLookedOn file first old → HasLookedOn file first new
 looked_told file first old new count log is k =
     let of : IsOf file (told_of old count log) = record {
@@ -45,7 +51,8 @@ looked_told file first old new count log is k =
       max = k.own.of.max;
       recording = k.own.of.recording;
     } in
-    looked file first old new (told_of old count log) is refl refl refl (knows_more old (told_of old count log) (log ∷ []) refl) (subst (IsOf file) (sym is) of) k
+    looked file first old new (told_of old count log) is refl refl refl
+    (knows_more old (told_of old count log) (log ∷ []) refl) (subst (IsOf file) (sym is) of) k
 
 pub looked_surveyed : (file : FileState) (first old new : HandState) → HasSurveyed old new → IsOf file new →
     HasLookedOn file first old → HasLookedOn file first new
@@ -56,12 +63,21 @@ looked_surveyed file first old new h of k =
           (knows_more old (told_of (knowing old h.known) told.0 told.1) (told.1 ∷ []) refl) of k
     ]
 
-pub looked_again : (file : FileState) (first old new : HandState) → HasLookedOn file old new → HasLookedOn file first old → HasLookedOn file first new
-looked_again file first old new h k = record { own = h.own; acts = h.acts ∙ k.acts; share = h.share ∙ k.share; knows = λ log there. h.knows log (k.knows log there) }
+pub looked_again : (file : FileState) (first old new : HandState) → HasLookedOn file old new →
+    HasLookedOn file first old → HasLookedOn file first new
+looked_again file first old new h k =
+    record {
+      own = h.own;
+      acts = h.acts ∙ k.acts;
+      share = h.share ∙ k.share;
+      knows = λ log there. h.knows log (k.knows log there);
+    }
 
 -- a snapshot was taken just now
-pub taken_now : (file : FileState) (old new : HandState) (snapshot : ClosedFile) (known : ℕ) (log : List Entry) → snapshot.config ≡ file.config → snapshot.root % 2 ≡ 0 →
-    new ≡ told_of (knowing old known) snapshot.stamps log → IsSnapshot file.listing snapshot old.entries old.logs log → HasTakenOne file new snapshot
+pub taken_now : (file : FileState) (old new : HandState) (snapshot : ClosedFile) (known : ℕ) (log : List Entry) →
+    snapshot.config ≡ file.config → snapshot.root % 2 ≡ 0 →
+    new ≡ told_of (knowing old known) snapshot.stamps log → IsSnapshot file.listing snapshot old.entries old.logs log →
+    HasTakenOne file new snapshot
 taken_now file old new snapshot known log config whole is held = record {
   config = config;
   whole = whole;
@@ -73,11 +89,26 @@ taken_now file old new snapshot known log config whole is held = record {
 }
 
 -- what was taken before still was
-taken_still : (file : FileState) (old new : HandState) → KnowsOf old new → (snapshot : ClosedFile) → HasTakenOne file old snapshot → HasTakenOne file new snapshot
-taken_still file old new knows snapshot t = record { config = t.config; whole = t.whole; entries = t.entries; logs = t.logs; log = t.log; is = t.is; told = knows t.log t.told }
+taken_still : (file : FileState) (old new : HandState) → KnowsOf old new → (snapshot : ClosedFile) →
+    HasTakenOne file old snapshot → HasTakenOne file new snapshot
+taken_still file old new knows snapshot t =
+    record {
+      config = t.config;
+      whole = t.whole;
+      entries = t.entries;
+      logs = t.logs;
+      log = t.log;
+      is = t.is;
+      told = knows t.log t.told;
+    }
 
-pub taken_kept : (file : FileState) (old new : HandState) (taken : List ClosedFile) → KnowsOf old new → All (HasTakenOne file old) taken → All (HasTakenOne file new) taken
-taken_kept file old new taken knows each = All-weaker (HasTakenOne file old) (HasTakenOne file new) (taken_still file old new knows) taken each
+pub taken_kept : (file : FileState) (old new : HandState) (taken : List ClosedFile) → KnowsOf old new →
+    All (HasTakenOne file old) taken → All (HasTakenOne file new) taken
+taken_kept file old new taken knows each =
+    All-weaker (HasTakenOne file old) (HasTakenOne file new) (taken_still file old new knows) taken each
 
-pub taken_more : (file : FileState) (old new : HandState) (taken : List ClosedFile) (snapshot : ClosedFile) → KnowsOf old new → All (HasTakenOne file old) taken → HasTakenOne file new snapshot → All (HasTakenOne file new) (taken ++ snapshot ∷ [])
-taken_more file old new taken snapshot knows each here = All-push (HasTakenOne file new) taken snapshot (taken_kept file old new taken knows each) here
+pub taken_more : (file : FileState) (old new : HandState) (taken : List ClosedFile) (snapshot : ClosedFile) →
+    KnowsOf old new → All (HasTakenOne file old) taken → HasTakenOne file new snapshot →
+    All (HasTakenOne file new) (taken ++ snapshot ∷ [])
+taken_more file old new taken snapshot knows each here =
+    All-push (HasTakenOne file new) taken snapshot (taken_kept file old new taken knows each) here

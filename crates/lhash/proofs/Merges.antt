@@ -29,17 +29,20 @@ after_idle : (n : ℕ) (h : List ActLine) (hs : List (List ActLine)) → slice_g
 after_idle zero h hs = refl
 after_idle (suc n) h hs = after_idle n h hs
 
-set_after_idle : (n : ℕ) (h rest : List ActLine) (hs : List (List ActLine)) → slice_set (idle n ++ h ∷ hs) n rest ≡ idle n ++ rest ∷ hs
+set_after_idle : (n : ℕ) (h rest : List ActLine) (hs : List (List ActLine)) →
+    slice_set (idle n ++ h ∷ hs) n rest ≡ idle n ++ rest ∷ hs
 set_after_idle zero h rest hs = refl
 set_after_idle (suc n) h rest hs = ap (λ (l : List (List ActLine)). [] ∷ l) (set_after_idle n h rest hs)
 
-merge_one : (h : List ActLine) (hs : List (List ActLine)) (n : ℕ) → ((m : ℕ) → IsMerge (idle m ++ hs) (joined hs)) → IsMerge (idle n ++ h ∷ hs) (h ++ joined hs)
+merge_one : (h : List ActLine) (hs : List (List ActLine)) (n : ℕ) → ((m : ℕ) → IsMerge (idle m ++ hs) (joined hs)) →
+    IsMerge (idle n ++ h ∷ hs) (h ++ joined hs)
 merge_one [] hs n rest = subst (λ (l : List (List ActLine)). IsMerge l (joined hs)) (idle_more n hs) (rest (suc n))
 merge_one (act ∷ h) hs n rest = (
   n,
   h,
   after_idle n (act ∷ h) hs,
-  subst (λ (l : List (List ActLine)). IsMerge l (h ++ joined hs)) (sym (set_after_idle n (act ∷ h) h hs)) (merge_one h hs n rest),
+  subst (λ (l : List (List ActLine)). IsMerge l (h ++ joined hs)) (sym (set_after_idle n (act ∷ h) h hs))
+      (merge_one h hs n rest),
 )
 
 merges : (hs : List (List ActLine)) (n : ℕ) → IsMerge (idle n ++ hs) (joined hs)
@@ -53,4 +56,5 @@ joined_is_merge histories = merges histories 0
 pub replies_joined : (histories : List (List ActLine)) → flat_map replies_of histories ≡ replies_of (joined histories)
 replies_joined [] = refl
 replies_joined (h ∷ hs) =
-    ap (λ (l : List Reply). replies_of h ++ l) (replies_joined hs) ∙ sym (map-append (λ (act : ActLine). act.reply) h (joined hs))
+    ap (λ (l : List Reply). replies_of h ++ l) (replies_joined hs)
+    ∙ sym (map-append (λ (act : ActLine). act.reply) h (joined hs))

@@ -1,5 +1,6 @@
 -- What follows of a run for the words of each kind
-use Rattle.std.proofs.Common.{◌≡◌, ◌==◌, ◌||◌, ◌∙◌, ℕ, Bool, true, false, cond, ◌<◌, ◌≤◌, List, Option, None, Some, IfSome, inl, inr, refl, sym, ap, subst, codes}
+use Rattle.std.proofs.Common.{◌≡◌, ◌==◌, ◌||◌, ◌∙◌, ℕ, Bool, true, false, cond, ◌<◌, ◌≤◌, List, Option, None, Some}
+use Rattle.std.proofs.Common.{IfSome, inl, inr, refl, sym, ap, subst, codes}
 use Rattle.std.specs.Prelude.{option_and_then, option_map, Result, Ok, Err}
 use Rattle.std.specs.String.{string_bytes}
 use Rattle.std.specs.Io.KnownBytes.{Keeps}
@@ -9,8 +10,10 @@ use Rattle.lh_bucket.specs.Listing.{Lists}
 use Rattle.lh_image.specs.declared.fault.ImageFault.{ImageFault}
 use Rattle.lh_image.specs.declared.version.Version.{Version}
 use Rattle.lh_image.specs.Reading.{following, leading, reading_of}
-use Rattle.lh_options.specs.Options.{Asks, AsksForHelp, IsTurned, Text, asked_by, asked_for, image_begins, number_given, settings_given, settings_typed, subcommand_named, version_numbered}
-use Rattle.lh_options.proofs.Asking.{apply, asked_named, build, commands, drive, refused_alone, refuses_setting, replay, serves_file, serves_image, steps, unapplied, undriven}
+use Rattle.lh_options.specs.Options.{Asks, AsksForHelp, IsTurned, Text, asked_by, asked_for, image_begins, number_given}
+use Rattle.lh_options.specs.Options.{settings_given, settings_typed, subcommand_named, version_numbered}
+use Rattle.lh_options.proofs.Asking.{apply, asked_named, build, commands, drive, refused_alone, refuses_setting, replay}
+use Rattle.lh_options.proofs.Asking.{serves_file, serves_image, steps, unapplied, undriven}
 use Rattle.lh_options.specs.declared.options.Request.{Request}
 use Rattle.lh_options.specs.declared.options.Request.TheVariants as request
 use Rattle.lh_script.specs.declared.fault.ScriptFault.{ScriptFault}
@@ -21,7 +24,10 @@ use Rattle.lh_subcommands.specs.Images.{EndsBuilding, check_due, draw_due, dump_
 use Rattle.lh_subcommands.specs.Run.{EndsReplay, EndsSteps}
 use Rattle.lh_serving.specs.Answers.{FileSeen, first_file}
 use Rattle.lh_subcommands.specs.Serve.{EndsGoingOn, EndsServing, EndsServingFrom}
-use Rattle.lhash.specs.Serving.{Ending, EndsCommands, EndsDrivingIn, EndsTold, IsHelped, IsRun, IsTurnedAway, IsWordsOf, RefusesBelow, RefusesBeside, RefusesSnapshots, Serves, ServesApply, ServesBuild, ServesClient, ServesDrive, ServesFile, ServesFrom, ServesImage, TurnsAway, below_initial, beside_image, snapshots_of_shards, wanted_version}
+use Rattle.lhash.specs.Serving.{Ending, EndsCommands, EndsDrivingIn, EndsTold, IsHelped, IsRun, IsTurnedAway, IsWordsOf}
+use Rattle.lhash.specs.Serving.{RefusesBelow, RefusesBeside, RefusesSnapshots, Serves, ServesApply, ServesBuild}
+use Rattle.lhash.specs.Serving.{ServesClient, ServesDrive, ServesFile, ServesFrom, ServesImage, TurnsAway}
+use Rattle.lhash.specs.Serving.{below_initial, beside_image, snapshots_of_shards, wanted_version}
 use Rattle.lh_subcommands.specs.declared.status.DeviceFault.TheVariants.{Read, Write}
 use Rattle.lh_subcommands.specs.declared.status.Status.{Status}
 use Rattle.lh_subcommands.specs.declared.status.Status.TheVariants.{Done, Input, Words, Device, Memory, NotSettled}
@@ -36,26 +42,41 @@ unwritten : (EndsWith : Ending) (status : Status) (left before now : Option (Lis
     ((input : List ℕ) → Keeps before now → EndsWith input Memory before now) → status ≡ Memory → Keeps before now →
     IfSome left (λ input. EndsWith input status before now)
 unwritten EndsWith status None before now allows is keeps = tt
-unwritten EndsWith status (Some input) before now allows is keeps = subst (λ (s : Status). EndsWith input s before now) (sym is) (allows input keeps)
+unwritten EndsWith status (Some input) before now allows is keeps =
+    subst (λ (s : Status). EndsWith input s before now) (sym is) (allows input keeps)
 
 -- accepted words with settings out of order are refused for them
-below_asked : (words : List Text) (name : Option Text) → subcommand_named words ≡ name → (subcommand_named words ≡ Some (codes "serve") → image_begins words ≡ false) → (settings : Settings) → settings_given words ≡ Some settings →
+below_asked : (words : List Text) (name : Option Text) → subcommand_named words ≡ name →
+    (subcommand_named words ≡ Some (codes "serve") → image_begins words ≡ false) → (settings : Settings) →
+    settings_given words ≡ Some settings →
     settings.max < settings.initial → (r : Request) → asked_for words ≡ Some r → r ≡ request.MaxBelowInitial
 below_asked words None named none settings given below r is =
-    let empty : asked_for words ≡ None = ap (option_and_then (λ n. asked_by n (settings_given words) (number_given words) (image_begins words) (settings_typed words))) named in
+    let empty : asked_for words ≡ None =
+    ap
+    (option_and_then
+    (λ n. asked_by n (settings_given words) (number_given words) (image_begins words) (settings_typed words)))
+    named in
     absurd cc
 below_asked words (Some name) named none settings given below r is =
-    let one : asked_for words ≡ asked_by name (settings_given words) (number_given words) (image_begins words) (settings_typed words) =
-    ap (option_and_then (λ n. asked_by n (settings_given words) (number_given words) (image_begins words) (settings_typed words))) named in
-    let by : asked_by name (settings_given words) (number_given words) (image_begins words) (settings_typed words) ≡ asked_by name (Some settings) (number_given words) (image_begins words) (settings_typed words) =
+    let one : asked_for words ≡
+    asked_by name (settings_given words) (number_given words) (image_begins words) (settings_typed words) =
+    ap
+    (option_and_then
+    (λ n. asked_by n (settings_given words) (number_given words) (image_begins words) (settings_typed words)))
+    named in
+    let by : asked_by name (settings_given words) (number_given words) (image_begins words) (settings_typed words) ≡
+    asked_by name (Some settings) (number_given words) (image_begins words) (settings_typed words) =
     ap (λ s. asked_by name s (number_given words) (image_begins words) (settings_typed words)) given in
-    refused_alone name (number_given words) (image_begins words) (settings_typed words) settings r below (λ n. none (named ∙ ap (λ x. Some x) n)) (sym (one ∙ by) ∙ is)
+    refused_alone name (number_given words) (image_begins words) (settings_typed words) settings r below
+    (λ n. none (named ∙ ap (λ x. Some x) n)) (sym (one ∙ by) ∙ is)
 
 -- a run for words that ask for one thing served it, or ran out of memory
-served : (words : List Text) (status : Status) (left rest before now : Option (List ℕ)) (name : Text) (r : Request) (EndsWith : Ending) →
+served : (words : List Text) (status : Status) (left rest before now : Option (List ℕ)) (name : Text) (r : Request)
+    (EndsWith : Ending) →
     (Serves r status left rest before now → IfSome left (λ input. EndsWith input status before now)) →
     ((input : List ℕ) → Keeps before now → EndsWith input Memory before now) →
-    Asks words name → asked_by name (settings_given words) (number_given words) (image_begins words) (settings_typed words) ≡ Some r →
+    Asks words name →
+    asked_by name (settings_given words) (number_given words) (image_begins words) (settings_typed words) ≡ Some r →
     IsRun words status left rest before now → IfSome left (λ input. EndsWith input status before now)
 served words status left rest before now name r EndsWith ends allows asks is (inl run) =
     let same : Some run.0 ≡ Some r = sym (asked_named words name run.0 asks run.1) ∙ is in
@@ -67,22 +88,26 @@ served words status left rest before now name r EndsWith ends allows asks is (in
 pub serves_commands : ServesFile (codes "commands") EndsCommands
 serves_commands words status left rest before now settings asks given within run =
     served words status left rest before now (codes "commands") (request.Commands settings) (EndsCommands settings)
-    (λ h. h) (λ input keeps. keeps) asks (commands (codes "commands") _ _ (image_begins words) (settings_typed words) settings refl given within) run
+    (λ h. h) (λ input keeps. keeps) asks
+    (commands (codes "commands") _ _ (image_begins words) (settings_typed words) settings refl given within) run
 
 pub serves_steps : ServesFile (codes "steps") EndsSteps
 unfolding EndsSteps
 serves_steps words status left rest before now settings asks given within run =
     served words status left rest before now (codes "steps") (request.Steps settings) (EndsSteps settings)
-    (λ h. h) (λ input keeps. keeps) asks (steps (codes "steps") _ _ (image_begins words) (settings_typed words) settings refl given within) run
+    (λ h. h) (λ input keeps. keeps) asks
+    (steps (codes "steps") _ _ (image_begins words) (settings_typed words) settings refl given within) run
 
 pub serves_replay : ServesFile (codes "replay") EndsReplay
 unfolding EndsReplay
 serves_replay words status left rest before now settings asks given within run =
     served words status left rest before now (codes "replay") (request.Replay settings) (EndsReplay settings)
-    (λ h. h) (λ input keeps. keeps) asks (replay (codes "replay") _ _ (image_begins words) (settings_typed words) settings refl given within) run
+    (λ h. h) (λ input keeps. keeps) asks
+    (replay (codes "replay") _ _ (image_begins words) (settings_typed words) settings refl given within) run
 
 -- a conversation that did not begin, with nothing read and nothing written
-unserved : (start : FileSeen) (status : Status) (left rest before now : Option (List ℕ)) → status ≡ Memory → Keeps left rest →
+unserved : (start : FileSeen) (status : Status) (left rest before now : Option (List ℕ)) → status ≡ Memory →
+    Keeps left rest →
     Keeps before now → IfSome left (λ input. EndsServing start input status rest before now)
 unserved start status None rest before now is unread keeps = tt
 unserved start status (Some input) rest before now is unread keeps =
@@ -90,12 +115,14 @@ unserved start status (Some input) rest before now is unread keeps =
 
 pub serves_client : ServesClient
 serves_client words status left rest before now settings asks none given within (inl run) =
-    subst (λ (x : Request). Serves x status left rest before now) (serves_file words settings run.0 asks none given within run.1) run.2
+    subst (λ (x : Request). Serves x status left rest before now)
+    (serves_file words settings run.0 asks none given within run.1) run.2
 serves_client words status left rest before now settings asks none given within (inr run) =
     unserved (first_file settings) status left rest before now run.0 run.1 run.2
 
 -- nor did one that was to go on from an image
-no_image : (due : Result Lists ImageFault) (lines : List ℕ) (rest before now : Option (List ℕ)) → Keeps before now → EndsGoingOn due lines Memory rest before now
+no_image : (due : Result Lists ImageFault) (lines : List ℕ) (rest before now : Option (List ℕ)) → Keeps before now →
+    EndsGoingOn due lines Memory rest before now
 no_image (Ok l) lines rest before now keeps = inr (inr refl, keeps)
 no_image (Err fault) lines rest before now keeps = keeps
 
@@ -109,78 +136,101 @@ unheard status (Some input) rest before now is keeps =
 
 pub serves_from : ServesFrom
 serves_from words status left rest before now asks begins none (inl run) =
-    subst (λ (x : Request). Serves x status left rest before now) (serves_image words run.0 asks begins none run.1) run.2
-serves_from words status left rest before now asks begins none (inr run) = unheard status left rest before now run.0 run.2
+    subst (λ (x : Request). Serves x status left rest before now) (serves_image words run.0 asks begins none run.1)
+    run.2
+serves_from words status left rest before now asks begins none (inr run) =
+    unheard status left rest before now run.0 run.2
 
 pub refuses_beside : RefusesBeside
 refuses_beside words status left rest before now asks begins given (inl run) =
-    subst (λ (x : Request). Serves x status left rest before now) (refuses_setting words run.0 asks begins given run.1) run.2
+    subst (λ (x : Request). Serves x status left rest before now) (refuses_setting words run.0 asks begins given run.1)
+    run.2
 refuses_beside words status left rest before now asks begins given (inr run) =
     (subst (IsWordsOf beside_image) (sym run.0) tt, run.1, run.2)
 
 pub serves_build : ServesBuild
 unfolding EndsBuilding
 serves_build words status left rest before now settings n asks given image within run =
-    served words status left rest before now (codes "build") (request.Build settings (version_numbered n)) (EndsBuilding (wanted_version (version_numbered n)) settings)
+    served words status left rest before now (codes "build") (request.Build settings (version_numbered n))
+    (EndsBuilding (wanted_version (version_numbered n)) settings)
     (λ h. h) (λ input keeps. keeps) asks
-    (build (codes "build") _ _ (image_begins words) (settings_typed words) settings (version_numbered n) refl given (ap (option_map version_numbered) image) within) run
+    (build (codes "build") _ _ (image_begins words) (settings_typed words) settings (version_numbered n) refl given
+    (ap (option_map version_numbered) image) within) run
 
 -- a run in threads that ended out of memory wrote nothing
-driven_nothing : (one : Bool) (settings : Settings) (shards snapshots : ℕ) (input : List ℕ) (before now : Option (List ℕ)) → Keeps before now →
+driven_nothing : (one : Bool) (settings : Settings) (shards snapshots : ℕ) (input : List ℕ)
+    (before now : Option (List ℕ)) → Keeps before now →
     EndsDrivingIn one settings shards snapshots input Memory before now
 unfolding EndsDriving EndsDrivingShards
 driven_nothing true settings shards snapshots input before now keeps = keeps
 driven_nothing false settings shards snapshots input before now keeps = keeps
 
 -- words that ask for a run in threads give their number, or ask for nothing
-driven : (words : List Text) (status : Status) (left rest before now : Option (List ℕ)) (settings : Settings) (shards snapshots : ℕ) (threads : Option ℕ) →
+driven : (words : List Text) (status : Status) (left rest before now : Option (List ℕ)) (settings : Settings)
+    (shards snapshots : ℕ) (threads : Option ℕ) →
     number_given words (codes "threads") ≡ threads → Asks words (codes "drive") → settings_given words ≡ Some settings →
-    number_given words (codes "shards") ≡ Some shards → number_given words (codes "snapshots") ≡ Some snapshots → (shards == 1 || snapshots == 0) ≡ true →
+    number_given words (codes "shards") ≡ Some shards → number_given words (codes "snapshots") ≡ Some snapshots →
+    (shards == 1 || snapshots == 0) ≡ true →
     settings.initial ≤ settings.max → IsRun words status left rest before now →
     IfSome left (λ input. EndsDrivingIn (shards == 1) settings shards snapshots input status before now)
 driven words status left rest before now settings h k (Some n) counted asks given parts taken allowed within run =
-    served words status left rest before now (codes "drive") (request.Drive settings n h k) (EndsDrivingIn (h == 1) settings h k)
+    served words status left rest before now (codes "drive") (request.Drive settings n h k)
+    (EndsDrivingIn (h == 1) settings h k)
     (λ h. h) (λ input keeps. driven_nothing (h == 1) settings h k input before now keeps) asks
-    (drive (codes "drive") _ _ (image_begins words) (settings_typed words) settings n h k refl given counted parts taken within
+    (drive (codes "drive") _ _ (image_begins words) (settings_typed words) settings n h k refl given counted parts taken
+    within
     ∙ ap (λ b. Some (cond b (request.Drive settings n h k) request.SnapshotsOfShards)) allowed) run
 driven words status left rest before now settings h k None counted asks given parts taken allowed within (inl run) =
-    let none : asked_by (codes "drive") (settings_given words) (number_given words) (image_begins words) (settings_typed words) ≡ None =
+    let none : asked_by (codes "drive") (settings_given words) (number_given words) (image_begins words)
+    (settings_typed words) ≡ None =
     undriven (codes "drive") _ _ (image_begins words) (settings_typed words) settings refl given (inl counted) within in
     let some = asked_named words (codes "drive") run.0 asks run.1 in
     let apart : Some run.0 ≡ None = sym some ∙ none in
     absurd cc
 driven words status left rest before now settings h k None counted asks given parts taken allowed within (inr run) =
-    unwritten (EndsDrivingIn (h == 1) settings h k) status left before now (λ input keeps. driven_nothing (h == 1) settings h k input before now keeps) run.0 run.2
+    unwritten (EndsDrivingIn (h == 1) settings h k) status left before now
+    (λ input keeps. driven_nothing (h == 1) settings h k input before now keeps) run.0 run.2
 
 pub serves_drive : ServesDrive
 serves_drive words status left rest before now settings shards snapshots asks given parts taken allowed within run =
-    driven words status left rest before now settings shards snapshots (number_given words (codes "threads")) refl asks given parts taken allowed within run
+    driven words status left rest before now settings shards snapshots (number_given words (codes "threads")) refl asks
+    given parts taken allowed within run
 
 pub refuses_snapshots : RefusesSnapshots
-refuses_snapshots words status left rest before now settings n h k asks given counted parts taken apart within (inl run) =
-    let is = drive (codes "drive") _ _ (image_begins words) (settings_typed words) settings n h k refl given counted parts taken within
+refuses_snapshots words status left rest before now settings n h k asks given counted parts taken apart within
+    (inl run) =
+    let is =
+    drive (codes "drive") _ _ (image_begins words) (settings_typed words) settings n h k refl given counted parts
+    taken within
     ∙ ap (λ b. Some (cond b (request.Drive settings n h k) request.SnapshotsOfShards)) apart in
-    let same : Some run.0 ≡ Some request.SnapshotsOfShards = sym (asked_named words (codes "drive") run.0 asks run.1) ∙ is in
+    let same : Some run.0 ≡ Some request.SnapshotsOfShards =
+    sym (asked_named words (codes "drive") run.0 asks run.1) ∙ is in
     let one : run.0 ≡ request.SnapshotsOfShards = cc in
     subst (λ (x : Request). Serves x status left rest before now) one run.2
-refuses_snapshots words status left rest before now settings n h k asks given counted parts taken apart within (inr run) =
+refuses_snapshots words status left rest before now settings n h k asks given counted parts taken apart within
+    (inr run) =
     (subst (IsWordsOf snapshots_of_shards) (sym run.0) tt, run.1, run.2)
 
 -- a run for words that ask for a subcommand which takes no settings served it, or ran out of memory
-serves_alone : (words : List Text) (status : Status) (left rest before now : Option (List ℕ)) (name : Text) (r : Request) (EndsWith : Ending)
+serves_alone : (words : List Text) (status : Status) (left rest before now : Option (List ℕ)) (name : Text)
+    (r : Request) (EndsWith : Ending)
     (settings : Option Settings) → settings_given words ≡ settings →
     (Serves r status left rest before now → IfSome left (λ input. EndsWith input status before now)) →
     ((input : List ℕ) → Keeps before now → EndsWith input Memory before now) → Asks words name →
     ((numbers : Text → Option ℕ) (image typed : Bool) → asked_by name None numbers image typed ≡ Some r) →
-    ((s : Settings) (numbers : Text → Option ℕ) (image typed : Bool) → asked_by name (Some s) numbers image typed ≡ None) →
+    ((s : Settings) (numbers : Text → Option ℕ) (image typed : Bool) →
+    asked_by name (Some s) numbers image typed ≡ None) →
     IsRun words status left rest before now → IfSome left (λ input. EndsWith input status before now)
 serves_alone words status left rest before now name r EndsWith None given ends allows asks alone none run =
     served words status left rest before now name r EndsWith ends allows asks
-    (ap (λ s. asked_by name s (number_given words) (image_begins words) (settings_typed words)) given ∙ alone (number_given words) (image_begins words) (settings_typed words)) run
+    (ap (λ s. asked_by name s (number_given words) (image_begins words) (settings_typed words)) given
+    ∙ alone (number_given words) (image_begins words) (settings_typed words)) run
 serves_alone words status left rest before now name r EndsWith (Some s) given ends allows asks alone none (inl run) =
     let some = asked_named words name run.0 asks run.1 in
-    let same : asked_by name (settings_given words) (number_given words) (image_begins words) (settings_typed words) ≡ None =
-    ap (λ x. asked_by name x (number_given words) (image_begins words) (settings_typed words)) given ∙ none s (number_given words) (image_begins words) (settings_typed words) in
+    let same : asked_by name (settings_given words) (number_given words) (image_begins words) (settings_typed words) ≡
+    None =
+    ap (λ x. asked_by name x (number_given words) (image_begins words) (settings_typed words)) given
+    ∙ none s (number_given words) (image_begins words) (settings_typed words) in
     absurd cc
 serves_alone words status left rest before now name r EndsWith (Some s) given ends allows asks alone none (inr run) =
     unwritten EndsWith status left before now allows run.0 run.2
@@ -188,59 +238,73 @@ serves_alone words status left rest before now name r EndsWith (Some s) given en
 pub serves_check : ServesImage (codes "check") (EndsTold check_due)
 unfolding asked_by
 serves_check words status left rest before now asks run =
-    serves_alone words status left rest before now (codes "check") request.Check (EndsTold check_due) (settings_given words) refl
+    serves_alone words status left rest before now (codes "check") request.Check (EndsTold check_due)
+    (settings_given words) refl
     (λ h. h) (λ input keeps. keeps) asks (λ numbers image typed. refl) (λ s numbers image typed. refl) run
 
 pub serves_dump : ServesImage (codes "dump") (EndsTold dump_due)
 unfolding asked_by
 serves_dump words status left rest before now asks run =
-    serves_alone words status left rest before now (codes "dump") request.Dump (EndsTold dump_due) (settings_given words) refl
+    serves_alone words status left rest before now (codes "dump") request.Dump (EndsTold dump_due)
+    (settings_given words) refl
     (λ h. h) (λ input keeps. keeps) asks (λ numbers image typed. refl) (λ s numbers image typed. refl) run
 
 pub serves_draw : ServesImage (codes "draw") (EndsTold draw_due)
 unfolding asked_by
 serves_draw words status left rest before now asks run =
-    serves_alone words status left rest before now (codes "draw") request.Draw (EndsTold draw_due) (settings_given words) refl
+    serves_alone words status left rest before now (codes "draw") request.Draw (EndsTold draw_due)
+    (settings_given words) refl
     (λ h. h) (λ input keeps. keeps) asks (λ numbers image typed. refl) (λ s numbers image typed. refl) run
 
 pub serves_migrate : ServesImage (codes "migrate") (EndsTold migrate_due)
 unfolding asked_by
 serves_migrate words status left rest before now asks run =
-    serves_alone words status left rest before now (codes "migrate") request.Migrate (EndsTold migrate_due) (settings_given words) refl
+    serves_alone words status left rest before now (codes "migrate") request.Migrate (EndsTold migrate_due)
+    (settings_given words) refl
     (λ h. h) (λ input keeps. keeps) asks (λ numbers image typed. refl) (λ s numbers image typed. refl) run
 
 pub serves_query : ServesImage (codes "query") (EndsTold query_due)
 unfolding asked_by
 serves_query words status left rest before now asks run =
-    serves_alone words status left rest before now (codes "query") request.Query (EndsTold query_due) (settings_given words) refl
+    serves_alone words status left rest before now (codes "query") request.Query (EndsTold query_due)
+    (settings_given words) refl
     (λ h. h) (λ input keeps. keeps) asks (λ numbers image typed. refl) (λ s numbers image typed. refl) run
 
 -- an image that is not written keeps what the writer holds
-leaves_nothing : (version : Version) (file : Result Lists ImageFault) (given : Result (List Call) ScriptFault) (before now : Option (List ℕ)) →
+leaves_nothing : (version : Version) (file : Result Lists ImageFault) (given : Result (List Call) ScriptFault)
+    (before now : Option (List ℕ)) →
     Keeps before now → EndsLeaving version Memory file given before now
 leaves_nothing version (Ok l) given before now keeps = keeps
 leaves_nothing version (Err fault) given before now keeps = keeps
 
-applies_nothing : (version : Version) (input : List ℕ) (before now : Option (List ℕ)) → Keeps before now → EndsApplying version input Memory before now
+applies_nothing : (version : Version) (input : List ℕ) (before now : Option (List ℕ)) → Keeps before now →
+    EndsApplying version input Memory before now
 unfolding EndsApplying
-applies_nothing version input before now keeps = leaves_nothing version (reading_of (leading input)) (script_behind input) before now keeps
+applies_nothing version input before now keeps =
+    leaves_nothing version (reading_of (leading input)) (script_behind input) before now keeps
 
-unasked : (s : Settings) (numbers : Text → Option ℕ) (image typed : Bool) → asked_by (codes "apply") (Some s) numbers image typed ≡ None
+unasked : (s : Settings) (numbers : Text → Option ℕ) (image typed : Bool) →
+    asked_by (codes "apply") (Some s) numbers image typed ≡ None
 unfolding asked_by
 unasked s numbers image typed = unapplied s (numbers (codes "image"))
 
 -- words that ask for the image which a script leaves give no settings, or ask for nothing
-applied : (words : List Text) (status : Status) (left rest before now : Option (List ℕ)) (n : ℕ) (settings : Option Settings) →
+applied : (words : List Text) (status : Status) (left rest before now : Option (List ℕ)) (n : ℕ)
+    (settings : Option Settings) →
     settings_given words ≡ settings → Asks words (codes "apply") → number_given words (codes "image") ≡ Some n →
     IsRun words status left rest before now →
     IfSome left (λ input. EndsApplying (wanted_version (version_numbered n)) input status before now)
 applied words status left rest before now n None given asks image run =
-    served words status left rest before now (codes "apply") (request.Apply (version_numbered n)) (EndsApplying (wanted_version (version_numbered n)))
+    served words status left rest before now (codes "apply") (request.Apply (version_numbered n))
+    (EndsApplying (wanted_version (version_numbered n)))
     (λ h. h) (λ input keeps. applies_nothing (wanted_version (version_numbered n)) input before now keeps) asks
-    (apply (codes "apply") _ _ (image_begins words) (settings_typed words) (version_numbered n) refl given (ap (option_map version_numbered) image)) run
+    (apply (codes "apply") _ _ (image_begins words) (settings_typed words) (version_numbered n) refl given
+    (ap (option_map version_numbered) image)) run
 applied words status left rest before now n (Some s) given asks image (inl run) =
-    let none : asked_by (codes "apply") (settings_given words) (number_given words) (image_begins words) (settings_typed words) ≡ None =
-    ap (λ x. asked_by (codes "apply") x (number_given words) (image_begins words) (settings_typed words)) given ∙ unasked s (number_given words) (image_begins words) (settings_typed words) in
+    let none : asked_by (codes "apply") (settings_given words) (number_given words) (image_begins words)
+    (settings_typed words) ≡ None =
+    ap (λ x. asked_by (codes "apply") x (number_given words) (image_begins words) (settings_typed words)) given
+    ∙ unasked s (number_given words) (image_begins words) (settings_typed words) in
     let some = asked_named words (codes "apply") run.0 asks run.1 in
     let apart : Some run.0 ≡ None = sym some ∙ none in
     absurd cc
@@ -255,13 +319,16 @@ serves_apply words status left rest before now n asks image run =
 -- what is refused for its settings
 pub refuses_below : RefusesBelow
 refuses_below words status left rest before now settings accepts none given below (inl (r, inl answers, serves)) =
-    let is = below_asked words (subcommand_named words) refl (λ n. none (accepts, n)) settings given below r answers.1 in
+    let is =
+    below_asked words (subcommand_named words) refl (λ n. none (accepts, n)) settings given below r answers.1 in
     subst (λ (x : Request). Serves x status left rest before now) is serves
-refuses_below words status left rest before now settings accepts none given below (inl (r, inr answers, serves)) = absurd (answers.0 accepts)
+refuses_below words status left rest before now settings accepts none given below (inl (r, inr answers, serves)) =
+    absurd (answers.0 accepts)
 refuses_below words status left rest before now settings accepts none given below (inr run) =
     (subst (IsWordsOf below_initial) (sym run.0) tt, run.1, run.2)
 
-helped : (words : List Text) (text : List ℕ) (status : Status) (before now : Option (List ℕ)) → AsksForHelp words → IsHelped text status before now → IsTurnedAway words status before now
+helped : (words : List Text) (text : List ℕ) (status : Status) (before now : Option (List ℕ)) → AsksForHelp words →
+    IsHelped text status before now → IsTurnedAway words status before now
 helped words text Done before now asks h = asks
 helped words text (Input fault) before now asks h = absurd h
 helped words text (Words reason) before now asks h = absurd h
@@ -272,7 +339,8 @@ helped words text (NotSettled fault) before now asks h = absurd h
 
 turned : (words : List Text) (r : Request) (status : Status) (left rest before now : Option (List ℕ)) →
     IsTurned words r → Serves r status left rest before now → IsTurnedAway words status before now × Keeps left rest
-turned words (request.Help text) status left rest before now is serves = (helped words (string_bytes text) status before now is serves.0, serves.1)
+turned words (request.Help text) status left rest before now is serves =
+    (helped words (string_bytes text) status before now is serves.0, serves.1)
 turned words (request.Refused text) status left rest before now is serves =
     (subst (λ (s : Status). IsTurnedAway words s before now) (sym serves.0) (is.0, is.1, serves.2), serves.1)
 turned words (request.Commands config) status left rest before now is serves = absurd is
@@ -295,6 +363,7 @@ turned words request.MaxBelowInitial status left rest before now is serves = abs
 -- what is turned away
 pub turns_away : TurnsAway
 turns_away words status left rest before now refused (inl (r, inl answers, serves)) = absurd (refused answers.0)
-turns_away words status left rest before now refused (inl (r, inr answers, serves)) = turned words r status left rest before now answers.1 serves
+turns_away words status left rest before now refused (inl (r, inr answers, serves)) =
+    turned words r status left rest before now answers.1 serves
 turns_away words status left rest before now refused (inr run) =
     (subst (λ (s : Status). IsTurnedAway words s before now) (sym run.0) run.2, run.1)

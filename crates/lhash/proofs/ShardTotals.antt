@@ -1,5 +1,6 @@
 -- The totals of closed shards that are settled
-use Rattle.std.proofs.Common.{◌≡◌, ◌∙◌, ℕ, ◌+◌, ◌-◌, ◌^◌, ◌<◌, zero, suc, min, take, List, [], ◌∷◌, length, Some, refl, sym, ap, subst, arith}
+use Rattle.std.proofs.Common.{◌≡◌, ◌∙◌, ℕ, ◌+◌, ◌-◌, ◌^◌, ◌<◌, zero, suc, min, take, List, [], ◌∷◌, length, Some, refl}
+use Rattle.std.proofs.Common.{sym, ap, subst, arith}
 use Rattle.std.specs.FinMap.{empty}
 use Rattle.std.specs.Prelude.{flat_map, slice_get, sum_by}
 use Rattle.std.proofs.lemmas.List.{length-map}
@@ -25,27 +26,37 @@ use Rattle.lhash.proofs.ShardHands.{sums_agree, there}
 
 -- listings that are all that of an empty file are those of so many empty files
 pub all_empty : (settings : Settings) (shards : ℕ) (listings : List Lists) → length listings ≡ shards →
-    ((k : ℕ) (listing : Lists) → slice_get listings k ≡ Some listing → listing ≡ empty_file settings) → listings ≡ empty_files settings shards
+    ((k : ℕ) (listing : Lists) → slice_get listings k ≡ Some listing → listing ≡ empty_file settings) →
+    listings ≡ empty_files settings shards
 all_empty settings zero [] many each = refl
 all_empty settings (suc n) [] many each = absurd (omega (arith, many))
 all_empty settings zero (l ∷ ls) many each = absurd (omega (arith, many))
 all_empty settings (suc n) (l ∷ ls) many each =
     ap (λ (first : Lists). first ∷ ls) (each 0 l refl)
-    ∙ ap (λ (rest : List Lists). empty_file settings ∷ rest) (all_empty settings n ls (omega (arith, many)) (λ k. each (suc k)))
+    ∙ ap (λ (rest : List Lists). empty_file settings ∷ rest)
+    (all_empty settings n ls (omega (arith, many)) (λ k. each (suc k)))
 
 -- as many replies are in the histories as acts in the shards
-pub replies_made : (openings : List Lists) (closed : List ClosedShard) (histories : List (List ActLine)) → length openings ≡ length closed → AreSettled openings closed histories →
+pub replies_made : (openings : List Lists) (closed : List ClosedShard) (histories : List (List ActLine)) →
+    length openings ≡ length closed → AreSettled openings closed histories →
     length (flat_map replies_of histories) ≡ acts_in closed
 replies_made openings closed histories many settled =
     length-flat_map replies_of histories
-    ∙ sums_agree (λ (shard : ClosedShard). length shard.acts) (λ (history : List ActLine). length (replies_of history)) closed histories settled.count
+    ∙ sums_agree (λ (shard : ClosedShard). length shard.acts) (λ (history : List ActLine). length (replies_of history))
+    closed histories settled.count
     (λ k shard history ks kh.
     let opening = there openings k (subst (λ n. k < n) (sym many) (slice_get_within closed k shard ks)) in
-    length-map history (λ act. act.reply) ∙ length_permutation shard.acts history (settled.each k opening.0 shard history opening.1 ks kh).stamped.order.same)
+    length-map history (λ act. act.reply)
+    ∙ length_permutation shard.acts history
+    (settled.each k opening.0 shard history opening.1 ks kh).stamped.order.same)
 
-pub driven_shards : (settings : Settings) (shards : ℕ) (openings : List Lists) (closed : List ClosedShard) (histories : List (List ActLine)) (d : Driven) (calls : List CallOf) →
-    AreShardsOf settings shards closed → openings ≡ empty_files settings shards → length openings ≡ length closed → AreParts empty openings → AreSettled openings closed histories → MakeOneMap openings closed histories →
-    Counts (flat_map replies_of histories) d → length calls ≡ acts_in closed → d.records ≡ min (sum_by (λ (shard : ClosedShard). count_of shard.closed.lists) closed) (2 ^ 64 - 1) → IsDrivenShards settings shards calls d
+pub driven_shards : (settings : Settings) (shards : ℕ) (openings : List Lists) (closed : List ClosedShard)
+    (histories : List (List ActLine)) (d : Driven) (calls : List CallOf) →
+    AreShardsOf settings shards closed → openings ≡ empty_files settings shards → length openings ≡ length closed →
+    AreParts empty openings → AreSettled openings closed histories → MakeOneMap openings closed histories →
+    Counts (flat_map replies_of histories) d → length calls ≡ acts_in closed →
+    d.records ≡ min (sum_by (λ (shard : ClosedShard). count_of shard.closed.lists) closed) (2 ^ 64 - 1) →
+    IsDrivenShards settings shards calls d
 driven_shards settings shards openings closed histories d calls of is many parts settled one_map counts made records =
     let merged = joined_is_merge histories in
     let map = one_map empty (joined histories) parts merged in record {
@@ -63,18 +74,33 @@ driven_shards settings shards openings closed histories d calls of is many parts
     }
 
 -- the records of some shards and the next one
-pub records_more : (closed : List ClosedShard) (k : ℕ) (shard : ClosedShard) (total term new : ℕ) → slice_get closed k ≡ Some shard → total ≡ min (sum_by (λ (s : ClosedShard). count_of s.closed.lists) (take k closed)) (2 ^ 64 - 1) →
-    term ≡ min (count_of shard.closed.lists) (2 ^ 64 - 1) → new ≡ min (total + term) (2 ^ 64 - 1) → new ≡ min (sum_by (λ (s : ClosedShard). count_of s.closed.lists) (take (k + 1) closed)) (2 ^ 64 - 1)
+pub records_more : (closed : List ClosedShard) (k : ℕ) (shard : ClosedShard) (total term new : ℕ) →
+    slice_get closed k ≡ Some shard →
+    total ≡ min (sum_by (λ (s : ClosedShard). count_of s.closed.lists) (take k closed)) (2 ^ 64 - 1) →
+    term ≡ min (count_of shard.closed.lists) (2 ^ 64 - 1) → new ≡ min (total + term) (2 ^ 64 - 1) →
+    new ≡ min (sum_by (λ (s : ClosedShard). count_of s.closed.lists) (take (k + 1) closed)) (2 ^ 64 - 1)
 records_more closed k shard total term new at so_far here is =
     let count = λ (s : ClosedShard). count_of s.closed.lists in
-    omega (arith, so_far, here, is, sum_by_more count closed k shard (slice_get_within closed k shard at), ap count (get_or_from_slice_get closed k shard shard at))
+    omega (
+      arith,
+      so_far,
+      here,
+      is,
+      sum_by_more count closed k shard (slice_get_within closed k shard at),
+      ap count (get_or_from_slice_get closed k shard shard at),
+    )
 
 -- a fault of settling is one of a run, or memory ran out
-pub settle_faulted : (settings : Settings) (shards : ℕ) (closed : List ClosedShard) (shard : ℕ) (fault : SettleFault) → AreShardsOf settings shards closed →
-    IsFirstDue (empty_files settings shards) closed (record { shard = shard; fault = fault }) → IsDriveShardsFault settings shards (settle_fault_of fault)
+pub settle_faulted : (settings : Settings) (shards : ℕ) (closed : List ClosedShard) (shard : ℕ) (fault : SettleFault) →
+    AreShardsOf settings shards closed →
+    IsFirstDue (empty_files settings shards) closed (record { shard = shard; fault = fault }) →
+    IsDriveShardsFault settings shards (settle_fault_of fault)
 settle_faulted settings shards closed shard settle.SplitUnderWay of due = (closed, shard, of, due, λ e. absurd (cc))
-settle_faulted settings shards closed shard (settle.MissingStamp stamp) of due = (closed, shard, of, due, λ e. absurd (cc))
-settle_faulted settings shards closed shard (settle.Reply stamp given wanted) of due = (closed, shard, of, due, λ e. absurd (cc))
+settle_faulted settings shards closed shard (settle.MissingStamp stamp) of due =
+    (closed, shard, of, due, λ e. absurd (cc))
+settle_faulted settings shards closed shard (settle.Reply stamp given wanted) of due =
+    (closed, shard, of, due, λ e. absurd (cc))
 settle_faulted settings shards closed shard (settle.Content key) of due = (closed, shard, of, due, λ e. absurd (cc))
-settle_faulted settings shards closed shard (settle.Placed bucket key) of due = (closed, shard, of, due, λ e. absurd (cc))
+settle_faulted settings shards closed shard (settle.Placed bucket key) of due =
+    (closed, shard, of, due, λ e. absurd (cc))
 settle_faulted settings shards closed shard settle.Memory of due = tt

@@ -1,5 +1,6 @@
 -- What a run of calls in threads may tell: the totals of a settled history, or why there are none
-use Rattle.std.specs.Prelude.{◌≡◌, ◌≢◌, ◌⊎◌, ◌≤◌, ℕ, ◌-◌, ◌%◌, ◌^◌, true, min, List, [], ◌++◌, All, Contains, Option, Ok, length, replicate}
+use Rattle.std.specs.Prelude.{◌≡◌, ◌≢◌, ◌⊎◌, ◌≤◌, ℕ, ◌-◌, ◌%◌, ◌^◌, true, min, List, [], ◌++◌, All, Contains, Option}
+use Rattle.std.specs.Prelude.{Ok, length, replicate}
 use Rattle.std.specs.Io.KnownBytes.{Keeps}
 use Rattle.lh_addr.specs.Settings.{Settings}
 use Rattle.lh_bucket.specs.declared.call.Call.{Call as CallOf}
@@ -43,21 +44,21 @@ pub record IsDriven (settings : Settings) (calls : List CallOf) (d : Driven) : T
   pub made : d.calls ≡ length calls
   pub records : d.records ≡ min (count_of closed.lists) (2 ^ 64 - 1)
 
--- a snapshot is one of a file of the settings, and is settled, from an empty file on, with those of these acts that have
--- lesser stamps than it says
+-- a snapshot is one of a file of the settings, and is settled, from an empty file on, with those of these acts that
+-- have lesser stamps than it says
 abbrev pub IsSettledBefore : Settings → List ActLine → ClosedFile → Type 0
 IsSettledBefore settings acts snapshot =
     (snapshot.config ≡ settings) × Settled (empty_file settings) snapshot (acts_before snapshot.stamps acts)
 
--- a file is settled with some history, and each of these snapshots with the acts that came before it, whose history is the
--- first part of that
+-- a file is settled with some history, and each of these snapshots with the acts that came before it, whose history is
+-- the first part of that
 abbrev pub AreSettled : Lists → ClosedFile → List ActLine → List ClosedFile → Type 0
 AreSettled opening closed acts taken =
     (history : List ActLine) × IsSettled opening closed acts history
     × All (λ snapshot. IsSettledFirst opening snapshot acts history) taken
 
--- The totals are those of a legal history, and there are as many snapshots of a file of the settings. Each is settled with
--- the acts that came before it, and their history is the first part of that one.
+-- The totals are those of a legal history, and there are as many snapshots of a file of the settings. Each is settled
+-- with the acts that came before it, and their history is the first part of that one.
 pub record IsDrivenWith (settings : Settings) (calls : List CallOf) (snapshots : ℕ) (d : Driven) : Type 0 where
   pub driven : IsDriven settings calls d
   pub taken : List ClosedFile
@@ -89,8 +90,8 @@ IsDriveFault settings (Settle fault) =
     × (closed.gathered ≡ true → closed.root % 2 ≡ 0 → ⊥)
 IsDriveFault settings fault = IsWorkersFault fault
 
--- a fault of settling, other than out of memory, is due for one of these snapshots, which is not settled, and those acts
--- that have lesser stamps than it says, from an empty file on; or memory ran out
+-- a fault of settling, other than out of memory, is due for one of these snapshots, which is not settled, and those
+-- acts that have lesser stamps than it says, from an empty file on; or memory ran out
 abbrev pub IsFaultOfOne : Settings → List ActLine → List ClosedFile → DriveFault → Type 0
 IsFaultOfOne settings acts taken (Settle fault) =
     (snapshot : ClosedFile) × Contains taken snapshot
@@ -99,8 +100,9 @@ IsFaultOfOne settings acts taken (Settle fault) =
 IsFaultOfOne settings acts taken Memory = Unit {0}
 IsFaultOfOne settings acts taken fault = ⊥
 
--- a fault of settling, other than out of memory, is due for a snapshot of a file of the settings and those acts that have
--- lesser stamps than it says, from an empty file on, where a bucket was not gathered of the closed file, which is settled
+-- a fault of settling, other than out of memory, is due for a snapshot of a file of the settings and those acts that
+-- have lesser stamps than it says, from an empty file on, where a bucket was not gathered of the closed file, which is
+-- settled
 abbrev pub IsSnapshotFault : Settings → DriveFault → Type 0
 IsSnapshotFault settings (Settle fault) =
     (closed snapshot : ClosedFile) × (acts : List ActLine) × (closed.config ≡ settings) × (snapshot.config ≡ settings)

@@ -1,5 +1,6 @@
 -- How a run answers its words
-use Rattle.std.specs.Prelude.{◌≡◌, ◌⊎◌, ◌==◌, ◌||◌, ℕ, ◌<◌, ◌≤◌, Bool, false, true, List, Option, Some, IfSome, Result, codes}
+use Rattle.std.specs.Prelude.{◌≡◌, ◌⊎◌, ◌==◌, ◌||◌, ℕ, ◌<◌, ◌≤◌, Bool, false, true, List, Option, Some, IfSome, Result}
+use Rattle.std.specs.Prelude.{codes}
 use Rattle.std.specs.String.{string_bytes}
 use Rattle.std.specs.Io.KnownBytes.{Appends, Keeps}
 use Rattle.lh_subcommands.specs.Devices.{TakesBeginning}
@@ -11,14 +12,18 @@ use Rattle.lh_subcommands.specs.Continued.{EndsApplying, query_due}
 use Rattle.lh_subcommands.specs.Images.{EndsBuilding, check_due, draw_due, dump_due, migrate_due}
 use Rattle.lh_addr.specs.Settings.{Settings}
 use Rattle.lh_options.specs.Escapes.{has_no_control}
-use Rattle.lh_options.specs.Options.{Accepts, Answers, Asks, AsksForHelp, IsRefused, Text, image_begins, number_given, settings_given, settings_typed, version_numbered}
+use Rattle.lh_options.specs.Options.{Accepts, Answers, Asks, AsksForHelp, IsRefused, Text, image_begins, number_given}
+use Rattle.lh_options.specs.Options.{settings_given, settings_typed, version_numbered}
 use Rattle.lh_subcommands.specs.Run.{Ends, EndsReplay, EndsSteps, commands_due}
 use Rattle.lh_serving.specs.Answers.{first_file}
 use Rattle.lh_subcommands.specs.Serve.{EndsServing, EndsServingFrom}
 use Rattle.lh_options.specs.declared.options.ImageVersion.{ImageVersion}
 use Rattle.lh_options.specs.declared.options.ImageVersion.TheVariants.{First, Second}
 use Rattle.lh_options.specs.declared.options.Request.{Request}
-use Rattle.lh_options.specs.declared.options.Request.TheVariants.{Commands, Steps, Replay, Build, Check, Draw, Dump, Drive, Migrate, Query, Apply, Serve, ServeImage, Help, Refused, MaxBelowInitial, SettingsBesideImage, SnapshotsOfShards}
+use Rattle.lh_options.specs.declared.options.Request.TheVariants.{Commands, Steps, Replay, Build, Check, Draw, Dump}
+use Rattle.lh_options.specs.declared.options.Request.TheVariants.{Drive, Migrate, Query, Apply, Serve, ServeImage, Help}
+use Rattle.lh_options.specs.declared.options.Request.TheVariants.{Refused, MaxBelowInitial, SettingsBesideImage}
+use Rattle.lh_options.specs.declared.options.Request.TheVariants.{SnapshotsOfShards}
 use Rattle.lh_subcommands.specs.declared.status.DeviceFault.TheVariants.{Write}
 use Rattle.lh_subcommands.specs.declared.status.InputFault.{InputFault}
 use Rattle.lh_subcommands.specs.declared.status.Status.{Status}
@@ -54,7 +59,8 @@ snapshots_of_shards = codes "snapshots are of one shard"
 
 -- how `drive` ends: on one file, with snapshots or without, or on several shards
 abbrev pub EndsDrivingIn : Bool → Settings → ℕ → ℕ → List ℕ → Status → Option (List ℕ) → Option (List ℕ) → Type 0
-EndsDrivingIn true settings shards snapshots input status before now = EndsDriving settings snapshots input status before now
+EndsDrivingIn true settings shards snapshots input status before now =
+    EndsDriving settings snapshots input status before now
 EndsDrivingIn false settings shards snapshots input status before now =
     EndsDrivingShards settings shards input status before now
 
@@ -103,8 +109,8 @@ is_image_written _ = false
 abbrev pub IsWhetherImageAsked : List Text → Bool → Type 0
 IsWhetherImageAsked words asked = (request : Request) × Answers words request × (asked ≡ is_image_written request)
 
--- how a run answers words that are not accepted: they are refused, for a reason in which no word brings a control byte, and
--- nothing was written; or they ask for help
+-- how a run answers words that are not accepted: they are refused, for a reason in which no word brings a control byte,
+-- and nothing was written; or they ask for help
 abbrev pub IsTurnedAway : List Text → Status → Option (List ℕ) → Option (List ℕ) → Type 0
 IsTurnedAway words (Words text) before now =
     IsRefused words × (has_no_control (string_bytes text) ≡ true) × Keeps before now
@@ -121,7 +127,8 @@ IsRun words status left rest before now =
     ⊎ ((status ≡ Memory) × Keeps left rest × Keeps before now)
 
 -- the run ended so, or it was done, and what it left gathered could not be written
-abbrev pub IsFlushedRun : List Text → Status → Option (List ℕ) → Option (List ℕ) → Option (List ℕ) → Option (List ℕ) → Type 0
+abbrev pub IsFlushedRun : List Text → Status → Option (List ℕ) → Option (List ℕ) → Option (List ℕ) → Option (List ℕ) →
+    Type 0
 IsFlushedRun words result left rest before now =
     (status : Status) × IsRun words status left rest before now
     × ((result ≡ status) ⊎ (IsDone status × (result ≡ Device Write)))
@@ -170,12 +177,14 @@ ServesBuild =
     settings.initial ≤ settings.max → IsRun words status left rest before now →
     IfSome left (λ input. EndsBuilding (wanted_version (version_numbered n)) settings input status before now)
 
--- a run for words that ask for `drive`, and give settings in order and the numbers of shards and of snapshots, where it is one
--- shard or no snapshot, ends by them
+-- a run for words that ask for `drive`, and give settings in order and the numbers of shards and of snapshots, where it
+-- is one shard or no snapshot, ends by them
 abbrev pub ServesDrive : Type 0
 ServesDrive =
-    (words : List Text) (status : Status) (left rest before now : Option (List ℕ)) (settings : Settings) (shards n : ℕ) →
-    Asks words (codes "drive") → settings_given words ≡ Some settings → number_given words (codes "shards") ≡ Some shards →
+    (words : List Text) (status : Status) (left rest before now : Option (List ℕ)) (settings : Settings)
+    (shards n : ℕ) →
+    Asks words (codes "drive") → settings_given words ≡ Some settings →
+    number_given words (codes "shards") ≡ Some shards →
     number_given words (codes "snapshots") ≡ Some n → (shards == 1 || n == 0) ≡ true → settings.initial ≤ settings.max →
     IsRun words status left rest before now →
     IfSome left (λ input. EndsDrivingIn (shards == 1) settings shards n input status before now)
@@ -214,7 +223,8 @@ abbrev pub RefusesSnapshots : Type 0
 RefusesSnapshots =
     (words : List Text) (status : Status) (left rest before now : Option (List ℕ)) (settings : Settings)
     (threads shards n : ℕ) →
-    Asks words (codes "drive") → settings_given words ≡ Some settings → number_given words (codes "threads") ≡ Some threads →
+    Asks words (codes "drive") → settings_given words ≡ Some settings →
+    number_given words (codes "threads") ≡ Some threads →
     number_given words (codes "shards") ≡ Some shards → number_given words (codes "snapshots") ≡ Some n →
     (shards == 1 || n == 0) ≡ false → settings.initial ≤ settings.max → IsRun words status left rest before now →
     IsWordsOf snapshots_of_shards status × Keeps left rest × Keeps before now

@@ -2,7 +2,8 @@
 ghost use Rattle.std.specs.Prelude.{◌≡◌, ◌%◌, ◌≤◌, true, All, IfOk, IfErr, IfSome, OnOk, length};
 ghost use Rattle.lh_settling.specs.Acts.{calls_of};
 ghost use Rattle.lh_file.specs.Buckets.Rooms.{IsRoomOf};
-ghost use Rattle.lhash.specs.Driving.{AreSettled, EndsDriving, IsDriven, IsDrivenWith, IsDriveFault, IsDriveFaultWith, IsFaultOfOne, IsSettledBefore, empty_file, ended_by, unsettled_as};
+ghost use Rattle.lhash.specs.Driving.{AreSettled, EndsDriving, IsDriven, IsDrivenWith, IsDriveFault, IsDriveFaultWith};
+ghost use Rattle.lhash.specs.Driving.{IsFaultOfOne, IsSettledBefore, empty_file, ended_by, unsettled_as};
 
 use crate::driven::{Driven, SnapshotsText};
 use crate::workers::work_in_threads;
@@ -22,7 +23,8 @@ use std::thread::Threads;
 /// Why a run in threads has no totals. Out of memory is always [`DriveFault::Memory`].
 #[derive(Clone, Copy, Debug, PartialEq, Eq)]
 pub enum DriveFault {
-    /// What the threads did is not settled, by the first fault of the closed file, or of the first snapshot that has one.
+    /// What the threads did is not settled, by the first fault of the closed file, or of the first snapshot that has
+    /// one.
     Settle(SettleFault),
     /// A call was not answered: of the first thread that has such a call, the first one. Or a snapshot was not.
     Call(FileFault),
@@ -144,8 +146,8 @@ fn driven_in<G: Gate + Sync, J: Room + Send + Sync, R: Threads + Wait + Sync>(
 }
 
 /// Like [`drive_with`], and takes so many snapshots meanwhile, evenly spread over the calls, or later. Each is kept
-/// until the file is closed, and then settled with those acts that came before it. A fault of one is answered like one of
-/// the closed file, and comes only where a bucket of that was not met when it was closed.
+/// until the file is closed, and then settled with those acts that came before it. A fault of one is answered like one
+/// of the closed file, and comes only where a bucket of that was not met when it was closed.
 pub fn drive_with_snapshots<G: Gate + Drop + Sync, R: Threads + Wait + Sync>(
     rt: &R,
     alloc: Global,

@@ -48,9 +48,9 @@ fn totals(alloc: Global, config: Config, closed: &ClosedShards) -> Result<Driven
 /// `j` is made by thread `j % threads`, and each thread makes its calls in their order.
 ///
 /// The totals are those of one history of one map, which has as many calls as the script: the shards' histories, one
-/// after another. Any other merge of these is legal too (see [`shards_are_one_map`](lh_shards::laws::shards_are_one_map)).
-/// Which histories they are depends on how the threads' calls fall together; where all calls on each key go to one
-/// thread, the replies don't.
+/// after another. Any other merge of these is legal too (see
+/// [`shards_are_one_map`](lh_shards::laws::shards_are_one_map)). Which histories they are depends on how the threads'
+/// calls fall together; where all calls on each key go to one thread, the replies don't.
 ///
 /// If a thread can't be started, or a call isn't answered, all threads that run are waited for, and the fault is
 /// answered. A fault of settling is that of the first shard that has one.

@@ -4,7 +4,9 @@ ghost use Rattle.std.specs.Prelude.{codes};
 ghost use Rattle.lh_subcommands.specs.Continued.{query_due};
 ghost use Rattle.lh_subcommands.specs.Images.{check_due, draw_due, dump_due, migrate_due};
 ghost use Rattle.lh_subcommands.specs.Run.{EndsReplay, EndsSteps};
-ghost use Rattle.lhash.specs.Serving.{EndsCommands, EndsTold, RefusesBelow, RefusesBeside, RefusesSnapshots, ServesApply, ServesBuild, ServesClient, ServesDrive, ServesFile, ServesFrom, ServesImage, TurnsAway};
+ghost use Rattle.lhash.specs.Serving.{EndsCommands, EndsTold, RefusesBelow, RefusesBeside, RefusesSnapshots};
+ghost use Rattle.lhash.specs.Serving.{ServesApply, ServesBuild, ServesClient, ServesDrive, ServesFile, ServesFrom};
+ghost use Rattle.lhash.specs.Serving.{ServesImage, TurnsAway};
 
 /// Words that ask for `commands` have the replies of one plain map to the script's calls written, and the number of
 /// buckets that the split policy gives; or the run ends at the script's first fault, with nothing written.
@@ -29,8 +31,8 @@ pub fn build_is_served()
 {}
 
 /// Words that ask for `drive` have the totals written of a settled, legal history; and, where they give a number of
-/// snapshots, that as many were taken, each of which is settled with the acts before it, the first part of that history.
-/// On several shards the history is a merge of theirs, legal for one map, of which the shards hold the parts.
+/// snapshots, that as many were taken, each of which is settled with the acts before it, the first part of that
+/// history. On several shards the history is a merge of theirs, legal for one map, of which the shards hold the parts.
 pub fn drive_is_served()
     ensures { ServesDrive }
 {}
@@ -55,9 +57,9 @@ pub fn migrate_is_served()
     ensures { ServesImage (codes "migrate") (EndsTold migrate_due) }
 {}
 
-/// Words that ask for `query` have the replies written of the plain map of the image's listing to the calls of the script
-/// behind it, and the number of buckets that the split policy gives; or the run ends at the image's fault, or else at the
-/// script's first one, with nothing written.
+/// Words that ask for `query` have the replies written of the plain map of the image's listing to the calls of the
+/// script behind it, and the number of buckets that the split policy gives; or the run ends at the image's fault, or
+/// else at the script's first one, with nothing written.
 pub fn query_is_served()
     ensures { ServesImage (codes "query") (EndsTold query_due) }
 {}
@@ -68,15 +70,15 @@ pub fn apply_is_served()
     ensures { ServesApply }
 {}
 
-/// Words that ask for `serve` have each line of the input answered by one plain map, in its order: all of them, where the
-/// run is done; where a read fails, just those that had come by then; and a beginning of such answers where a write
+/// Words that ask for `serve` have each line of the input answered by one plain map, in its order: all of them, where
+/// the run is done; where a read fails, just those that had come by then; and a beginning of such answers where a write
 /// fails.
 pub fn serve_is_served()
     ensures { ServesClient }
 {}
 
-/// Words that ask for `serve --image` have each line behind the image that the input begins with answered so by the plain map
-/// of the image's listing.
+/// Words that ask for `serve --image` have each line behind the image that the input begins with answered so by the
+/// plain map of the image's listing.
 pub fn serve_goes_on_from_an_image()
     ensures { ServesFrom }
 {}
@@ -86,7 +88,8 @@ pub fn settings_out_of_order_are_refused()
     ensures { RefusesBelow }
 {}
 
-/// Words of `serve --image` that give an option of the configuration are refused, with nothing read and nothing written.
+/// Words of `serve --image` that give an option of the configuration are refused, with nothing read and nothing
+/// written.
 pub fn settings_beside_an_image_are_refused()
     ensures { RefusesBeside }
 {}

@@ -2,7 +2,8 @@
 ghost use Rattle.std.specs.Prelude.{◌≡◌, ◌≤◌, ◌==◌, Bool, IfOk, IfSome, map};
 ghost use Rattle.lh_shards.specs.Hands.{IsCount};
 ghost use Rattle.lh_options.specs.Options.{IsServable};
-ghost use Rattle.lhash.specs.Serving.{EndsDrivingIn, IsHelped, IsRun, IsWhetherImageAsked, IsWordsOf, Serves, wanted_version};
+ghost use Rattle.lhash.specs.Serving.{EndsDrivingIn, IsHelped, IsRun, IsWhetherImageAsked, IsWordsOf, Serves};
+ghost use Rattle.lhash.specs.Serving.{wanted_version};
 
 use crate::drive::answer_drive;
 use crate::drive_shards::answer_drive_shards;

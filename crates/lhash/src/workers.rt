@@ -1,5 +1,6 @@
 //! Threads that share a traced file, and do a script's calls between them, and snapshots that are taken meanwhile.
-ghost use Rattle.std.specs.Prelude.{◌≡◌, ◌+◌, ◌*◌, ◌/◌, ◌<◌, ◌≤◌, true, false, [], All, IfOk, IfErr, IfSome, None, OnOk, OnErr, length, sum_by};
+ghost use Rattle.std.specs.Prelude.{◌≡◌, ◌+◌, ◌*◌, ◌/◌, ◌<◌, ◌≤◌, true, false, [], All, IfOk, IfErr, IfSome, None};
+ghost use Rattle.std.specs.Prelude.{OnOk, OnErr, length, sum_by};
 ghost use Rattle.lh_file.specs.Calls.Served.{IsNotSpent};
 ghost use Rattle.lh_file.specs.History.Own.{IsOwn, share_of};
 ghost use Rattle.lhash.specs.Driving.{IsWorkersFault};
@@ -294,8 +295,8 @@ fn take_snapshots<G: Gate, J: Room, R: Wait>(
     Ok(taken)
 }
 
-/// Makes all calls in this number of threads, takes snapshots meanwhile, and joins the hands of all of them into one. Of
-/// several faults it is the one of the first thread that has one.
+/// Makes all calls in this number of threads, takes snapshots meanwhile, and joins the hands of all of them into one.
+/// Of several faults it is the one of the first thread that has one.
 pub fn work_in_threads<G: Gate + Sync, J: Room + Send + Sync, R: Threads + Wait + Sync>(
     rt: &R,
     alloc: Global,

@@ -68,8 +68,8 @@ fn refused<'a>(alloc: Global, words: &'a [&'a str], is_terminal: bool) -> Option
     }
 }
 
-/// Does what the words ask for; but no image is written to a terminal. Where all was done, all of it is with the device,
-/// and nothing is left gathered.
+/// Does what the words ask for; but no image is written to a terminal. Where all was done, all of it is with the
+/// device, and nothing is left gathered.
 fn run_whole<'a, A: AllocGlobal + Threads + Wait + Sync, R: Read, W: Write + Drop>(
     rt: &A,
     words: &'a [&'a str],

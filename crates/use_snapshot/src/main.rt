@@ -1,5 +1,5 @@
-//! A table is looked at while it works: two threads claim seats, and a third copies the whole table at single moments. Each
-//! copy is written as an image, checked and opened again, and what it holds is settled with the calls before it.
+//! A table is looked at while it works: two threads claim seats, and a third copies the whole table at single moments.
+//! Each copy is written as an image, checked and opened again, and what it holds is settled with the calls before it.
 #![tactic(auto)]
 
 ghost use Rattle.std.specs.Prelude.{◌≡◌, IfSome, false};

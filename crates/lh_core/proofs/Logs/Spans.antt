@@ -1,5 +1,6 @@
 -- The open call of a worker is the call whose span reaches to the end of the log
-use Rattle.std.proofs.Common.{◌≡◌, ℕ, ◌||◌, Bool, true, false, cond, [], ◌∷◌, Some, None, Ok, Err, nat_eq, refl, ap, ◌∙◌}
+use Rattle.std.proofs.Common.{◌≡◌, ℕ, ◌||◌, Bool, true, false, cond, [], ◌∷◌, Some, None, Ok, Err, nat_eq, refl, ap}
+use Rattle.std.proofs.Common.{◌∙◌}
 use Rattle.std.specs.List.{list_any}
 use Rattle.lh_bucket.specs.declared.call.Call.{Call}
 use Rattle.lh_core.specs.declared.effect.Effect.{Effect}
@@ -20,7 +21,9 @@ module _ (w : ℕ) (c : Call) where
     since = ap (λ b. b || list_any (is_bound w) s.later) e ∙ s.since;
   }
 
-  called : (v : ℕ) (d : Call) (f : Effect) (log : Log) (b : Bool) → nat_eq v w ≡ b → cond b (Some d) (open_call w log) ≡ Some c → (open_call w log ≡ Some c → IsInSpan w log c) → IsInSpan w ((event.Call v d, Ok f) ∷ log) c
+  called : (v : ℕ) (d : Call) (f : Effect) (log : Log) (b : Bool) → nat_eq v w ≡ b →
+      cond b (Some d) (open_call w log) ≡ Some c → (open_call w log ≡ Some c → IsInSpan w log c) →
+      IsInSpan w ((event.Call v d, Ok f) ∷ log) c
   called v d f log true t h next = record {
     later = [];
     earlier = log;
@@ -30,7 +33,8 @@ module _ (w : ℕ) (c : Call) where
   }
   called v d f log false t h next = add (event.Call v d, Ok f) log t (next h)
 
-  closed : (d : Event × Entry) (log : Log) (b : Bool) → is_bound w d ≡ b → cond b None (open_call w log) ≡ Some c → (open_call w log ≡ Some c → IsInSpan w log c) → IsInSpan w (d ∷ log) c
+  closed : (d : Event × Entry) (log : Log) (b : Bool) → is_bound w d ≡ b → cond b None (open_call w log) ≡ Some c →
+      (open_call w log ≡ Some c → IsInSpan w log c) → IsInSpan w (d ∷ log) c
   closed d log true t h next = none_some h
   closed d log false t h next = add d log t (next h)
 

@@ -1,5 +1,6 @@
 -- Steps that were accepted, and the workers that they leave alone
-use Rattle.std.proofs.Common.{◌≡◌, ℕ, ◌<◌, ◌≢◌, Bool, true, false, cond, List, Option, Some, None, Result, Ok, Err, length, set, nat_eq, sym, ap, subst, ◌∙◌, arith, eq-eqb, refl}
+use Rattle.std.proofs.Common.{◌≡◌, ℕ, ◌<◌, ◌≢◌, Bool, true, false, cond, List, Option, Some, None, Result, Ok, Err}
+use Rattle.std.proofs.Common.{length, set, nat_eq, sym, ap, subst, ◌∙◌, arith, eq-eqb, refl}
 use Rattle.std.specs.Prelude.{slice_get}
 use Rattle.std.specs.List.{All}
 use Rattle.std.proofs.lemmas.Option.{slice_get-get_or, slice_get_within, get_or_from_slice_get}
@@ -34,16 +35,20 @@ pub told : {X Y E : Type 0} {p q : X × Y} → ◌≡◌ {A = Result (X × Y) E}
 told e = ap (λ z. z.0) (ok_same e)
 
 -- past a test that could refuse
-pub passed : {X E : Type 0} (b : Bool) (r : E) (x y : X) → ◌≡◌ {A = Result X E} (cond b (Err r) (Ok x)) (Ok y) → (b ≡ false) × (◌≡◌ {A = Result X E} (Ok x) (Ok y))
+pub passed : {X E : Type 0} (b : Bool) (r : E) (x y : X) → ◌≡◌ {A = Result X E} (cond b (Err r) (Ok x)) (Ok y) →
+    (b ≡ false) × (◌≡◌ {A = Result X E} (Ok x) (Ok y))
 passed true r x y e = err_ok e
 passed false r x y e = (refl, e)
 
-step_put : (a : State) (w : ℕ) (p : WorkerStep) (o : Option Effect) (b : State) → put a w p ≡ Ok (o, b) → (y : WorkerState) × (p ≡ Ok (o, y)) × (b ≡ with_worker a w y)
+step_put : (a : State) (w : ℕ) (p : WorkerStep) (o : Option Effect) (b : State) → put a w p ≡ Ok (o, b) →
+    (y : WorkerState) × (p ≡ Ok (o, y)) × (b ≡ with_worker a w y)
 step_put a w (Ok p) o b e = (p.1, ap (λ z. Ok (z, p.1)) (told e), sym (became e))
 step_put a w (Err r) o b e = err_ok e
 
 -- an accepted step of a worker
-pub step_at : (a : State) (w : ℕ) (step : WorkerState → WorkerStep) (z : Option WorkerState) (o : Option Effect) (b : State) → put_at a w step z ≡ Ok (o, b) → (x : WorkerState) × (y : WorkerState) × (z ≡ Some x) × (step x ≡ Ok (o, y)) × (b ≡ with_worker a w y)
+pub step_at : (a : State) (w : ℕ) (step : WorkerState → WorkerStep) (z : Option WorkerState) (o : Option Effect)
+    (b : State) → put_at a w step z ≡ Ok (o, b) →
+    (x : WorkerState) × (y : WorkerState) × (z ≡ Some x) × (step x ≡ Ok (o, y)) × (b ≡ with_worker a w y)
 step_at a w step None o b e = err_ok e
 step_at a w step (Some x) o b e = let h = step_put a w (step x) o b e in (x, h.0, refl, h.1, h.2)
 
@@ -89,9 +94,15 @@ all_at P xs i x h e = subst P (get_or_from_slice_get xs i x x e) (h i x (slice_g
 
 -- a worker that was written, and the others
 pub written : {X : Type 0} (xs : List X) (w : ℕ) (y x : X) → w < length xs → slice_get (set xs w y) w ≡ Some x → y ≡ x
-written xs w y x lt e = some_same (sym (slice_get-get_or (set xs w y) w y (subst (λ n. w < n) (sym (length-set xs w y)) lt) ∙ ap Some (get_or-set_same xs w y y lt)) ∙ e)
+written xs w y x lt e =
+    some_same
+    (sym
+    (slice_get-get_or (set xs w y) w y (subst (λ n. w < n) (sym (length-set xs w y)) lt)
+    ∙ ap Some (get_or-set_same xs w y y lt)) ∙ e)
 
-pub unwritten : {X : Type 0} (xs : List X) (w v : ℕ) (y x : X) → v ≢ w → slice_get (set xs w y) v ≡ Some x → slice_get xs v ≡ Some x
+pub unwritten : {X : Type 0} (xs : List X) (w v : ℕ) (y x : X) → v ≢ w → slice_get (set xs w y) v ≡ Some x →
+    slice_get xs v ≡ Some x
 unwritten xs w v y x d e =
     let lt : v < length xs = subst (λ n. v < n) (length-set xs w y) (slice_get_within (set xs w y) v x e) in
-    slice_get-get_or xs v x lt ∙ ap Some (sym (get_or-set_other xs w v y x d) ∙ get_or_from_slice_get (set xs w y) v x x e)
+    slice_get-get_or xs v x lt
+    ∙ ap Some (sym (get_or-set_other xs w v y x d) ∙ get_or_from_slice_get (set xs w y) v x x e)

@@ -1,5 +1,6 @@
 -- Calls one after another, with the splits that they ask for
-use Rattle.std.proofs.Common.{◌≡◌, inl, inr, ℕ, ◌+◌, ◌-◌, ◌≤◌, Bool, true, false, cond, List, [], ◌∷◌, ◌++◌, Option, Some, None, length, refl, sym, ap, subst, ◌∙◌, arith, length-append}
+use Rattle.std.proofs.Common.{◌≡◌, inl, inr, ℕ, ◌+◌, ◌-◌, ◌≤◌, Bool, true, false, cond, List, [], ◌∷◌, ◌++◌, Option}
+use Rattle.std.proofs.Common.{Some, None, length, refl, sym, ap, subst, ◌∙◌, arith, length-append}
 use Rattle.std.specs.FinMap.{get, insert, remove, contains_key, empty, len, len-empty, len-insert, len-remove}
 use Rattle.std.specs.Ordering.{nat_cmp}
 use Rattle.std.specs.Cmp.Lexicographic.{slice_cmp, nat_list_cmp_total}
@@ -14,7 +15,8 @@ use Rattle.lh_bucket.specs.PlainMap.{Records, reply, after, replies, outcome, fo
 use Rattle.lh_core.specs.Opened.{IsOpened}
 use Rattle.lh_core.specs.State.{State, first}
 use Rattle.lh_core.specs.Kept.{IsWorld}
-use Rattle.lh_core.specs.Serial.{IsAtRest, IsGivenUp, IsServedAlone, IsServed, IsServedOn, IsSerial, IsSerialFrom, HasGrown, HasRecords, grows_after, size_after, size_from, count_after}
+use Rattle.lh_core.specs.Serial.{IsAtRest, IsGivenUp, IsServedAlone, IsServed, IsServedOn, IsSerial, IsSerialFrom}
+use Rattle.lh_core.specs.Serial.{HasGrown, HasRecords, grows_after, size_after, size_from, count_after}
 use Rattle.lh_core.specs.World.{WorldSeen, IsPlaced, HasLevels, StandsFor}
 use Rattle.lh_core.proofs.Logs.Leading.{outcome_more, replies_more, idle_filled}
 
@@ -23,15 +25,18 @@ found_keeps : (n : ℕ) (o : Option (List ℕ)) → n ≡ count_after n (found o
 found_keeps n None = refl
 found_keeps n (Some v) = refl
 
-insert_counts : (m : Records) (k v : List ℕ) (b : Bool) → contains_key m k ≡ b → len (cond b m (insert m k v)) ≡ count_after (len m) (cond b Exists Inserted)
+insert_counts : (m : Records) (k v : List ℕ) (b : Bool) → contains_key m k ≡ b →
+    len (cond b m (insert m k v)) ≡ count_after (len m) (cond b Exists Inserted)
 insert_counts m k v true e = refl
 insert_counts m k v false e = len-insert nat_list_cmp_total m k v ∙ ap (λ b. cond b (len m) (len m + 1)) e
 
-delete_counts : (m : Records) (k : List ℕ) (b : Bool) → contains_key m k ≡ b → len (cond b (remove m k) m) ≡ count_after (len m) (cond b Deleted Absent)
+delete_counts : (m : Records) (k : List ℕ) (b : Bool) → contains_key m k ≡ b →
+    len (cond b (remove m k) m) ≡ count_after (len m) (cond b Deleted Absent)
 delete_counts m k true e = len-remove nat_list_cmp_total m k ∙ ap (λ b. cond b (len m - 1) (len m)) e
 delete_counts m k false e = refl
 
-replace_counts : (m : Records) (k v : List ℕ) (b : Bool) → contains_key m k ≡ b → len (cond b (insert m k v) m) ≡ count_after (len m) (cond b Replaced Absent)
+replace_counts : (m : Records) (k v : List ℕ) (b : Bool) → contains_key m k ≡ b →
+    len (cond b (insert m k v) m) ≡ count_after (len m) (cond b Replaced Absent)
 replace_counts m k v true e = len-insert nat_list_cmp_total m k v ∙ ap (λ b. cond b (len m) (len m + 1)) e
 replace_counts m k v false e = refl
 
@@ -42,18 +47,25 @@ count_is m (Delete k) = delete_counts m k (contains_key m k) refl
 count_is m (Replace k v) = replace_counts m k v (contains_key m k) refl
 
 -- a call that was served, without a split and with one
-module _ (v u : WorldSeen) (m : Records) (c : Call) (y : Reply) (j k : ℕ) (b : Bool) (h : IsServedAlone v c y u) (stands : StandsFor v m) (was : j ≡ len m) (count : k ≡ count_after j y) (test : b ≡ grows_after u.config k u.state.buckets y) where
+module _ (v u : WorldSeen) (m : Records) (c : Call) (y : Reply) (j k : ℕ) (b : Bool) (h : IsServedAlone v c y u)
+    (stands : StandsFor v m) (was : j ≡ len m) (count : k ≡ count_after j y)
+    (test : b ≡ grows_after u.config k u.state.buckets y) where
   counted : k ≡ len (after m c)
   counted = count ∙ ap (λ n. count_after n y) was ∙ ap (count_after (len m)) (h.replied m stands) ∙ sym (count_is m c)
 
   tested : b ≡ grows_after v.config (len (after m c)) v.state.buckets (reply m c)
-  tested = test ∙ ap (λ s. grows_after s k u.state.buckets y) h.same ∙ ap (λ (a : State). grows_after v.config k a.buckets y) h.state ∙ ap (λ n. grows_after v.config n v.state.buckets y) counted ∙ ap (grows_after v.config (len (after m c)) v.state.buckets) (h.replied m stands)
+  tested =
+      test ∙ ap (λ s. grows_after s k u.state.buckets y) h.same
+      ∙ ap (λ (a : State). grows_after v.config k a.buckets y) h.state
+      ∙ ap (λ n. grows_after v.config n v.state.buckets y) counted
+      ∙ ap (grows_after v.config (len (after m c)) v.state.buckets) (h.replied m stands)
 
   pub served_still : b ≡ false → IsAtRest v.state → IsServed v m c y k u
   served_still f r = record {
     same = h.same;
     rest = subst IsAtRest (sym h.state) r;
-    size = ap (λ (a : State). a.buckets) h.state ∙ ap (λ t. cond t (v.state.buckets + 1) v.state.buckets) (sym f ∙ tested);
+    size =
+        ap (λ (a : State). a.buckets) h.state ∙ ap (λ t. cond t (v.state.buckets + 1) v.state.buckets) (sym f ∙ tested);
     stands = h.stands m stands;
     replied = h.replied m stands;
     count = counted;
@@ -63,7 +75,9 @@ module _ (v u : WorldSeen) (m : Records) (c : Call) (y : Reply) (j k : ℕ) (b :
   served_grown w f g = record {
     same = g.same ∙ h.same;
     rest = g.rest;
-    size = g.size ∙ ap (λ (a : State). a.buckets + 1) h.state ∙ ap (λ t. cond t (v.state.buckets + 1) v.state.buckets) (sym f ∙ tested);
+    size =
+        g.size ∙ ap (λ (a : State). a.buckets + 1) h.state
+        ∙ ap (λ t. cond t (v.state.buckets + 1) v.state.buckets) (sym f ∙ tested);
     stands = g.stands (after m c) (h.stands m stands);
     replied = h.replied m stands;
     count = counted;
@@ -80,15 +94,19 @@ module _ (v u : WorldSeen) (m : Records) (c : Call) (y : Reply) (j k : ℕ) (b :
     count = counted;
   }
 
-pub served_on : (v : WorldSeen) (m : Records) (c : Call) (y : Reply) (k : ℕ) (w : WorldSeen) → IsServed v m c y k w → IsServedOn v m c y k w
-served_on v m c y k w h = record { same = h.same; rest = h.rest; size = inl h.size; stands = h.stands; replied = h.replied; count = h.count }
+pub served_on : (v : WorldSeen) (m : Records) (c : Call) (y : Reply) (k : ℕ) (w : WorldSeen) → IsServed v m c y k w →
+    IsServedOn v m c y k w
+served_on v m c y k w h =
+    record { same = h.same; rest = h.rest; size = inl h.size; stands = h.stands; replied = h.replied; count = h.count }
 
-size_more : (s : Settings) (m : Records) (n : ℕ) (cs : List Call) (c : Call) → size_from s m n (cs ++ c ∷ []) ≡ size_after s (after (outcome m cs) c) (size_from s m n cs) (reply (outcome m cs) c)
+size_more : (s : Settings) (m : Records) (n : ℕ) (cs : List Call) (c : Call) →
+    size_from s m n (cs ++ c ∷ []) ≡ size_after s (after (outcome m cs) c) (size_from s m n cs) (reply (outcome m cs) c)
 size_more s m n [] c = refl
 size_more s m n (d ∷ cs) c = size_more s (after m d) (size_after s (after m d) n (reply m d)) cs c
 
 -- what calls served one after another have come to, from a world that stands for a map of n records
-pub record Served (v : WorldSeen) (m : Records) (n : ℕ) (cs : List Call) (rs : List Reply) (w : WorldSeen) (k : ℕ) : Type 0 where
+pub record Served (v : WorldSeen) (m : Records) (n : ℕ) (cs : List Call) (rs : List Reply) (w : WorldSeen)
+    (k : ℕ) : Type 0 where
   pub same : w.config ≡ v.config
   pub replied : rs ≡ replies m cs
   pub size : w.state.buckets ≡ size_from v.config m v.state.buckets cs
@@ -98,7 +116,8 @@ pub record Served (v : WorldSeen) (m : Records) (n : ℕ) (cs : List Call) (rs :
   pub few : k ≤ n + length cs
   pub unchanged : cs ≡ [] → w ≡ v
 
-pub served_none : (v : WorldSeen) (m : Records) (n : ℕ) → IsAtRest v.state → StandsFor v m → n ≡ len m → Served v m n [] [] v n
+pub served_none : (v : WorldSeen) (m : Records) (n : ℕ) → IsAtRest v.state → StandsFor v m → n ≡ len m →
+    Served v m n [] [] v n
 served_none v m n r p c = record {
   same = refl;
   replied = refl;
@@ -114,12 +133,17 @@ one_at_least : (cs : List Call) (c : Call) → cs ++ c ∷ [] ≡ [] → ⊥
 one_at_least [] c e = cc
 one_at_least (d ∷ cs) c e = cc
 
-pub served_more : (v : WorldSeen) (m : Records) (n : ℕ) (cs : List Call) (rs : List Reply) (u w : WorldSeen) (k : ℕ) (c : Call) (y : Reply) (j : ℕ) →
-    Served v m n cs rs u k → j ≤ k + 1 → IsServed u (outcome m cs) c y j w → Served v m n (cs ++ c ∷ []) (rs ++ y ∷ []) w j
+pub served_more : (v : WorldSeen) (m : Records) (n : ℕ) (cs : List Call) (rs : List Reply) (u w : WorldSeen) (k : ℕ)
+    (c : Call) (y : Reply) (j : ℕ) →
+    Served v m n cs rs u k → j ≤ k + 1 → IsServed u (outcome m cs) c y j w →
+    Served v m n (cs ++ c ∷ []) (rs ++ y ∷ []) w j
 served_more v m n cs rs u w k c y j h few d = record {
   same = d.same ∙ h.same;
   replied = ap (λ r. r ++ y ∷ []) h.replied ∙ ap (λ r. replies m cs ++ r ∷ []) d.replied ∙ sym (replies_more m cs c);
-  size = d.size ∙ ap (λ t. size_after t (after (outcome m cs) c) u.state.buckets (reply (outcome m cs) c)) h.same ∙ ap (λ b. size_after v.config (after (outcome m cs) c) b (reply (outcome m cs) c)) h.size ∙ sym (size_more v.config m v.state.buckets cs c);
+  size =
+      d.size ∙ ap (λ t. size_after t (after (outcome m cs) c) u.state.buckets (reply (outcome m cs) c)) h.same
+      ∙ ap (λ b. size_after v.config (after (outcome m cs) c) b (reply (outcome m cs) c)) h.size
+      ∙ sym (size_more v.config m v.state.buckets cs c);
   rest = d.rest;
   stands = subst (StandsFor w) (sym (outcome_more m cs c)) d.stands;
   count = d.count ∙ ap len (sym (outcome_more m cs c));
@@ -127,23 +151,30 @@ served_more v m n cs rs u w k c y j h few d = record {
   unchanged = λ none. absurd (one_at_least cs c none);
 }
 
-pub served_all : (v : WorldSeen) (m : Records) (n : ℕ) (cs : List Call) (rs : List Reply) (w : WorldSeen) (k : ℕ) → IsWorld w → Served v m n cs rs w k →
+pub served_all : (v : WorldSeen) (m : Records) (n : ℕ) (cs : List Call) (rs : List Reply) (w : WorldSeen) (k : ℕ) →
+    IsWorld w → Served v m n cs rs w k →
     IsSerialFrom v.config m v.state.buckets cs rs w
 served_all v m n cs rs w k h d =
     let size = size_from v.config m v.state.buckets cs in
     let filled : w.state.filled ≡ size = idle_filled w.config w.state h.sound.phase d.rest.splitter ∙ d.size in
-    let levels : HasLevels w.config.initial w.state.filled w.buckets = record { each = λ i lt. ap (λ (x : Head). x.level) (h.row.heads i lt) } in
+    let levels : HasLevels w.config.initial w.state.filled w.buckets =
+    record { each = λ i lt. ap (λ (x : Head). x.level) (h.row.heads i lt) } in
     record {
       same = d.same;
       replied = d.replied;
       size = d.size;
       rest = d.rest;
-      placed = subst (λ (t : Settings). IsPlaced t.initial size (outcome m cs) w.buckets) d.same (subst (λ n. IsPlaced w.config.initial n (outcome m cs) w.buckets) filled d.stands);
-      levels = subst (λ (t : Settings). HasLevels t.initial size w.buckets) d.same (subst (λ n. HasLevels w.config.initial n w.buckets) filled levels);
+      placed =
+          subst (λ (t : Settings). IsPlaced t.initial size (outcome m cs) w.buckets) d.same
+          (subst (λ n. IsPlaced w.config.initial n (outcome m cs) w.buckets) filled d.stands);
+      levels =
+          subst (λ (t : Settings). HasLevels t.initial size w.buckets) d.same
+          (subst (λ n. HasLevels w.config.initial n w.buckets) filled levels);
     }
 
 -- calls on the world of an empty file
-pub from_first : (s : Settings) (v : WorldSeen) (cs : List Call) (rs : List Reply) (w : WorldSeen) → v.config ≡ s → v.state ≡ first s →
+pub from_first : (s : Settings) (v : WorldSeen) (cs : List Call) (rs : List Reply) (w : WorldSeen) → v.config ≡ s →
+    v.state ≡ first s →
     IsSerialFrom v.config empty v.state.buckets cs rs w → IsSerial s cs rs w
 from_first s v cs rs w same state h =
     subst (λ n. IsSerialFrom s empty n cs rs w) (ap (λ (a : State). a.buckets) state)
@@ -160,11 +191,13 @@ pub no_records : (v : WorldSeen) → StandsFor v empty → HasRecords v 0
 no_records v p = (empty, p, none_empty)
 
 -- calls on the world of a listing
-pub from_opened : (l : Lists) (v : WorldSeen) (m : Records) (cs : List Call) (rs : List Reply) (w : WorldSeen) → IsOpened l v →
+pub from_opened : (l : Lists) (v : WorldSeen) (m : Records) (cs : List Call) (rs : List Reply) (w : WorldSeen) →
+    IsOpened l v →
     IsSerialFrom v.config m v.state.buckets cs rs w → IsSerialFrom l.config m (size l) cs rs w
 from_opened l v m cs rs w opened h =
     subst (λ n. IsSerialFrom l.config m n cs rs w) (ap (λ (a : State). a.buckets) opened.state)
     (subst (λ (t : Settings). IsSerialFrom t m v.state.buckets cs rs w) opened.config h)
 
 pub opened_rests : (l : Lists) (v : WorldSeen) → IsOpened l v → IsAtRest v.state
-opened_rests l v h = record { workers = ap (λ (x : State). x.workers) h.state; splitter = ap (λ (x : State). x.splitter) h.state }
+opened_rests l v h =
+    record { workers = ap (λ (x : State). x.workers) h.state; splitter = ap (λ (x : State). x.splitter) h.state }

@@ -1,5 +1,6 @@
 -- A listing has as many records as its plain map
-use Rattle.std.proofs.Common.{◌≡◌, ◌≢◌, ℕ, suc, ◌+◌, ◌<◌, false, List, [], ◌∷◌, ◌++◌, length, refl, sym, ap, subst, ◌∙◌, arith, length-append}
+use Rattle.std.proofs.Common.{◌≡◌, ◌≢◌, ℕ, suc, ◌+◌, ◌<◌, false, List, [], ◌∷◌, ◌++◌, length, refl, sym, ap, subst, ◌∙◌}
+use Rattle.std.proofs.Common.{arith, length-append}
 use Rattle.std.specs.Str.{bytes_eq}
 use Rattle.std.specs.List.{AllByRecursion, IsDistinct}
 use Rattle.std.specs.FinMap.{len}
@@ -39,7 +40,8 @@ differ x y h = false_from_ne_true (bytes_eq x y) (λ e. h ((bytes_eq-Decides x y
 -- a key is that of no record
 apart_from : (key : List ℕ) (ps : List Pair) → ((p : ℕ) → p < length ps → key_at ps p ≢ key) → IsApart key (keys_of ps)
 apart_from key [] h = tt
-apart_from key (x ∷ ps) h = (differ key x.key (λ e. h 0 (omega arith) (sym e)), apart_from key ps (λ p below. h (suc p) (omega arith)))
+apart_from key (x ∷ ps) h =
+    (differ key x.key (λ e. h 0 (omega arith) (sym e)), apart_from key ps (λ p below. h (suc p) (omega arith)))
 
 module _ (home : List ℕ → ℕ) where
   -- each record of some lists, of which the first is bucket j's, stands in the list of its home
@@ -50,7 +52,8 @@ module _ (home : List ℕ → ℕ) where
   later j ps lists h b p below = omega (arith, h (suc b) p below)
 
   -- a key whose home comes before all of the lists is none of theirs
-  apart_later : (j : ℕ) (lists : List (List Pair)) → IsHomeFrom j lists → (key : List ℕ) → home key < j → IsApart key (keys_of (all_of lists))
+  apart_later : (j : ℕ) (lists : List (List Pair)) → IsHomeFrom j lists → (key : List ℕ) → home key < j →
+      IsApart key (keys_of (all_of lists))
   apart_later j [] h key low = tt
   apart_later j (ps ∷ lists) h key low =
       subst (IsApart key) (sym (map-append (λ (p : Pair). p.key) ps (all_of lists)))
@@ -58,21 +61,27 @@ module _ (home : List ℕ → ℕ) where
       (apart_from key ps (λ p below same. absurd (omega (arith, h 0 p below, ap home same))))
       (apart_later (j + 1) lists (later j ps lists h) key (omega arith)))
 
-  distinct_all : (j : ℕ) (lists : List (List Pair)) → IsHomeFrom j lists → ((b : ℕ) → IsDistinct bytes_eq (keys_of (list_at lists b)))
+  distinct_all : (j : ℕ) (lists : List (List Pair)) → IsHomeFrom j lists →
+      ((b : ℕ) → IsDistinct bytes_eq (keys_of (list_at lists b)))
       → IsDistinct bytes_eq (keys_of (all_of lists))
   unfolding IsDistinct
   distinct_all j [] h d = tt
   distinct_all j (ps ∷ lists) h d =
       subst (IsDistinct bytes_eq) (sym (map-append (λ (p : Pair). p.key) ps (all_of lists)))
-      (distinct_both ps (keys_of (all_of lists)) (d 0) (distinct_all (j + 1) lists (later j ps lists h) (λ b. d (suc b)))
+      (distinct_both ps (keys_of (all_of lists)) (d 0)
+      (distinct_all (j + 1) lists (later j ps lists h) (λ b. d (suc b)))
       (λ p below. apart_later (j + 1) lists (later j ps lists h) (key_at ps p) (omega (arith, h 0 p below))))
 
 length_all : (lists : List (List Pair)) → length (all_of lists) ≡ count_of lists
 length_all [] = refl
 length_all (ps ∷ lists) =
-    length-append ps (all_of lists) ∙ ap (λ n. length ps + n) (length_all lists) ∙ sym (sum_by-cons (λ (pairs : List Pair). length pairs) ps lists)
+    length-append ps (all_of lists) ∙ ap (λ n. length ps + n) (length_all lists)
+    ∙ sym (sum_by-cons (λ (pairs : List Pair). length pairs) ps lists)
 
 pub counted : CountLaw → (l : Lists) → IsListing l → count_of l.lists ≡ len (records_of l)
 counted count l h =
     let home : List ℕ → ℕ = λ key. address l.config.initial (size l) (code_of key) in
-    sym (length_all l.lists) ∙ sym (count (all_of l.lists) (distinct_all home 0 l.lists (λ b p below. omega (arith, h.home b p below)) h.distinct))
+    sym (length_all l.lists)
+    ∙ sym
+    (count (all_of l.lists)
+    (distinct_all home 0 l.lists (λ b p below. omega (arith, h.home b p below)) h.distinct))

@@ -1,5 +1,7 @@
 -- The buckets that a file begins with, and the first world
-use Rattle.std.proofs.Common.{◌≡◌, ℕ, ◌+◌, ◌*◌, ◌^◌, ◌<◌, ◌≤◌, ◌||◌, Bool, true, false, cond, List, [], ◌∷◌, ◌++◌, None, Option, Some, get_or, nat_eq, nat_lt, nat_le, refl, sym, ap, subst, ◌∙◌, arith, ⊎_elim, length-append}
+use Rattle.std.proofs.Common.{◌≡◌, ℕ, ◌+◌, ◌*◌, ◌^◌, ◌<◌, ◌≤◌, ◌||◌, Bool, true, false, cond, List, [], ◌∷◌, ◌++◌, None}
+use Rattle.std.proofs.Common.{Option, Some, get_or, nat_eq, nat_lt, nat_le, refl, sym, ap, subst, ◌∙◌, arith, ⊎_elim}
+use Rattle.std.proofs.Common.{length-append}
 use Rattle.std.specs.FinMap.{empty, get-empty}
 use Rattle.std.specs.List.{IsDistinct}
 use Rattle.std.specs.Ordering.{nat_cmp}
@@ -27,20 +29,26 @@ use Rattle.lh_core.proofs.Logs.Aiming.{first_sound}
 pub buckets_none : (is : ℕ → Seen) → AreBuckets is 0 []
 buckets_none is = record { all = refl; each = λ i lt. absurd (omega (arith, lt)) }
 
-pub buckets_more : (is : ℕ → Seen) (n : ℕ) (row : List Seen) → AreBuckets is n row → AreBuckets is (n + 1) (row ++ is n ∷ [])
+pub buckets_more : (is : ℕ → Seen) (n : ℕ) (row : List Seen) → AreBuckets is n row →
+    AreBuckets is (n + 1) (row ++ is n ∷ [])
 buckets_more is n row h = record {
   all = length-append row (is n ∷ []) ∙ ap (λ k. k + 1) h.all;
   each = λ i lt.
       ⊎_elim
       (λ (e : i < n). get_or-append row (is n ∷ []) no_bucket i (subst (λ k. i < k) (sym h.all) e) ∙ h.each i e)
-      (λ (e : n ≤ i). let q : n ≡ i = omega (arith, lt, e) in subst (λ k. get_or (row ++ is n ∷ []) k no_bucket ≡ is k) q (ap (λ k. get_or (row ++ is n ∷ []) k no_bucket) (sym h.all) ∙ get_or-append_seam row (is n) [] no_bucket))
+      (λ (e : n ≤ i).
+      let q : n ≡ i = omega (arith, lt, e) in
+      subst (λ k. get_or (row ++ is n ∷ []) k no_bucket ≡ is k) q
+      (ap (λ k. get_or (row ++ is n ∷ []) k no_bucket) (sym h.all)
+      ∙ get_or-append_seam row (is n) [] no_bucket))
       (cases_lt i n);
 }
 
 pub row_none : (s : Settings) → IsEmptyRow s 0 []
 row_none s = buckets_none (empty_at s)
 
-pub row_more : (s : Settings) (n : ℕ) (row : List Seen) → IsEmptyRow s n row → IsEmptyRow s (n + 1) (row ++ empty_at s n ∷ [])
+pub row_more : (s : Settings) (n : ℕ) (row : List Seen) → IsEmptyRow s n row →
+    IsEmptyRow s (n + 1) (row ++ empty_at s n ∷ [])
 row_more s n row h = buckets_more (empty_at s) n row h
 
 level_test : (i p l t n : ℕ) → 0 ≡ l → 0 ≡ p → t ≡ n → i < n → cond (nat_lt i p || nat_le t i) (l + 1) l ≡ 0
@@ -57,11 +65,16 @@ nothing_twice : (s : Settings) (i : ℕ) → HasKeysOnce (empty_at s i)
 unfolding IsDistinct
 nothing_twice s i = tt
 
-pub first_row_is : LinearHashing → (s : Settings) (row : List Seen) → 1 ≤ s.initial → IsEmptyRow s s.initial row → IsRow s s.initial row
+pub first_row_is : LinearHashing → (s : Settings) (row : List Seen) → 1 ≤ s.initial → IsEmptyRow s s.initial row →
+    IsRow s s.initial row
 first_row_is g s row one h = record {
   all = h.all;
   once = λ i lt. subst HasKeysOnce (sym (h.each i lt)) (nothing_twice s i);
-  heads = λ i lt. ap (λ (x : Seen). x.head) (h.each i lt) ∙ ap (λ l. record { number = i; initial = s.initial; capacity = s.capacity; level = Some l }) (sym (first_level g s.initial i one lt));
+  heads =
+      λ i lt.
+      ap (λ (x : Seen). x.head) (h.each i lt)
+      ∙ ap (λ l. record { number = i; initial = s.initial; capacity = s.capacity; level = Some l })
+      (sym (first_level g s.initial i one lt));
 }
 
 empty_content : map_of [] ≡ empty
@@ -72,16 +85,40 @@ none_either : {X : Type 0} (b : Bool) → ◌≡◌ {A = Option X} None (cond b 
 none_either true = refl
 none_either false = refl
 
-pub first_placed : (s : Settings) (row : List Seen) → IsEmptyRow s s.initial row → IsPlaced s.initial s.initial empty row
+pub first_placed : (s : Settings) (row : List Seen) → IsEmptyRow s s.initial row →
+    IsPlaced s.initial s.initial empty row
 first_placed s row h = record {
   all = h.all;
-  each = λ i lt. ap content (h.each i lt) ∙ empty_content ∙ same _ _ (λ q. get-empty (slice_cmp nat_cmp) q ∙ sym (get_kept empty (λ k. nat_eq (address s.initial s.initial (code_of k)) i) q ∙ ap (λ o. cond (nat_eq (address s.initial s.initial (code_of q)) i) o None) (get-empty (slice_cmp nat_cmp) q) ∙ sym (none_either (nat_eq (address s.initial s.initial (code_of q)) i))));
+  each =
+      λ i lt.
+      ap content (h.each i lt) ∙ empty_content
+      ∙ same _ _
+      (λ q.
+      get-empty (slice_cmp nat_cmp) q
+      ∙ sym
+      (get_kept empty (λ k. nat_eq (address s.initial s.initial (code_of k)) i) q
+      ∙ ap (λ o. cond (nat_eq (address s.initial s.initial (code_of q)) i) o None)
+      (get-empty (slice_cmp nat_cmp) q)
+      ∙ sym (none_either (nat_eq (address s.initial s.initial (code_of q)) i))));
 }
 
-pub first_world : LinearHashing → (c : Control) (row : List Seen) → IsInRange c.config → c.root ≡ record { initial = c.config.initial; buckets = c.config.initial } → c.filled ≡ c.root → control_state c ≡ first c.config → IsEmptyRow c.config c.config.initial row → IsControl c × IsWorld (world_of c row)
+pub first_world : LinearHashing → (c : Control) (row : List Seen) → IsInRange c.config →
+    c.root ≡ record { initial = c.config.initial; buckets = c.config.initial } → c.filled ≡ c.root →
+    control_state c ≡ first c.config → IsEmptyRow c.config c.config.initial row → IsControl c × IsWorld (world_of c row)
 first_world g c row range root filled state h =
     let is : c.filled ≡ record { initial = c.config.initial; buckets = c.config.initial } = filled ∙ root in
     let sound = subst (IsSound c.config) (sym state) (first_sound c.config range.initial.0 range.max.0) in (
-      record { range = range; root = ap (λ (x : Extent). x.initial) root; filled = ap (λ (x : Extent). x.initial) is; sound = sound },
-      record { range = range; sound = sound; row = subst (λ n. IsRow c.config n row) (sym (ap (λ (x : Extent). x.buckets) is)) (first_row_is g c.config row range.initial.0 h) },
+      record {
+        range = range;
+        root = ap (λ (x : Extent). x.initial) root;
+        filled = ap (λ (x : Extent). x.initial) is;
+        sound = sound;
+      },
+      record {
+        range = range;
+        sound = sound;
+        row =
+            subst (λ n. IsRow c.config n row) (sym (ap (λ (x : Extent). x.buckets) is))
+            (first_row_is g c.config row range.initial.0 h);
+      },
     )

@@ -43,7 +43,9 @@ module _ (l : Lists) (kept : IsListing l) where
     listed_lists =
         let same : length (lists_in row) ≡ size l = length-map row (λ (b : Seen). b.pairs) ∙ h.all in
         ext_get_or [] (lists_in row) l.lists same
-        (λ i lt. get_or-map (λ (b : Seen). b.pairs) row i no_bucket ∙ ap (λ (b : Seen). b.pairs) (h.each i (omega (arith, same, lt))))
+        (λ i lt.
+        get_or-map (λ (b : Seen). b.pairs) row i no_bucket
+        ∙ ap (λ (b : Seen). b.pairs) (h.each i (omega (arith, same, lt))))
 
     pub listed_placed : PlacedLaw → IsPlaced l.config.initial (size l) (records_of l) row
     listed_placed placed = record {
@@ -51,12 +53,15 @@ module _ (l : Lists) (kept : IsListing l) where
       each = λ i lt. ap (λ (b : Seen). map_of b.pairs) (h.each i lt) ∙ placed l i kept lt;
     }
 
-    pub listed_world : (c : Control) → c.config ≡ l.config → c.root ≡ record { initial = l.config.initial; buckets = size l } → c.filled ≡ c.root
+    pub listed_world : (c : Control) → c.config ≡ l.config →
+        c.root ≡ record { initial = l.config.initial; buckets = size l } → c.filled ≡ c.root
         → control_state c ≡ resting (size l) → IsControl c × IsWorld (world_of c row)
     listed_world c config root filled state =
         let is : c.filled ≡ record { initial = l.config.initial; buckets = size l } = filled ∙ root in
-        let first : c.root.initial ≡ c.config.initial = ap (λ (x : Extent). x.initial) root ∙ ap (λ s. s.initial) (sym config) in
-        let second : c.filled.initial ≡ c.config.initial = ap (λ (x : Extent). x.initial) is ∙ ap (λ s. s.initial) (sym config) in
+        let first : c.root.initial ≡ c.config.initial =
+        ap (λ (x : Extent). x.initial) root ∙ ap (λ s. s.initial) (sym config) in
+        let second : c.filled.initial ≡ c.config.initial =
+        ap (λ (x : Extent). x.initial) is ∙ ap (λ s. s.initial) (sym config) in
         let sound : IsSound c.config (control_state c) =
         subst (λ s. IsSound s (control_state c)) (sym config) (subst (IsSound l.config) (sym state) listed_sound) in
         let in_range = subst IsInRange (sym config) kept.config in (
@@ -70,8 +75,15 @@ module _ (l : Lists) (kept : IsListing l) where
         )
 
     -- such a world, of which the buckets are seen as they are
-    pub opened_is : PlacedLaw → (config : Settings) (root : Extent) → config ≡ l.config → root ≡ record { initial = l.config.initial; buckets = size l }
-        → IsOpened l (record { config = config; state = record { buckets = root.buckets; filled = root.buckets; workers = all_idle; splitter = split.Idle }; buckets = map (λ (b : Seen). b) row })
+    pub opened_is : PlacedLaw → (config : Settings) (root : Extent) → config ≡ l.config →
+        root ≡ record { initial = l.config.initial; buckets = size l }
+        → IsOpened l
+        (record {
+          config = config;
+          state =
+              record { buckets = root.buckets; filled = root.buckets; workers = all_idle; splitter = split.Idle };
+          buckets = map (λ (b : Seen). b) row;
+        })
     opened_is placed config root same is =
         let seen : row ≡ map (λ (b : Seen). b) row = sym (map_same row) in
         let many : root.buckets ≡ size l = ap (λ (x : Extent). x.buckets) is in
@@ -80,6 +92,7 @@ module _ (l : Lists) (kept : IsListing l) where
           state = ap resting many;
           stands = subst (λ (bs : List Seen). IsPlaced config.initial root.buckets (records_of l) bs) seen
               (subst (λ n. IsPlaced config.initial n (records_of l) row) (sym many)
-              (subst (λ (s : Settings). IsPlaced s.initial (size l) (records_of l) row) (sym same) (listed_placed placed)));
+              (subst (λ (s : Settings). IsPlaced s.initial (size l) (records_of l) row) (sym same)
+              (listed_placed placed)));
           lists = ap lists_in (sym seen) ∙ listed_lists;
         }

@@ -1,5 +1,6 @@
 -- One step of the world, put together
-use Rattle.std.proofs.Common.{◌≡◌, ℕ, ◌+◌, ◌<◌, List, Option, Some, None, Result, Ok, Err, refl, sym, ap, subst, ◌∙◌, inl, inr}
+use Rattle.std.proofs.Common.{◌≡◌, ℕ, ◌+◌, ◌<◌, List, Option, Some, None, Result, Ok, Err, refl, sym, ap, subst, ◌∙◌}
+use Rattle.std.proofs.Common.{inl, inr}
 use Rattle.std.specs.Result.{IsOk, OnErr}
 use Rattle.lh_addr.specs.Settings.{Settings, IsInRange}
 use Rattle.lh_addr.specs.Extent.{Extent}
@@ -23,7 +24,8 @@ use Rattle.lh_core.specs.Log.{reply_of}
 use Rattle.lh_core.specs.History.{outline, call_held, served_by, has_insert}
 use Rattle.lh_core.specs.Sound.{IsSound, IsPhase}
 use Rattle.lh_core.specs.Kept.{IsRow, IsWorld}
-use Rattle.lh_core.specs.Control.{IsControl, KeepsFile, IsActOf, HasNoReply, IsQuiet, control_state, step_to, acted as acted_state, world_of}
+use Rattle.lh_core.specs.Control.{IsControl, KeepsFile, IsActOf, HasNoReply, IsQuiet, control_state, step_to}
+use Rattle.lh_core.specs.Control.{acted as acted_state, world_of}
 use Rattle.lh_core.specs.Laws.{LinearHashing}
 use Rattle.lh_core.specs.World.{WorldSeen, IsPlaced, IsStep, StandsFor, reply_to, map_after}
 use Rattle.lh_core.proofs.Logs.Aiming.{sound_ok}
@@ -78,32 +80,62 @@ is_ok : {X E : Type 0} {r : Result X E} {x : X} → r ≡ Ok x → IsOk r
 is_ok e = subst IsOk (sym e) refl
 
 module _ (c d : Control) (row : List Seen) where
-  pub after_step : LinearHashing → (rows : List Seen) (e : Event) (o : Option Effect) → IsControl c → IsWorld (world_of c row) → KeepsFile c d → allowed c.config (control_state c) e ≡ Ok (o, control_state d) → IsRow c.config d.filled.buckets rows → IsControl d × IsWorld (world_of d rows)
+  pub after_step : LinearHashing → (rows : List Seen) (e : Event) (o : Option Effect) → IsControl c →
+      IsWorld (world_of c row) → KeepsFile c d → allowed c.config (control_state c) e ≡ Ok (o, control_state d) →
+      IsRow c.config d.filled.buckets rows → IsControl d × IsWorld (world_of d rows)
   after_step g rows e o h w r ok q =
-      let sound : IsSound d.config (control_state d) = subst (λ s. IsSound s (control_state d)) (sym r.config) (sound_ok g c.config (control_state c) h.sound o (control_state d) e ok) in
+      let sound : IsSound d.config (control_state d) =
+      subst (λ s. IsSound s (control_state d)) (sym r.config)
+      (sound_ok g c.config (control_state c) h.sound o (control_state d) e ok) in
       let range : IsInRange d.config = subst (λ (s : Settings). IsInRange s) (sym r.config) h.range in (
-        record { range = range; root = r.root ∙ h.root ∙ ap (λ (s : Settings). s.initial) (sym r.config); filled = r.filled ∙ h.filled ∙ ap (λ (s : Settings). s.initial) (sym r.config); sound = sound },
-        record { range = range; sound = sound; row = subst (λ (s : Settings). IsRow s d.filled.buckets rows) (sym r.config) q },
+        record {
+          range = range;
+          root = r.root ∙ h.root ∙ ap (λ (s : Settings). s.initial) (sym r.config);
+          filled = r.filled ∙ h.filled ∙ ap (λ (s : Settings). s.initial) (sym r.config);
+          sound = sound;
+        },
+        record {
+          range = range;
+          sound = sound;
+          row = subst (λ (s : Settings). IsRow s d.filled.buckets rows) (sym r.config) q;
+        },
       )
 
-  pub after_turn : LinearHashing → (e : Event) (x : Result Effect Refusal) → IsControl c → IsWorld (world_of c row) → KeepsFile c d → d.filled ≡ c.filled → step_to x d ≡ allowed c.config (control_state c) e → OnErr x (d ≡ c) → IsControl d × IsWorld (world_of d row)
-  after_turn g e (Ok f) h w r same ok err = after_step g row e (Some f) h w r (sym ok) (subst (λ (x : Extent). IsRow c.config x.buckets row) (sym same) w.row)
-  after_turn g e (Err f) h w r same ok err = subst (λ (x : Control). IsControl x × IsWorld (world_of x row)) (sym err) (h, w)
+  pub after_turn : LinearHashing → (e : Event) (x : Result Effect Refusal) → IsControl c → IsWorld (world_of c row) →
+      KeepsFile c d → d.filled ≡ c.filled → step_to x d ≡ allowed c.config (control_state c) e → OnErr x (d ≡ c) →
+      IsControl d × IsWorld (world_of d row)
+  after_turn g e (Ok f) h w r same ok err =
+      after_step g row e (Some f) h w r (sym ok) (subst (λ (x : Extent). IsRow c.config x.buckets row) (sym same) w.row)
+  after_turn g e (Err f) h w r same ok err =
+      subst (λ (x : Control). IsControl x × IsWorld (world_of x row)) (sym err) (h, w)
 
-  placed_same : (m : Records) (rows : List Seen) → KeepsFile c d → d.filled ≡ c.filled → IsPlaced c.config.initial c.filled.buckets m rows → StandsFor (world_of d rows) m
-  placed_same m rows r f p = subst (λ (s : Settings). IsPlaced s.initial d.filled.buckets m rows) (sym r.config) (subst (λ (x : Extent). IsPlaced c.config.initial x.buckets m rows) (sym f) p)
+  placed_same : (m : Records) (rows : List Seen) → KeepsFile c d → d.filled ≡ c.filled →
+      IsPlaced c.config.initial c.filled.buckets m rows → StandsFor (world_of d rows) m
+  placed_same m rows r f p =
+      subst (λ (s : Settings). IsPlaced s.initial d.filled.buckets m rows) (sym r.config)
+      (subst (λ (x : Extent). IsPlaced c.config.initial x.buckets m rows) (sym f) p)
 
-  pub turned : (e : Event) (f : Effect) → IsQuiet e → HasNoReply f → KeepsFile c d → d.filled ≡ c.filled → Ok (Some f, control_state d) ≡ allowed c.config (control_state c) e → IsStep (world_of c row) e (Ok f) (world_of d row)
+  pub turned : (e : Event) (f : Effect) → IsQuiet e → HasNoReply f → KeepsFile c d → d.filled ≡ c.filled →
+      Ok (Some f, control_state d) ≡ allowed c.config (control_state c) e →
+      IsStep (world_of c row) e (Ok f) (world_of d row)
   turned e f q t r same ok = record {
     config = r.config;
     ruled = sym ok ∙ ap (λ o. Ok (o, control_state d)) (told_outline f t);
     follows = λ m p. (
       told_reply f t ∙ ap (reply_to m) (sym (serves_none (control_state c) e q)),
-      subst (StandsFor (world_of d row)) (ap (map_after m) (sym (serves_none (control_state c) e q))) (placed_same m row r same p),
+      subst (StandsFor (world_of d row)) (ap (map_after m) (sym (serves_none (control_state c) e q)))
+          (placed_same m row r same p),
     );
   }
 
-  pub acted : (w : ℕ) (act : Act) (y : Reply) (rows : List Seen) → IsActOf c w act → KeepsFile c d → d.filled ≡ c.filled → allowed c.config (control_state c) (event.Act w) ≡ Ok (None, acted_state (control_state c) w act) → control_state d ≡ acted_state (control_state c) w act → ((m : Records) → StandsFor (world_of c row) m → y ≡ reply m act.call.now) → ((m : Records) → StandsFor (world_of c row) m → IsPlaced c.config.initial c.filled.buckets (after m act.call.now) rows) → IsStep (world_of c row) (event.Act w) (Ok (effect.Answered y)) (world_of d rows)
+  pub acted : (w : ℕ) (act : Act) (y : Reply) (rows : List Seen) → IsActOf c w act → KeepsFile c d →
+      d.filled ≡ c.filled →
+      allowed c.config (control_state c) (event.Act w) ≡ Ok (None, acted_state (control_state c) w act) →
+      control_state d ≡ acted_state (control_state c) w act →
+      ((m : Records) → StandsFor (world_of c row) m → y ≡ reply m act.call.now) →
+      ((m : Records) → StandsFor (world_of c row) m →
+      IsPlaced c.config.initial c.filled.buckets (after m act.call.now) rows) →
+      IsStep (world_of c row) (event.Act w) (Ok (effect.Answered y)) (world_of d rows)
   acted w act y rows i r same ok state told stands =
       let calls : served_by (control_state c) (event.Act w) ≡ Some act.call.now = ap call_held i.held in
       record {
@@ -111,28 +143,41 @@ module _ (c d : Control) (row : List Seen) where
         ruled = ok ∙ ap (λ b. Ok (None, b)) (sym state);
         follows = λ m p. (
           ap Some (told m p) ∙ ap (reply_to m) (sym calls),
-          subst (StandsFor (world_of d rows)) (ap (map_after m) (sym calls)) (placed_same (after m act.call.now) rows r same (stands m p)),
+          subst (StandsFor (world_of d rows)) (ap (map_after m) (sym calls))
+              (placed_same (after m act.call.now) rows r same (stands m p)),
         );
       }
 
-  pub act_wanted : (w : ℕ) (act : Act) → IsActOf c w act → allowed c.config (control_state c) (event.Act w) ≡ Ok (None, acted_state (control_state c) w act) → IsInsert act.call.now → IsStep (world_of c row) (event.Act w) (Err Memory) (world_of c row)
+  pub act_wanted : (w : ℕ) (act : Act) → IsActOf c w act →
+      allowed c.config (control_state c) (event.Act w) ≡ Ok (None, acted_state (control_state c) w act) →
+      IsInsert act.call.now → IsStep (world_of c row) (event.Act w) (Err Memory) (world_of c row)
   act_wanted w act i ok insert =
       let calls : served_by (control_state c) (event.Act w) ≡ Some act.call.now = ap call_held i.held in
       record { config = refl; ruled = (refl, inr (refl, ap has_insert calls ∙ insert, is_ok ok)); follows = λ m p. p }
 
-  pub moved : (f : Effect) (rows : List Seen) → HasNoReply f → KeepsFile c d → control_state d ≡ with_moved (control_state c) → allowed c.config (control_state c) event.SplitMove ≡ Ok (Some f, with_moved (control_state c)) → ((m : Records) → StandsFor (world_of c row) m → IsPlaced c.config.initial (c.root.buckets + 1) m rows) → IsStep (world_of c row) event.SplitMove (Ok f) (world_of d rows)
+  pub moved : (f : Effect) (rows : List Seen) → HasNoReply f → KeepsFile c d →
+      control_state d ≡ with_moved (control_state c) →
+      allowed c.config (control_state c) event.SplitMove ≡ Ok (Some f, with_moved (control_state c)) →
+      ((m : Records) → StandsFor (world_of c row) m → IsPlaced c.config.initial (c.root.buckets + 1) m rows) →
+      IsStep (world_of c row) event.SplitMove (Ok f) (world_of d rows)
   moved f rows t r state ok stands = record {
     config = r.config;
-    ruled = ok ∙ ap (λ o. Ok (o, with_moved (control_state c))) (told_outline f t) ∙ ap (λ b. Ok (outline f, b)) (sym state);
+    ruled =
+        ok ∙ ap (λ o. Ok (o, with_moved (control_state c))) (told_outline f t)
+        ∙ ap (λ b. Ok (outline f, b)) (sym state);
     follows = λ m p. (
       told_reply f t,
-      subst (λ (s : Settings). IsPlaced s.initial d.filled.buckets m rows) (sym r.config) (subst (λ n. IsPlaced c.config.initial n m rows) (sym (ap (λ (z : State). z.filled) state)) (stands m p)),
+      subst (λ (s : Settings). IsPlaced s.initial d.filled.buckets m rows) (sym r.config)
+          (subst (λ n. IsPlaced c.config.initial n m rows) (sym (ap (λ (z : State). z.filled) state)) (stands m p)),
     );
   }
 
-  pub move_wanted : (f : Effect) → allowed c.config (control_state c) event.SplitMove ≡ Ok (Some f, with_moved (control_state c)) → IsStep (world_of c row) event.SplitMove (Err Memory) (world_of c row)
+  pub move_wanted : (f : Effect) →
+      allowed c.config (control_state c) event.SplitMove ≡ Ok (Some f, with_moved (control_state c)) →
+      IsStep (world_of c row) event.SplitMove (Err Memory) (world_of c row)
   move_wanted f ok = record { config = refl; ruled = (refl, inr (refl, refl, is_ok ok)); follows = λ m p. p }
 
 -- before a move, the root counts the filled buckets, and there may be more
-pub locked_phase : (s : Settings) (n f : ℕ) (x : SplitState) → x ≡ split.Locked → IsPhase s n f x → (f ≡ n) × (n < s.max)
+pub locked_phase : (s : Settings) (n f : ℕ) (x : SplitState) → x ≡ split.Locked → IsPhase s n f x →
+    (f ≡ n) × (n < s.max)
 locked_phase s n f x e p = let q : IsPhase s n f split.Locked = subst (IsPhase s n f) e p in q

@@ -1,5 +1,6 @@
 -- What the parts of a call do to its hand, one after another
-use Rattle.std.proofs.Common.{◌≡◌, ℕ, ◌+◌, ◌-◌, ◌<◌, ◌≤◌, Bool, true, false, Some, None, [], ◌∷◌, ◌++◌, All, refl, sym, ap, ◌∙◌, subst, arith, eqb, eq-eqb}
+use Rattle.std.proofs.Common.{◌≡◌, ℕ, ◌+◌, ◌-◌, ◌<◌, ◌≤◌, Bool, true, false, Some, None, [], ◌∷◌, ◌++◌, All, refl, sym}
+use Rattle.std.proofs.Common.{ap, ◌∙◌, subst, arith, eqb, eq-eqb}
 use Rattle.std.specs.FinMap.{get}
 use Rattle.std.specs.Prelude.{Result, Ok, Err, IfOk, IfErr, OnErr}
 use Rattle.std.specs.Option.{unwrap_or}
@@ -26,16 +27,46 @@ use Rattle.lh_file.specs.declared.words.view.View.{View}
 
 -- a hand that nothing happened to
 pub looked_same : (h : HandState) → HasLooked h h
-looked_same h = record { known = h.view.known; rises = omega arith; view = refl; entries = refl; logs = refl; acts = refl; table = refl; recording = refl }
+looked_same h =
+    record {
+      known = h.view.known;
+      rises = omega arith;
+      view = refl;
+      entries = refl;
+      logs = refl;
+      acts = refl;
+      table = refl;
+      recording = refl;
+    }
 
 pub looked_equal : (a b : HandState) → b ≡ a → HasLooked a b
 looked_equal a b e = subst (HasLooked a) (sym e) (looked_same a)
 
 pub looked_room : (a b : HandState) → IsSame a b → HasLooked a b
-looked_room a b same = record { known = a.view.known; rises = omega arith; view = same.view; entries = same.entries; logs = same.logs; acts = same.acts; table = same.table; recording = same.recording }
+looked_room a b same =
+    record {
+      known = a.view.known;
+      rises = omega arith;
+      view = same.view;
+      entries = same.entries;
+      logs = same.logs;
+      acts = same.acts;
+      table = same.table;
+      recording = same.recording;
+    }
 
 pub looked_knowing : (h : HandState) (n : ℕ) → h.view.known ≤ n → HasLooked h (knowing h n)
-looked_knowing h n rises = record { known = n; rises = rises; view = refl; entries = refl; logs = refl; acts = refl; table = refl; recording = refl }
+looked_knowing h n rises =
+    record {
+      known = n;
+      rises = rises;
+      view = refl;
+      entries = refl;
+      logs = refl;
+      acts = refl;
+      table = refl;
+      recording = refl;
+    }
 
 -- two looks are one
 pub looked_twice : (a b c : HandState) → HasLooked a b → HasLooked b c → HasLooked a c
@@ -51,7 +82,8 @@ looked_twice a b c first second = record {
 }
 
 -- the right was got and given up again
-pub looked_right : (a b : HandState) (n m : ℕ) → a.view.has_right ≡ false → a.view.known ≤ n → n ≤ m → b ≡ with_right (knowing (with_right (knowing a n) true) m) false → HasLooked a b
+pub looked_right : (a b : HandState) (n m : ℕ) → a.view.has_right ≡ false → a.view.known ≤ n → n ≤ m →
+    b ≡ with_right (knowing (with_right (knowing a n) true) m) false → HasLooked a b
 looked_right a b n m none rises more is = record {
   known = m;
   rises = omega (arith, rises, more);
@@ -64,25 +96,39 @@ looked_right a b n m none rises more is = record {
 }
 
 -- a look and then an act serve a call
-pub looked_then_acted : (a b c : HandState) (call : Call) (reply : Reply) → 1 ≤ a.view.left → HasLooked a b → Acted b call reply c → HasServed a call reply c
+pub looked_then_acted : (a b c : HandState) (call : Call) (reply : Reply) → 1 ≤ a.view.left → HasLooked a b →
+    Acted b call reply c → HasServed a call reply c
 looked_then_acted a b c call reply enough looked (stamp, act) = record {
   stamp = stamp;
   known = looked.known;
   newest = subst (All (λ x. x < stamp)) (ap (λ (v : View). v.stamps) looked.view) act.newest;
   enough = enough;
   rises = looked.rises;
-  view = act.view ∙ ap (λ (v : View). record v { stamps = v.stamps ++ stamp ∷ []; left = v.left - 1; inserted = v.inserted + inserts_of reply; deleted = v.deleted + deletes_of reply }) looked.view;
+  view =
+      act.view
+      ∙ ap
+      (λ (v : View).
+      record v {
+        stamps = v.stamps ++ stamp ∷ [];
+        left = v.left - 1;
+        inserted = v.inserted + inserts_of reply;
+        deleted = v.deleted + deletes_of reply;
+      }) looked.view;
   logs = act.logs ∙ looked.logs;
-  acts = act.acts ∙ ap (λ xs. xs ++ kept_of b.recording (record { stamp = stamp; call = call; reply = reply })) looked.acts ∙ ap (λ r. a.acts ++ kept_of r (record { stamp = stamp; call = call; reply = reply })) looked.recording;
+  acts =
+      act.acts ∙ ap (λ xs. xs ++ kept_of b.recording (record { stamp = stamp; call = call; reply = reply })) looked.acts
+      ∙ ap (λ r. a.acts ++ kept_of r (record { stamp = stamp; call = call; reply = reply })) looked.recording;
   table = act.table ∙ looked.table;
   recording = act.recording ∙ looked.recording;
 }
 
-pub acted_served : (a c : HandState) (call : Call) (reply : Reply) → 1 ≤ a.view.left → Acted a call reply c → HasServed a call reply c
+pub acted_served : (a c : HandState) (call : Call) (reply : Reply) → 1 ≤ a.view.left → Acted a call reply c →
+    HasServed a call reply c
 acted_served a c call reply enough acted = looked_then_acted a a c call reply enough (looked_same a) acted
 
 -- a hand that made an act is one of the same file
-pub acted_of : (file : FileState) (a c : HandState) (call : Call) (reply : Reply) → IsOf file a → Acted a call reply c → IsOf file c
+pub acted_of : (file : FileState) (a c : HandState) (call : Call) (reply : Reply) → IsOf file a → Acted a call reply c →
+    IsOf file c
 acted_of file a c call reply of (stamp, act) = record {
   table = act.table ∙ of.table;
   initial = ap (λ (v : View). v.initial) act.view ∙ of.initial;
@@ -91,7 +137,8 @@ acted_of file a c call reply of (stamp, act) = record {
 }
 
 -- a call that was served, and then a look
-pub served_then_looked : (a b c : HandState) (call : Call) (reply : Reply) → HasServed a call reply b → HasLooked b c → HasServed a call reply c
+pub served_then_looked : (a b c : HandState) (call : Call) (reply : Reply) → HasServed a call reply b → HasLooked b c →
+    HasServed a call reply c
 served_then_looked a b c call reply served looked = record {
   stamp = served.stamp;
   known = looked.known;
@@ -106,16 +153,30 @@ served_then_looked a b c call reply served looked = record {
 }
 
 -- a look before a call that was served
-pub looked_then_served : (a b c : HandState) (call : Call) (reply : Reply) → HasLooked a b → HasServed b call reply c → HasServed a call reply c
+pub looked_then_served : (a b c : HandState) (call : Call) (reply : Reply) → HasLooked a b → HasServed b call reply c →
+    HasServed a call reply c
 looked_then_served a b c call reply looked served = record {
   stamp = served.stamp;
   known = served.known;
   newest = subst (All (λ x. x < served.stamp)) (ap (λ (v : View). v.stamps) looked.view) served.newest;
   enough = let l = ap (λ (v : View). v.left) looked.view in omega (arith, served.enough, l);
   rises = let k = ap (λ (v : View). v.known) looked.view in omega (arith, looked.rises, served.rises, k);
-  view = served.view ∙ ap (λ (v : View). record v { known = served.known; stamps = v.stamps ++ served.stamp ∷ []; left = v.left - 1; inserted = v.inserted + inserts_of reply; deleted = v.deleted + deletes_of reply }) looked.view;
+  view =
+      served.view
+      ∙ ap
+      (λ (v : View).
+      record v {
+        known = served.known;
+        stamps = v.stamps ++ served.stamp ∷ [];
+        left = v.left - 1;
+        inserted = v.inserted + inserts_of reply;
+        deleted = v.deleted + deletes_of reply;
+      }) looked.view;
   logs = served.logs ∙ looked.logs;
-  acts = served.acts ∙ ap (λ xs. xs ++ kept_of b.recording (record { stamp = served.stamp; call = call; reply = reply })) looked.acts ∙ ap (λ r. a.acts ++ kept_of r (record { stamp = served.stamp; call = call; reply = reply })) looked.recording;
+  acts =
+      served.acts
+      ∙ ap (λ xs. xs ++ kept_of b.recording (record { stamp = served.stamp; call = call; reply = reply })) looked.acts
+      ∙ ap (λ r. a.acts ++ kept_of r (record { stamp = served.stamp; call = call; reply = reply })) looked.recording;
   table = served.table ∙ looked.table;
   recording = served.recording ∙ looked.recording;
 }
@@ -125,12 +186,17 @@ may_call : (a b : HandState) → HasLooked a b → 1 ≤ b.view.left → 1 ≤ a
 may_call a b looked left = let l = ap (λ (v : View). v.left) looked.view in omega (arith, left, l)
 
 -- a look, and then an answer or a fault that left the hand as it was, are what a call promises
-pub looked_then_serves : (file : FileState) (a b c : HandState) (asked : Call) (r : Result Answered FileFault) → HasLooked a b → 1 ≤ b.view.left →
-    IfOk r (λ x. x.call ≡ asked) → IfOk r (λ x. HasServed b x.call x.reply c) → IsOf file c → OnErr r (c ≡ b) → IfErr r IsNotSpent → Serves file a asked r c
+pub looked_then_serves : (file : FileState) (a b c : HandState) (asked : Call) (r : Result Answered FileFault) →
+    HasLooked a b → 1 ≤ b.view.left →
+    IfOk r (λ x. x.call ≡ asked) → IfOk r (λ x. HasServed b x.call x.reply c) → IsOf file c → OnErr r (c ≡ b) →
+    IfErr r IsNotSpent → Serves file a asked r c
 looked_then_serves file a b c asked (Ok x) looked left call served of same fault = record {
   call = call;
   served = looked_then_served a b c x.call x.reply looked served;
-  spent = ((λ is. absurd (subst (λ (r : Result Answered FileFault). OnErr r ⊥) is tt)), (λ none. let may = may_call a b looked left in absurd (omega (arith, may, none))));
+  spent = (
+    (λ is. absurd (subst (λ (r : Result Answered FileFault). OnErr r ⊥) is tt)),
+    (λ none. let may = may_call a b looked left in absurd (omega (arith, may, none))),
+  );
   not_spent = λ may. tt;
   err = tt;
   of = of;
@@ -138,7 +204,10 @@ looked_then_serves file a b c asked (Ok x) looked left call served of same fault
 looked_then_serves file a b c asked (Err f) looked left call served of same fault = record {
   call = tt;
   served = tt;
-  spent = ((λ is. absurd (subst (λ (r : Result Answered FileFault). IfErr r IsNotSpent) is fault)), (λ none. let may = may_call a b looked left in absurd (omega (arith, may, none))));
+  spent = (
+    (λ is. absurd (subst (λ (r : Result Answered FileFault). IfErr r IsNotSpent) is fault)),
+    (λ none. let may = may_call a b looked left in absurd (omega (arith, may, none))),
+  );
   not_spent = λ may. fault;
   err = subst (HasLooked a) (sym same) looked;
   of = of;
@@ -146,18 +215,26 @@ looked_then_serves file a b c asked (Err f) looked left call served of same faul
 
 module _ {T : Type 0} where
   -- a look, and then a result or a fault that left the hand as it was, are what a call without an answer promises
-  pub looked_then_makes : (file : FileState) (a b c : HandState) (call : Call) (r : Result T FileFault) (reply_in : T → Reply) → HasLooked a b → 1 ≤ b.view.left →
-      IfOk r (λ t. HasServed b call (reply_in t) c) → IsOf file c → OnErr r (c ≡ b) → IfErr r IsNotSpent → Makes file a call r reply_in c
+  pub looked_then_makes : (file : FileState) (a b c : HandState) (call : Call) (r : Result T FileFault)
+      (reply_in : T → Reply) → HasLooked a b → 1 ≤ b.view.left →
+      IfOk r (λ t. HasServed b call (reply_in t) c) → IsOf file c → OnErr r (c ≡ b) → IfErr r IsNotSpent →
+      Makes file a call r reply_in c
   looked_then_makes file a b c call (Ok t) reply_in looked left served of same fault = record {
     served = looked_then_served a b c call (reply_in t) looked served;
-    spent = ((λ is. absurd (subst (λ (r : Result T FileFault). OnErr r ⊥) is tt)), (λ none. let may = may_call a b looked left in absurd (omega (arith, may, none))));
+    spent = (
+      (λ is. absurd (subst (λ (r : Result T FileFault). OnErr r ⊥) is tt)),
+      (λ none. let may = may_call a b looked left in absurd (omega (arith, may, none))),
+    );
     not_spent = λ may. tt;
     err = tt;
     of = of;
   }
   looked_then_makes file a b c call (Err f) reply_in looked left served of same fault = record {
     served = tt;
-    spent = ((λ is. absurd (subst (λ (r : Result T FileFault). IfErr r IsNotSpent) is fault)), (λ none. let may = may_call a b looked left in absurd (omega (arith, may, none))));
+    spent = (
+      (λ is. absurd (subst (λ (r : Result T FileFault). IfErr r IsNotSpent) is fault)),
+      (λ none. let may = may_call a b looked left in absurd (omega (arith, may, none))),
+    );
     not_spent = λ may. fault;
     err = subst (HasLooked a) (sym same) looked;
     of = of;
@@ -170,28 +247,37 @@ fault_in f (Err g) = g
 
 -- a call that was made and then given another result for the same reply
 module _ {T U : Type 0} where
-  pub made_as : (file : FileState) (old new : HandState) (call : Call) (reply_in : T → Reply) (other : U → Reply) (t : T) (u : U) → reply_in t ≡ other u →
+  pub made_as : (file : FileState) (old new : HandState) (call : Call) (reply_in : T → Reply) (other : U → Reply)
+      (t : T) (u : U) → reply_in t ≡ other u →
       Makes file old call (Ok t) reply_in new → Makes file old call (Ok u) other new
   made_as file old new call reply_in other t u same made = record {
     served = subst (λ r. HasServed old call r new) same made.served;
-    spent = ((λ is. absurd (subst (λ (r : Result U FileFault). OnErr r ⊥) is tt)), (λ none. absurd (let e = made.served.enough in omega (arith, e, none))));
+    spent = (
+      (λ is. absurd (subst (λ (r : Result U FileFault). OnErr r ⊥) is tt)),
+      (λ none. absurd (let e = made.served.enough in omega (arith, e, none))),
+    );
     not_spent = λ may. tt;
     err = tt;
     of = made.of;
   }
 
-  pub failed_as : (file : FileState) (old new : HandState) (call : Call) (reply_in : T → Reply) (other : U → Reply) (f : FileFault) →
+  pub failed_as : (file : FileState) (old new : HandState) (call : Call) (reply_in : T → Reply) (other : U → Reply)
+      (f : FileFault) →
       Makes file old call (Err f) reply_in new → Makes file old call (Err f) other new
   failed_as file old new call reply_in other f made = record {
     served = tt;
-    spent = ((λ is. made.spent.0 (ap (λ (r : Result U FileFault). Err (fault_in f r)) is)), (λ none. ap (λ (r : Result T FileFault). Err (fault_in f r)) (made.spent.1 none)));
+    spent = (
+      (λ is. made.spent.0 (ap (λ (r : Result U FileFault). Err (fault_in f r)) is)),
+      (λ none. ap (λ (r : Result T FileFault). Err (fault_in f r)) (made.spent.1 none)),
+    );
     not_spent = made.not_spent;
     err = made.err;
     of = made.of;
   }
 
 -- an act that was entered between two looks is entered
-pub looked_then_entered : (lent : Bool) (a b c : HandState) (call : Call) (reply : Reply) → HasLooked a b → HasEntered lent b call reply c → HasEntered lent a call reply c
+pub looked_then_entered : (lent : Bool) (a b c : HandState) (call : Call) (reply : Reply) → HasLooked a b →
+    HasEntered lent b call reply c → HasEntered lent a call reply c
 looked_then_entered lent a b c call reply looked (stamp, above, entered, drawn) = (
   stamp,
   (let f = ap (λ (v : View). v.floor) looked.view in omega arith),
@@ -199,13 +285,16 @@ looked_then_entered lent a b c call reply looked (stamp, above, entered, drawn) 
   drawn ∙ ap (λ (v : View). v.stamps ++ stamp ∷ []) looked.view,
 )
 
-pub entered_then_looked : (lent : Bool) (a b c : HandState) (call : Call) (reply : Reply) → HasEntered lent a call reply b → HasLooked b c → HasEntered lent a call reply c
-entered_then_looked lent a b c call reply (stamp, above, entered, drawn) looked = (stamp, above, looked.entries ∙ entered, ap (λ (v : View). v.stamps) looked.view ∙ drawn)
+pub entered_then_looked : (lent : Bool) (a b c : HandState) (call : Call) (reply : Reply) →
+    HasEntered lent a call reply b → HasLooked b c → HasEntered lent a call reply c
+entered_then_looked lent a b c call reply (stamp, above, entered, drawn) looked =
+    (stamp, above, looked.entries ∙ entered, ap (λ (v : View). v.stamps) looked.view ∙ drawn)
 
 -- a bucket at which a call is owns the call's key
 pub here_owns : HereLaw → (p : Seen) (c k : ℕ) → verdict p.head c k ≡ Here → owns c p ≡ true
 here_owns law p c k here = let v = (law p.head c k).0 here in
-    ap (λ l. eqb (hash_at p.head.initial (unwrap_or l 0) c) p.head.number) v.1 ∙ eq-eqb (hash_at p.head.initial k c) p.head.number v.0
+    ap (λ l. eqb (hash_at p.head.initial (unwrap_or l 0) c) p.head.number) v.1
+    ∙ eq-eqb (hash_at p.head.initial k c) p.head.number v.0
 
 -- a search leaves the map
 pub searched : (m : Records) (call : Call) → IsSearch call → m ≡ after m call
@@ -215,15 +304,23 @@ searched m (Delete key) is = absurd (false≢true is)
 searched m (Replace key value) is = absurd (false≢true is)
 
 -- a search counts in neither count
-pub uncounted : (m : Records) (call : Call) → IsSearch call → (inserts_of (reply m call) ≡ 0) × (deletes_of (reply m call) ≡ 0)
-uncounted m (Search key) is = elim (get m key) as (λ o. (inserts_of (found o) ≡ 0) × (deletes_of (found o) ≡ 0)) [ Some value ↦ (refl, refl) | None ↦ (refl, refl) ]
+pub uncounted : (m : Records) (call : Call) → IsSearch call →
+    (inserts_of (reply m call) ≡ 0) × (deletes_of (reply m call) ≡ 0)
+uncounted m (Search key) is =
+    elim (get m key) as (λ o. (inserts_of (found o) ≡ 0) × (deletes_of (found o) ≡ 0))
+    [ Some value ↦ (refl, refl) | None ↦ (refl, refl) ]
 uncounted m (Insert key value) is = absurd (false≢true is)
 uncounted m (Delete key) is = absurd (false≢true is)
 uncounted m (Replace key value) is = absurd (false≢true is)
 
 -- the view of a hand that made an act which counts in neither
-pub stamped_same : (v : View) (stamp i d : ℕ) → i ≡ 0 → d ≡ 0 → stamped_with v stamp ≡ record v { stamps = v.stamps ++ stamp ∷ []; left = v.left - 1; inserted = v.inserted + i; deleted = v.deleted + d }
+pub stamped_same : (v : View) (stamp i d : ℕ) → i ≡ 0 → d ≡ 0 →
+    stamped_with v stamp ≡
+    record v
+    { stamps = v.stamps ++ stamp ∷ []; left = v.left - 1; inserted = v.inserted + i; deleted = v.deleted + d }
 stamped_same v stamp i d first second =
     let p : v.inserted ≡ v.inserted + i = omega arith in let q : v.deleted ≡ v.deleted + d = omega arith in
     ap (λ (x : ℕ). record v { stamps = v.stamps ++ stamp ∷ []; left = v.left - 1; inserted = x }) p
-    ∙ ap (λ (y : ℕ). record v { stamps = v.stamps ++ stamp ∷ []; left = v.left - 1; inserted = v.inserted + i; deleted = y }) q
+    ∙ ap
+    (λ (y : ℕ).
+    record v { stamps = v.stamps ++ stamp ∷ []; left = v.left - 1; inserted = v.inserted + i; deleted = y }) q

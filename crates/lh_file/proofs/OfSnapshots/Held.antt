@@ -1,5 +1,6 @@
 -- Rows of buckets, and the seats that are taken and laid back from the first on
-use Rattle.std.proofs.Common.{◌≡◌, ℕ, zero, suc, ◌+◌, ◌<◌, ◌≤◌, ⊎_elim, List, [], ◌∷◌, ◌++◌, map, length, take, drop, get_or, sym, ap, ◌∙◌, subst, arith}
+use Rattle.std.proofs.Common.{◌≡◌, ℕ, zero, suc, ◌+◌, ◌<◌, ◌≤◌, ⊎_elim, List, [], ◌∷◌, ◌++◌, map, length, take, drop}
+use Rattle.std.proofs.Common.{get_or, sym, ap, ◌∙◌, subst, arith}
 use Rattle.std.proofs.Math.ListN.{get_or-map}
 use Rattle.std.proofs.lemmas.List.{length-map, take_more, drop_more, get_or_default}
 use Rattle.std.proofs.lemmas.Bool.{cases_lt}
@@ -11,7 +12,8 @@ use Rattle.lh_bucket.specs.Bucket.{Seen, IsKept}
 use Rattle.lh_file.specs.Snapshots.Held.{head_in, AreBucketsOf}
 use Rattle.lh_file.specs.Words.Rule.{Each}
 
-module _ {V : Type 0} (f : V → Seen) (vs : List V) (n : ℕ) (v : V) (below : n < length vs) (is : v ≡ get_or vs n v) where
+module _ {V : Type 0} (f : V → Seen) (vs : List V) (n : ℕ) (v : V) (below : n < length vs)
+    (is : v ≡ get_or vs n v) where
   -- the bucket that was read at a place
   pub row_at : (d : Seen) → get_or (map f vs) n d ≡ f v
   row_at d =
@@ -44,12 +46,14 @@ IsInPlace config size place bucket = (bucket.head ≡ head_in config size place)
 
 -- the buckets before a place are
 abbrev pub AreBucketsTo : Settings → ℕ → List Seen → ℕ → Type 0
-AreBucketsTo config size buckets n = (place : ℕ) (bucket : Seen) → place < n → get_elem? buckets place ≡ some bucket → IsInPlace config size place bucket
+AreBucketsTo config size buckets n =
+    (place : ℕ) (bucket : Seen) → place < n → get_elem? buckets place ≡ some bucket → IsInPlace config size place bucket
 
 pub no_row : (config : Settings) (size : ℕ) (buckets : List Seen) → AreBucketsTo config size buckets 0
 no_row config size buckets place bucket below at = absurd (omega (arith, below))
 
-pub row_more : (config : Settings) (size : ℕ) (buckets : List Seen) (n : ℕ) (b : Seen) → get_or buckets n b ≡ b → IsInPlace config size n b → AreBucketsTo config size buckets n → AreBucketsTo config size buckets (n + 1)
+pub row_more : (config : Settings) (size : ℕ) (buckets : List Seen) (n : ℕ) (b : Seen) → get_or buckets n b ≡ b →
+    IsInPlace config size n b → AreBucketsTo config size buckets n → AreBucketsTo config size buckets (n + 1)
 row_more config size buckets n b here is before place bucket below at = ⊎_elim
     (λ (low : place < n). before place bucket low at)
     (λ (high : n ≤ place). let same : n ≡ place = omega arith in
@@ -57,12 +61,14 @@ row_more config size buckets n b here is before place bucket below at = ⊎_elim
     subst (λ (x : Seen). IsInPlace config size place x) met (subst (λ i. IsInPlace config size i b) same is))
     (cases_lt place n)
 
-pub row_whole : (config : Settings) (size : ℕ) (buckets : List Seen) (n : ℕ) → size ≡ length buckets → length buckets ≤ n → AreBucketsTo config size buckets n → AreBucketsOf config buckets
+pub row_whole : (config : Settings) (size : ℕ) (buckets : List Seen) (n : ℕ) → size ≡ length buckets →
+    length buckets ≤ n → AreBucketsTo config size buckets n → AreBucketsOf config buckets
 row_whole config size buckets n is all h place bucket at = let w = elem_within buckets place bucket at in
     subst (λ s. IsInPlace config s place bucket) is (h place bucket (omega arith) at)
 
 -- a fact of each element is one of the last, and of those before it
-pub each_end : {A : Type 0} (P : A → Type 0) (l : List A) (i : ℕ) (a : A) → i < length l → a ≡ get_or l i a → Each l P → P a
+pub each_end : {A : Type 0} (P : A → Type 0) (l : List A) (i : ℕ) (a : A) → i < length l → a ≡ get_or l i a → Each l P →
+    P a
 each_end P l i a below is all = all i a (there l i a below is)
   where
     there : {A : Type 0} (l : List A) (i : ℕ) (a : A) → i < length l → a ≡ get_or l i a → get_elem? l i ≡ some a

@@ -49,8 +49,8 @@ IsNotSpent (Spent left) = ⊥
 IsNotSpent Memory = Unit {0}
 IsNotSpent (Defect wanted_bucket wanted_level found_bucket found_level) = Unit {0}
 
--- What every call promises: of the file, of its hand before, of the call that it makes, of its result, of the reply that
--- this stands for, and of its hand after
+-- What every call promises: of the file, of its hand before, of the call that it makes, of its result, of the reply
+-- that this stands for, and of its hand after
 pub record Makes {T : Type 0} (file : FileState) (old : HandState) (call : Call) (result : Result T FileFault)
     (reply_in : T → Reply) (new : HandState) : Type 0 where
   -- The hand has made this very call, with this reply.

@@ -8,4 +8,5 @@ use Rattle.lh_file.specs.declared.words.seat_view.Entry.{Entry}
 pub record HasSurveyed (old new : HandState) : Type 0 where
   pub known : ℕ
   pub more : old.view.known ≤ known
-  pub told : (new ≡ knowing old known) ⊎ ((floor : ℕ) × (log : List Entry) × (old.view.floor ≤ floor) × (new ≡ told_of (knowing old known) floor log))
+  pub told : (new ≡ knowing old known)
+      ⊎ ((floor : ℕ) × (log : List Entry) × (old.view.floor ≤ floor) × (new ≡ told_of (knowing old known) floor log))

@@ -49,9 +49,10 @@ bucket_of config copy = record {
   pairs = copy.pairs.items;
 }
 
--- A copy of a bucket was taken: the bucket holds no key twice, and each key leads to it at its level. The hand was told of a
--- log of no fewer acts than before, and in a traced file the bucket is what that log leaves.
-pub record HasVisited (traced : Bool) (file : FileState) (old : HandState) (copy : BucketCopy) (new : HandState) : Type 0 where
+-- A copy of a bucket was taken: the bucket holds no key twice, and each key leads to it at its level. The hand was told
+-- of a log of no fewer acts than before, and in a traced file the bucket is what that log leaves.
+pub record HasVisited (traced : Bool) (file : FileState) (old : HandState) (copy : BucketCopy)
+    (new : HandState) : Type 0 where
   pub kept : IsKept (bucket_of file.config copy)
   pub later : old.view.floor ≤ copy.stamps
   pub log : List Entry
@@ -63,7 +64,8 @@ pub record HasVisited (traced : Bool) (file : FileState) (old : HandState) (copy
 abbrev pub HasMet : Scanning → Aim → Scanning → Type 0
 HasMet old aim new =
     (new.initial ≡ old.initial)
-    × ((code : ℕ) → aimed old.initial code old.aims ≡ bit (leads old.initial code aim) + aimed old.initial code new.aims)
+    × ((code : ℕ) →
+    aimed old.initial code old.aims ≡ bit (leads old.initial code aim) + aimed old.initial code new.aims)
 
 -- how many buckets a scan has still to visit at most: those of its aims, were each split up to the highest level
 abbrev pub ahead : Scanning → ℕ

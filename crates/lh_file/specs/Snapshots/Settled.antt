@@ -27,7 +27,8 @@ BeforeLaw =
 -- settled with it, and their history is the first part of the file's.
 abbrev pub SnapshotLaw : Type 0
 SnapshotLaw =
-    (opening : Lists) (snapshot closed : ClosedFile) (entries : List Entry) (logs : List (List Entry)) (log : List Entry)
+    (opening : Lists) (snapshot closed : ClosedFile) (entries : List Entry) (logs : List (List Entry))
+    (log : List Entry)
     (hand : HandState) (acts history : List ActLine) → snapshot.root % 2 ≡ 0 →
     IsSnapshot opening snapshot entries logs log → Contains hand.logs log → HasHistory opening closed acts hand →
     hand.view.left + length hand.acts ≡ 2 ^ 63 → NoneLent hand.entries → IsSettled opening closed acts history →

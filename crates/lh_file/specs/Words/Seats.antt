@@ -7,7 +7,8 @@ use Rattle.lh_bucket.specs.declared.call.Call.{Call}
 use Rattle.lh_bucket.specs.declared.call.Reply.{Reply}
 use Rattle.lh_file.specs.Buckets.Segments.{listed_head}
 use Rattle.lh_file.specs.History.Log.{entry}
-use Rattle.lh_file.specs.Words.Views.{Sizes, first_view, spent, rooted, stamped_with, floored, lessened, branch, joined_views}
+use Rattle.lh_file.specs.Words.Views.{Sizes, first_view, spent, rooted, stamped_with, floored, lessened, branch}
+use Rattle.lh_file.specs.Words.Views.{joined_views}
 use Rattle.lh_file.specs.declared.words.seat_view.Entry.{Entry}
 use Rattle.lh_file.specs.declared.words.seat_view.SeatView.{SeatView}
 use Rattle.lh_file.specs.declared.words.view.View.{View}

@@ -18,8 +18,8 @@ use std::sync::Wait;
 
 impl<G: Gate, M: Mode, J: Room> HashFile<G, M, J> {
     /// Searches for a key: the answer's reply is the value, or that the key is absent.
-    // Inlined, as the others here are; `find_into` and `change` below aren't: the answer is made when the bucket is free,
-    // and what nobody looks at isn't made.
+    // Inlined, as the others here are; `find_into` and `change` below aren't: the answer is made when the bucket is
+    // free, and what nobody looks at isn't made.
     #[inline(always)]
     pub fn search<R: Wait>(&self, rt: &R, hand: &mut Hand, key: Key) -> Result<Answer, FileFault>
         requires { IsOf self.now.state hand.old }

@@ -90,8 +90,8 @@ impl<G: Gate, M: Mode, J: Room> HashFile<G, M, J> {
         Ok(is_there)
     }
 
-    /// Lends the bytes of the value under a key to a closure, and answers what that returns, or none where the key isn't
-    /// there. Nothing is copied.
+    /// Lends the bytes of the value under a key to a closure, and answers what that returns, or none where the key
+    /// isn't there. Nothing is copied.
     ///
     /// The closure is given 0 to 112 bytes, and runs while its bucket is held, shared with other searches: it is to be
     /// short, and must not call the file, since a call may wait for that very bucket.

@@ -1,5 +1,6 @@
 //! Scans.
-ghost use Rattle.std.specs.Prelude.{◌≡◌, ℕ, ◌+◌, ◌-◌, ◌*◌, ◌^◌, ◌<◌, ◌≤◌, [], List, None, vec_len, vec_capacity, IfOk, IfErr, OnOk, OnErr, IfSome};
+ghost use Rattle.std.specs.Prelude.{◌≡◌, ℕ, ◌+◌, ◌-◌, ◌*◌, ◌^◌, ◌<◌, ◌≤◌, [], List, None, vec_len, vec_capacity, IfOk};
+ghost use Rattle.std.specs.Prelude.{IfErr, OnOk, OnErr, IfSome};
 ghost use Rattle.std.specs.List.{FoldsTo};
 ghost use Rattle.lh_addr.specs.Limits.{IsInitial};
 ghost use Rattle.lh_file.specs.Calls.Served.{IsNotSpent};
@@ -79,7 +80,8 @@ fn push_raised(aims: &mut Vec<Aim>, first: u32, bucket: u32, from: u8, to: u8)
         ≡ total (λ aim. 2 ^ (16 - aim.level)) aims.old.items + 2 ^ (16 - from) }
     ensures within { Each aims.new.items (IsWithin first) }
 {
-    // Its law: a code that leads to a bucket leads one level up to the bucket, or to one that is the level's size further.
+    // Its law: a code that leads to a bucket leads one level up to the bucket, or to one that is the level's size
+    // further.
     hashes_are_nested();
     for level in from..to {
         aims.push_reserved(Aim {
@@ -141,8 +143,8 @@ impl Scan {
         Ok(Some(copy))
     }
 
-    /// Gives a copy of each bucket that is still to be visited to a closure, one after the other, with no lock held. After
-    /// a fault the scan stands where it met that, and may go on.
+    /// Gives a copy of each bucket that is still to be visited to a closure, one after the other, with no lock held.
+    /// After a fault the scan stands where it met that, and may go on.
     pub fn for_each<G: Gate, M: Mode, J: Room, R: Wait, F: FnMut(BucketCopy)>(
         &mut self,
         rt: &R,

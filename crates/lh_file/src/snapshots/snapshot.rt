@@ -27,13 +27,13 @@ use std::sync::Wait;
 impl<G: Gate, M: Mode, J: Room> HashFile<G, M, J> {
     /// The file at one moment, while calls go on: as it would be, had it been closed then with no split under way. Its
     /// [listing](Closed::into_known_listing) can be written as an image. In a traced file it holds just what the first
-    /// [`stamps`](Closed::stamps) acts of its one legal history leave; of any other, the recorded acts with stamps below
-    /// that number can be [settled](crate::settle_snapshot) with it after the run.
+    /// [`stamps`](Closed::stamps) acts of its one legal history leave; of any other, the recorded acts with stamps
+    /// below that number can be [settled](crate::settle_snapshot) with it after the run.
     ///
-    /// The locks of all buckets are taken shared, in the order of their numbers. The moment is when the last one was got;
-    /// then each bucket is let go as soon as it is copied. A write to a bucket that is held waits, and so do searches of
-    /// it behind that write; in a traced file a search also waits while its bucket's seat is taken. No right to split is
-    /// needed, and no stamp is drawn.
+    /// The locks of all buckets are taken shared, in the order of their numbers. The moment is when the last one was
+    /// got; then each bucket is let go as soon as it is copied. A write to a bucket that is held waits, and so do
+    /// searches of it behind that write; in a traced file a search also waits while its bucket's seat is taken. No
+    /// right to split is needed, and no stamp is drawn.
     ///
     /// Fails when out of memory, or at a bucket that isn't what it has to be. Then nothing is held.
     pub fn snapshot<R: Wait>(&self, rt: &R, hand: &mut Hand) -> Result<Closed, FileFault>

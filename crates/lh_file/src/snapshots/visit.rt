@@ -25,8 +25,8 @@ use lh_bucket::{Bucket, copied_pairs};
 use std::sync::Wait;
 
 impl<G: Gate, M: Mode, J: Room> HashFile<G, M, J> {
-    /// One load of the stamp word while the seat of a bucket, whose lock the caller has, lies with the hand's, where the
-    /// file is traced. A bucket that is wanted at this level and has no seat is a defect of the file.
+    /// One load of the stamp word while the seat of a bucket, whose lock the caller has, lies with the hand's, where
+    /// the file is traced. A bucket that is wanted at this level and has no seat is a defect of the file.
     fn survey_slot<R: Wait>(
         &self,
         rt: &R,
@@ -100,8 +100,9 @@ impl<G: Gate, M: Mode, J: Room> HashFile<G, M, J> {
         Ok(BucketCopy { aim, stamps, pairs })
     }
 
-    /// The records of the bucket that an aim leads to, at one moment, with the level that the bucket has then: the codes
-    /// of its keys lead to it at that level. A bucket that isn't there at the aim's level or a higher one is a defect.
+    /// The records of the bucket that an aim leads to, at one moment, with the level that the bucket has then: the
+    /// codes of its keys lead to it at that level. A bucket that isn't there at the aim's level or a higher one is a
+    /// defect.
     ///
     /// In a traced file the bucket has just what the first [`stamps`](BucketCopy::stamps) acts leave of these codes.
     ///

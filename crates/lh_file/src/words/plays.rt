@@ -8,8 +8,10 @@ ghost use Rattle.lh_bucket.specs.declared.call.Call.TheVariants.{Search};
 ghost use Rattle.lh_bucket.specs.declared.call.Reply.{Reply};
 ghost use Rattle.lh_bucket.specs.declared.call.Reply.TheVariants.{Absent};
 ghost use Rattle.lh_file.specs.Words.Dealing.{dealt_seat, dealt_token};
-ghost use Rattle.lh_file.specs.Words.Seats.{holder, unowned_bucket, no_listing, with_token, partless, token_of, mover, upper_half, lessened_seat, branch_seat, joined_seats};
-ghost use Rattle.lh_file.specs.Words.Plays.{loaded_root, claimed, pointed, dropped, lent_out, drawn, told, counted_insert, counted_delete, loaded_inserts, loaded_deletes};
+ghost use Rattle.lh_file.specs.Words.Seats.{holder, unowned_bucket, no_listing, with_token, partless, token_of, mover};
+ghost use Rattle.lh_file.specs.Words.Seats.{upper_half, lessened_seat, branch_seat, joined_seats};
+ghost use Rattle.lh_file.specs.Words.Plays.{loaded_root, claimed, pointed, dropped, lent_out, drawn, told};
+ghost use Rattle.lh_file.specs.Words.Plays.{counted_insert, counted_delete, loaded_inserts, loaded_deletes};
 
 use crate::words::mode::Mode;
 use crate::words::seat_view::SeatView;

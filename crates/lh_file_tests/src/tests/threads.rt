@@ -239,8 +239,8 @@ pub(crate) fn worked_apart<R: Threads + Wait + Abort>(
     Ok((file, all))
 }
 
-/// Closes a file whose calls were deletes, and checks that none is lost and each that found its key is counted. The number
-/// of calls.
+/// Closes a file whose calls were deletes, and checks that none is lost and each that found its key is counted. The
+/// number of calls.
 pub(crate) fn check_acts(
     rt: &impl Abort,
     alloc: Global,

@@ -17,13 +17,20 @@ few_bytes One = (omega arith, omega arith)
 few_bytes Two = (omega arith, omega arith)
 
 pub record_from_fits : (v : Version) (pair : Pair) → FitsSlot (format_of v) pair → IsRecord pair
-record_from_fits v pair h = record { key = (h.some, omega (arith, h.key, (few_bytes v).0)); value = omega (arith, h.value, (few_bytes v).1) }
+record_from_fits v pair h =
+    record { key = (h.some, omega (arith, h.key, (few_bytes v).0)); value = omega (arith, h.value, (few_bytes v).1) }
 
 -- a slot has room for each record of a listing that fits
-pub fitting_slots : (v : Version) (l : Lists) → IsListing l → FitsVersion v l → (i : ℕ) → All (FitsSlot (format_of v)) (list_at l.lists i)
+pub fitting_slots : (v : Version) (l : Lists) → IsListing l → FitsVersion v l → (i : ℕ) →
+    All (FitsSlot (format_of v)) (list_at l.lists i)
 fitting_slots v l listing fits i =
     All-from_get_or (FitsSlot (format_of v)) (list_at l.lists i) no_pair
-    (λ j below. record { some = (listing.records i j no_pair below).key.0; key = (fits.records i j below).0; value = (fits.records i j below).1 })
+    (λ j below.
+    record {
+      some = (listing.records i j no_pair below).key.0;
+      key = (fits.records i j below).0;
+      value = (fits.records i j below).1;
+    })
 
 -- every listing fits version 2
 pub fits_two : (l : Lists) → IsListing l → FitsVersion Two l

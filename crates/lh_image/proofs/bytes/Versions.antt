@@ -62,14 +62,17 @@ unfolding no_magic begins
 no_magic_from_magic One bytes e = rw e refl
 no_magic_from_magic Two bytes e = rw e refl
 
-magic_by : (front : List ℕ) (one two : Bool) → (one ≡ true → front ≡ magic One) → (two ≡ true → front ≡ magic Two) → not (one || two) ≡ false → front ≡ magic (cond two Two One)
+magic_by : (front : List ℕ) (one two : Bool) → (one ≡ true → front ≡ magic One) → (two ≡ true → front ≡ magic Two) →
+    not (one || two) ≡ false → front ≡ magic (cond two Two One)
 magic_by front one true as_one as_two some = as_two refl
 magic_by front true false as_one as_two some = as_one refl
 magic_by front false false as_one as_two some = absurd cc
 
 pub magic_of : (bytes : List ℕ) → no_magic bytes ≡ false → take 4 bytes ≡ magic (version_of bytes)
 unfolding no_magic version_of begins
-magic_of bytes some = magic_by (take 4 bytes) _ _ (bytes_eq-Decides (take 4 bytes) (magic One)).0 (bytes_eq-Decides (take 4 bytes) (magic Two)).0 some
+magic_of bytes some =
+    magic_by (take 4 bytes) _ _ (bytes_eq-Decides (take 4 bytes) (magic One)).0
+    (bytes_eq-Decides (take 4 bytes) (magic Two)).0 some
 
 version_by : (one two : Bool) → not (one || two) ≡ true → cond two Two One ≡ One
 version_by one true none = absurd (none_of one none)

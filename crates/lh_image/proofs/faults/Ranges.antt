@@ -1,11 +1,13 @@
 -- Tests over the numbers from a on: the first that passes, whether one does, and how many do
-use Rattle.std.proofs.Common.{◌≡◌, ◌≢◌, ℕ, zero, suc, ◌+◌, ◌<◌, ◌≤◌, inl, inr, ◌↔◌, Bool, true, false, cond, Some, None, refl, sym, ap, ◌∙◌, arith}
+use Rattle.std.proofs.Common.{◌≡◌, ◌≢◌, ℕ, zero, suc, ◌+◌, ◌<◌, ◌≤◌, inl, inr, ◌↔◌, Bool, true, false, cond, Some, None}
+use Rattle.std.proofs.Common.{refl, sym, ap, ◌∙◌, arith}
 use Rattle.std.specs.List.{range_with_len, list_any, find, count_by}
 use Rattle.std.proofs.lemmas.Bool.{cases_eq, cases_Bool, false≢true, or_cases, or_left, or_right}
 use Rattle.std.proofs.lemmas.List.Sums.{sum_by-cons}
 
 -- no number passes
-pub find_none : (f : ℕ → Bool) (a n : ℕ) → find f (range_with_len a n) ≡ None → (p : ℕ) → a ≤ p → p < a + n → f p ≡ false
+pub find_none : (f : ℕ → Bool) (a n : ℕ) → find f (range_with_len a n) ≡ None → (p : ℕ) → a ≤ p → p < a + n →
+    f p ≡ false
 find_none f a zero e p low high = absurd (omega arith)
 find_none f a (suc n) e p low high =
     (elim (f a) as (λ b. f a ≡ b → cond b (Some a) (find f (range_with_len (a + 1) n)) ≡ None → f p ≡ false) [
@@ -16,11 +18,14 @@ find_none f a (suc n) e p low high =
       ]
     ]) refl e
 
-pub none_found : (f : ℕ → Bool) (a n : ℕ) → ((p : ℕ) → a ≤ p → p < a + n → f p ≡ false) → find f (range_with_len a n) ≡ None
+pub none_found : (f : ℕ → Bool) (a n : ℕ) → ((p : ℕ) → a ≤ p → p < a + n → f p ≡ false) →
+    find f (range_with_len a n) ≡ None
 none_found f a zero all = refl
-none_found f a (suc n) all = rw (all a (omega arith) (omega arith)) (none_found f (a + 1) n (λ p low high. all p (omega arith) (omega arith)))
+none_found f a (suc n) all =
+    rw (all a (omega arith) (omega arith)) (none_found f (a + 1) n (λ p low high. all p (omega arith) (omega arith)))
 
-pub any_of : (f : ℕ → Bool) (a n : ℕ) → list_any f (range_with_len a n) ≡ true → (p : ℕ) × (a ≤ p) × (p < a + n) × (f p ≡ true)
+pub any_of : (f : ℕ → Bool) (a n : ℕ) → list_any f (range_with_len a n) ≡ true →
+    (p : ℕ) × (a ≤ p) × (p < a + n) × (f p ≡ true)
 any_of f a zero e = absurd (false≢true e)
 any_of f a (suc n) e = elim (or_cases (f a) (list_any f (range_with_len (a + 1) n)) e) [
   | inl here ↦ (a, omega arith, omega arith, here)
@@ -31,10 +36,12 @@ pub any_from : (f : ℕ → Bool) (a n p : ℕ) → a ≤ p → p < a + n → f 
 any_from f a zero p low high here = absurd (omega arith)
 any_from f a (suc n) p low high here = elim (cases_eq p a) [
   | inl same ↦ or_left (f a) (list_any f (range_with_len (a + 1) n)) (ap f (sym same) ∙ here)
-  | inr other ↦ or_right (f a) (list_any f (range_with_len (a + 1) n)) (any_from f (a + 1) n p (omega arith) (omega arith) here)
+  | inr other ↦
+      or_right (f a) (list_any f (range_with_len (a + 1) n)) (any_from f (a + 1) n p (omega arith) (omega arith) here)
 ]
 
-pub count_cons : (f : ℕ → Bool) (a n : ℕ) → count_by f (range_with_len a (suc n)) ≡ cond (f a) 1 0 + count_by f (range_with_len (a + 1) n)
+pub count_cons : (f : ℕ → Bool) (a n : ℕ) →
+    count_by f (range_with_len a (suc n)) ≡ cond (f a) 1 0 + count_by f (range_with_len (a + 1) n)
 count_cons f a n = sum_by-cons (λ x. cond (f x) 1 0) a (range_with_len (a + 1) n)
 
 pub count_one : (f : ℕ → Bool) (a n p : ℕ) → a ≤ p → p < a + n → f p ≡ true → 1 ≤ count_by f (range_with_len a n)
@@ -44,25 +51,35 @@ count_one f a (suc n) p low high here = rw (count_cons f a n) (elim (cases_eq p 
   | inr other ↦ omega (arith, count_one f (a + 1) n p (omega arith) (omega arith) here)
 ])
 
-pub count_two : (f : ℕ → Bool) (a n p q : ℕ) → a ≤ p → p < q → q < a + n → f p ≡ true → f q ≡ true → 2 ≤ count_by f (range_with_len a n)
+pub count_two : (f : ℕ → Bool) (a n p q : ℕ) → a ≤ p → p < q → q < a + n → f p ≡ true → f q ≡ true →
+    2 ≤ count_by f (range_with_len a n)
 count_two f a zero p q low lt high here there = absurd (omega arith)
 count_two f a (suc n) p q low lt high here there = rw (count_cons f a n) (elim (cases_eq p a) [
-  | inl same ↦ let at : f a ≡ true = ap f (sym same) ∙ here in rw at (omega (arith, count_one f (a + 1) n q (omega arith) (omega arith) there))
+  | inl same ↦ let at : f a ≡ true =
+      ap f (sym same) ∙ here in rw at (omega (arith, count_one f (a + 1) n q (omega arith) (omega arith) there))
   | inr other ↦ omega (arith, count_two f (a + 1) n p q (omega arith) lt (omega arith) here there)
 ])
 
-pub count_none : (f : ℕ → Bool) (a n : ℕ) → ((p : ℕ) → a ≤ p → p < a + n → f p ≡ true → ⊥) → count_by f (range_with_len a n) ≡ 0
+pub count_none : (f : ℕ → Bool) (a n : ℕ) → ((p : ℕ) → a ≤ p → p < a + n → f p ≡ true → ⊥) →
+    count_by f (range_with_len a n) ≡ 0
 count_none f a zero none = refl
 count_none f a (suc n) none = rw (count_cons f a n) (elim (cases_Bool (f a)) [
   | inl passes ↦ absurd (none a (omega arith) (omega arith) passes)
   | inr fails ↦ rw (fails, count_none f (a + 1) n (λ p low high. none p (omega arith) (omega arith))) refl
 ])
 
-pub count_few : (f : ℕ → Bool) (a n : ℕ) → ((p q : ℕ) → a ≤ p → p < q → q < a + n → f p ≡ true → f q ≡ true → ⊥) → count_by f (range_with_len a n) ≤ 1
+pub count_few : (f : ℕ → Bool) (a n : ℕ) → ((p q : ℕ) → a ≤ p → p < q → q < a + n → f p ≡ true → f q ≡ true → ⊥) →
+    count_by f (range_with_len a n) ≤ 1
 count_few f a zero one = omega arith
 count_few f a (suc n) one = rw (count_cons f a n) (elim (cases_Bool (f a)) [
-  | inl passes ↦ rw (passes, count_none f (a + 1) n (λ p low high there. one a p (omega arith) (omega arith) (omega arith) passes there)) (omega arith)
-  | inr fails ↦ rw fails (omega (arith, count_few f (a + 1) n (λ p q low lt high. one p q (omega arith) lt (omega arith))))
+  | inl passes ↦
+      rw (
+        passes,
+        count_none f (a + 1) n (λ p low high there. one a p (omega arith) (omega arith) (omega arith) passes there),
+      )
+      (omega arith)
+  | inr fails ↦
+      rw fails (omega (arith, count_few f (a + 1) n (λ p q low lt high. one p q (omega arith) lt (omega arith))))
 ])
 
 -- ---- the first number that passes, and two that pass
@@ -71,7 +88,9 @@ pub some_is : {A : Type 0} (x y : A) → Some x ≡ Some y → x ≡ y
 some_is x y e = cc
 
 -- what is found is the least number that passes
-pub found_least : (f : ℕ → Bool) (a n p : ℕ) → (find f (range_with_len a n) ≡ Some p) ↔ ((a ≤ p) × (p < a + n) × (f p ≡ true) × ((q : ℕ) → a ≤ q → q < p → f q ≡ false))
+pub found_least : (f : ℕ → Bool) (a n p : ℕ) →
+    (find f (range_with_len a n) ≡ Some p) ↔
+    ((a ≤ p) × (p < a + n) × (f p ≡ true) × ((q : ℕ) → a ≤ q → q < p → f q ≡ false))
 found_least f a zero p = (λ e. absurd cc, λ h. absurd (omega (arith, h.0, h.1)))
 found_least f a (suc n) p =
     let rest = found_least f (a + 1) n p in
@@ -102,29 +121,36 @@ found_least f a (suc n) p =
       )
     ]
 
-pub one_of : (f : ℕ → Bool) (a n : ℕ) → 1 ≤ count_by f (range_with_len a n) → (p : ℕ) × (a ≤ p) × (p < a + n) × (f p ≡ true)
+pub one_of : (f : ℕ → Bool) (a n : ℕ) → 1 ≤ count_by f (range_with_len a n) →
+    (p : ℕ) × (a ≤ p) × (p < a + n) × (f p ≡ true)
 one_of f a zero many = absurd (omega arith)
 one_of f a (suc n) many =
-    let all : count_by f (range_with_len a (suc n)) ≡ cond (f a) 1 0 + count_by f (range_with_len (a + 1) n) = count_cons f a n in
+    let all : count_by f (range_with_len a (suc n)) ≡ cond (f a) 1 0 + count_by f (range_with_len (a + 1) n) =
+    count_cons f a n in
     elim (cases_Bool (f a)) [
       | inl passes ↦ (a, omega arith, omega arith, passes)
       | inr fails ↦
-          let here : count_by f (range_with_len a (suc n)) ≡ 0 + count_by f (range_with_len (a + 1) n) = rw fails at all in
+          let here : count_by f (range_with_len a (suc n)) ≡ 0 + count_by f (range_with_len (a + 1) n) =
+          rw fails at all in
           let r = one_of f (a + 1) n (omega arith) in
           (r.0, omega (arith, r.1), omega (arith, r.2), r.3)
     ]
 
-pub two_of : (f : ℕ → Bool) (a n : ℕ) → 2 ≤ count_by f (range_with_len a n) → (p q : ℕ) × (a ≤ p) × (p < q) × (q < a + n) × (f p ≡ true) × (f q ≡ true)
+pub two_of : (f : ℕ → Bool) (a n : ℕ) → 2 ≤ count_by f (range_with_len a n) →
+    (p q : ℕ) × (a ≤ p) × (p < q) × (q < a + n) × (f p ≡ true) × (f q ≡ true)
 two_of f a zero many = absurd (omega arith)
 two_of f a (suc n) many =
-    let all : count_by f (range_with_len a (suc n)) ≡ cond (f a) 1 0 + count_by f (range_with_len (a + 1) n) = count_cons f a n in
+    let all : count_by f (range_with_len a (suc n)) ≡ cond (f a) 1 0 + count_by f (range_with_len (a + 1) n) =
+    count_cons f a n in
     elim (cases_Bool (f a)) [
       | inl passes ↦
-          let here : count_by f (range_with_len a (suc n)) ≡ 1 + count_by f (range_with_len (a + 1) n) = rw passes at all in
+          let here : count_by f (range_with_len a (suc n)) ≡ 1 + count_by f (range_with_len (a + 1) n) =
+          rw passes at all in
           let r = one_of f (a + 1) n (omega arith) in
           (a, r.0, omega arith, omega (arith, r.1), omega (arith, r.2), passes, r.3)
       | inr fails ↦
-          let here : count_by f (range_with_len a (suc n)) ≡ 0 + count_by f (range_with_len (a + 1) n) = rw fails at all in
+          let here : count_by f (range_with_len a (suc n)) ≡ 0 + count_by f (range_with_len (a + 1) n) =
+          rw fails at all in
           let r = two_of f (a + 1) n (omega arith) in
           (r.0, r.1, omega (arith, r.2), r.3, omega (arith, r.4), r.5, r.6)
     ]

@@ -1,11 +1,17 @@
 -- No fault is answered exactly where no condition of the table holds.
-use Rattle.std.proofs.Common.{◌≡◌, ◌≢◌, inl, inr, ℕ, ◌-◌, Bool, true, false, ltb, List, ◌++◌, length, Option, Some, None, refl, ◌↔◌, arith}
+use Rattle.std.proofs.Common.{◌≡◌, ◌≢◌, inl, inr, ℕ, ◌-◌, Bool, true, false, ltb, List, ◌++◌, length, Option, Some}
+use Rattle.std.proofs.Common.{None, refl, ◌↔◌, arith}
 use Rattle.std.specs.Prelude.{option_map}
 use Rattle.std.specs.List.{find, range_with_len}
 use Rattle.std.proofs.lemmas.Bool.{cases_eq, le-leb, ltb-false, ne_eqb, or_parts}
 use Rattle.lh_image.specs.declared.fault.ImageFault.{ImageFault}
-use Rattle.lh_image.specs.declared.fault.ImageFault.TheVariants.{Magic, HeaderField, Counts, Short, Trailing, Kind, BucketNumber, Level, Used, Next, Twice, Never, Slot, Misfit}
-use Rattle.lh_image.specs.Faults.{where_so, least, has_header, no_magic, bad_field, bad_counts, is_short, has_trailing, at_head, bad_kind, bad_bucket, bad_level, bad_used, bad_total, bad_used_at, bad_next, named_twice, on_no_chain, has_bad_slot, has_misfit, header_rows, size_rows, page_rows, page_fault, image_fault}
+use Rattle.lh_image.specs.declared.fault.ImageFault.TheVariants.{Magic, HeaderField, Counts, Short, Trailing, Kind}
+use Rattle.lh_image.specs.declared.fault.ImageFault.TheVariants.{BucketNumber, Level, Used, Next, Twice, Never, Slot}
+use Rattle.lh_image.specs.declared.fault.ImageFault.TheVariants.{Misfit}
+use Rattle.lh_image.specs.Faults.{where_so, least, has_header, no_magic, bad_field, bad_counts, is_short, has_trailing}
+use Rattle.lh_image.specs.Faults.{at_head, bad_kind, bad_bucket, bad_level, bad_used, bad_total, bad_used_at, bad_next}
+use Rattle.lh_image.specs.Faults.{named_twice, on_no_chain, has_bad_slot, has_misfit, header_rows, size_rows, page_rows}
+use Rattle.lh_image.specs.Faults.{page_fault, image_fault}
 use Rattle.lh_image.specs.Layout.{header_of, ends_in_zeros, image_bytes, view_of}
 use Rattle.lh_image.specs.Version.{page_bytes, version_of}
 use Rattle.lh_image.specs.View.{View, page_count, links, numbers}
@@ -53,12 +59,16 @@ row_clean P test K =
       λ clean. m.1 (none_found test 1 (P - 1) (λ p low high. clean p low (omega arith))),
     )
 
-used_clean : (v : View) → page_count v ≢ 0 → (option_map Used (find (bad_used_at v) (range_with_len 0 (page_count v))) ≡ None) ↔ ((bad_total v ≡ false) × Clean (page_count v) (at_head bad_used v))
+used_clean : (v : View) → page_count v ≢ 0 →
+    (option_map Used (find (bad_used_at v) (range_with_len 0 (page_count v))) ≡ None) ↔
+    ((bad_total v ≡ false) × Clean (page_count v) (at_head bad_used v))
 used_clean v some =
     let m = map_none (find (bad_used_at v) (range_with_len 0 (page_count v))) Used in (
       λ e. (
         find_none (bad_used_at v) 0 (page_count v) (m.0 e) 0 (omega arith) (omega arith),
-        λ p low high. rw (ne_eqb p 0 (λ z. omega arith)) at (find_none (bad_used_at v) 0 (page_count v) (m.0 e) p (omega arith) (omega arith)),
+        λ p low high.
+            rw (ne_eqb p 0 (λ z. omega arith)) at
+            (find_none (bad_used_at v) 0 (page_count v) (m.0 e) p (omega arith) (omega arith)),
       ),
       λ c. m.1 (none_found (bad_used_at v) 0 (page_count v) (λ p low high. elim (cases_eq p 0) [
         | inl first ↦ rw first c.0
@@ -120,13 +130,18 @@ clean_law v some =
     let rows = clean_rows v some in
     (λ e. rows.0 (all.0 e), λ c. all.1 (rows.1 c))
 
-sound_from_rows : (bytes : List ℕ) → AreNone (header_rows bytes ++ size_rows bytes ++ page_rows (view_of bytes)) → IsSound bytes
+sound_from_rows : (bytes : List ℕ) → AreNone (header_rows bytes ++ size_rows bytes ++ page_rows (view_of bytes)) →
+    IsSound bytes
 unfolding is_short view_of
 sound_from_rows bytes (magic, (field, (counts, (short, (trailing, pages))))) =
     let long = (so_none (is_short bytes) Short).0 short in
     let size : ℕ = page_bytes (version_of bytes) in
-    let header : has_header bytes ≡ true = le-leb size (length bytes) (ltb-false (length bytes) size (or_parts (ltb (length bytes) size) (ltb (length bytes) (image_bytes bytes)) long).0) in
-    let few : bad_counts (header_of bytes) ≡ false = (so_none (bad_counts (header_of bytes)) Counts).0 (rw header at counts) in
+    let header : has_header bytes ≡ true =
+    le-leb size (length bytes)
+    (ltb-false (length bytes) size
+    (or_parts (ltb (length bytes) size) (ltb (length bytes) (image_bytes bytes)) long).0) in
+    let few : bad_counts (header_of bytes) ≡ false =
+    (so_none (bad_counts (header_of bytes)) Counts).0 (rw header at counts) in
     record {
       magic = (so_none (no_magic bytes) Magic).0 magic;
       header = header;
@@ -137,7 +152,8 @@ sound_from_rows bytes (magic, (field, (counts, (short, (trailing, pages))))) =
       clean = (clean_rows (view_of bytes) (some_page (header_of bytes) few)).0 pages;
     }
 
-rows_from_sound : (bytes : List ℕ) → IsSound bytes → AreNone (header_rows bytes ++ size_rows bytes ++ page_rows (view_of bytes))
+rows_from_sound : (bytes : List ℕ) → IsSound bytes →
+    AreNone (header_rows bytes ++ size_rows bytes ++ page_rows (view_of bytes))
 unfolding view_of
 rows_from_sound bytes i = (
   (so_none (no_magic bytes) Magic).1 i.magic,

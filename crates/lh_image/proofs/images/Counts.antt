@@ -1,5 +1,6 @@
 -- An image has the pages that its listing's packed chains make, so the listing's census is the image's.
-use Rattle.std.proofs.Common.{◌≡◌, ℕ, zero, suc, ◌+◌, ◌-◌, ◌<◌, ◌≤◌, List, [], ◌∷◌, ◌++◌, length, map, refl, sym, ap, ◌∙◌, arith}
+use Rattle.std.proofs.Common.{◌≡◌, ℕ, zero, suc, ◌+◌, ◌-◌, ◌<◌, ◌≤◌, List, [], ◌∷◌, ◌++◌, length, map, refl, sym, ap}
+use Rattle.std.proofs.Common.{◌∙◌, arith}
 use Rattle.std.specs.List.{flat_map, range_with_len, sum_by}
 use Rattle.std.proofs.lemmas.List.{length-map}
 use Rattle.std.proofs.lemmas.List.Concat.{flat_map-cons}
@@ -23,7 +24,9 @@ use Rattle.lh_image.proofs.paths.ShortPaths.{paths_are_chains}
 -- records of pages, one page after another
 joined_pages : (rec : ℕ → List Pair) (xs : List ℕ) → joined (map rec xs) ≡ flat_map rec xs
 joined_pages rec [] = refl
-joined_pages rec (x ∷ xs) = flat_map-cons (λ page. page) (rec x) (map rec xs) ∙ ap (λ (rs : List Pair). rec x ++ rs) (joined_pages rec xs) ∙ sym (flat_map-cons rec x xs)
+joined_pages rec (x ∷ xs) =
+    flat_map-cons (λ page. page) (rec x) (map rec xs) ∙ ap (λ (rs : List Pair). rec x ++ rs) (joined_pages rec xs)
+    ∙ sym (flat_map-cons rec x xs)
 
 sum_ones : (xs : List ℕ) → sum_by (λ _. 1) xs ≡ length xs
 sum_ones [] = refl
@@ -34,9 +37,17 @@ ones_below a zero = refl
 ones_below a (suc n) = sum_by-cons (λ _. 1) a (range_with_len (a + 1) n) ∙ omega (arith, ones_below (a + 1) n)
 
 -- the sum over one number more
-sum_more : (f : ℕ → ℕ) (a n j : ℕ) → a + n ≡ j → sum_by f (range_with_len a (suc n)) ≡ sum_by f (range_with_len a n) + f j
-sum_more f a zero j e = let same : a ≡ j = omega arith in sum_by-cons f a (range_with_len (a + 1) zero) ∙ rw same (omega arith)
-sum_more f a (suc n) j e = omega (arith, sum_by-cons f a (range_with_len (a + 1) (suc n)), sum_by-cons f a (range_with_len (a + 1) n), sum_more f (a + 1) n j (omega arith))
+sum_more : (f : ℕ → ℕ) (a n j : ℕ) → a + n ≡ j →
+    sum_by f (range_with_len a (suc n)) ≡ sum_by f (range_with_len a n) + f j
+sum_more f a zero j e =
+    let same : a ≡ j = omega arith in sum_by-cons f a (range_with_len (a + 1) zero) ∙ rw same (omega arith)
+sum_more f a (suc n) j e =
+    omega (
+      arith,
+      sum_by-cons f a (range_with_len (a + 1) (suc n)),
+      sum_by-cons f a (range_with_len (a + 1) n),
+      sum_more f (a + 1) n j (omega arith),
+    )
 
 module _ (packing : PackingLaw) (v : View) (l : Lists) (P : ℕ) (path : ℕ → List ℕ) (image : Shows v l P path) where
   -- the path of a bucket has as many pages as its packed list
@@ -45,7 +56,8 @@ module _ (packing : PackingLaw) (v : View) (l : Lists) (P : ℕ) (path : ℕ →
   length-path i below =
       let capacity = image.listing.config.capacity in
       let pages : map (v.records) (path i) ≡ pages_in l i =
-      (packing l.config.capacity (list_at l.lists i) (map (v.records) (path i)) capacity.0).0 (image.packed i below, joined_pages (v.records) (path i) ∙ image.content i below) in
+      (packing l.config.capacity (list_at l.lists i) (map (v.records) (path i)) capacity.0).0
+      (image.packed i below, joined_pages (v.records) (path i) ∙ image.content i below) in
       sym (length-map (path i) (v.records)) ∙ ap length pages
 
   some_page : (i : ℕ) → i < size l → 1 ≤ length (path i)
@@ -56,11 +68,19 @@ module _ (packing : PackingLaw) (v : View) (l : Lists) (P : ℕ) (path : ℕ →
       some (x ∷ xs) p = omega arith
 
   -- the pages of the first n chains
-  pages_before : (n : ℕ) → n ≤ size l → sum_by (λ j. sum_by (λ _. 1) (path j)) (range_with_len 0 n) ≡ n + overflow_before l n
+  pages_before : (n : ℕ) → n ≤ size l →
+      sum_by (λ j. sum_by (λ _. 1) (path j)) (range_with_len 0 n) ≡ n + overflow_before l n
   unfolding overflow_before
   pages_before zero low = refl
   pages_before (suc n) low =
-      omega (arith, sum_more (λ j. sum_by (λ _. 1) (path j)) 0 n n (omega arith), sum_ones (path n), pages_before n (omega arith), length-path n (omega arith), some_page n (omega arith))
+      omega (
+        arith,
+        sum_more (λ j. sum_by (λ _. 1) (path j)) 0 n n (omega arith),
+        sum_ones (path n),
+        pages_before n (omega arith),
+        length-path n (omega arith),
+        some_page n (omega arith),
+      )
 
   pages_are_total : P ≡ page_total l
   pages_are_total =
@@ -79,7 +99,8 @@ module _ (packing : PackingLaw) (v : View) (l : Lists) (P : ℕ) (path : ℕ →
   longest_same (suc n) low =
       let before = longest_same n (omega arith) in
       let same : chain_of v n ≡ path n =
-      rw (← pages_are v l P path image) (paths_are_chains (next v) (bucket v) (size l) P path image.paths n (omega arith)) in
+      rw (← pages_are v l P path image)
+      (paths_are_chains (next v) (bucket v) (size l) P path image.paths n (omega arith)) in
       let here : page_count_in l n ≡ length (chain_of v n) = sym (length-path n (omega arith)) ∙ ap length (sym same) in
       rw (before, here) refl
 
@@ -89,7 +110,8 @@ module _ (packing : PackingLaw) (v : View) (l : Lists) (P : ℕ) (path : ℕ →
       let size_is : buckets v ≡ size l = ap (λ (h : Header). h.buckets) image.header in
       let count_is : record_count v ≡ count_of l.lists = ap (λ (h : Header). h.records) image.header in
       let pages_is : page_count v ≡ page_total l = ap (λ (h : Header). h.pages) image.header ∙ pages_are_total in
-      let longest : longest_before l (size l) ≡ longest_chain v (buckets v) = longest_same (size l) (omega arith) ∙ ap (longest_chain v) (sym size_is) in
+      let longest : longest_before l (size l) ≡ longest_chain v (buckets v) =
+      longest_same (size l) (omega arith) ∙ ap (longest_chain v) (sym size_is) in
       λ i. record {
         buckets = sym size_is i;
         level = level (sym first i) (sym size_is i);

@@ -24,8 +24,10 @@ use Rattle.lh_image.proofs.images.Shown.{shows_from_clean, clean_from_shows, sho
 use Rattle.lh_image.proofs.faults.Sound.{IsSound, sound_law}
 
 -- of this many bytes there are to be at least `least`, and exactly `all`
-pub whole_rule : (n least all : ℕ) → least ≤ all → ((ltb n least || ltb n all ≡ false) × (ltb all n ≡ false)) ↔ (n ≡ all)
-whole_rule n least all low = (λ (e, f). grind (arith, nat_tests), λ e. (grind (arith, nat_tests), grind (arith, nat_tests)))
+pub whole_rule : (n least all : ℕ) → least ≤ all →
+    ((ltb n least || ltb n all ≡ false) × (ltb all n ≡ false)) ↔ (n ≡ all)
+whole_rule n least all low =
+    (λ (e, f). grind (arith, nat_tests), λ e. (grind (arith, nat_tests), grind (arith, nat_tests)))
 
 pub some_pages : (size P : ℕ) → 1 ≤ P → size ≤ size * P
 some_pages size P some = let more : size * 1 ≤ size * P = mul-le-mul_left size some in omega (arith, more)
@@ -40,7 +42,8 @@ is_view bytes = record {
 }
 
 module _ (faultless : FaultlessLaw) (bytes : List ℕ) (fit : AreBytes bytes) (sound : IsSound bytes) where
-  pub image_from_sound : IsImageBy bytes (listing_of (view_of bytes)) (page_count (view_of bytes)) (chain_of (view_of bytes))
+  pub image_from_sound : IsImageBy bytes (listing_of (view_of bytes)) (page_count (view_of bytes))
+      (chain_of (view_of bytes))
   unfolding view_of is_short has_trailing bad_kind bad_used page_bytes
   image_from_sound =
       let v : View = view_of bytes in
@@ -49,29 +52,43 @@ module _ (faultless : FaultlessLaw) (bytes : List ℕ) (fit : AreBytes bytes) (s
       let r = are_in_range (header_of bytes) _ sound.fields sound.counts in
       let room : capacity v ≤ f.slots = rw (version_shown bytes) at r.0.room in
       let whole : length bytes ≡ size * page_count v =
-      (whole_rule (length bytes) size (size * page_count v) (some_pages size (page_count v) (omega (arith, r.0.enough)))).0 (sound.long_enough, sound.ended) in
-      let shown : (p : ℕ) → 1 ≤ p → p < page_count v → IsPage f (page bytes p) (page_at bytes p) × IsWritable f (page_at bytes p) =
+      (whole_rule (length bytes) size (size * page_count v)
+      (some_pages size (page_count v) (omega (arith, r.0.enough)))).0 (sound.long_enough, sound.ended) in
+      let shown : (p : ℕ) → 1 ≤ p → p < page_count v →
+      IsPage f (page bytes p) (page_at bytes p) × IsWritable f (page_at bytes p) =
       λ p low high.
       let other : p ≢ 0 = λ z. omega arith in
-      let kind = rw (ne_eqb p 0 other) at ((kind_rule (v.head p).kind p (buckets v) (v.head p).clear).0 (sound.clean.kinds p low high)) in
-      let few = rw (ne_eqb p 0 other) at ((used_rule (capacity v) (v.head p).used (v.head p).next (v.head p).kind).0 (sound.clean.used p low high)).0 in
-      page_from_tests faultless f (page bytes p) (page_is_bytes bytes p fit) (length-page bytes p (page_count v) whole high) (leb p (buckets v)) kind.0 kind.1
+      let kind =
+      rw (ne_eqb p 0 other) at
+      ((kind_rule (v.head p).kind p (buckets v) (v.head p).clear).0 (sound.clean.kinds p low high)) in
+      let few =
+      rw (ne_eqb p 0 other) at
+      ((used_rule (capacity v) (v.head p).used (v.head p).next (v.head p).kind).0
+      (sound.clean.used p low high)).0 in
+      page_from_tests faultless f (page bytes p) (page_is_bytes bytes p fit)
+      (length-page bytes p (page_count v) whole high) (leb p (buckets v)) kind.0 kind.1
       (omega (arith, few, room)) (sound.clean.slots p low high) in
       record {
         whole = whole;
         spelled = header_spelled bytes fit (leb-true size (length bytes) sound.header) sound.magic r.1;
         pages = shown;
-        shown = shows_from_clean v (is_view bytes) r.0 sound.clean (λ p low high k d below. record_from_fits (version_of bytes) _ ((shown p low high).1.pairs.records k d below));
+        shown =
+            shows_from_clean v (is_view bytes) r.0 sound.clean
+            (λ p low high k d below.
+            record_from_fits (version_of bytes) _ ((shown p low high).1.pairs.records k d below));
       }
 
 module _ (read_back : ReadBackLaw) where
-  sound_from_image : (bytes : List ℕ) (path : ℕ → List ℕ) → IsImageBy bytes (listing_of (view_of bytes)) (page_count (view_of bytes)) path → IsSound bytes
+  sound_from_image : (bytes : List ℕ) (path : ℕ → List ℕ) →
+      IsImageBy bytes (listing_of (view_of bytes)) (page_count (view_of bytes)) path → IsSound bytes
   unfolding is_short has_trailing view_of
   sound_from_image bytes path i =
       let v : View = view_of bytes in
       let size : ℕ = page_bytes (version_of bytes) in
       let own : (p : ℕ) → 1 ≤ p → p < page_count v → ((v.head p).clear ≡ true) × (has_bad_slot v p ≡ false) =
-      λ p low high. let t = tests_from_page read_back (format_of (version_of bytes)) (page bytes p) (i.pages p low high) in rw (ne_eqb p 0 (λ z. omega arith)) t in
+      λ p low high.
+      let t = tests_from_page read_back (format_of (version_of bytes)) (page bytes p) (i.pages p low high) in
+      rw (ne_eqb p 0 (λ z. omega arith)) t in
       let r : AreInRange v.header = shown_range v (is_view bytes) path i.shown own in
       let head = header_tests bytes i.spelled in
       let low : size ≤ size * page_count v = some_pages size (page_count v) (omega (arith, r.enough)) in
@@ -98,5 +115,9 @@ module _ (read_back : ReadBackLaw) where
 pub image_law : ReadBackLaw → FaultlessLaw → ImageLaw
 image_law read_back faultless bytes l fit = (
   one_listing_law read_back bytes l,
-  λ (none, e). (page_count (view_of bytes), chain_of (view_of bytes), rw e (image_from_sound faultless bytes fit ((sound_law bytes).0 none))),
+  λ (none, e). (
+    page_count (view_of bytes),
+    chain_of (view_of bytes),
+    rw e (image_from_sound faultless bytes fit ((sound_law bytes).0 none)),
+  ),
 )

@@ -1,5 +1,6 @@
 -- The listing of a View: how many lists it has, what they hold, and that an image has no other
-use Rattle.std.proofs.Common.{◌≡◌, inl, inr, ℕ, ◌+◌, ◌-◌, ◌<◌, List, [], ◌∷◌, length, map, get_or, refl, sym, ap, ◌∙◌, arith, true, eqb}
+use Rattle.std.proofs.Common.{◌≡◌, inl, inr, ℕ, ◌+◌, ◌-◌, ◌<◌, List, [], ◌∷◌, length, map, get_or, refl, sym, ap, ◌∙◌}
+use Rattle.std.proofs.Common.{arith, true, eqb}
 use Rattle.std.specs.List.{All, range_with_len, flat_map, sum_by, IsDistinct, list_any}
 use Rattle.std.specs.Str.{bytes_eq}
 use Rattle.std.proofs.lemmas.Bool.{cases_lt, eq-eqb, or_left, or_right}
@@ -33,7 +34,9 @@ list_at-listing_of v i l = get_or-map-range_with_len (chain_records v) 0 (bucket
 
 sum_lists : (f : ℕ → List Pair) (xs : List ℕ) → sum_by (λ ys. length ys) (map f xs) ≡ sum_by (λ i. length (f i)) xs
 sum_lists f [] = refl
-sum_lists f (x ∷ xs) = sum_by-cons (λ ys. length ys) (f x) (map f xs) ∙ ap (λ n. length (f x) + n) (sum_lists f xs) ∙ sym (sum_by-cons (λ i. length (f i)) x xs)
+sum_lists f (x ∷ xs) =
+    sum_by-cons (λ ys. length ys) (f x) (map f xs) ∙ ap (λ n. length (f x) + n) (sum_lists f xs)
+    ∙ sym (sum_by-cons (λ i. length (f i)) x xs)
 
 -- the records of the listing are those of all pages
 pub count-listing_of : (v : View) → IsView v → IsCovered (next v) (bucket v) (buckets v) (page_count v) (chain_of v) →
@@ -48,28 +51,34 @@ count-listing_of v view covered =
 
 -- ---- a listing by its buckets
 
-pub home_by : (l : Lists) (initial buckets : ℕ) → ((i : ℕ) → i < size l → (place : ℕ) → place < length (list_at l.lists i) → IsHome initial buckets i (list_at l.lists i) place) →
+pub home_by : (l : Lists) (initial buckets : ℕ) →
+    ((i : ℕ) → i < size l → (place : ℕ) → place < length (list_at l.lists i) →
+    IsHome initial buckets i (list_at l.lists i) place) →
     EachPlace (IsHome initial buckets) l.lists
 home_by l initial buckets each i place below = elim (cases_lt i (size l)) [
   | inl low ↦ each i low place below
   | inr high ↦ let past : place < 0 = rw (get_or_past l.lists i [] high) at below in absurd (omega arith)
 ]
 
-pub records_by : (l : Lists) → ((i : ℕ) → i < size l → All IsRecord (list_at l.lists i)) → (i : ℕ) → All IsRecord (list_at l.lists i)
+pub records_by : (l : Lists) → ((i : ℕ) → i < size l → All IsRecord (list_at l.lists i)) → (i : ℕ) →
+    All IsRecord (list_at l.lists i)
 records_by l each i = elim (cases_lt i (size l)) [
   | inl low ↦ each i low
   | inr high ↦ rw (get_or_past l.lists i [] high) (All-nil IsRecord)
 ]
 
 -- the records of some pages are records where those of each are
-pub records_along : (rec : ℕ → List Pair) (xs : List ℕ) → ((p : ℕ) → stands_in xs p ≡ true → All IsRecord (rec p)) → All IsRecord (flat_map rec xs)
+pub records_along : (rec : ℕ → List Pair) (xs : List ℕ) → ((p : ℕ) → stands_in xs p ≡ true → All IsRecord (rec p)) →
+    All IsRecord (flat_map rec xs)
 unfolding stands_in
 records_along rec [] each = All-nil IsRecord
 records_along rec (x ∷ xs) each =
-    All-append IsRecord (rec x) (flat_map rec xs) (each x (or_left (eqb x x) (list_any (λ q. eqb q x) xs) (eq-eqb x x refl)))
+    All-append IsRecord (rec x) (flat_map rec xs)
+    (each x (or_left (eqb x x) (list_any (λ q. eqb q x) xs) (eq-eqb x x refl)))
     (records_along rec xs (λ p here. each p (or_right (eqb x p) (list_any (λ q. eqb q p) xs) here)))
 
-pub distinct_by : (l : Lists) → ((i : ℕ) → i < size l → IsDistinct bytes_eq (keys_of (list_at l.lists i))) → (i : ℕ) → IsDistinct bytes_eq (keys_of (list_at l.lists i))
+pub distinct_by : (l : Lists) → ((i : ℕ) → i < size l → IsDistinct bytes_eq (keys_of (list_at l.lists i))) → (i : ℕ) →
+    IsDistinct bytes_eq (keys_of (list_at l.lists i))
 unfolding IsDistinct
 distinct_by l each i = elim (cases_lt i (size l)) [
   | inl low ↦ each i low
@@ -82,7 +91,8 @@ pub pages_are : (v : View) (l : Lists) (P : ℕ) (path : ℕ → List ℕ) → S
 pages_are v l P path i = sym (ap (λ (h : Header). h.pages) i.header)
 
 -- the paths, in words of the View alone
-paths_of : (v : View) (l : Lists) (P : ℕ) (path : ℕ → List ℕ) → buckets v ≡ size l → page_count v ≡ P → IsCovered (next v) (bucket v) (size l) P path →
+paths_of : (v : View) (l : Lists) (P : ℕ) (path : ℕ → List ℕ) → buckets v ≡ size l → page_count v ≡ P →
+    IsCovered (next v) (bucket v) (size l) P path →
     IsCovered (next v) (bucket v) (buckets v) (page_count v) path
 paths_of v l P path e f c = rw (e, f) c
 
@@ -94,11 +104,15 @@ listing_is v l P path i =
     let covered = paths_of v l P path eS (sym (pages_are v l P path i)) i.paths in
     let f : ℕ → List Pair = chain_records v in
     let long : length (map f (range_with_len 0 (buckets v))) ≡ buckets v = length-map-range_with_len f 0 (buckets v) in
-    let lists : map f (range_with_len 0 (buckets v)) ≡ l.lists = same_lists (map f (range_with_len 0 (buckets v))) l.lists (long ∙ eS) (λ k d h.
+    let lists : map f (range_with_len 0 (buckets v)) ≡ l.lists =
+    same_lists (map f (range_with_len 0 (buckets v))) l.lists (long ∙ eS) (λ k d h.
     let low : k < buckets v = omega arith in
     let below : k < length l.lists = omega arith in
-    let one : get_or (map f (range_with_len 0 (buckets v))) k d ≡ f k = get_or-map-range_with_len f 0 (buckets v) k k d low (omega arith) in
-    let two : f k ≡ get_or l.lists k [] = ap (flat_map (v.records)) (paths_are_chains (next v) (bucket v) (buckets v) (page_count v) path covered k low) ∙ i.content k below in
+    let one : get_or (map f (range_with_len 0 (buckets v))) k d ≡ f k =
+    get_or-map-range_with_len f 0 (buckets v) k k d low (omega arith) in
+    let two : f k ≡ get_or l.lists k [] =
+    ap (flat_map (v.records)) (paths_are_chains (next v) (bucket v) (buckets v) (page_count v) path covered k low)
+    ∙ i.content k below in
     one ∙ two ∙ get_or_default l.lists k [] d below) in
     let whole : Settings → List (List Pair) → Lists = λ c ls. record { config = c; lists = ls } in
     sym (ap (λ (c : Settings). whole c (map f (range_with_len 0 (buckets v)))) config ∙ ap (whole l.config) lists)

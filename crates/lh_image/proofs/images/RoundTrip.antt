@@ -13,4 +13,5 @@ pub round_trip : CanonicalLaw → OneListingLaw → RoundTripLaw
 unfolding reading_of
 round_trip written one version l listing fits few =
     let r = one (canonical version l) l (written version l listing fits few) in
-    ap (λ (o : Option ImageFault). judged_by o (view_of (canonical version l))) r.0 ∙ ap (λ (x : Lists). let a : Result Lists ImageFault = Ok x in a) (sym r.1)
+    ap (λ (o : Option ImageFault). judged_by o (view_of (canonical version l))) r.0
+    ∙ ap (λ (x : Lists). let a : Result Lists ImageFault = Ok x in a) (sym r.1)

@@ -1,5 +1,7 @@
 -- One record, one page and one chain more in the search for misfits
-use Rattle.std.proofs.Common.{◌≡◌, ℕ, ◌+◌, ◌<◌, ◌≤◌, ◌⊎◌, inl, inr, Bool, true, false, cond, not, ◌||◌, eqb, ltb, List, [], ◌∷◌, ◌++◌, length, take, drop, get_or, Option, Some, None, refl, sym, ap, ◌∙◌, append_assoc, arith}
+use Rattle.std.proofs.Common.{◌≡◌, ℕ, ◌+◌, ◌<◌, ◌≤◌, ◌⊎◌, inl, inr, Bool, true, false, cond, not, ◌||◌, eqb, ltb, List}
+use Rattle.std.proofs.Common.{[], ◌∷◌, ◌++◌, length, take, drop, get_or, Option, Some, None, refl, sym, ap, ◌∙◌}
+use Rattle.std.proofs.Common.{append_assoc, arith}
 use Rattle.std.specs.List.{list_any, flat_map}
 use Rattle.std.specs.Ordering.{nat_cmp}
 use Rattle.std.specs.Str.{bytes_eq}
@@ -37,11 +39,14 @@ choose true false = refl
 choose false true = refl
 choose false false = refl
 
-pub known_more : (key : List ℕ) (before : List (List ℕ)) (member new_member : List ℕ → Bool) → ((q : List ℕ) → new_member q ≡ cond (is_at (slice_cmp nat_cmp key) q) true (member q)) →
+pub known_more : (key : List ℕ) (before : List (List ℕ)) (member new_member : List ℕ → Bool) →
+    ((q : List ℕ) → new_member q ≡ cond (is_at (slice_cmp nat_cmp key) q) true (member q)) →
     IsSetOf member before → IsSetOf new_member (before ++ key ∷ [])
 known_more key before member new_member adds known q =
     let test : is_at (slice_cmp nat_cmp key) q ≡ bytes_eq q key = sym (texts_ties key q) ∙ flip key q in
-    adds q ∙ rw (test, known q) (choose (bytes_eq q key) (list_any (bytes_eq q) before) ∙ sym (any_last (bytes_eq q) before key))
+    adds q
+    ∙ rw (test, known q)
+    (choose (bytes_eq q key) (list_any (bytes_eq q) before) ∙ sym (any_last (bytes_eq q) before key))
 
 -- ---- records
 
@@ -50,20 +55,30 @@ join true b c d = refl
 join false true c d = refl
 join false false c d = refl
 
-pub misfit_step : (home : List ℕ → Bool) (before : List (List ℕ)) (rs : List Pair) (i : ℕ) (r : Pair) (m : Bool) → i < length rs → get_or rs i no_pair ≡ r →
-    (m || misfits home (before ++ keys_of (take i rs)) (drop i rs)) ≡ ((m || (not (home r.key) || list_any (bytes_eq r.key) (before ++ keys_of (take i rs)))) || misfits home (before ++ keys_of (take (i + 1) rs)) (drop (i + 1) rs))
+pub misfit_step : (home : List ℕ → Bool) (before : List (List ℕ)) (rs : List Pair) (i : ℕ) (r : Pair) (m : Bool) →
+    i < length rs → get_or rs i no_pair ≡ r →
+    (m || misfits home (before ++ keys_of (take i rs)) (drop i rs)) ≡
+    ((m || (not (home r.key) || list_any (bytes_eq r.key) (before ++ keys_of (take i rs))))
+    || misfits home (before ++ keys_of (take (i + 1) rs)) (drop (i + 1) rs))
 unfolding misfits
 misfit_step home before rs i r m less is =
-    let here : drop i rs ≡ r ∷ drop (i + 1) rs = drop_more rs i no_pair less ∙ ap (λ (x : Pair). x ∷ drop (i + 1) rs) is in
+    let here : drop i rs ≡ r ∷ drop (i + 1) rs =
+    drop_more rs i no_pair less ∙ ap (λ (x : Pair). x ∷ drop (i + 1) rs) is in
     let keys : before ++ keys_of (take (i + 1) rs) ≡ (before ++ keys_of (take i rs)) ++ r.key ∷ [] =
     ap (λ xs. before ++ keys_of xs) (take_more rs i no_pair less ∙ ap (λ (x : Pair). take i rs ++ x ∷ []) is)
-    ∙ ap (λ ks. before ++ ks) (map-append (λ (p : Pair). p.key) (take i rs) (r ∷ [])) ∙ sym (append_assoc before (keys_of (take i rs)) (r.key ∷ [])) in
-    rw (here, keys) (sym (join m (not (home r.key)) (list_any (bytes_eq r.key) (before ++ keys_of (take i rs))) (misfits home ((before ++ keys_of (take i rs)) ++ r.key ∷ []) (drop (i + 1) rs))))
+    ∙ ap (λ ks. before ++ ks) (map-append (λ (p : Pair). p.key) (take i rs) (r ∷ []))
+    ∙ sym (append_assoc before (keys_of (take i rs)) (r.key ∷ [])) in
+    rw (here, keys)
+    (sym
+    (join m (not (home r.key)) (list_any (bytes_eq r.key) (before ++ keys_of (take i rs)))
+    (misfits home ((before ++ keys_of (take i rs)) ++ r.key ∷ []) (drop (i + 1) rs))))
 
-pub keys_more : (before : List (List ℕ)) (rs : List Pair) (i : ℕ) (r : Pair) → i < length rs → get_or rs i no_pair ≡ r → (before ++ keys_of (take i rs)) ++ r.key ∷ [] ≡ before ++ keys_of (take (i + 1) rs)
+pub keys_more : (before : List (List ℕ)) (rs : List Pair) (i : ℕ) (r : Pair) → i < length rs → get_or rs i no_pair ≡ r →
+    (before ++ keys_of (take i rs)) ++ r.key ∷ [] ≡ before ++ keys_of (take (i + 1) rs)
 keys_more before rs i r less is =
     sym (ap (λ xs. before ++ keys_of xs) (take_more rs i no_pair less ∙ ap (λ (x : Pair). take i rs ++ x ∷ []) is)
-    ∙ ap (λ ks. before ++ ks) (map-append (λ (p : Pair). p.key) (take i rs) (r ∷ [])) ∙ sym (append_assoc before (keys_of (take i rs)) (r.key ∷ [])))
+    ∙ ap (λ ks. before ++ ks) (map-append (λ (p : Pair). p.key) (take i rs) (r ∷ []))
+    ∙ sym (append_assoc before (keys_of (take i rs)) (r.key ∷ [])))
 
 -- ---- pages
 
@@ -71,7 +86,8 @@ stands_last : (pages : List ℕ) (x q : ℕ) → stands_in (pages ++ x ∷ []) q
 unfolding stands_in
 stands_last pages x q = any_last (λ y. eqb y q) pages x
 
-before_or_last : (pages : List ℕ) (x q : ℕ) → stands_in (pages ++ x ∷ []) q ≡ true → (stands_in pages q ≡ true) ⊎ (x ≡ q)
+before_or_last : (pages : List ℕ) (x q : ℕ) → stands_in (pages ++ x ∷ []) q ≡ true →
+    (stands_in pages q ≡ true) ⊎ (x ≡ q)
 before_or_last pages x q here = elim (or_cases (stands_in pages q) (eqb x q) (sym (stands_last pages x q) ∙ here)) [
   | inl old ↦ inl old
   | inr new ↦ inr (eqb-true x q new)
@@ -83,20 +99,45 @@ still_stands pages x q here = stands_last pages x q ∙ or_left (stands_in pages
 last_stands : (pages : List ℕ) (x : ℕ) → stands_in (pages ++ x ∷ []) x ≡ true
 last_stands pages x = stands_last pages x x ∙ or_right (stands_in pages x) (eqb x x) (eq-eqb x x refl)
 
-pub least_sound : (bad : ℕ → Bool) (pages : List ℕ) (x : ℕ) (o : Option ℕ) → bad x ≡ false → IsLeastAmong bad pages o → IsLeastAmong bad (pages ++ x ∷ []) o
-least_sound bad pages x None test least = λ p here. elim (before_or_last pages x p here) [ inl old ↦ least p old | inr new ↦ ap bad (sym new) ∙ test ]
-least_sound bad pages x (Some m) test least = (still_stands pages x m least.0, least.1, λ p here less. elim (before_or_last pages x p here) [ inl old ↦ least.2 p old less | inr new ↦ ap bad (sym new) ∙ test ])
+pub least_sound : (bad : ℕ → Bool) (pages : List ℕ) (x : ℕ) (o : Option ℕ) → bad x ≡ false → IsLeastAmong bad pages o →
+    IsLeastAmong bad (pages ++ x ∷ []) o
+least_sound bad pages x None test least =
+    λ p here. elim (before_or_last pages x p here) [ inl old ↦ least p old | inr new ↦ ap bad (sym new) ∙ test ]
+least_sound bad pages x (Some m) test least = (
+  still_stands pages x m least.0,
+  least.1,
+  λ p here less.
+      elim (before_or_last pages x p here) [ inl old ↦ least.2 p old less | inr new ↦ ap bad (sym new) ∙ test ],
+)
 
-least_new : (bad : ℕ → Bool) (pages : List ℕ) (x m : ℕ) → bad x ≡ true → IsLeastAmong bad pages (Some m) → IsLeastAmong bad (pages ++ x ∷ []) (Some (cond (ltb m x) m x))
+least_new : (bad : ℕ → Bool) (pages : List ℕ) (x m : ℕ) → bad x ≡ true → IsLeastAmong bad pages (Some m) →
+    IsLeastAmong bad (pages ++ x ∷ []) (Some (cond (ltb m x) m x))
 least_new bad pages x m test least = elim (cases_lt m x) [
   | inl less ↦ let t : ltb m x ≡ true = grind (arith, nat_tests) in
-      rw t (still_stands pages x m least.0, least.1, λ p here below. elim (before_or_last pages x p here) [ inl old ↦ least.2 p old below | inr new ↦ absurd (omega arith) ])
+      rw t (
+        still_stands pages x m least.0,
+        least.1,
+        λ p here below.
+            elim (before_or_last pages x p here)
+            [ inl old ↦ least.2 p old below | inr new ↦ absurd (omega arith) ],
+      )
   | inr more ↦ let t : ltb m x ≡ false = grind (arith, nat_tests) in
-      rw t (last_stands pages x, test, λ p here below. elim (before_or_last pages x p here) [ inl old ↦ least.2 p old (omega arith) | inr new ↦ absurd (omega arith) ])
+      rw t (
+        last_stands pages x,
+        test,
+        λ p here below.
+            elim (before_or_last pages x p here)
+            [ inl old ↦ least.2 p old (omega arith) | inr new ↦ absurd (omega arith) ],
+      )
 ]
 
-pub least_bad : (bad : ℕ → Bool) (pages : List ℕ) (x : ℕ) (o : Option ℕ) → bad x ≡ true → IsLeastAmong bad pages o → IsLeastAmong bad (pages ++ x ∷ []) (Some (lesser_of o x))
-least_bad bad pages x None test least = (last_stands pages x, test, λ p here less. elim (before_or_last pages x p here) [ inl old ↦ least p old | inr new ↦ absurd (omega arith) ])
+pub least_bad : (bad : ℕ → Bool) (pages : List ℕ) (x : ℕ) (o : Option ℕ) → bad x ≡ true → IsLeastAmong bad pages o →
+    IsLeastAmong bad (pages ++ x ∷ []) (Some (lesser_of o x))
+least_bad bad pages x None test least = (
+  last_stands pages x,
+  test,
+  λ p here less. elim (before_or_last pages x p here) [ inl old ↦ least p old | inr new ↦ absurd (omega arith) ],
+)
 least_bad bad pages x (Some m) test least = least_new bad pages x m test least
 
 -- ---- loops
@@ -113,16 +154,26 @@ pub else_same : (m v rest total : Bool) → v ≡ false → ((m || v) || rest) �
 else_same true v rest total other e = e
 else_same false v rest total other e = rw other at e
 
-pub misfit_end : (home : List ℕ → Bool) (before : List (List ℕ)) (rs : List Pair) (i : ℕ) (m total : Bool) → length rs ≤ i → (m || misfits home (before ++ keys_of (take i rs)) (drop i rs)) ≡ total → m ≡ total
+pub misfit_end : (home : List ℕ → Bool) (before : List (List ℕ)) (rs : List Pair) (i : ℕ) (m total : Bool) →
+    length rs ≤ i → (m || misfits home (before ++ keys_of (take i rs)) (drop i rs)) ≡ total → m ≡ total
 unfolding misfits
 misfit_end home before rs i m total all e =
-    let none : (m || misfits home (before ++ keys_of (take i rs)) []) ≡ total = ap (λ (xs : List Pair). m || misfits home (before ++ keys_of (take i rs)) xs) (sym (drop_all i rs all)) ∙ e in
+    let none : (m || misfits home (before ++ keys_of (take i rs)) []) ≡ total =
+    ap (λ (xs : List Pair). m || misfits home (before ++ keys_of (take i rs)) xs) (sym (drop_all i rs all)) ∙ e in
     sym (or_none m) ∙ none
 
-pub pages_more : (seen chain : List ℕ) (i : ℕ) → i < length chain → seen ++ take (i + 1) chain ≡ (seen ++ take i chain) ++ get_or chain i 0 ∷ []
-pages_more seen chain i less = ap (λ (xs : List ℕ). seen ++ xs) (take_more chain i 0 less) ∙ sym (append_assoc seen (take i chain) (get_or chain i 0 ∷ []))
+pub pages_more : (seen chain : List ℕ) (i : ℕ) → i < length chain →
+    seen ++ take (i + 1) chain ≡ (seen ++ take i chain) ++ get_or chain i 0 ∷ []
+pages_more seen chain i less =
+    ap (λ (xs : List ℕ). seen ++ xs) (take_more chain i 0 less)
+    ∙ sym (append_assoc seen (take i chain) (get_or chain i 0 ∷ []))
 
-pub chain_keys : (rec : ℕ → List Pair) (chain : List ℕ) (i p : ℕ) (rs : List Pair) → i < length chain → get_or chain i 0 ≡ p → rs ≡ rec p →
+pub chain_keys : (rec : ℕ → List Pair) (chain : List ℕ) (i p : ℕ) (rs : List Pair) → i < length chain →
+    get_or chain i 0 ≡ p → rs ≡ rec p →
     keys_of (flat_map rec (take i chain)) ++ keys_of rs ≡ keys_of (flat_map rec (take (i + 1) chain))
 chain_keys rec chain i p rs less at is =
-    sym (ap keys_of (flat_more rec chain i 0 less ∙ ap (λ (q : ℕ). flat_map rec (take i chain) ++ rec q) at ∙ ap (λ (xs : List Pair). flat_map rec (take i chain) ++ xs) (sym is)) ∙ map-append (λ (r : Pair). r.key) (flat_map rec (take i chain)) rs)
+    sym
+    (ap keys_of
+    (flat_more rec chain i 0 less ∙ ap (λ (q : ℕ). flat_map rec (take i chain) ++ rec q) at
+    ∙ ap (λ (xs : List Pair). flat_map rec (take i chain) ++ xs) (sym is))
+    ∙ map-append (λ (r : Pair). r.key) (flat_map rec (take i chain)) rs)

@@ -21,17 +21,21 @@ use Rattle.lh_image.proofs.images.Listings.{size-listing_of}
 use Rattle.lh_image.proofs.faults.Ranges.{find_none}
 use Rattle.lh_image.proofs.images.Shown.{fitting_from, shape_from, home_from, distinct_from}
 
-not_twice : (ps : List Pair) (i j : ℕ) → IsDistinct bytes_eq (keys_of ps) → i < j → j < length ps → key_at ps i ≡ key_at ps j → ⊥
+not_twice : (ps : List Pair) (i j : ℕ) → IsDistinct bytes_eq (keys_of ps) → i < j → j < length ps →
+    key_at ps i ≡ key_at ps j → ⊥
 not_twice ps i j once before within same =
     let many : length (keys_of ps) ≡ length ps = length-map ps (λ p. p.key) in
     AllPairs-from_IsDistinct bytes_eq-Decides (keys_of ps) once i j [] before (omega arith)
-    (get_or-map (λ (p : Pair). p.key) ps i no_pair [] (omega arith) ∙ same ∙ sym (get_or-map (λ (p : Pair). p.key) ps j no_pair [] within))
+    (get_or-map (λ (p : Pair). p.key) ps i no_pair [] (omega arith) ∙ same
+    ∙ sym (get_or-map (λ (p : Pair). p.key) ps j no_pair [] within))
 
 -- lists that are in order have no fault
-refused_for_memory : (config : Settings) (n : ℕ) (lists : List (List Pair)) (f : ListingFault) → IsShape config n lists → EachPlace (IsHome config.initial n) lists →
+refused_for_memory : (config : Settings) (n : ℕ) (lists : List (List Pair)) (f : ListingFault) →
+    IsShape config n lists → EachPlace (IsHome config.initial n) lists →
     ((i : ℕ) → IsDistinct bytes_eq (keys_of (list_at lists i))) → IsFaultOf config n lists f → f ≡ Memory
 refused_for_memory config n lists Shape shape home distinct fault = absurd (fault shape)
-refused_for_memory config n lists (Misplaced bucket place) shape home distinct fault = absurd (fault.1.fault (home bucket place fault.1.within))
+refused_for_memory config n lists (Misplaced bucket place) shape home distinct fault =
+    absurd (fault.1.fault (home bucket place fault.1.within))
 refused_for_memory config n lists (Twice bucket place) shape home distinct fault =
     let first = fault.2 in
     let again = first.fault in
@@ -39,10 +43,15 @@ refused_for_memory config n lists (Twice bucket place) shape home distinct fault
 refused_for_memory config n lists Memory shape home distinct fault = refl
 
 -- the lists of pages without a fault
-pub lists_refused : (v : View) (lists : List (List Pair)) (f : ListingFault) → IsCovered (next v) (bucket v) (buckets v) (page_count v) (chain_of v) → AreInRange v.header →
-    least (page_count v) (has_misfit v) ≡ None → lists ≡ (listing_of v).lists → IsFaultOf v.header.config (buckets v) lists f → f ≡ Memory
+pub lists_refused : (v : View) (lists : List (List Pair)) (f : ListingFault) →
+    IsCovered (next v) (bucket v) (buckets v) (page_count v) (chain_of v) → AreInRange v.header →
+    least (page_count v) (has_misfit v) ≡ None → lists ≡ (listing_of v).lists →
+    IsFaultOf v.header.config (buckets v) lists f → f ≡ Memory
 unfolding numbers
 lists_refused v lists f cover range none same fault =
-    let fitting = fitting_from v cover (λ p low high. find_none (has_misfit v) 1 (page_count v - 1) none p low (omega arith)) in
-    let whole : IsFaultOf v.header.config (size (listing_of v)) (listing_of v).lists f = rw (size-listing_of v, ← same) fault in
-    refused_for_memory v.header.config (size (listing_of v)) (listing_of v).lists f (shape_from v range) (home_from v fitting) (distinct_from v fitting) whole
+    let fitting =
+    fitting_from v cover (λ p low high. find_none (has_misfit v) 1 (page_count v - 1) none p low (omega arith)) in
+    let whole : IsFaultOf v.header.config (size (listing_of v)) (listing_of v).lists f =
+    rw (size-listing_of v, ← same) fault in
+    refused_for_memory v.header.config (size (listing_of v)) (listing_of v).lists f (shape_from v range)
+    (home_from v fitting) (distinct_from v fitting) whole

@@ -1,5 +1,6 @@
 -- What the first page and the number of bytes decide
-use Rattle.std.proofs.Common.{◌≡◌, ℕ, ◌*◌, ◌<◌, ◌≤◌, true, false, ◌||◌, leb, ltb, List, length, Some, None, Result, Ok, Err, refl, sym, ap, ◌∙◌, arith}
+use Rattle.std.proofs.Common.{◌≡◌, ℕ, ◌*◌, ◌<◌, ◌≤◌, true, false, ◌||◌, leb, ltb, List, length, Some, None, Result, Ok}
+use Rattle.std.proofs.Common.{Err, refl, sym, ap, ◌∙◌, arith}
 use Rattle.std.specs.Prelude.{IfOk}
 use Rattle.std.specs.Result.{result_err}
 use Rattle.std.proofs.lemmas.Bool.Decides.{nat_tests}
@@ -19,14 +20,17 @@ pub opening_magic : (bytes : List ℕ) → no_magic bytes ≡ true → opening_f
 unfolding opening_fault
 opening_magic bytes e = first_before (header_rows bytes) (size_rows bytes) Magic (magic_is bytes e)
 
-pub opening_short : (bytes : List ℕ) → no_magic bytes ≡ false → length bytes < page_bytes (version_of bytes) → opening_fault bytes ≡ Some Short
+pub opening_short : (bytes : List ℕ) → no_magic bytes ≡ false → length bytes < page_bytes (version_of bytes) →
+    opening_fault bytes ≡ Some Short
 unfolding opening_fault is_short first_fault_of
 opening_short bytes e less =
     let test : leb (page_bytes (version_of bytes)) (length bytes) ≡ false = grind (arith, nat_tests) in
     let short : ltb (length bytes) (page_bytes (version_of bytes)) ≡ true = grind (arith, nat_tests) in
     rw (e, test, short) refl
 
-pub opens_header : (bytes page : List ℕ) (result : Result Header ImageFault) → page ≡ front bytes → no_magic bytes ≡ false → page_bytes (version_of bytes) ≤ length bytes → IfOk result (λ header. header ≡ header_of page) → result_err result ≡ due page → OpensHeader bytes result
+pub opens_header : (bytes page : List ℕ) (result : Result Header ImageFault) → page ≡ front bytes →
+    no_magic bytes ≡ false → page_bytes (version_of bytes) ≤ length bytes →
+    IfOk result (λ header. header ≡ header_of page) → result_err result ≡ due page → OpensHeader bytes result
 unfolding opening_fault
 opens_header bytes page (Ok header) at magic enough is fault = (
   is ∙ ap header_of at ∙ header-front bytes,
@@ -34,11 +38,13 @@ opens_header bytes page (Ok header) at magic enough is fault = (
   enough,
 )
 opens_header bytes page (Err f) at magic enough is fault =
-    first_before (header_rows bytes) (size_rows bytes) f (due_is bytes magic enough ∙ sym (due-front bytes) ∙ ap due (sym at) ∙ sym fault)
+    first_before (header_rows bytes) (size_rows bytes) f
+    (due_is bytes magic enough ∙ sym (due-front bytes) ∙ ap due (sym at) ∙ sym fault)
 
 -- ---- the number of bytes
 
-module _ (bytes : List ℕ) (header : Header) (size : ℕ) (is : header ≡ header_of bytes) (r : AreInRange header) (all : size ≡ page_bytes (version_of bytes) * header.pages) where
+module _ (bytes : List ℕ) (header : Header) (size : ℕ) (is : header ≡ header_of bytes) (r : AreInRange header)
+    (all : size ≡ page_bytes (version_of bytes) * header.pages) where
   size_is : size ≡ image_bytes bytes
   size_is = all ∙ ap (λ (h : Header). page_bytes (version_of bytes) * h.pages) is
 
@@ -48,7 +54,9 @@ module _ (bytes : List ℕ) (header : Header) (size : ℕ) (is : header ≡ head
   pub size_short : length bytes < size → Some Short ≡ first_fault_of (size_rows bytes)
   unfolding is_short first_fault_of
   size_short less =
-      let short : (ltb (length bytes) (page_bytes (version_of bytes)) || ltb (length bytes) (image_bytes bytes)) ≡ true = rw (← size_is) (grind (arith, nat_tests)) in
+      let short : (ltb (length bytes) (page_bytes (version_of bytes)) || ltb (length bytes) (image_bytes bytes)) ≡
+      true =
+      rw (← size_is) (grind (arith, nat_tests)) in
       rw short refl
 
   long_enough : size ≤ length bytes → is_short bytes ≡ false
@@ -68,6 +76,7 @@ module _ (bytes : List ℕ) (header : Header) (size : ℕ) (is : header ≡ head
       rw (long_enough (omega arith), long) refl
 
 -- a fault of the number of bytes, behind a header without one
-pub opening_size : (bytes : List ℕ) → first_fault_of (header_rows bytes) ≡ None → opening_fault bytes ≡ first_fault_of (size_rows bytes)
+pub opening_size : (bytes : List ℕ) → first_fault_of (header_rows bytes) ≡ None →
+    opening_fault bytes ≡ first_fault_of (size_rows bytes)
 unfolding opening_fault
 opening_size bytes e = first_behind (header_rows bytes) (size_rows bytes) e

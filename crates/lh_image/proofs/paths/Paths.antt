@@ -4,7 +4,8 @@ use Rattle.lh_image.specs.Chains.{IsPath, PathsLaw}
 use Rattle.lh_image.proofs.paths.ShortPaths.{path_from}
 use Rattle.lh_image.proofs.paths.Walks.{path_only}
 
-no_page_twice : (next : ℕ → ℕ) (xs : List ℕ) (h k m : ℕ) → IsPath next h xs → k < m → m < length xs → get_or xs k 0 ≡ get_or xs m 0 → ⊥
+no_page_twice : (next : ℕ → ℕ) (xs : List ℕ) (h k m : ℕ) → IsPath next h xs → k < m → m < length xs →
+    get_or xs k 0 ≡ get_or xs m 0 → ⊥
 no_page_twice next xs h k m path less below same =
     let one : IsPath next (get_or xs k 0) (drop k xs) = path_from next xs h k path (omega arith) in
     let two : IsPath next (get_or xs k 0) (drop m xs) = rw same (path_from next xs h m path below) in

@@ -1,5 +1,6 @@
 -- A filled buffer has the front of what was left.
-use Rattle.std.proofs.Common.{◌≡◌, ℕ, ◌+◌, ◌<◌, ◌≤◌, inl, inr, List, [], ◌++◌, length, take, drop, Option, Some, None, sym, ap, ◌∙◌, arith, length-append}
+use Rattle.std.proofs.Common.{◌≡◌, ℕ, ◌+◌, ◌<◌, ◌≤◌, inl, inr, List, [], ◌++◌, length, take, drop, Option, Some, None}
+use Rattle.std.proofs.Common.{sym, ap, ◌∙◌, arith, length-append}
 use Rattle.std.specs.Prelude.{IfSome}
 use Rattle.std.proofs.lemmas.Bool.{cases_lt}
 use Rattle.std.proofs.lemmas.List.{take_at, drop_at, length-drop, length-take-le, append-nil, take_all, drop_all}
@@ -9,9 +10,11 @@ use Rattle.lh_image.specs.declared.fault.ImageFault.TheVariants.{Short, ReadFaul
 use Rattle.lh_image.specs.Filling.{Fills, FillsWhole, IsCut, IsFilled}
 
 whole : (xs ys buffer : List ℕ) (n : ℕ) → n ≤ length buffer → xs ≡ take n buffer ++ ys → length xs ≡ n + length ys
-whole xs ys buffer n within e = omega (arith, ap length e, length-append (take n buffer) ys, length-take-le n buffer within)
+whole xs ys buffer n within e =
+    omega (arith, ap length e, length-append (take n buffer) ys, length-take-le n buffer within)
 
-full : (xs ys buffer : List ℕ) (n : ℕ) → n ≡ length buffer → n ≤ length buffer → xs ≡ take n buffer ++ ys → IsFilled xs n buffer (Some ys)
+full : (xs ys buffer : List ℕ) (n : ℕ) → n ≡ length buffer → n ≤ length buffer → xs ≡ take n buffer ++ ys →
+    IsFilled xs n buffer (Some ys)
 full xs ys buffer n all within e =
     let size : length (take n buffer) ≡ length buffer = omega (arith, length-take-le n buffer within) in
     record {
@@ -20,7 +23,8 @@ full xs ys buffer n all within e =
       rest = ap Some (sym (drop_at (take n buffer) ys (length buffer) size) ∙ ap (drop (length buffer)) (sym e));
     }
 
-ended : (xs ys buffer : List ℕ) (n : ℕ) → n < length buffer → ys ≡ [] → xs ≡ take n buffer ++ ys → IsFilled xs n buffer (Some ys)
+ended : (xs ys buffer : List ℕ) (n : ℕ) → n < length buffer → ys ≡ [] → xs ≡ take n buffer ++ ys →
+    IsFilled xs n buffer (Some ys)
 ended xs ys buffer n less none e =
     let short : length xs ≤ length buffer = omega (arith, whole xs ys buffer n (omega arith) e, ap length none) in
     let is : xs ≡ take n buffer = e ∙ ap (λ (r : List ℕ). take n buffer ++ r) none ∙ append-nil (take n buffer) in
@@ -30,7 +34,8 @@ ended xs ys buffer n less none e =
       rest = ap Some (none ∙ sym (drop_all (length buffer) xs short));
     }
 
-pub filled : (old new : Option (List ℕ)) (n : ℕ) (buffer : List ℕ) → Fills old new n buffer → IfSome old (λ bytes. IsFilled bytes n buffer new)
+pub filled : (old new : Option (List ℕ)) (n : ℕ) (buffer : List ℕ) → Fills old new n buffer →
+    IfSome old (λ bytes. IsFilled bytes n buffer new)
 filled None new n buffer fills = tt
 filled (Some xs) None n buffer fills = absurd fills.bytes
 filled (Some xs) (Some ys) n buffer fills = elim (cases_lt n (length buffer)) [
@@ -39,7 +44,8 @@ filled (Some xs) (Some ys) n buffer fills = elim (cases_lt n (length buffer)) [
 ]
 
 -- a buffer that is full has the front of the bytes
-pub fills_whole : (bytes : List ℕ) (now : Option (List ℕ)) (n : ℕ) (buffer : List ℕ) → IsFilled bytes n buffer now → length buffer ≤ n → AreBytes buffer → FillsWhole bytes buffer now
+pub fills_whole : (bytes : List ℕ) (now : Option (List ℕ)) (n : ℕ) (buffer : List ℕ) → IsFilled bytes n buffer now →
+    length buffer ≤ n → AreBytes buffer → FillsWhole bytes buffer now
 fills_whole bytes now n buffer filled all each = record {
   enough = omega (arith, filled.count);
   front = sym (take_all n buffer all) ∙ filled.front;
@@ -48,11 +54,15 @@ fills_whole bytes now n buffer filled all each = record {
 }
 
 -- the buffer was filled, or there were too few bytes
-pub whole_read : (old new : Option (List ℕ)) (n : ℕ) (buffer : List ℕ) → IfSome old (λ bytes. IsFilled bytes n buffer new) → length buffer ≤ n → AreBytes buffer → IfSome old (λ bytes. FillsWhole bytes buffer new)
+pub whole_read : (old new : Option (List ℕ)) (n : ℕ) (buffer : List ℕ) →
+    IfSome old (λ bytes. IsFilled bytes n buffer new) → length buffer ≤ n → AreBytes buffer →
+    IfSome old (λ bytes. FillsWhole bytes buffer new)
 whole_read None new n buffer filled all each = tt
 whole_read (Some bytes) new n buffer filled all each = fills_whole bytes new n buffer filled all each
 
-pub cut_short : (old new : Option (List ℕ)) (n : ℕ) (buffer : List ℕ) → IfSome old (λ bytes. IsFilled bytes n buffer new) → n < length buffer → IfSome old (λ bytes. length bytes < length buffer)
+pub cut_short : (old new : Option (List ℕ)) (n : ℕ) (buffer : List ℕ) →
+    IfSome old (λ bytes. IsFilled bytes n buffer new) → n < length buffer →
+    IfSome old (λ bytes. length bytes < length buffer)
 cut_short None new n buffer filled less = tt
 cut_short (Some bytes) new n buffer filled less = omega (arith, filled.count)
 
@@ -64,7 +74,8 @@ cut_more bytes m n Short le cut = omega arith
 cut_more bytes m n f le cut = cut
 
 -- too few bytes behind a part are too few in all
-pub cut_behind : (bytes : List ℕ) (k m n : ℕ) (f : ImageFault) → k ≤ length bytes → k + m ≡ n → IsCut (drop k bytes) m f → IsCut bytes n f
+pub cut_behind : (bytes : List ℕ) (k m n : ℕ) (f : ImageFault) → k ≤ length bytes → k + m ≡ n →
+    IsCut (drop k bytes) m f → IsCut bytes n f
 cut_behind bytes k m n Short within sum cut = omega (arith, cut, length-drop k bytes)
 cut_behind bytes k m n ReadFault within sum cut = tt
 cut_behind bytes k m n Memory within sum cut = tt

@@ -16,8 +16,10 @@ first_entry (suc p) = refl
 pub within_first : (entries : List Entry) (pairs : List Pair) → entries ≡ no_entry ∷ [] → AreWithin entries pairs
 within_first entries pairs e p = rw (e, first_entry p) (omega arith)
 
-pub come_first : (bytes : List ℕ) (header : Header) (entries : List Entry) (pairs : List Pair) (faults : PageFaults) (now : Option (List ℕ)) → entries ≡ no_entry ∷ [] →
-    faults ≡ record { kind = None; bucket = None; level = None; used = None; slot = None; sum = 0 } → HasHeader header bytes now → HaveCome bytes header 1 entries pairs faults
+pub come_first : (bytes : List ℕ) (header : Header) (entries : List Entry) (pairs : List Pair) (faults : PageFaults)
+    (now : Option (List ℕ)) → entries ≡ no_entry ∷ [] →
+    faults ≡ record { kind = None; bucket = None; level = None; used = None; slot = None; sum = 0 } →
+    HasHeader header bytes now → HaveCome bytes header 1 entries pairs faults
 unfolding view_of next_in bucket_in
 come_first bytes header entries pairs faults now first none has = record {
   fields = has.fields;

@@ -35,11 +35,13 @@ four_bytes n = n ∷ 0 ∷ 0 ∷ 0 ∷ []
 -- the header: `high` is the third byte of the greatest number of buckets
 abbrev pub header_bytes : Version → ℕ → ℕ → ℕ → ℕ → ℕ → ℕ → ℕ → List ℕ
 header_bytes version initial capacity buckets max high pages records =
-    76 ∷ 72 ∷ 70 ∷ mark version ∷ four_bytes initial ++ four_bytes capacity ++ four_bytes 100 ++ four_bytes buckets ++ (max ∷ 0 ∷ high ∷ 0 ∷ []) ++ four_bytes pages ++ four_bytes records ++ last_zeros version
+    76 ∷ 72 ∷ 70 ∷ mark version ∷ four_bytes initial ++ four_bytes capacity ++ four_bytes 100 ++ four_bytes buckets
+    ++ (max ∷ 0 ∷ high ∷ 0 ∷ []) ++ four_bytes pages ++ four_bytes records ++ last_zeros version
 
 -- a page whose slots from `used` on are zeros
 abbrev pub page_bytes : Version → ℕ → ℕ → ℕ → ℕ → ℕ → List ℕ → List ℕ
-page_bytes version kind used level bucket next slots = kind ∷ used ∷ level ∷ 0 ∷ four_bytes bucket ++ four_bytes next ++ replicate 4 0 ++ all_slots version used slots
+page_bytes version kind used level bucket next slots =
+    kind ∷ used ∷ level ∷ 0 ∷ four_bytes bucket ++ four_bytes next ++ replicate 4 0 ++ all_slots version used slots
 
 -- ---- an empty file
 
@@ -59,8 +61,10 @@ five_listing = record {
 
 unfoldable pub five : Version → List ℕ
 five version =
-    header_bytes version 1 2 3 0 1 4 5 ++ page_bytes version 1 2 2 0 0 (slot_bytes version 97 49 ++ slot_bytes version 101 53)
-    ++ page_bytes version 1 2 1 1 0 (slot_bytes version 98 50 ++ slot_bytes version 100 52) ++ page_bytes version 1 1 2 2 0 (slot_bytes version 99 51)
+    header_bytes version 1 2 3 0 1 4 5
+    ++ page_bytes version 1 2 2 0 0 (slot_bytes version 97 49 ++ slot_bytes version 101 53)
+    ++ page_bytes version 1 2 1 1 0 (slot_bytes version 98 50 ++ slot_bytes version 100 52)
+    ++ page_bytes version 1 1 2 2 0 (slot_bytes version 99 51)
 
 -- ---- one bucket with a, c, e and g, in two pages and in four
 
@@ -71,7 +75,10 @@ two_pages_listing = record {
 }
 
 unfoldable pub two_pages : Version → List ℕ
-two_pages version = header_bytes version 1 2 1 1 0 3 4 ++ page_bytes version 1 2 0 0 2 (slot_bytes version 97 49 ++ slot_bytes version 99 50) ++ page_bytes version 2 2 0 0 0 (slot_bytes version 101 51 ++ slot_bytes version 103 52)
+two_pages version =
+    header_bytes version 1 2 1 1 0 3 4
+    ++ page_bytes version 1 2 0 0 2 (slot_bytes version 97 49 ++ slot_bytes version 99 50)
+    ++ page_bytes version 2 2 0 0 0 (slot_bytes version 101 51 ++ slot_bytes version 103 52)
 
 abbrev pub four_pages_listing : Lists
 four_pages_listing = record {
@@ -81,7 +88,10 @@ four_pages_listing = record {
 
 unfoldable pub four_pages : Version → List ℕ
 four_pages version =
-    header_bytes version 1 1 1 1 0 5 4 ++ page_bytes version 1 1 0 0 2 (slot_bytes version 97 49) ++ page_bytes version 2 1 0 0 3 (slot_bytes version 99 51) ++ page_bytes version 2 1 0 0 4 (slot_bytes version 101 53) ++ page_bytes version 2 1 0 0 0 (slot_bytes version 103 55)
+    header_bytes version 1 1 1 1 0 5 4 ++ page_bytes version 1 1 0 0 2 (slot_bytes version 97 49)
+    ++ page_bytes version 2 1 0 0 3 (slot_bytes version 99 51)
+    ++ page_bytes version 2 1 0 0 4 (slot_bytes version 101 53)
+    ++ page_bytes version 2 1 0 0 0 (slot_bytes version 103 55)
 
 -- ---- two buckets with two pages each: a and c in pages 1 and 3, b and d in pages 2 and 4
 
@@ -93,9 +103,15 @@ two_chains_listing = record {
 
 unfoldable pub two_chains : Version → List ℕ
 two_chains version =
-    header_bytes version 2 1 2 2 0 5 4 ++ page_bytes version 1 1 0 0 3 (slot_bytes version 97 49) ++ page_bytes version 1 1 0 1 4 (slot_bytes version 98 50) ++ page_bytes version 2 1 0 0 0 (slot_bytes version 99 51) ++ page_bytes version 2 1 0 1 0 (slot_bytes version 100 52)
+    header_bytes version 2 1 2 2 0 5 4 ++ page_bytes version 1 1 0 0 3 (slot_bytes version 97 49)
+    ++ page_bytes version 1 1 0 1 4 (slot_bytes version 98 50)
+    ++ page_bytes version 2 1 0 0 0 (slot_bytes version 99 51)
+    ++ page_bytes version 2 1 0 1 0 (slot_bytes version 100 52)
 
 -- the same with pages 3 and 4 exchanged
 unfoldable pub exchanged : Version → List ℕ
 exchanged version =
-    header_bytes version 2 1 2 2 0 5 4 ++ page_bytes version 1 1 0 0 4 (slot_bytes version 97 49) ++ page_bytes version 1 1 0 1 3 (slot_bytes version 98 50) ++ page_bytes version 2 1 0 1 0 (slot_bytes version 100 52) ++ page_bytes version 2 1 0 0 0 (slot_bytes version 99 51)
+    header_bytes version 2 1 2 2 0 5 4 ++ page_bytes version 1 1 0 0 4 (slot_bytes version 97 49)
+    ++ page_bytes version 1 1 0 1 3 (slot_bytes version 98 50)
+    ++ page_bytes version 2 1 0 1 0 (slot_bytes version 100 52)
+    ++ page_bytes version 2 1 0 0 0 (slot_bytes version 99 51)

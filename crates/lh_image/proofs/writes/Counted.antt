@@ -16,5 +16,6 @@ pub longest_low : (l : Lists) (n : ℕ) → longest_before l n ≤ 1 + overflow_
 unfolding longest_before
 longest_low l zero = omega arith
 longest_low l (suc n) =
-    let more : overflow_before l (suc n) ≡ overflow_before l n + (page_count_in l n - 1) = ap (overflow_before l) (sym (add-one n)) ∙ overflow-more l n in
+    let more : overflow_before l (suc n) ≡ overflow_before l n + (page_count_in l n - 1) =
+    ap (overflow_before l) (sym (add-one n)) ∙ overflow-more l n in
     omega (arith, more, longest_low l n)

@@ -1,5 +1,6 @@
 //! The slots of a page, looked at where they stand.
-ghost use Rattle.std.specs.Prelude.{◌≡◌, ◌<◌, ◌≤◌, Option, Some, None, ◌∷◌, [], not, true, ℕ, length, IfOk, if◌then◌else◌, ◌&&◌};
+ghost use Rattle.std.specs.Prelude.{◌≡◌, ◌<◌, ◌≤◌, Option, Some, None, ◌∷◌, [], not, true, ℕ, length, IfOk};
+ghost use Rattle.std.specs.Prelude.{if◌then◌else◌, ◌&&◌};
 ghost use Rattle.std.specs.List.{list_any};
 ghost use Rattle.std.specs.Option.{is_some};
 ghost use Rattle.std.specs.Result.{result_err};
@@ -8,7 +9,8 @@ ghost use Rattle.lh_addr.specs.Fnv.{code_of};
 ghost use Rattle.lh_addr.specs.Growth.{address};
 ghost use Rattle.lh_page.specs.declared.pair.Pair.{Pair};
 ghost use Rattle.lh_page.specs.Format.{slot_size, page_size, IsWithinLimits};
-ghost use Rattle.lh_page.specs.PageFields.{bad_slot, is_bad_record, key_length, pair_of, pairs_of, used_of, value_length};
+ghost use Rattle.lh_page.specs.PageFields.{bad_slot, is_bad_record, key_length, pair_of, pairs_of, used_of};
+ghost use Rattle.lh_page.specs.PageFields.{value_length};
 ghost use Rattle.lh_page.specs.PageTable.{slot};
 ghost use Rattle.lh_image.specs.declared.fault.ImageFault.TheVariants.{Slot, Misfit};
 ghost use Rattle.lh_image.specs.Faults.{first_fault_of, where_so};

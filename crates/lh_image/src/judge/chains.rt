@@ -1,5 +1,6 @@
 //! The chains of all buckets.
-ghost use Rattle.std.specs.Prelude.{◌≡◌, ℕ, ◌+◌, ◌-◌, ◌<◌, ◌≤◌, ◌||◌, not, false, length, map, slice_index_or, None, IfOk, IfErr};
+ghost use Rattle.std.specs.Prelude.{◌≡◌, ℕ, ◌+◌, ◌-◌, ◌<◌, ◌≤◌, ◌||◌, not, false, length, map, slice_index_or, None};
+ghost use Rattle.std.specs.Prelude.{IfOk, IfErr};
 ghost use Rattle.std.specs.List.{find, list_any, range_with_len};
 ghost use Rattle.lh_addr.specs.Limits.{most_buckets};
 ghost use Rattle.lh_image.specs.Chains.{chain, pages_from, stands_in};

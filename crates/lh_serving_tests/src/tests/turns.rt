@@ -137,8 +137,8 @@ fn an_image_is_told_before_what_comes_behind_it(rt: HostRuntime) -> Result<(), F
     Ok(())
 }
 
-/// A conversation that goes on from the image that is told behind a first line, and is sent in pieces of as many bytes as are
-/// read at once.
+/// A conversation that goes on from the image that is told behind a first line, and is sent in pieces of as many bytes
+/// as are read at once.
 fn goes_on(rt: &(impl AllocGlobal + Abort), line: &[u8], told_first: &[u8]) -> Result<(), Fail> {
     if told_first.len() != line.len() + EMPTY_IMAGE {
         return Err(Fail::from("no image of an empty file"));

@@ -1,5 +1,5 @@
-//! Calls that give an answer, which tells all: the call, its reply, and the bucket that gave it, by its number in the file
-//! of the key's shard.
+//! Calls that give an answer, which tells all: the call, its reply, and the bucket that gave it, by its number in the
+//! file of the key's shard.
 ghost use Rattle.lh_bucket.specs.declared.call.Call.TheVariants as call;
 ghost use Rattle.lh_file.specs.Calls.Served.{Serves};
 ghost use Rattle.lh_shards.specs.Hands.{AreOf, AtShardOf};
@@ -25,8 +25,8 @@ impl Shards {
         self.files[shard].search(rt, &mut hands.hands[shard], key)
     }
 
-    /// Inserts a record, unless the key is there. Where the record is new and the load of the key's file asks for a split,
-    /// the call asks once for that file's right to split, and splits a bucket of it if it gets it.
+    /// Inserts a record, unless the key is there. Where the record is new and the load of the key's file asks for a
+    /// split, the call asks once for that file's right to split, and splits a bucket of it if it gets it.
     #[inline]
     pub fn insert<R: Wait>(
         &self,

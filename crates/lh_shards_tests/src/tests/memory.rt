@@ -37,7 +37,8 @@ fn divided_again(shards: &Shards, hands: &mut Hands) -> Result<Hands, SplitFault
     }
 }
 
-/// Inserts a letter: whether all went as it has to. Where the insert was refused, the other hands don't find the letter.
+/// Inserts a letter: whether all went as it has to. Where the insert was refused, the other hands don't find the
+/// letter.
 fn put_again<R: Wait>(
     rt: &R,
     shards: &Shards,

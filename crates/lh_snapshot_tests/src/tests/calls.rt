@@ -120,8 +120,8 @@ pub(crate) fn fill<G: Gate, M: Mode, J: Room, R: Wait>(
     true
 }
 
-/// Replaces the values of the eight letters, and finds the new ones: whether each call was answered so. Then no bucket's
-/// lock is held, and in a traced file each bucket has its seat.
+/// Replaces the values of the eight letters, and finds the new ones: whether each call was answered so. Then no
+/// bucket's lock is held, and in a traced file each bucket has its seat.
 pub(crate) fn works_on<G: Gate, M: Mode, J: Room, R: Wait>(
     rt: &R,
     file: &HashFile<G, M, J>,
@@ -154,8 +154,8 @@ fn drawn(number: u32, turn: u32) -> Option<Call> {
     })
 }
 
-/// Makes a hundred calls, every third as one makes it of a map, and asks for a split after each eighth: whether each call
-/// was answered.
+/// Makes a hundred calls, every third as one makes it of a map, and asks for a split after each eighth: whether each
+/// call was answered.
 pub(crate) fn draw_calls<G: Gate, M: Mode, J: Room, R: Wait>(
     rt: &R,
     file: &HashFile<G, M, J>,

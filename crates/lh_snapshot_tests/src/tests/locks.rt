@@ -181,8 +181,8 @@ fn two_searches_hold_one_bucket(rt: HostRuntime) -> Result<(), Fail> {
     perform(&rt, rt.alloc(), &TWO_SEARCHES_THAT_LOOKED)
 }
 
-/// The first call is served, and is held until the second one has begun. That doesn't get the bucket while the first one
-/// is held.
+/// The first call is served, and is held until the second one has begun. That doesn't get the bucket while the first
+/// one is held.
 const HELD_AT_ITS_ACT: [Hold; 3] = [
     Hold {
         from: 1,

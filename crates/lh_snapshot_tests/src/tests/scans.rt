@@ -126,8 +126,8 @@ pub(crate) fn scan<G: Gate, M: Mode, J: Room, R: Wait>(
     false
 }
 
-/// Gives each copy of a scan to a closure, and goes on where memory was refused: whether each letter was met, and no key
-/// twice.
+/// Gives each copy of a scan to a closure, and goes on where memory was refused: whether each letter was met, and no
+/// key twice.
 pub(crate) fn for_each<G: Gate, M: Mode, J: Room, R: Wait>(
     rt: &R,
     alloc: Global,

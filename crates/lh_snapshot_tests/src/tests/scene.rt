@@ -53,9 +53,9 @@ pub(crate) const ONE_BUCKET: Scene = Scene {
 /// How many acts there are when the eight letters are inserted.
 pub(crate) const EIGHT: Told = Told::Number(8);
 
-/// What came of a scene: the first answer that was not due, whether a wait went wrong or a point was not due, whether as
-/// many points were met as were due, whether the closed file is settled as it has to be, the number of snapshots, and
-/// the first one that isn't what it has to be.
+/// What came of a scene: the first answer that was not due, whether a wait went wrong or a point was not due, whether
+/// as many points were met as were due, whether the closed file is settled as it has to be, the number of snapshots,
+/// and the first one that isn't what it has to be.
 #[derive(Clone, Copy, Debug, PartialEq, Eq)]
 struct Outcome {
     wrong: Option<Told>,

@@ -31,8 +31,8 @@ fn keep<'a, G: Gate, M: Mode, J: Room>(
     workers.push(worker).is_ok()
 }
 
-/// Waits for a worker, and adds what it has to what others have. None where memory was wanted, or the hand still has the
-/// right to split.
+/// Waits for a worker, and adds what it has to what others have. None where memory was wanted, or the hand still has
+/// the right to split.
 fn join<G: Gate, M: Mode, J: Room, R: Threads + Wait>(
     rt: &R,
     file: &HashFile<G, M, J>,

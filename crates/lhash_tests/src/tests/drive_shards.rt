@@ -11,8 +11,8 @@ use std::sync::Wait;
 use std::test::Fail;
 use std::thread::Threads;
 
-/// Four calls of each key, the first one of all keys, then the second, and so on: an insert, a replace, a delete of each
-/// third key and an insert of the others once more, and a search.
+/// Four calls of each key, the first one of all keys, then the second, and so on: an insert, a replace, a delete of
+/// each third key and an insert of the others once more, and a search.
 fn lives_of(alloc: Global, keys: u16) -> Result<Vec<Call>, Fail> {
     let mut calls = Vec::new(alloc);
     let (one, two) = (Value::new(b"1")?, Value::new(b"22")?);

@@ -1,5 +1,5 @@
-//! Memory that is refused: run with each request for it refused in turn, one in each run. A run in threads on shards says
-//! so, and made once more it has its totals.
+//! Memory that is refused: run with each request for it refused in turn, one in each run. A run in threads on shards
+//! says so, and made once more it has its totals.
 use lh_addr::Config;
 use lh_bucket::Call;
 use lh_page::{Key, Value};

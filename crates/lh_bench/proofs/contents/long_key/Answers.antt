@@ -7,5 +7,6 @@ slice_bounds-new-end c = sym (length-take-le 50 c.places-in-None-1.given.0 (omeg
 
 pub unreachable-requires : goal.unreachable-requires
 unreachable-requires c =
-    let same : length (take 50 c.places-in-None-1.given.0) ≡ 50 = length-take-le 50 c.places-in-None-1.given.0 (omega arith) in
+    let same : length (take 50 c.places-in-None-1.given.0) ≡ 50 =
+    length-take-le 50 c.places-in-None-1.given.0 (omega arith) in
     false≢true (c.in-Err.ensures.variant.1 (omega (arith, same), omega (arith, same)))

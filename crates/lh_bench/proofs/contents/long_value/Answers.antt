@@ -7,5 +7,6 @@ slice_bounds-new-end c = sym (length-take-le 100 c.places-in-None-1.given.0 (ome
 
 pub unreachable-requires : goal.unreachable-requires
 unreachable-requires c =
-    let same : length (take 100 c.places-in-None-1.given.0) ≡ 100 = length-take-le 100 c.places-in-None-1.given.0 (omega arith) in
+    let same : length (take 100 c.places-in-None-1.given.0) ≡ 100 =
+    length-take-le 100 c.places-in-None-1.given.0 (omega arith) in
     false≢true (c.in-Err.ensures.variant.1 (omega (arith, same)))

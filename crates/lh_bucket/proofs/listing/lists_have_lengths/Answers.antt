@@ -9,5 +9,6 @@ pub loop-place-preserved : goal.loop-place-preserved
 loop-place-preserved c =
     let lists : List (List Pair) = map (λ v. v.items) c.args.lists.now in
     let read : list_at lists c.loop-place.place ≡ c.deref.result.now =
-    list_read (λ v. v.items) c.args.lists.now c.loop-place.place c.index-lists-place.result c.loop-place-test.true c.index-lists-place.is ∙ sym c.deref.ensures.value in
+    list_read (λ v. v.items) c.args.lists.now c.loop-place.place c.index-lists-place.result c.loop-place-test.true
+    c.index-lists-place.is ∙ sym c.deref.ensures.value in
     all_more IsRecord lists c.loop-place.place c.deref.result.now read c.have_lengths.ensures c.loop-place.invariant

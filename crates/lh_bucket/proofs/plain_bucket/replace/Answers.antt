@@ -3,7 +3,8 @@ use Rattle.lh_bucket.proofs.PlainBuckets.{get-pairs_of_entries, inserted}
 use Rattle.lh_bucket.proofs.plain_bucket.replace.Goals as goal
 
 pub returns-in-Some-clause-found : goal.returns-in-Some-clause-found
-returns-in-Some-clause-found c = ap is_some (c.in-Some.ensures.value ∙ sym (get-pairs_of_entries c.args.records.now.entries c.args.key.now))
+returns-in-Some-clause-found c =
+    ap is_some (c.in-Some.ensures.value ∙ sym (get-pairs_of_entries c.args.records.now.entries c.args.key.now))
 
 pub returns-in-Some-clause-changed : goal.returns-in-Some-clause-changed
 returns-in-Some-clause-changed c =
@@ -11,4 +12,5 @@ returns-in-Some-clause-changed c =
     ((c.get_mut.follows.holds c.args.value).3 (search rules)).0
 
 pub returns-in-None-clause-found : goal.returns-in-None-clause-found
-returns-in-None-clause-found c = ap is_some (c.in-None.ensures.value ∙ sym (get-pairs_of_entries c.args.records.now.entries c.args.key.now))
+returns-in-None-clause-found c =
+    ap is_some (c.in-None.ensures.value ∙ sym (get-pairs_of_entries c.args.records.now.entries c.args.key.now))

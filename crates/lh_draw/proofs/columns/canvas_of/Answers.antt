@@ -10,7 +10,10 @@ unfolding canvas_of
 returns c =
     let buckets : ℕ = size c.args.listing.now in
     let left_is : c.left.result ≡ left buckets (column_count buckets) =
-    c.left.ensures.value ∙ ap (left c.buckets-buckets.result) c.column_count.ensures.value ∙ ap (λ (n : ℕ). left n (column_count n)) c.buckets-buckets.ensures.value in
-    let width_is : c.max.result ≡ max (left buckets (column_count buckets)) 600 = c.max.ensures ∙ ap (λ (n : ℕ). max n 600) left_is in
-    let floor_is : c.floor_of.result ≡ floor_of (whole_tally c.args.listing.now).longest = c.floor_of.ensures.value ∙ ap floor_of c.requires in
+    c.left.ensures.value ∙ ap (left c.buckets-buckets.result) c.column_count.ensures.value
+    ∙ ap (λ (n : ℕ). left n (column_count n)) c.buckets-buckets.ensures.value in
+    let width_is : c.max.result ≡ max (left buckets (column_count buckets)) 600 =
+    c.max.ensures ∙ ap (λ (n : ℕ). max n 600) left_is in
+    let floor_is : c.floor_of.result ≡ floor_of (whole_tally c.args.listing.now).longest =
+    c.floor_of.ensures.value ∙ ap floor_of c.requires in
     λ i. record { width = 48 + width_is i; height = floor_is i + 56 }

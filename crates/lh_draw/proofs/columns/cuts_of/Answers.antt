@@ -10,6 +10,8 @@ unfolding cuts_of
 returns c =
     let buckets : ℕ = size c.args.listing.now in
     let left_is : c.left-width.result ≡ left buckets (column_count buckets) =
-    c.left-width.ensures.value ∙ ap (left c.buckets-buckets.result) c.column_count.ensures.value ∙ ap (λ (n : ℕ). left n (column_count n)) c.buckets-buckets.ensures.value in
-    let shown : c.min.result ≡ min (whole_tally c.args.listing.now).longest 24 = c.min.ensures ∙ ap (λ (n : ℕ). min n 24) c.requires in
+    c.left-width.ensures.value ∙ ap (left c.buckets-buckets.result) c.column_count.ensures.value
+    ∙ ap (λ (n : ℕ). left n (column_count n)) c.buckets-buckets.ensures.value in
+    let shown : c.min.result ≡ min (whole_tally c.args.listing.now).longest 24 =
+    c.min.ensures ∙ ap (λ (n : ℕ). min n 24) c.requires in
     λ i. record { middle = left_is i / 2; width = left_is i; height = 40 * shown i }

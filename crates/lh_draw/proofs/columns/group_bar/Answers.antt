@@ -13,16 +13,32 @@ returns c =
     let size_is = c.buckets-buckets.ensures.value in
     let left_is : c.left.result ≡ left (size l) column = c.left.ensures.value ∙ ap (λ (n : ℕ). left n column) size_is in
     let width_is : c.bar_width.result ≡ bar_width (size l) = c.bar_width.ensures.value ∙ ap bar_width size_is in
-    let first_is : c.first_bucket-first.result ≡ first_bucket (size l) column = c.first_bucket-first.ensures.value ∙ ap (λ (n : ℕ). first_bucket n column) size_is in
-    let end_is : c.end_bucket-end.result ≡ end_bucket (size l) column = c.end_bucket-end.ensures.value ∙ ap (λ (n : ℕ). end_bucket n column) size_is in
+    let first_is : c.first_bucket-first.result ≡ first_bucket (size l) column =
+    c.first_bucket-first.ensures.value ∙ ap (λ (n : ℕ). first_bucket n column) size_is in
+    let end_is : c.end_bucket-end.result ≡ end_bucket (size l) column =
+    c.end_bucket-end.ensures.value ∙ ap (λ (n : ℕ). end_bucket n column) size_is in
     let tally_is : c.counted_between-tally.result ≡ group_tally l column =
-    c.counted_between-tally.ensures.value ∙ (λ i. tally_of l.config.capacity (lists_between l (first_is i) (end_is i))) in
-    let shown : c.min.result ≡ min (group_tally l column).longest 24 = c.min.ensures ∙ (λ i. min (tally_is i).longest 24) in
-    let capacity_is : c.from.result ≡ l.config.capacity = c.from.ensures ∙ (c.capacity.ensures.value ∙ ap (λ s. s.capacity) c.config.ensures.value) in
-    let count_is : c.from-2.result ≡ end_bucket (size l) column - first_bucket (size l) column = c.from-2.ensures ∙ (λ i. end_is i - first_is i) in
+    c.counted_between-tally.ensures.value
+    ∙ (λ i. tally_of l.config.capacity (lists_between l (first_is i) (end_is i))) in
+    let shown : c.min.result ≡ min (group_tally l column).longest 24 =
+    c.min.ensures ∙ (λ i. min (tally_is i).longest 24) in
+    let capacity_is : c.from.result ≡ l.config.capacity =
+    c.from.ensures ∙ (c.capacity.ensures.value ∙ ap (λ s. s.capacity) c.config.ensures.value) in
+    let count_is : c.from-2.result ≡ end_bucket (size l) column - first_bucket (size l) column =
+    c.from-2.ensures ∙ (λ i. end_is i - first_is i) in
     let filling_is : c.filling_of.result
-    ≡ filling_of (group_tally l column).records (l.config.capacity * (end_bucket (size l) column - first_bucket (size l) column))
+    ≡
+    filling_of (group_tally l column).records
+    (l.config.capacity * (end_bucket (size l) column - first_bucket (size l) column))
     (40 * min (group_tally l column).longest 24 - 4) =
     c.filling_of.ensures ∙ (λ i. filling_of (tally_is i).records (capacity_is i * count_is i) (40 * shown i - 4)) in
     let next_is = c.is_next_level.ensures ∙ ap (is_next_level l) first_is in
-    λ i. record { left = left_is i; foot = 0; width = width_is i; height = 40 * shown i - 4; used = filling_is i; is_next = next_is i }
+    λ i.
+    record {
+      left = left_is i;
+      foot = 0;
+      width = width_is i;
+      height = 40 * shown i - 4;
+      used = filling_is i;
+      is_next = next_is i;
+    }

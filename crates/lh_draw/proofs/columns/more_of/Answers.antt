@@ -8,7 +8,8 @@ use Rattle.lh_draw.proofs.columns.more_of.Goals as goal
 pub centre-requires-clause-column : goal.centre-requires-clause-column
 centre-requires-clause-column c =
     let is = c.buckets.ensures.value in
-    column_each c.buckets.result c.args.bucket (omega (arith, is, c.requires.few)) (omega (arith, is, c.requires.bucket)) (omega (arith, is, c.requires.bucket))
+    column_each c.buckets.result c.args.bucket (omega (arith, is, c.requires.few))
+    (omega (arith, is, c.requires.bucket)) (omega (arith, is, c.requires.bucket))
 
 pub returns : goal.returns
 unfolding more_of

@@ -8,8 +8,10 @@ pub returns : goal.returns
 unfolding title_of
 returns c =
     let l = c.args.listing.now in
-    let level_is : c.level.result ≡ level l.config.initial (size l) = c.level.ensures.value ∙ ap (λ r. level r.initial r.buckets) c.root-root.ensures.value in
-    let pointer_is : c.pointer.result ≡ pointer l.config.initial (size l) = c.pointer.ensures ∙ ap (λ r. pointer r.initial r.buckets) c.root-root.ensures.value in
+    let level_is : c.level.result ≡ level l.config.initial (size l) =
+    c.level.ensures.value ∙ ap (λ r. level r.initial r.buckets) c.root-root.ensures.value in
+    let pointer_is : c.pointer.result ≡ pointer l.config.initial (size l) =
+    c.pointer.ensures ∙ ap (λ r. pointer r.initial r.buckets) c.root-root.ensures.value in
     λ i. record {
       buckets = c.buckets.ensures.value i;
       level = level_is i;

@@ -6,4 +6,5 @@ pub returns-clause-value : goal.returns-clause-value
 unfolding whole_tally
 returns-clause-value c =
     let l = c.args.listing.now in
-    c.counted_between.ensures.value ∙ ap (λ (n : ℕ). tally_of l.config.capacity (lists_between l 0 n)) c.buckets.ensures.value
+    c.counted_between.ensures.value
+    ∙ ap (λ (n : ℕ). tally_of l.config.capacity (lists_between l 0 n)) c.buckets.ensures.value

@@ -9,8 +9,15 @@ pub loop-bucket-init : goal.loop-bucket-init
 unfolding longest_of
 loop-bucket-init c =
     let none = sym (lists_none c.args.listing.now c.args.first) in
-    let capacity = c.args.listing.now.config.capacity in
-    (ap count_of none, ap (sum_by (chain_length capacity)) none, ap (longest_of capacity) none, omega arith, omega arith, λ h. absurd (omega (arith, h)), omega arith)
+    let capacity = c.args.listing.now.config.capacity in (
+      ap count_of none,
+      ap (sum_by (chain_length capacity)) none,
+      ap (longest_of capacity) none,
+      omega arith,
+      omega arith,
+      λ h. absurd (omega (arith, h)),
+      omega arith,
+    )
 
 pub loop-bucket-preserved : goal.loop-bucket-preserved
 loop-bucket-preserved c =
@@ -23,10 +30,17 @@ loop-bucket-preserved c =
     let high : bucket < size l = omega (arith, c.loop-bucket-test.true, c.requires.within) in
     let n : ℕ = length (list_at l.lists bucket) in
     let some : 1 ≤ capacity = c.chain_length-pages.ensures.kept.config.capacity.0 in
-    let slots : capacity * c.chain_length-pages.result ≡ capacity * ((n - 1) / capacity + 1) = ap (λ (k : ℕ). capacity * k) c.chain_length-pages.ensures.value in (
+    let slots : capacity * c.chain_length-pages.result ≡ capacity * ((n - 1) / capacity + 1) =
+    ap (λ (k : ℕ). capacity * k) c.chain_length-pages.ensures.value in (
       omega (arith, before.0, c.len_of.ensures.value, count_more l first bucket low high),
       omega (arith, before.1, c.chain_length-pages.ensures.value, pages_more l capacity first bucket low high),
-      omega (arith, before.2, c.max.ensures, c.chain_length-pages.ensures.value, longest_more l capacity first bucket low high),
+      omega (
+        arith,
+        before.2,
+        c.max.ensures,
+        c.chain_length-pages.ensures.value,
+        longest_more l capacity first bucket low high,
+      ),
       omega (arith, before.3, c.chain_length-pages.type_inv),
       omega (arith, before.4, c.chain_length-pages.ensures.some),
       λ h. omega (arith, c.max.ensures, c.chain_length-pages.ensures.some),

@@ -5,4 +5,9 @@ use Rattle.lh_file.proofs.laws.a_scan_meets_each_code_once.Goals as goal
 
 pub returns : goal.returns
 returns c traced file scan after hand left copies all scanned end code =
-    omega (arith, met_in_all traced file scan after hand left copies scanned code, all code, ap (aimed scan.initial code) end)
+    omega (
+      arith,
+      met_in_all traced file scan after hand left copies scanned code,
+      all code,
+      ap (aimed scan.initial code) end,
+    )

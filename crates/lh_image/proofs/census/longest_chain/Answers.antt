@@ -8,4 +8,11 @@ unfolding longest_before
 loop-bucket-init c = refl
 
 pub loop-bucket-preserved : goal.loop-bucket-preserved
-loop-bucket-preserved c = omega (arith, c.loop-bucket.invariant, c.max-longest.ensures, c.page_count_in.ensures.value, longest-more c.args.listing.now c.loop-bucket.bucket)
+loop-bucket-preserved c =
+    omega (
+      arith,
+      c.loop-bucket.invariant,
+      c.max-longest.ensures,
+      c.page_count_in.ensures.value,
+      longest-more c.args.listing.now c.loop-bucket.bucket,
+    )

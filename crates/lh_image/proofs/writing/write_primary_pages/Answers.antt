@@ -14,11 +14,16 @@ pub returns-in_err-write_page_of : goal.returns-in_err-write_page_of
 returns-in_err-write_page_of g c =
     let p = err_from_is_err_and c.from_residual.result c.from_residual.ensures.1 in
     rw p.1
-    (begins_more _ _ _ (λ i. text_in c.args.version c.args.listing.now i 0) 0 (size c.args.listing.now) c.loop-bucket.bucket c.loop-bucket.bucket (text_in c.args.version c.args.listing.now c.loop-bucket.bucket 0)
-    (omega (arith, c.buckets-buckets.ensures.value)) (omega arith) refl c.loop-bucket.invariant.written c.in_err-write_page_of.ensures)
+    (begins_more _ _ _ (λ i. text_in c.args.version c.args.listing.now i 0) 0 (size c.args.listing.now)
+    c.loop-bucket.bucket c.loop-bucket.bucket (text_in c.args.version c.args.listing.now c.loop-bucket.bucket 0)
+    (omega (arith, c.buckets-buckets.ensures.value)) (omega arith) refl c.loop-bucket.invariant.written
+    c.in_err-write_page_of.ensures)
 
 pub loop-bucket-preserved : goal.loop-bucket-preserved
 loop-bucket-preserved g c = record {
   following = c.following_after-after.ensures.value;
-  written = appends_more _ _ _ (λ i. text_in c.args.version c.args.listing.now i 0) 0 c.loop-bucket.bucket c.loop-bucket.bucket (text_in c.args.version c.args.listing.now c.loop-bucket.bucket 0) (omega arith) refl c.loop-bucket.invariant.written c.in_ok-write_page_of.ensures;
+  written =
+      appends_more _ _ _ (λ i. text_in c.args.version c.args.listing.now i 0) 0 c.loop-bucket.bucket
+      c.loop-bucket.bucket (text_in c.args.version c.args.listing.now c.loop-bucket.bucket 0) (omega arith) refl
+      c.loop-bucket.invariant.written c.in_ok-write_page_of.ensures;
 }

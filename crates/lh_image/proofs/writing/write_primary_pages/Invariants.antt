@@ -8,5 +8,6 @@ use Rattle.lh_image.proofs.writing.write_primary_pages.Given as goal
 abbrev pub invariant-loop-bucket : goal.invariant-loop-bucket
 invariant-loop-bucket g l = record {
   following : l.following ≡ 1 + size l.listing + overflow_before l.listing l.bucket;
-  written : Appends (g.W.Write.contents l.fn.writer) (g.W.Write.contents l.writer) (flat_map (λ i. text_in l.version l.listing i 0) (range_with_len 0 l.bucket));
+  written : Appends (g.W.Write.contents l.fn.writer) (g.W.Write.contents l.writer)
+      (flat_map (λ i. text_in l.version l.listing i 0) (range_with_len 0 l.bucket));
 }

@@ -4,7 +4,17 @@ use Rattle.std.proofs.lemmas.Bool.{false≢true}
 use Rattle.clap.proofs.OnLiterals.{clap_on_literals}
 use Rattle.clap.specs.Walk.{is_empty}
 use Rattle.clap.specs.declared.error.kind.ErrorKind.TheVariants as kind
-use Rattle.lh_options.specs.OptionLaws.{GivesApply, GivesBuild, GivesCommands, GivesDrive, GivesReplay, GivesServe, GivesServeImage, GivesSteps, Refuses, apply_alone, apply_with_setting, build_given, check_alone, check_with_option, commands_with_image, draw_alone, drive_alone, drive_given, dump_alone, first_image_applied, first_image_given, help_asked, image_served, image_served_twice, image_with_plus, initial_twice, initial_zero, max_below_initial, max_beside_image, max_given, max_over_limit, max_with_plus, migrate_alone, no_options, no_subcommand, program_version_asked, query_alone, replay_given, shards_given, shards_over_limit, shards_with_plus, shards_zero, snapshots_given, snapshots_of_shards, snapshots_over_limit, snapshots_with_minus, steps_given, third_image, threads_over_limit, threads_zero, unknown_option, serve_given}
+use Rattle.lh_options.specs.OptionLaws.{GivesApply, GivesBuild, GivesCommands, GivesDrive, GivesReplay, GivesServe}
+use Rattle.lh_options.specs.OptionLaws.{GivesServeImage, GivesSteps, Refuses, apply_alone, apply_with_setting}
+use Rattle.lh_options.specs.OptionLaws.{build_given, check_alone, check_with_option, commands_with_image, draw_alone}
+use Rattle.lh_options.specs.OptionLaws.{drive_alone, drive_given, dump_alone, first_image_applied, first_image_given}
+use Rattle.lh_options.specs.OptionLaws.{help_asked, image_served, image_served_twice, image_with_plus, initial_twice}
+use Rattle.lh_options.specs.OptionLaws.{initial_zero, max_below_initial, max_beside_image, max_given, max_over_limit}
+use Rattle.lh_options.specs.OptionLaws.{max_with_plus, migrate_alone, no_options, no_subcommand, program_version_asked}
+use Rattle.lh_options.specs.OptionLaws.{query_alone, replay_given, shards_given, shards_over_limit, shards_with_plus}
+use Rattle.lh_options.specs.OptionLaws.{shards_zero, snapshots_given, snapshots_of_shards, snapshots_over_limit}
+use Rattle.lh_options.specs.OptionLaws.{snapshots_with_minus, steps_given, third_image, threads_over_limit}
+use Rattle.lh_options.specs.OptionLaws.{threads_zero, unknown_option, serve_given}
 use Rattle.lh_options.specs.declared.options.ImageVersion.TheVariants.{First, Second}
 use Rattle.lh_options.specs.Options.{Accepts, Asks, AsksForHelp, settings_given, subcommand_named}
 use Rattle.lh_options.proofs.laws.words_give_options.Goals as goal

@@ -7,4 +7,6 @@ use Rattle.lh_options.proofs.options.build_command.Goals as goal
 pub returns : goal.returns
 returns c =
     IfOk-weaker c.arg.result _ _
-    (λ m h. option-reads _ m c.image_option.result _ (option_rule (codes "image") (codes "2") 1 2) h c.image_option.ensures.local c.image_option.ensures.rule c.in_ok-file_command.ensures) c.arg.ensures
+    (λ m h.
+    option-reads _ m c.image_option.result _ (option_rule (codes "image") (codes "2") 1 2) h
+    c.image_option.ensures.local c.image_option.ensures.rule c.in_ok-file_command.ensures) c.arg.ensures

@@ -18,4 +18,5 @@ returns-in-Err-Max-clause-none c =
     let is = settings-are rows c.number-initial.result c.number-capacity.result c.number-load.result c.number-max.result
     c.number-initial.ensures c.number-capacity.ensures c.number-load.ensures c.number-max.ensures in
     let high = number-at-most rows (codes "max") 1 65536 c.number-max.result c.requires.max c.number-max.ensures in
-    subst IsMaxBelowInitial (sym is) (max-refused _ c.in-Err-Max.field-0 c.in-Err-Max.ensures.err c.in-Err-Max.field-0-is high)
+    subst IsMaxBelowInitial (sym is)
+    (max-refused _ c.in-Err-Max.field-0 c.in-Err-Max.ensures.err c.in-Err-Max.field-0-is high)

@@ -6,7 +6,13 @@ use Rattle.lh_options.proofs.options.drive_command.Goals as goal
 
 pub returns : goal.returns
 returns c =
-    let first = option-reads _ _ c.option.result _ _ c.in_ok-arg.ensures c.option.ensures.local c.option.ensures.rule c.in_ok-file_command.ensures in
-    let second = option-reads _ _ c.option-2.result _ _ c.in_ok-arg-2.ensures c.option-2.ensures.local c.option-2.ensures.rule first in
+    let first =
+    option-reads _ _ c.option.result _ _ c.in_ok-arg.ensures c.option.ensures.local c.option.ensures.rule
+    c.in_ok-file_command.ensures in
+    let second =
+    option-reads _ _ c.option-2.result _ _ c.in_ok-arg-2.ensures c.option-2.ensures.local c.option-2.ensures.rule
+    first in
     IfOk-weaker c.arg-3.result _ _
-    (λ m h. option-reads _ m c.option-3.result _ (option_rule (codes "snapshots") (codes "0") 0 most_snapshots) h c.option-3.ensures.local c.option-3.ensures.rule second) c.arg-3.ensures
+    (λ m h.
+    option-reads _ m c.option-3.result _ (option_rule (codes "snapshots") (codes "0") 0 most_snapshots) h
+    c.option-3.ensures.local c.option-3.ensures.rule second) c.arg-3.ensures

@@ -9,9 +9,17 @@ use Rattle.lh_options.proofs.options.file_command.Goals as goal
 pub returns : goal.returns
 returns c =
     let start : Reads (new_app c.args.name.now) c.after_help.result =
-    example-reads _ _ _ _ c.after_help.ensures (about-reads _ _ _ _ c.about.ensures (c.new.ensures.app, c.new.ensures.local)) in
-    let first = option-reads _ _ c.option.result _ _ c.in_ok-arg.ensures c.option.ensures.local c.option.ensures.rule start in
-    let second = option-reads _ _ c.option-2.result _ _ c.in_ok-arg-2.ensures c.option-2.ensures.local c.option-2.ensures.rule first in
-    let third = option-reads _ _ c.option-3.result _ _ c.in_ok-arg-3.ensures c.option-3.ensures.local c.option-3.ensures.rule second in
+    example-reads _ _ _ _ c.after_help.ensures
+    (about-reads _ _ _ _ c.about.ensures (c.new.ensures.app, c.new.ensures.local)) in
+    let first =
+    option-reads _ _ c.option.result _ _ c.in_ok-arg.ensures c.option.ensures.local c.option.ensures.rule start in
+    let second =
+    option-reads _ _ c.option-2.result _ _ c.in_ok-arg-2.ensures c.option-2.ensures.local c.option-2.ensures.rule
+    first in
+    let third =
+    option-reads _ _ c.option-3.result _ _ c.in_ok-arg-3.ensures c.option-3.ensures.local c.option-3.ensures.rule
+    second in
     IfOk-weaker c.arg-4.result _ _
-    (λ m h. option-reads _ m c.option-4.result _ (option_rule (codes "max") (codes "65536") 1 65536) h c.option-4.ensures.local c.option-4.ensures.rule third) c.arg-4.ensures
+    (λ m h.
+    option-reads _ m c.option-4.result _ (option_rule (codes "max") (codes "65536") 1 65536) h
+    c.option-4.ensures.local c.option-4.ensures.rule third) c.arg-4.ensures

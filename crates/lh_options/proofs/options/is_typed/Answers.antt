@@ -16,27 +16,35 @@ use Rattle.lh_options.proofs.options.is_typed.Goals as goal
 -- where a value came from, by the rows
 source-rows : (f : Found) (name : Text) → option_and_then (λ (a : MatchedArg). a.source) (matched_of f name)
     ≡ option_and_then (λ (r : Row). r.source) (find (λ r. bytes_eq r.id name) (rows_of f))
-source-rows f name = go (find (λ e. bytes_eq e.0.now name) f.entries.items) ∙ ap (option_and_then (λ (r : Row). r.source)) (sym (find_row f.entries.items name))
+source-rows f name =
+    go (find (λ e. bytes_eq e.0.now name) f.entries.items)
+    ∙ ap (option_and_then (λ (r : Row). r.source)) (sym (find_row f.entries.items name))
   where
-    go : (o : Option Entry) → option_and_then (λ (a : MatchedArg). a.source) (option_map (λ e. e.1) o) ≡ option_and_then (λ (r : Row). r.source) (option_map row_of o)
+    go : (o : Option Entry) →
+        option_and_then (λ (a : MatchedArg). a.source) (option_map (λ e. e.1) o) ≡
+        option_and_then (λ (r : Row). r.source) (option_map row_of o)
     go None = refl
     go (Some e) = refl
 
 -- whether it came from the words
-from-source : (f : Found) (name : Text) (given source : Option ValueSource) → given ≡ option_and_then (λ (a : MatchedArg). a.source) (matched_of f name)
+from-source : (f : Found) (name : Text) (given source : Option ValueSource) →
+    given ≡ option_and_then (λ (a : MatchedArg). a.source) (matched_of f name)
     → given ≡ source → is_from_words source ≡ typed_in (rows_of f) name
 from-source f name given source found is = ap is_from_words (sym is ∙ found ∙ source-rows f name)
 
 pub returns-in-Some-CommandLine : goal.returns-in-Some-CommandLine
 returns-in-Some-CommandLine c =
-    from-source (found_of c.args.matches.now) c.args.name.now c.value_source.result (Some CommandLine) c.value_source.ensures
+    from-source (found_of c.args.matches.now) c.args.name.now c.value_source.result (Some CommandLine)
+    c.value_source.ensures
     (c.in-Some-CommandLine.is ∙ ap (λ (s : ValueSource). Some s) c.in-Some-CommandLine.field-0-is)
 
 pub returns-in-Some-DefaultValue : goal.returns-in-Some-DefaultValue
 returns-in-Some-DefaultValue c =
-    from-source (found_of c.args.matches.now) c.args.name.now c.value_source.result (Some DefaultValue) c.value_source.ensures
+    from-source (found_of c.args.matches.now) c.args.name.now c.value_source.result (Some DefaultValue)
+    c.value_source.ensures
     (c.in-Some-DefaultValue.is ∙ ap (λ (s : ValueSource). Some s) c.in-Some-DefaultValue.field-0-is)
 
 pub returns-in-None : goal.returns-in-None
 returns-in-None c =
-    from-source (found_of c.args.matches.now) c.args.name.now c.value_source.result None c.value_source.ensures c.in-None.is
+    from-source (found_of c.args.matches.now) c.args.name.now c.value_source.result None c.value_source.ensures
+    c.in-None.is

@@ -20,4 +20,5 @@ returns c =
     one_text-rows (found_of c.args.matches.now) c.args.name.now ∙ given.as_read in
     let read = c.in-Some.ensures.value given.text text in
     let is : c.in-Some.number ≡ digits_value 10 (without_leading_plus given.text) = read.0.1 in
-    number-is (rows_of (found_of c.args.matches.now)) c.args.name.now 0 4294967295 given ∙ sym (ap (λ (n : ℕ). Some n) is)
+    number-is (rows_of (found_of c.args.matches.now)) c.args.name.now 0 4294967295 given
+    ∙ sym (ap (λ (n : ℕ). Some n) is)

@@ -16,7 +16,9 @@ made : (start long help action parsed last : Arg) (name text default : Bor Text)
     → action ≡ record help { action = Some Set } → parsed ≡ record action { value_parser = parsed.value_parser }
     → parsed.value_parser ≡ range → last ≡ record parsed { default_vals = One default }
     → rule_of last
-    ≡ record (new_rule name.now) { long = Some name.now; action = Some Set; defaults = default.now ∷ []; parser = range }
+    ≡
+    record (new_rule name.now)
+    { long = Some name.now; action = Some Set; defaults = default.now ∷ []; parser = range }
 made start long help action parsed last name text default range is l h a p q d =
     let named = ap rule_of l ∙ ap (λ (r : Rule). record r { long = Some name.now }) is in
     let set = ap rule_of a ∙ ap (λ (r : Rule). record r { action = Some Set }) (ap rule_of h ∙ named) in

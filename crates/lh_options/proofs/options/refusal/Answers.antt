@@ -12,7 +12,11 @@ returns-in_ok-help_text-in-DisplayVersion c = inr (sym c.kind.ensures ∙ c.in-D
 
 pub returns-in_ok-first_line-in_default : goal.returns-in_ok-first_line-in_default
 returns-in_ok-first_line-in_default c = (
-  λ shown. elim shown [ inl h ↦ c.in_default.not-DisplayHelp (c.kind.ensures ∙ h) | inr h ↦ c.in_default.not-DisplayVersion (c.kind.ensures ∙ h) ],
+  λ shown.
+      elim shown [
+        | inl h ↦ c.in_default.not-DisplayHelp (c.kind.ensures ∙ h)
+        | inr h ↦ c.in_default.not-DisplayVersion (c.kind.ensures ∙ h)
+      ],
   λ h. c.in_default.not-OutOfMemory (c.kind.ensures ∙ h),
   c.in_ok-first_line-in_default.ensures,
 )

@@ -7,5 +7,6 @@ use Rattle.lh_options.proofs.options.root.Goals as goal
 pub returns : goal.returns
 returns c =
     let start : Reads (new_app (codes "lhash")) c.after_help.result =
-    example-reads _ _ _ _ c.after_help.ensures (about-reads _ _ _ _ c.about.ensures (c.new.ensures.app, c.new.ensures.local)) in
+    example-reads _ _ _ _ c.after_help.ensures
+    (about-reads _ _ _ _ c.about.ensures (c.new.ensures.app, c.new.ensures.local)) in
     required-reads _ _ _ c.subcommand_required.ensures (version-reads _ _ _ _ c.version.ensures start)

@@ -7,7 +7,8 @@ common c =
     let a = c.args.a.now in
     let b = c.args.b.now in
     subst (IsCommon a b) (sym c.trailing_ones.ensures)
-    (common_from_mask a b (take 32 a) (take 32 b) _ c.requires.a c.requires.b refl refl (bitmask_alike (take 32 a) (take 32 b) (length-take-le 32 a c.requires.a) (length-take-le 32 b c.requires.b)))
+    (common_from_mask a b (take 32 a) (take 32 b) _ c.requires.a c.requires.b refl refl
+    (bitmask_alike (take 32 a) (take 32 b) (length-take-le 32 a c.requires.a) (length-take-le 32 b c.requires.b)))
 
 pub returns-clause-within : goal.returns-clause-within
 returns-clause-within c = (common c).within

@@ -1,4 +1,5 @@
-use Rattle.std.proofs.Common.{◌≡◌, ◌≢◌, ℕ, ◌+◌, ◌-◌, ◌<◌, ◌≤◌, List, leb, take, drop, get_or, sym, ap, ◌∙◌, inl, inr, arith}
+use Rattle.std.proofs.Common.{◌≡◌, ◌≢◌, ℕ, ◌+◌, ◌-◌, ◌<◌, ◌≤◌, List, leb, take, drop, get_or, sym, ap, ◌∙◌, inl, inr}
+use Rattle.std.proofs.Common.{arith}
 use Rattle.std.specs.Prelude.{slice_index}
 use Rattle.std.proofs.lemmas.Bool.{OnTrue_from, OnFalse_from, leb-true, leb-false, cases_lt}
 use Rattle.std.proofs.lemmas.List.{get_or-take, get_or-drop}
@@ -16,11 +17,13 @@ returns-clause-same c =
     let b = c.args.b.now in
     let n = c.args.len in
     let r = c.common_front.result in
-    OnTrue_from (leb n (24 + r)) ((i : ℕ) → i < n → slice_index a i ≡ slice_index b i) (λ passed i below. elim (cases_lt i 32) [
+    OnTrue_from (leb n (24 + r)) ((i : ℕ) → i < n → slice_index a i ≡ slice_index b i)
+    (λ passed i below. elim (cases_lt i 32) [
       | inl near ↦ c.common_front-front.ensures.same i (omega arith)
       | inr far ↦
           let low : i - 24 < r = omega (arith, leb-true n (24 + r) passed) in
-          sym (get_or-rest 32 i a (omega arith) (omega arith)) ∙ (c.common_front.ensures.same (i - 24) low ∙ get_or-rest 38 i b (omega arith) (omega arith))
+          sym (get_or-rest 32 i a (omega arith) (omega arith))
+          ∙ (c.common_front.ensures.same (i - 24) low ∙ get_or-rest 38 i b (omega arith) (omega arith))
     ])
 
 pub returns-clause-other : goal.returns-clause-other
@@ -35,6 +38,8 @@ returns-clause-other c =
       24 + r,
       short,
       λ same. c.common_front.ensures.differ (omega arith)
-          (ap (λ k. get_or (take 32 (drop 24 a)) k 0) (sym place) ∙ (get_or-rest 32 (24 + r) a (omega arith) (omega arith) ∙ (same
-          ∙ (sym (get_or-rest 38 (24 + r) b (omega arith) (omega arith)) ∙ ap (λ k. get_or (take 38 (drop 24 b)) k 0) place)))),
+          (ap (λ k. get_or (take 32 (drop 24 a)) k 0) (sym place)
+          ∙ (get_or-rest 32 (24 + r) a (omega arith) (omega arith) ∙ (same
+          ∙ (sym (get_or-rest 38 (24 + r) b (omega arith) (omega arith))
+          ∙ ap (λ k. get_or (take 38 (drop 24 b)) k 0) place)))),
     ))

@@ -1,4 +1,5 @@
-use Rattle.std.proofs.Common.{◌≡◌, ◌↔◌, ℕ, ◌<◌, ◌^◌, List, eqb, length, map, take, get_or, sym, subst, ◌∙◌, arith, w8, length-take}
+use Rattle.std.proofs.Common.{◌≡◌, ◌↔◌, ℕ, ◌<◌, ◌^◌, List, eqb, length, map, take, get_or, sym, subst, ◌∙◌, arith, w8}
+use Rattle.std.proofs.Common.{length-take}
 use Rattle.std.specs.Int.{bit_at}
 use Rattle.std.proofs.lemmas.List.{get_or-take}
 use Rattle.std.proofs.lemmas.Simd.{bitmask_splat}
@@ -9,13 +10,19 @@ use Rattle.lh_page.proofs.marks.front_places.Goals as goal
 pub returns-clause-few : goal.returns-clause-few
 returns-clause-few c =
     let xs : List ℕ = take 32 (take 32 c.args.marks.now) in
-    let long : length xs ≡ 32 = omega (arith, c.told-marks, length-take 32 (take 32 c.args.marks.now), length-take 32 c.args.marks.now) in
-    subst (λ m. m < 2 ^ 32) (sym (bitmask_splat w8 eqb xs 32 c.args.mark long (omega arith))) (mask-lt xs c.args.mark 32 long)
+    let long : length xs ≡ 32 =
+    omega (arith, c.told-marks, length-take 32 (take 32 c.args.marks.now), length-take 32 c.args.marks.now) in
+    subst (λ m. m < 2 ^ 32) (sym (bitmask_splat w8 eqb xs 32 c.args.mark long (omega arith)))
+    (mask-lt xs c.args.mark 32 long)
 
 pub returns-clause-places : goal.returns-clause-places
 returns-clause-places c i low =
     let xs : List ℕ = take 32 (take 32 c.args.marks.now) in
-    let long : length xs ≡ 32 = omega (arith, c.told-marks, length-take 32 (take 32 c.args.marks.now), length-take 32 c.args.marks.now) in
-    let same : get_or xs i 0 ≡ get_or c.args.marks.now i 0 = get_or-take 32 (take 32 c.args.marks.now) i 0 low ∙ get_or-take 32 c.args.marks.now i 0 low in
-    subst (λ m. (bit_at m i ≡ 1) ↔ (get_or c.args.marks.now i 0 ≡ c.args.mark)) (sym (bitmask_splat w8 eqb xs 32 c.args.mark long (omega arith)))
-    (subst (λ x. (bit_at (mask_l (map (λ x. eqb x c.args.mark) xs)) i ≡ 1) ↔ (x ≡ c.args.mark)) same (bit_at-mask xs c.args.mark i (omega (arith, long, low))))
+    let long : length xs ≡ 32 =
+    omega (arith, c.told-marks, length-take 32 (take 32 c.args.marks.now), length-take 32 c.args.marks.now) in
+    let same : get_or xs i 0 ≡ get_or c.args.marks.now i 0 =
+    get_or-take 32 (take 32 c.args.marks.now) i 0 low ∙ get_or-take 32 c.args.marks.now i 0 low in
+    subst (λ m. (bit_at m i ≡ 1) ↔ (get_or c.args.marks.now i 0 ≡ c.args.mark))
+    (sym (bitmask_splat w8 eqb xs 32 c.args.mark long (omega arith)))
+    (subst (λ x. (bit_at (mask_l (map (λ x. eqb x c.args.mark) xs)) i ≡ 1) ↔ (x ≡ c.args.mark)) same
+    (bit_at-mask xs c.args.mark i (omega (arith, long, low))))

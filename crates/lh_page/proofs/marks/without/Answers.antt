@@ -1,4 +1,5 @@
-use Rattle.std.proofs.Common.{◌≡◌, suc, ◌-◌, ◌*◌, ◌%◌, ◌^◌, ◌<◌, sym, ap, subst, ◌∙◌, arith, w64, bit_and, pow_pos, pow_mono}
+use Rattle.std.proofs.Common.{◌≡◌, suc, ◌-◌, ◌*◌, ◌%◌, ◌^◌, ◌<◌, sym, ap, subst, ◌∙◌, arith, w64, bit_and, pow_pos}
+use Rattle.std.proofs.Common.{pow_mono}
 use Rattle.std.proofs.Math.Nat.{two-pow-succ}
 use Rattle.std.proofs.lemmas.Nat.{and-not, and_comm}
 use Rattle.std.proofs.lemmas.Nat.Bits.{bit_at_clear_other, and_pow}
@@ -11,7 +12,8 @@ pub returns-clause-fewer : goal.returns-clause-fewer
 returns-clause-fewer c =
     let m = c.args.bits in
     let k = c.args.place in
-    let small : 2 ^ k < 2 ^ 64 = omega (arith, two-pow-succ k, pow_pos k, pow_mono {i = suc k} {j = 64} (omega arith)) in
+    let small : 2 ^ k < 2 ^ 64 =
+    omega (arith, two-pow-succ k, pow_pos k, pow_mono {i = suc k} {j = 64} (omega arith)) in
     let one : 1 * 2 ^ k % 2 ^ 64 ≡ 2 ^ k = omega arith in
     let parts = and-not 64 (2 ^ k) m small c.ranges.bits.fits in
     let there : bit_and (2 ^ k) m ≡ 1 * 2 ^ k = and_comm _ _ ∙ and_pow m k ∙ ap (λ x. x * 2 ^ k) c.requires.set in

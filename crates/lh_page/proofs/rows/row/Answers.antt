@@ -6,4 +6,5 @@ use Rattle.lh_page.proofs.rows.row.Goals as goal
 pub returns-clause-rest : goal.returns-clause-rest
 returns-clause-rest g c =
     let n = length c.args.bytes.now in
-    rw c.copy_from_slice.ensures.after (drop_at c.args.bytes.now (drop n (zeros g.row.N)) n refl ∙ drop-replicate {X = ℕ} n g.row.N 0)
+    rw c.copy_from_slice.ensures.after
+    (drop_at c.args.bytes.now (drop n (zeros g.row.N)) n refl ∙ drop-replicate {X = ℕ} n g.row.N 0)

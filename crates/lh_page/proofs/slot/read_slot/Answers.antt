@@ -15,7 +15,9 @@ sound c =
       key = omega arith;
       value = omega arith;
       behind_key = found_clear s 2 (2 + f.key) (key_length s) f.key _ refl c.is_zero.ensures c.if-not-is_zero.false;
-      behind_value = found_clear s (2 + f.key) (length s) (value_length s) f.value _ c.requires.size c.is_zero-else-not-is_zero.ensures c.if-not-is_zero-2.false;
+      behind_value =
+          found_clear s (2 + f.key) (length s) (value_length s) f.value _ c.requires.size
+          c.is_zero-else-not-is_zero.ensures c.if-not-is_zero-2.false;
     })
 
 pub returns : goal.returns

@@ -4,4 +4,7 @@ use Rattle.lh_page.proofs.writing.write_at.Goals as goal
 
 pub returns : goal.returns
 returns c =
-    rw c.slot_start.ensures (writes_slot c.args.format c.args.bytes.now c.write_slot.new.bytes c.args.place _ c.args.pair.now c.requires.within c.requires.size (omega arith) (omega (arith, c.write_slot.ensures.size)) c.write_slot.ensures.text)
+    rw c.slot_start.ensures
+    (writes_slot c.args.format c.args.bytes.now c.write_slot.new.bytes c.args.place _ c.args.pair.now
+    c.requires.within c.requires.size (omega arith) (omega (arith, c.write_slot.ensures.size))
+    c.write_slot.ensures.text)

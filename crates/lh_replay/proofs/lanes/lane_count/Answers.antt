@@ -8,4 +8,5 @@ pub returns-clause-value : goal.returns-clause-value
 unfolding lane_count
 returns-clause-value c =
     c.loop-event.invariant.0
-    ∙ ap (fold (λ lanes event. max lanes (lane_of event + 1)) 1) (take_all c.loop-event.event-index c.args.events.now (omega (arith, c.loop-event-test.false)))
+    ∙ ap (fold (λ lanes event. max lanes (lane_of event + 1)) 1)
+    (take_all c.loop-event.event-index c.args.events.now (omega (arith, c.loop-event-test.false)))

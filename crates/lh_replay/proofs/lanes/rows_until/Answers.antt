@@ -8,9 +8,11 @@ returns-then-ends_at c =
     let events = c.args.events.now in
     let entries = c.args.entries.now in
     let row = c.loop-row.row in
-    let ends : ends_at c.args.is_lock c.args.lane c.index-events-row.result c.index-entries-row.result ≡ true = sym c.ends_at.ensures ∙ c.if-ends_at.true in
+    let ends : ends_at c.args.is_lock c.args.lane c.index-events-row.result c.index-entries-row.result ≡ true =
+    sym c.ends_at.ensures ∙ c.if-ends_at.true in
     let stops : rows_until c.args.is_lock c.args.lane (drop row events) (drop row entries) ≡ 1 =
-    row_stops c.args.is_lock c.args.lane row events entries _ _ c.loop-row-test.true c.requires.same c.index-events-row.is c.index-entries-row.is ends in
+    row_stops c.args.is_lock c.args.lane row events entries _ _ c.loop-row-test.true c.requires.same
+    c.index-events-row.is c.index-entries-row.is ends in
     omega (arith, stops, c.loop-row.invariant)
 
 pub loop-row-preserved : goal.loop-row-preserved
@@ -18,10 +20,12 @@ loop-row-preserved c =
     let events = c.args.events.now in
     let entries = c.args.entries.now in
     let row = c.loop-row.row in
-    let ends : ends_at c.args.is_lock c.args.lane c.index-events-row.result c.index-entries-row.result ≡ false = sym c.ends_at.ensures ∙ c.if-ends_at.false in
+    let ends : ends_at c.args.is_lock c.args.lane c.index-events-row.result c.index-entries-row.result ≡ false =
+    sym c.ends_at.ensures ∙ c.if-ends_at.false in
     let passes : rows_until c.args.is_lock c.args.lane (drop row events) (drop row entries)
     ≡ rows_until c.args.is_lock c.args.lane (drop (row + 1) events) (drop (row + 1) entries) + 1 =
-    row_passes c.args.is_lock c.args.lane row events entries _ _ c.loop-row-test.true c.requires.same c.index-events-row.is c.index-entries-row.is ends in
+    row_passes c.args.is_lock c.args.lane row events entries _ _ c.loop-row-test.true c.requires.same
+    c.index-events-row.is c.index-entries-row.is ends in
     omega (arith, passes, c.loop-row.invariant, c.loop-row.auto.row)
 
 pub returns : goal.returns
@@ -32,5 +36,6 @@ returns c =
       c.loop-row-test.false,
       c.loop-row.auto.row-end,
       c.requires.from,
-      rows_end c.args.is_lock c.args.lane c.loop-row.row c.args.events.now c.args.entries.now (omega (arith, c.loop-row-test.false)),
+      rows_end c.args.is_lock c.args.lane c.loop-row.row c.args.events.now c.args.entries.now
+          (omega (arith, c.loop-row-test.false)),
     )

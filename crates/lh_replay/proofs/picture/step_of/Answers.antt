@@ -13,9 +13,11 @@ returns c =
     let entries = c.args.entries.now in
     let row = c.args.row in
     let event_is : c.index-events-row.result ≡ event_at events row =
-    get_or_read_under events row (length events) c.index-events-row.result event.SplitDrop c.index-events-row.is c.requires.row refl in
+    get_or_read_under events row (length events) c.index-events-row.result event.SplitDrop c.index-events-row.is
+    c.requires.row refl in
     let told_is : c.index-entries-row.result ≡ told_at entries row =
-    get_or_read_under entries row (length events) c.index-entries-row.result (Ok effect.Dropped) c.index-entries-row.is c.requires.row (sym c.requires.same) in
+    get_or_read_under entries row (length events) c.index-entries-row.result (Ok effect.Dropped) c.index-entries-row.is
+    c.requires.row (sym c.requires.same) in
     let lane_is : c.lane_of.result ≡ lane_of (event_at events row) = c.lane_of.ensures.value ∙ ap lane_of event_is in
     λ i. record {
       number = row + 1;

@@ -10,16 +10,23 @@ loop-byte-preserved c =
     let marks = c.loop-byte.marks in
     let mark = c.first_byte-value.result.1 in
     record {
-      good = λ m. front_step c.args.word.now c.loop-byte.out c.loop-byte.rest.now c.first_byte-value.result.2.now c.loop-byte.byte-index c.first_byte-value.result.0 (omega arith)
+      good =
+          λ m.
+          front_step c.args.word.now c.loop-byte.out c.loop-byte.rest.now c.first_byte-value.result.2.now
+          c.loop-byte.byte-index c.first_byte-value.result.0 (omega arith)
           (c.loop-byte.invariant.good (omega (arith, le_or_l marks mark)))
           (c.first_byte-value.ensures.good (omega (arith, le_or_r marks mark)));
       bad = λ m. marks_break marks mark (pairs c.args.word.now ≡ None) m c.loop-byte.invariant.bad
-          (λ few many. front_breaks c.args.word.now (take c.loop-byte.byte-index c.loop-byte.out) c.loop-byte.rest.now (c.loop-byte.invariant.good few) (c.first_byte-value.ensures.bad many));
+          (λ few many.
+          front_breaks c.args.word.now (take c.loop-byte.byte-index c.loop-byte.out) c.loop-byte.rest.now
+          (c.loop-byte.invariant.good few) (c.first_byte-value.ensures.bad many));
       left = omega (arith, length-set {A = ℕ});
     }
 
 pub returns : goal.returns
 returns c =
     marks_decide c.loop-byte.marks (pairs c.args.word.now ≡ Some c.loop-byte.out) (pairs c.args.word.now ≡ None)
-    (λ few. front_whole c.args.word.now c.loop-byte.out c.loop-byte.rest.now c.loop-byte.byte-index (c.loop-byte.invariant.good few) (omega arith) (omega arith))
+    (λ few.
+    front_whole c.args.word.now c.loop-byte.out c.loop-byte.rest.now c.loop-byte.byte-index
+    (c.loop-byte.invariant.good few) (omega arith) (omega arith))
     c.loop-byte.invariant.bad

@@ -8,4 +8,10 @@ returns-then-is_empty c = grind (arith, common_steps, no_words c.args.line.now)
 
 pub returns : goal.returns
 returns c =
-    grind (arith, common_steps, word_parts c.args.line.now (take (length c.args.line.now - c.blanks.result) (drop c.blanks.result c.args.line.now)) c.split_at.result.0.now c.split_at.result.1.now)
+    grind (
+      arith,
+      common_steps,
+      word_parts c.args.line.now
+          (take (length c.args.line.now - c.blanks.result) (drop c.blanks.result c.args.line.now))
+          c.split_at.result.0.now c.split_at.result.1.now,
+    )

@@ -1,4 +1,5 @@
-use Rattle.std.proofs.Common.{◌≡◌, ℕ, ◌++◌, List, [], append-nil, Option, None, Some, Ok, inl, inr, refl, sym, ap, subst, ◌∙◌}
+use Rattle.std.proofs.Common.{◌≡◌, ℕ, ◌++◌, List, [], append-nil, Option, None, Some, Ok, inl, inr, refl, sym, ap}
+use Rattle.std.proofs.Common.{subst, ◌∙◌}
 use Rattle.std.specs.Prelude.{Result}
 use Rattle.lh_addr.specs.Extent.{Extent}
 use Rattle.lh_core.specs.World.{WorldSeen}
@@ -17,57 +18,80 @@ abbrev Leaves : FileSeen → List ℕ → WorldSeen → ℕ → Result (Option R
 Leaves file said w n asked = (next : FileSeen) × Answers file asked said next × Shows w n next
 
 -- an answer that no image follows
-only_said : (s : Said) (a : Answer) → s ≡ record { answer = Some a; image = None } → told s.answer ++ image_text s.image ≡ told (Some a)
+only_said : (s : Said) (a : Answer) → s ≡ record { answer = Some a; image = None } →
+    told s.answer ++ image_text s.image ≡ told (Some a)
 only_said s a e = ap (λ (s : Said). told s.answer ++ image_text s.image) e ∙ append-nil (told (Some a))
 
-only_leaves : (file : FileSeen) (s : Said) (a : Answer) (w : WorldSeen) (n : ℕ) (asked : Result (Option Request) Fault) → s ≡ record { answer = Some a; image = None } →
+only_leaves : (file : FileSeen) (s : Said) (a : Answer) (w : WorldSeen) (n : ℕ)
+    (asked : Result (Option Request) Fault) → s ≡ record { answer = Some a; image = None } →
     Leaves file (told (Some a)) w n asked → Leaves file (told s.answer ++ image_text s.image) w n asked
 only_leaves file s a w n asked e h = subst (λ said. Leaves file said w n asked) (sym (only_said s a e)) h
 
-asked_some : {a : Result (Option Request) Fault} {o : Option Request} {r t : Request} → a ≡ Ok o → o ≡ Some r → r ≡ t → a ≡ Ok (Some t)
+asked_some : {a : Result (Option Request) Fault} {o : Option Request} {r t : Request} → a ≡ Ok o → o ≡ Some r → r ≡ t →
+    a ≡ Ok (Some t)
 asked_some e f g = e ∙ ap (λ x. Ok x) (f ∙ ap (λ x. Some x) g)
 
 pub returns-in-Ok-None-clause-answered : goal.returns-in-Ok-None-clause-answered
 returns-in-Ok-None-clause-answered c = λ file h.
-    subst (Leaves file [] c.args.world.now c.args.records.now) (sym (c.in-Ok-None.is ∙ ap (λ x. Ok x) c.in-Ok-None.field-0-is)) (file, (refl, refl), h)
+    subst (Leaves file [] c.args.world.now c.args.records.now)
+    (sym (c.in-Ok-None.is ∙ ap (λ x. Ok x) c.in-Ok-None.field-0-is)) (file, (refl, refl), h)
 
 pub returns-in-Ok-Some-Call-clause-answered : goal.returns-in-Ok-Some-Call-clause-answered
 returns-in-Ok-Some-Call-clause-answered c = λ file h.
     let d = c.serve_call.ensures.answered file h in
-    only_leaves file c.only.result c.serve_call.result c.serve_call.new.world c.serve_call.new.records c.args.asked c.only.ensures
+    only_leaves file c.only.result c.serve_call.result c.serve_call.new.world c.serve_call.new.records c.args.asked
+    c.only.ensures
     (subst (Leaves file (told (Some c.serve_call.result)) c.serve_call.new.world c.serve_call.new.records)
-    (sym (asked_some {t = ask.Call c.in-Ok-Some-Call.call} c.in-Ok-Some-Call.is c.in-Ok-Some-Call.field-0-is c.in-Ok-Some-Call.field-0-0-is))
+    (sym
+    (asked_some {t = ask.Call c.in-Ok-Some-Call.call} c.in-Ok-Some-Call.is c.in-Ok-Some-Call.field-0-is
+    c.in-Ok-Some-Call.field-0-0-is))
     (d.0, (c.serve_call.result, refl, d.1), d.2))
 
 pub returns-in-Ok-Some-Buckets-clause-answered : goal.returns-in-Ok-Some-Buckets-clause-answered
 returns-in-Ok-Some-Buckets-clause-answered c = λ file h.
-    let e : c.buckets.result ≡ file.size = c.buckets.ensures.value ∙ ap (λ (r : Extent). r.buckets) c.root.ensures.value ∙ h.size in
-    only_leaves file c.only-in-Ok-Some-Buckets.result (answer.Buckets c.buckets.result) c.args.world.now c.args.records.now c.args.asked c.only-in-Ok-Some-Buckets.ensures
+    let e : c.buckets.result ≡ file.size =
+    c.buckets.ensures.value ∙ ap (λ (r : Extent). r.buckets) c.root.ensures.value ∙ h.size in
+    only_leaves file c.only-in-Ok-Some-Buckets.result (answer.Buckets c.buckets.result) c.args.world.now
+    c.args.records.now c.args.asked c.only-in-Ok-Some-Buckets.ensures
     (subst (Leaves file (told (Some (answer.Buckets c.buckets.result))) c.args.world.now c.args.records.now)
-    (sym (asked_some {t = ask.Buckets} c.in-Ok-Some-Buckets.is c.in-Ok-Some-Buckets.field-0-is c.in-Ok-Some-Buckets.field-0-0-is))
+    (sym
+    (asked_some {t = ask.Buckets} c.in-Ok-Some-Buckets.is c.in-Ok-Some-Buckets.field-0-is
+    c.in-Ok-Some-Buckets.field-0-0-is))
     (file, (ap (λ n. told (Some (answer.Buckets n))) e, refl), h))
 
 pub returns-in-Ok-Some-Records-clause-answered : goal.returns-in-Ok-Some-Records-clause-answered
 returns-in-Ok-Some-Records-clause-answered c = λ file h.
-    only_leaves file c.only-in-Ok-Some-Records.result (answer.Records c.args.records.now) c.args.world.now c.args.records.now c.args.asked c.only-in-Ok-Some-Records.ensures
+    only_leaves file c.only-in-Ok-Some-Records.result (answer.Records c.args.records.now) c.args.world.now
+    c.args.records.now c.args.asked c.only-in-Ok-Some-Records.ensures
     (subst (Leaves file (told (Some (answer.Records c.args.records.now))) c.args.world.now c.args.records.now)
-    (sym (asked_some {t = ask.Records} c.in-Ok-Some-Records.is c.in-Ok-Some-Records.field-0-is c.in-Ok-Some-Records.field-0-0-is))
+    (sym
+    (asked_some {t = ask.Records} c.in-Ok-Some-Records.is c.in-Ok-Some-Records.field-0-is
+    c.in-Ok-Some-Records.field-0-0-is))
     (file, (ap (λ n. told (Some (answer.Records n))) h.count, refl), h))
 
 pub returns-in-Ok-clause-answered : goal.returns-in-Ok-clause-answered
 returns-in-Ok-clause-answered c = λ file h.
-    subst (Leaves file (told (Some (answer.Image c.in-Ok.len)) ++ image_text (Some c.in-Ok.listing)) c.args.world.now c.args.records.now)
-    (sym (asked_some {t = ask.Image} c.in-Ok-Some-Image.is c.in-Ok-Some-Image.field-0-is c.in-Ok-Some-Image.field-0-0-is))
+    subst
+    (Leaves file (told (Some (answer.Image c.in-Ok.len)) ++ image_text (Some c.in-Ok.listing)) c.args.world.now
+    c.args.records.now)
+    (sym
+    (asked_some {t = ask.Image} c.in-Ok-Some-Image.is c.in-Ok-Some-Image.field-0-is
+    c.in-Ok-Some-Image.field-0-0-is))
     (file, (inl (c.in-Ok.ensures.ok c.args.records.now file h), refl), h)
 
 pub returns-in-Err-imaged-clause-answered : goal.returns-in-Err-imaged-clause-answered
 returns-in-Err-imaged-clause-answered c = λ file h.
-    only_leaves file c.only-in-Err-imaged.result (answer.Fault c.in-Err-imaged.fault) c.args.world.now c.args.records.now c.args.asked c.only-in-Err-imaged.ensures
+    only_leaves file c.only-in-Err-imaged.result (answer.Fault c.in-Err-imaged.fault) c.args.world.now
+    c.args.records.now c.args.asked c.only-in-Err-imaged.ensures
     (subst (Leaves file (told (Some (answer.Fault c.in-Err-imaged.fault))) c.args.world.now c.args.records.now)
-    (sym (asked_some {t = ask.Image} c.in-Ok-Some-Image.is c.in-Ok-Some-Image.field-0-is c.in-Ok-Some-Image.field-0-0-is))
+    (sym
+    (asked_some {t = ask.Image} c.in-Ok-Some-Image.is c.in-Ok-Some-Image.field-0-is
+    c.in-Ok-Some-Image.field-0-0-is))
     (file, (inr (c.in-Err-imaged.fault, refl, c.in-Err-imaged.ensures.err c.args.records.now file h), refl), h))
 
 pub returns-in-Err-clause-answered : goal.returns-in-Err-clause-answered
 returns-in-Err-clause-answered c = λ file h.
-    only_leaves file c.only-in-Err.result (answer.Fault c.in-Err.fault) c.args.world.now c.args.records.now c.args.asked c.only-in-Err.ensures
-    (subst (Leaves file (told (Some (answer.Fault c.in-Err.fault))) c.args.world.now c.args.records.now) (sym c.in-Err.is) (file, (refl, refl), h))
+    only_leaves file c.only-in-Err.result (answer.Fault c.in-Err.fault) c.args.world.now c.args.records.now c.args.asked
+    c.only-in-Err.ensures
+    (subst (Leaves file (told (Some (answer.Fault c.in-Err.fault))) c.args.world.now c.args.records.now)
+    (sym c.in-Err.is) (file, (refl, refl), h))

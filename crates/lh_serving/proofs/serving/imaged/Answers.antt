@@ -15,4 +15,6 @@ returns-in-Ok-image_len-clause-ok c = λ n file h. record {
 }
 
 pub returns-in-Err-clause-err : goal.returns-in-Err-clause-err
-returns-in-Err-clause-err c = λ n file h. (c.in-Ok.listing, copied c.args.world.now n file c.in-Ok.listing h c.in-Ok.ensures.listed, c.in-Err.ensures.err)
+returns-in-Err-clause-err c =
+    λ n file h.
+    (c.in-Ok.listing, copied c.args.world.now n file c.in-Ok.listing h c.in-Ok.ensures.listed, c.in-Err.ensures.err)

@@ -5,4 +5,5 @@ use Rattle.lh_file.specs.Words.HandState.{HandState}
 use Rattle.lh_shards.proofs.dividing.first_short.Given as goal
 
 abbrev pub invariant-loop-shard : goal.invariant-loop-shard
-invariant-loop-shard l = (k : ℕ) (hand : HandState) → k < l.shard → slice_get l.hands k ≡ Some hand → l.calls ≤ hand.view.left
+invariant-loop-shard l =
+    (k : ℕ) (hand : HandState) → k < l.shard → slice_get l.hands k ≡ Some hand → l.calls ≤ hand.view.left

@@ -9,7 +9,9 @@ use Rattle.lh_shards.proofs.opening.first_away.Goals as goal
 use Rattle.lh_shards.proofs.opening.first_away.Goals.{After-away_of}
 
 listing_at : (c : After-away_of) → slice_get c.args.listings.now c.loop-shard.shard ≡ Some c.index-listings-shard.result
-listing_at c = slice_get_read c.args.listings.now (length c.args.listings.now) c.loop-shard.shard c.index-listings-shard.result refl (omega (arith, c.loop-shard-test.true)) c.index-listings-shard.is
+listing_at c =
+    slice_get_read c.args.listings.now (length c.args.listings.now) c.loop-shard.shard c.index-listings-shard.result
+    refl (omega (arith, c.loop-shard-test.true)) c.index-listings-shard.is
 
 pub returns-in-Some-clause-some : goal.returns-in-Some-clause-some
 returns-in-Some-clause-some c = record {
@@ -21,8 +23,11 @@ returns-in-Some-clause-some c = record {
 
 pub loop-shard-preserved : goal.loop-shard-preserved
 loop-shard-preserved c =
-    listing_more (λ (k : ℕ) (listing : Lists). EachPlace (IsHomeIn (length c.args.listings.now) k) listing.lists) c.args.listings.now c.loop-shard.shard c.index-listings-shard.result
+    listing_more (λ (k : ℕ) (listing : Lists). EachPlace (IsHomeIn (length c.args.listings.now) k) listing.lists)
+    c.args.listings.now c.loop-shard.shard c.index-listings-shard.result
     (listing_at (goal.at.loop-shard-preserved c).After-away_of) c.in_default.ensures.none c.loop-shard.invariant
 
 pub returns-clause-none : goal.returns-clause-none
-returns-clause-none c k listing at = c.loop-shard.invariant k listing (omega (arith, slice_get_within c.args.listings.now k listing at, c.loop-shard-test.false)) at
+returns-clause-none c k listing at =
+    c.loop-shard.invariant k listing
+    (omega (arith, slice_get_within c.args.listings.now k listing at, c.loop-shard-test.false)) at

@@ -6,4 +6,5 @@ use Rattle.lh_shards.proofs.Homes.{EachListingBefore}
 use Rattle.lh_shards.proofs.opening.first_away.Given as goal
 
 abbrev pub invariant-loop-shard : goal.invariant-loop-shard
-invariant-loop-shard l = EachListingBefore (λ shard listing. EachPlace (IsHomeIn (length l.listings) shard) listing.lists) l.listings l.shard
+invariant-loop-shard l =
+    EachListingBefore (λ shard listing. EachPlace (IsHomeIn (length l.listings) shard) listing.lists) l.listings l.shard

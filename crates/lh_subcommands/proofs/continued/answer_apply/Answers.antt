@@ -12,11 +12,17 @@ returns-in_default g c = unapplied_memory c.args.version _ _
 
 pub returns-in-Ok-write_in : goal.returns-in-Ok-write_in
 returns-in-Ok-write_in g c =
-    let led = subst (λ (calls : List Call). IsLeft c.in-Ok.read.listing calls c.in-Ok-file_left.left) c.as_slice.ensures.value c.in-Ok-file_left.ensures in
-    applied c.args.version c.in-Ok.read.listing c.in-Ok-file_left.left _ _ _ c.in-Ok.read.calls.items c.in-Ok.ensures led c.in-Ok-write_in.ensures
+    let led =
+    subst (λ (calls : List Call). IsLeft c.in-Ok.read.listing calls c.in-Ok-file_left.left) c.as_slice.ensures.value
+    c.in-Ok-file_left.ensures in
+    applied c.args.version c.in-Ok.read.listing c.in-Ok-file_left.left _ _ _ c.in-Ok.read.calls.items c.in-Ok.ensures
+    led c.in-Ok-write_in.ensures
 
 pub returns : goal.returns
 returns g c =
-    let led = subst (λ (calls : List Call). IsLeft c.in-Ok.read.listing calls c.in-Ok-file_left.left) c.as_slice.ensures.value c.in-Ok-file_left.ensures in
-    applied_not c.args.version c.in-Ok.read.listing c.in-Ok-file_left.left c.in-Err-write_in.fault _ _ _ _ c.in-Ok.read.calls.items
+    let led =
+    subst (λ (calls : List Call). IsLeft c.in-Ok.read.listing calls c.in-Ok-file_left.left) c.as_slice.ensures.value
+    c.in-Ok-file_left.ensures in
+    applied_not c.args.version c.in-Ok.read.listing c.in-Ok-file_left.left c.in-Err-write_in.fault _ _ _ _
+    c.in-Ok.read.calls.items
     c.unwritten.ensures c.in-Ok.ensures led c.in-Err-write_in.ensures

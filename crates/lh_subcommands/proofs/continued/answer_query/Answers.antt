@@ -13,7 +13,8 @@ pub returns-in-Ok-serial_from : goal.returns-in-Ok-serial_from
 returns-in-Ok-serial_from g c =
     let l = c.in-Ok.read.listing in
     let ran = c.in-Ok-serial_from.ran in
-    let serial = subst (λ (calls : List Call). IsSerialFrom l.config (records_of l) (size l) calls ran.replies.items ran.world)
+    let serial =
+    subst (λ (calls : List Call). IsSerialFrom l.config (records_of l) (size l) calls ran.replies.items ran.world)
     c.as_slice.ensures.value c.in-Ok-serial_from.ensures.served in
     queried _ l _ _ _ c.in-Ok.read.calls.items ran.replies.items ran.world c.in-Ok.ensures serial c.tell.ensures
 

@@ -7,5 +7,7 @@ use Rattle.lh_subcommands.proofs.draw.write_foot.Given as goal
 
 abbrev pub invariant-loop-place : goal.invariant-loop-place
 invariant-loop-place g l =
-    (before : Option (List ℕ)) (sent : List ℕ) → Sends before (g.W.Write.contents l.fn.writer) (string_bytes l.fn.waiting) sent →
-    Sends before (g.W.Write.contents l.writer) (string_bytes l.waiting) ((sent ++ cuts_text (cuts_of l.listing)) ++ in_turn (λ place. label_text (label_of l.listing place)) l.place)
+    (before : Option (List ℕ)) (sent : List ℕ) →
+    Sends before (g.W.Write.contents l.fn.writer) (string_bytes l.fn.waiting) sent →
+    Sends before (g.W.Write.contents l.writer) (string_bytes l.waiting)
+    ((sent ++ cuts_text (cuts_of l.listing)) ++ in_turn (λ place. label_text (label_of l.listing place)) l.place)

@@ -7,5 +7,7 @@ use Rattle.lh_subcommands.proofs.draw.write_groups.Given as goal
 
 abbrev pub invariant-loop-column : goal.invariant-loop-column
 invariant-loop-column g l =
-    (before : Option (List ℕ)) (sent : List ℕ) → Sends before (g.W.Write.contents l.fn.writer) (string_bytes l.fn.waiting) sent →
-    Sends before (g.W.Write.contents l.writer) (string_bytes l.waiting) (sent ++ in_turn (λ column. bar_text (group_bar l.listing column)) l.column)
+    (before : Option (List ℕ)) (sent : List ℕ) →
+    Sends before (g.W.Write.contents l.fn.writer) (string_bytes l.fn.waiting) sent →
+    Sends before (g.W.Write.contents l.writer) (string_bytes l.waiting)
+    (sent ++ in_turn (λ column. bar_text (group_bar l.listing column)) l.column)

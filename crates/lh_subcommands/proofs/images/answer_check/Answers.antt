@@ -7,8 +7,10 @@ returns-in-Err g c = unchecked c.in-Err.fault _ _ _ c.unreadable.ensures c.in-Er
 
 pub returns-in-Ok-write_all : goal.returns-in-Ok-write_all
 returns-in-Ok-write_all g c =
-    checked c.in-Ok.census _ _ _ _ c.in-Ok.ensures.exact (c.as_bytes.ensures.value ∙ c.in-Ok-to_string.ensures.ok) c.in-Ok-write_all.ensures.ok
+    checked c.in-Ok.census _ _ _ _ c.in-Ok.ensures.exact (c.as_bytes.ensures.value ∙ c.in-Ok-to_string.ensures.ok)
+    c.in-Ok-write_all.ensures.ok
 
 pub returns : goal.returns
 returns g c =
-    check_begun c.in-Ok.census _ _ _ _ c.in-Ok.ensures.exact (c.as_bytes.ensures.value ∙ c.in-Ok-to_string.ensures.ok) c.in-Err-write_all.ensures.err
+    check_begun c.in-Ok.census _ _ _ _ c.in-Ok.ensures.exact (c.as_bytes.ensures.value ∙ c.in-Ok-to_string.ensures.ok)
+    c.in-Err-write_all.ensures.err

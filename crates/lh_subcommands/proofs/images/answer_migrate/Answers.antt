@@ -10,4 +10,5 @@ returns-in-Ok-write_image g c = migrated c.in-Ok.listing _ _ _ c.in-Ok.ensures.e
 pub returns : goal.returns
 returns g c =
     migrate_begun c.census_counts_pages.ensures c.in-Ok.listing c.in-Err-write_image.fault _ _ _ _ c.unwritten.ensures
-    c.in-Ok.ensures.exact c.in-Ok.ensures.image c.in-Err-write_image.ensures.not_old c.in-Err-write_image.ensures.written
+    c.in-Ok.ensures.exact c.in-Ok.ensures.image c.in-Err-write_image.ensures.not_old
+    c.in-Err-write_image.ensures.written

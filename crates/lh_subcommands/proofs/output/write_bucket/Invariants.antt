@@ -7,5 +7,7 @@ use Rattle.lh_subcommands.proofs.output.write_bucket.Given as goal
 
 abbrev pub invariant-loop-place : goal.invariant-loop-place
 invariant-loop-place g l =
-    (before : Option (List ℕ)) (sent : List ℕ) → Sends before (g.W.Write.contents l.fn.writer) (string_bytes l.fn.waiting) sent →
-    Sends before (g.W.Write.contents l.writer) (string_bytes l.waiting) (sent ++ lines_before l.bucket (list_at l.listing.lists l.bucket) l.place)
+    (before : Option (List ℕ)) (sent : List ℕ) →
+    Sends before (g.W.Write.contents l.fn.writer) (string_bytes l.fn.waiting) sent →
+    Sends before (g.W.Write.contents l.writer) (string_bytes l.waiting)
+    (sent ++ lines_before l.bucket (list_at l.listing.lists l.bucket) l.place)

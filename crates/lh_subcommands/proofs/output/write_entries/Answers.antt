@@ -18,10 +18,17 @@ pub returns : goal.returns
 returns g c =
     let now = g.W.Write.contents c.loop-entry.writer in
     let end = g.W.Write.contents c.write_all.new.writer in
-    let sent : Sends (g.W.Write.contents c.args.writer.now) now (string_bytes c.loop-entry.waiting) (steps_text c.args.entries.now) =
+    let sent : Sends (g.W.Write.contents c.args.writer.now) now (string_bytes c.loop-entry.waiting)
+    (steps_text c.args.entries.now) =
     subst (Sends (g.W.Write.contents c.args.writer.now) now (string_bytes c.loop-entry.waiting))
     (steps_text-all c.args.entries.now c.loop-entry.entry-index (omega arith)) c.loop-entry.invariant in
     record {
-      ok = on_ok_weaker c.write_all.result (λ written. sends_all _ _ _ _ _ sent (subst (Appends now end) c.as_bytes.ensures.value written)) c.write_all.ensures.ok;
-      err = on_err_weaker c.write_all.result (λ written. stops_within _ _ _ _ _ sent (subst (TakesBeginning now end) c.as_bytes.ensures.value written)) c.write_all.ensures.err;
+      ok =
+          on_ok_weaker c.write_all.result
+          (λ written. sends_all _ _ _ _ _ sent (subst (Appends now end) c.as_bytes.ensures.value written))
+          c.write_all.ensures.ok;
+      err =
+          on_err_weaker c.write_all.result
+          (λ written. stops_within _ _ _ _ _ sent (subst (TakesBeginning now end) c.as_bytes.ensures.value written))
+          c.write_all.ensures.err;
     }

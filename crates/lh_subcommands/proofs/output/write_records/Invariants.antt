@@ -5,4 +5,5 @@ use Rattle.lh_subcommands.proofs.output.write_records.Given as goal
 
 abbrev pub invariant-loop-bucket : goal.invariant-loop-bucket
 invariant-loop-bucket g l =
-    Sends (g.W.Write.contents l.fn.writer) (g.W.Write.contents l.writer) (string_bytes l.waiting) (buckets_before l.listing l.bucket)
+    Sends (g.W.Write.contents l.fn.writer) (g.W.Write.contents l.writer) (string_bytes l.waiting)
+    (buckets_before l.listing l.bucket)

@@ -8,5 +8,7 @@ use Rattle.lh_subcommands.proofs.replay.write_steps.Given as goal
 
 abbrev pub invariant-loop-row : goal.invariant-loop-row
 invariant-loop-row g l =
-    (before : Option (List ℕ)) (sent : List ℕ) → Sends before (g.W.Write.contents l.fn.writer) (string_bytes l.fn.waiting) sent →
-    Sends before (g.W.Write.contents l.writer) (string_bytes l.waiting) (sent ++ in_turn (λ row. step_text (step_of l.events l.entries row)) l.row)
+    (before : Option (List ℕ)) (sent : List ℕ) →
+    Sends before (g.W.Write.contents l.fn.writer) (string_bytes l.fn.waiting) sent →
+    Sends before (g.W.Write.contents l.writer) (string_bytes l.waiting)
+    (sent ++ in_turn (λ row. step_text (step_of l.events l.entries row)) l.row)

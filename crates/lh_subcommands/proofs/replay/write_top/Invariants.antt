@@ -8,6 +8,8 @@ use Rattle.lh_subcommands.proofs.replay.write_top.Given as goal
 
 abbrev pub invariant-loop-lane : goal.invariant-loop-lane
 invariant-loop-lane g l =
-    (before : Option (List ℕ)) (sent : List ℕ) → Sends before (g.W.Write.contents l.fn.writer) (string_bytes l.fn.waiting) sent →
+    (before : Option (List ℕ)) (sent : List ℕ) →
+    Sends before (g.W.Write.contents l.fn.writer) (string_bytes l.fn.waiting) sent →
     Sends before (g.W.Write.contents l.writer) (string_bytes l.waiting)
-    ((sent ++ (picture_canvas_text (picture_canvas_of l.events) ++ picture_caption_text (caption_of l.events))) ++ in_turn (λ lane. heading_text (heading_of l.events lane)) l.lane)
+    ((sent ++ (picture_canvas_text (picture_canvas_of l.events) ++ picture_caption_text (caption_of l.events)))
+    ++ in_turn (λ lane. heading_text (heading_of l.events lane)) l.lane)

@@ -7,8 +7,10 @@ use Rattle.lh_subcommands.proofs.serve.answer_all.Given as goal
 abbrev pub invariant-loop-rest : goal.invariant-loop-rest
 invariant-loop-rest g l = record {
   image : l.talk.image ≡ None;
-  heard : (s : FileSeen) (before : Option (List ℕ)) (heard : List ℕ) → IsTelling s l.fn.talk before (g.W.Write.contents l.fn.writer) heard →
-      (taken : List ℕ) × (l.bytes ≡ taken ++ l.rest) × IsTelling s l.talk before (g.W.Write.contents l.writer) (heard ++ taken);
+  heard : (s : FileSeen) (before : Option (List ℕ)) (heard : List ℕ) →
+      IsTelling s l.fn.talk before (g.W.Write.contents l.fn.writer) heard →
+      (taken : List ℕ) × (l.bytes ≡ taken ++ l.rest)
+      × IsTelling s l.talk before (g.W.Write.contents l.writer) (heard ++ taken);
 }
 
 abbrev pub decreases-loop-rest : goal.decreases-loop-rest

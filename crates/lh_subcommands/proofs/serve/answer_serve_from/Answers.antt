@@ -2,7 +2,8 @@ use Rattle.lh_subcommands.proofs.Serving.{ends_opened, ends_unopened}
 use Rattle.lh_subcommands.proofs.serve.answer_serve_from.Goals as goal
 
 pub returns-in-Ok : goal.returns-in-Ok
-returns-in-Ok g c = ends_opened c.in-Ok.talk c.converse.result _ _ _ _ _ c.in-Ok.ensures.ok c.in-Ok.ensures.rest c.converse.ensures
+returns-in-Ok g c =
+    ends_opened c.in-Ok.talk c.converse.result _ _ _ _ _ c.in-Ok.ensures.ok c.in-Ok.ensures.rest c.converse.ensures
 
 pub returns-in-Err : goal.returns-in-Err
 returns-in-Err g c = ends_unopened c.in-Err.status _ _ _ c.in-Err.ensures.err

@@ -5,4 +5,5 @@ pub returns-in-Err-clause-err : goal.returns-in-Err-clause-err
 returns-in-Err-clause-err g c = not_opened c.in-Err.fault _ _ c.unreadable.ensures c.in-Err.ensures.exact
 
 pub returns-in-Ok-open_from-clause-ok : goal.returns-in-Ok-open_from-clause-ok
-returns-in-Ok-open_from-clause-ok g c = is_opened c.in-Ok.listing _ _ c.in-Ok.ensures.exact c.in-Ok-open_from.ensures.begun
+returns-in-Ok-open_from-clause-ok g c =
+    is_opened c.in-Ok.listing _ _ c.in-Ok.ensures.exact c.in-Ok-open_from.ensures.begun

@@ -24,8 +24,11 @@ returns-clause-ok c =
       taken = c.args.taken.now;
       count = refl;
       configs = c.requires.configs;
-      each = first_of c.snapshots_are_settled.ensures.before closed.config closed acts history c.args.taken.now c.in_ok-history.ensures.ok.stamped
-          (subst (λ (s : Settings). All (IsSettledBefore s acts) c.args.taken.now) (ap (λ l. l.config) c.requires.empty) c.in_ok-settle_each.ensures.ok);
+      each =
+          first_of c.snapshots_are_settled.ensures.before closed.config closed acts history c.args.taken.now
+          c.in_ok-history.ensures.ok.stamped
+          (subst (λ (s : Settings). All (IsSettledBefore s acts) c.args.taken.now) (ap (λ l. l.config) c.requires.empty)
+          c.in_ok-settle_each.ensures.ok);
     }
 
 pub returns-in_err-settle_each-clause-err : goal.returns-in_err-settle_each-clause-err
@@ -34,10 +37,16 @@ returns-in_err-settle_each-clause-err c =
     let acts = c.args.acts.now in
     let taken = c.args.taken.now in
     let fault = c.in_err-settle_each.field-0.0 in
-    let known = subst (λ (l : Lists). c.args.closed.now.gathered ≡ true → c.args.closed.now.root % 2 ≡ 0 → AreSettled l c.args.closed.now acts taken) c.requires.empty c.requires.known in
+    let known =
+    subst
+    (λ (l : Lists).
+    c.args.closed.now.gathered ≡ true → c.args.closed.now.root % 2 ≡ 0 →
+    AreSettled l c.args.closed.now acts taken) c.requires.empty c.requires.known in
     let due : IsDriveFaultWith settings (length taken) fault =
     snapshot_fault settings c.args.closed.now acts c.in_ok-history.history taken fault refl
-    (subst (λ opening. IsSettled opening c.args.closed.now acts c.in_ok-history.history) c.requires.empty c.in_ok-history.ensures.ok)
+    (subst (λ opening. IsSettled opening c.args.closed.now acts c.in_ok-history.history) c.requires.empty
+    c.in_ok-history.ensures.ok)
     c.requires.configs known
-    (subst (λ (s : Settings). IsFaultOfOne s acts taken fault) (ap (λ l. l.config) c.requires.empty) c.in_err-settle_each.ensures.err) in
+    (subst (λ (s : Settings). IsFaultOfOne s acts taken fault) (ap (λ l. l.config) c.requires.empty)
+    c.in_err-settle_each.ensures.err) in
     search rules

@@ -24,7 +24,10 @@ returns-in-Refused g c = served_as c.in-Refused.is _ _ _ _ _ (refl, Keeps-refl _
 
 pub returns-in-Help : goal.returns-in-Help
 returns-in-Help g c = served_as c.in-Help.is _ _ _ _ _ (
-  subst (λ text. IsHelped text c.write_help.result (g.W.Write.contents c.args.writer.now) (g.W.Write.contents c.write_help.new.writer)) c.as_str.ensures.value c.write_help.ensures,
+  subst
+      (λ text.
+      IsHelped text c.write_help.result (g.W.Write.contents c.args.writer.now)
+      (g.W.Write.contents c.write_help.new.writer)) c.as_str.ensures.value c.write_help.ensures,
   Keeps-refl _,
 )
 

@@ -8,4 +8,8 @@ pub returns-in-Ok-clause-made : goal.returns-in-Ok-clause-made
 returns-in-Ok-clause-made g c =
     let part = c.join-part.result.hands in
     let of = subst (λ (files : List FileState). AreOf files part) c.requires.worker c.join-part.ensures.of in
-    omega (arith, acts_joined c.args.shards.now c.args.hands part c.in-Ok.joined c.requires.hands of c.in-Ok.ensures.united.ok, c.join-part.ensures.done (search rules))
+    omega (
+      arith,
+      acts_joined c.args.shards.now c.args.hands part c.in-Ok.joined c.requires.hands of c.in-Ok.ensures.united.ok,
+      c.join-part.ensures.done (search rules),
+    )

@@ -13,9 +13,12 @@ loop-worker-preserved g c =
     let Handle = PromisedHandle Worked Part in
     let met = λ (worker : Handle). worker.promise.shards.now ≡ c.args.shards.now in
     let calls = λ (worker : Handle). worker.promise.calls in
-    let e : into_iter_items c.loop-worker.worker-iterator ≡ c.in-Some.worker ∷ into_iter_items c.next.new.self = search rules in
+    let e : into_iter_items c.loop-worker.worker-iterator ≡ c.in-Some.worker ∷ into_iter_items c.next.new.self =
+    search rules in
     let cons = sum_by-cons calls c.in-Some.worker (into_iter_items c.next.new.self) in record {
       hands = search rules;
-      each = All-tail met c.in-Some.worker (into_iter_items c.next.new.self) (subst (All met) e c.loop-worker.invariant.each);
+      each =
+          All-tail met c.in-Some.worker (into_iter_items c.next.new.self)
+          (subst (All met) e c.loop-worker.invariant.each);
       made = omega (arith, ap (sum_by calls) e, cons, c.in_ok-hands.ensures.made, c.loop-worker.invariant.made);
     }

@@ -8,6 +8,7 @@ use Rattle.lhash.proofs.shard_workers.work.Given as goal
 abbrev pub invariant-loop-place : goal.invariant-loop-place
 invariant-loop-place g l = record {
   of : AreOf l.shards l.hands;
-  made : acts_of l.hands + places_from l.place l.threads (length l.calls) ≡ places_from l.first l.threads (length l.calls);
+  made : acts_of l.hands + places_from l.place l.threads (length l.calls) ≡
+      places_from l.first l.threads (length l.calls);
   enough : AllHave (places_from l.place l.threads (length l.calls)) l.hands;
 }

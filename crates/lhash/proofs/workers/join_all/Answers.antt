@@ -13,11 +13,14 @@ loop-worker-preserved g c =
     let Handle = PromisedHandle Worked (Part g.row.G.Denot g.row.J.Denot) in
     let met = λ (worker : Handle). worker.promise.file.now.state ≡ c.args.file.now.state in
     let calls = λ (worker : Handle). worker.promise.calls in
-    let e : into_iter_items c.loop-worker.worker-iterator ≡ c.in-Some.worker ∷ into_iter_items c.next.new.self = search rules in
+    let e : into_iter_items c.loop-worker.worker-iterator ≡ c.in-Some.worker ∷ into_iter_items c.next.new.self =
+    search rules in
     let cons = sum_by-cons calls c.in-Some.worker (into_iter_items c.next.new.self) in record {
       hand = search rules;
       knows = λ log there. c.in_ok-hand.ensures.knows log (c.loop-worker.invariant.knows log there);
-      each = All-tail met c.in-Some.worker (into_iter_items c.next.new.self) (subst (All met) e c.loop-worker.invariant.each);
+      each =
+          All-tail met c.in-Some.worker (into_iter_items c.next.new.self)
+          (subst (All met) e c.loop-worker.invariant.each);
       shares = omega (arith, ap (sum_by calls) e, cons, c.in_ok-hand.ensures.share, c.loop-worker.invariant.shares);
       made = omega (arith, ap (sum_by calls) e, cons, c.in_ok-hand.ensures.made, c.loop-worker.invariant.made);
     }

@@ -12,5 +12,7 @@ invariant-loop-worker g l = record {
   shares : share_of l.hand + sum_by (λ worker. worker.promise.calls) (into_iter_items l.worker-iterator)
       ≡ share_of l.initial.hand + sum_by (λ worker. worker.promise.calls) (into_iter_items l.initial.worker-iterator);
   made : length l.hand.acts + sum_by (λ worker. worker.promise.calls) (into_iter_items l.worker-iterator)
-      ≡ length l.initial.hand.acts + sum_by (λ worker. worker.promise.calls) (into_iter_items l.initial.worker-iterator);
+      ≡
+      length l.initial.hand.acts
+      + sum_by (λ worker. worker.promise.calls) (into_iter_items l.initial.worker-iterator);
 }

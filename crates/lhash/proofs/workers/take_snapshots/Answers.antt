@@ -21,5 +21,6 @@ loop-number-preserved g c =
       hand = looked_again _ _ _ _ c.take_snapshot.ensures.hand c.loop-number.invariant.hand;
       count = omega (arith, ap length more, length-append taken (snapshot ∷ []), c.loop-number.invariant.count);
       each = subst (All (HasTakenOne c.args.file.now.state hand)) (sym more)
-          (taken_more c.args.file.now.state c.loop-number.hand hand taken snapshot c.take_snapshot.ensures.hand.knows c.loop-number.invariant.each c.in_ok-snapshot.ensures.taken);
+          (taken_more c.args.file.now.state c.loop-number.hand hand taken snapshot c.take_snapshot.ensures.hand.knows
+          c.loop-number.invariant.each c.in_ok-snapshot.ensures.taken);
     }

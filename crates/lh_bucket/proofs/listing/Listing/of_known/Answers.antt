@@ -16,7 +16,9 @@ invariant_of-result c =
         to_max = omega (arith, many, c.requires.shape.to_max);
         each = refl;
       };
-      records = subst (λ (xs : List (List Pair)). (bucket : _) → All IsRecord (list_at xs bucket)) (ap (map (λ v. v.items)) c.deref.ensures.value) c.lists_have_lengths.ensures;
+      records =
+          subst (λ (xs : List (List Pair)). (bucket : _) → All IsRecord (list_at xs bucket))
+          (ap (map (λ v. v.items)) c.deref.ensures.value) c.lists_have_lengths.ensures;
       home = subst (λ n. EachPlace (IsHome c.args.config.initial n) lists) (sym many) c.requires.home;
       distinct = c.requires.distinct;
     }

@@ -23,12 +23,14 @@ invariant_of-self-2 c =
       capacity = c.len.ensures.kept.capacity;
       distinct = c.len.ensures.kept.distinct;
       home = home_served head b.chain.pairs c.change_at.new.chain.pairs call c.args.k here
-          (ap (λ (l : PackedList). map_of l.pairs) c.in_ok-reply.ensures.list ∙ map_of-served b.chain.pairs call c.self.invariant.distinct) c.self.invariant.home;
+          (ap (λ (l : PackedList). map_of l.pairs) c.in_ok-reply.ensures.list
+          ∙ map_of-served b.chain.pairs call c.self.invariant.distinct) c.self.invariant.home;
     }
 
 pub returns-clause-content : goal.returns-clause-content
 returns-clause-content c =
     let b = c.self.inside in
     let call = call_of c.args.change in
-    ap (λ (l : PackedList). map_of l.pairs) c.in_ok-reply.ensures.list ∙ map_of-served b.chain.pairs call c.self.invariant.distinct
+    ap (λ (l : PackedList). map_of l.pairs) c.in_ok-reply.ensures.list
+    ∙ map_of-served b.chain.pairs call c.self.invariant.distinct
     ∙ ap (λ (s : Seen). after (content s) call) c.self.view_is

@@ -8,5 +8,10 @@ pub new-requires : goal.new-requires
 new-requires c =
     let b = c.self.inside in
     let head : Head = record { number = b.number; initial = b.initial; capacity = b.chain.capacity; level = b.level } in
-    let here : verdict head c.args.code c.args.k ≡ Here = subst (λ (s : Seen). verdict s.head c.args.code c.args.k ≡ Here) (sym c.self.view_is) c.requires.here in
-    record { initial = c.self.invariant.initial; level = c.requires.low; leads = (verdict-Here head c.args.code c.args.k here).0 }
+    let here : verdict head c.args.code c.args.k ≡ Here =
+    subst (λ (s : Seen). verdict s.head c.args.code c.args.k ≡ Here) (sym c.self.view_is) c.requires.here in
+    record {
+      initial = c.self.invariant.initial;
+      level = c.requires.low;
+      leads = (verdict-Here head c.args.code c.args.k here).0;
+    }

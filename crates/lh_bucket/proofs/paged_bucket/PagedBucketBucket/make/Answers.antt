@@ -6,6 +6,20 @@ use Rattle.lh_bucket.proofs.paged_bucket.PagedBucketBucket.make.Goals as goal
 
 pub invariant_of-result : goal.invariant_of-result
 invariant_of-result c =
-    subst (λ (l : PackedList). IsKept (record { head = record { number = c.args.number; initial = c.args.initial; capacity = l.capacity; level = c.args.level }; pairs = l.pairs }))
+    subst
+    (λ (l : PackedList).
+    IsKept
+    (record {
+      head =
+          record {
+            number = c.args.number;
+            initial = c.args.initial;
+            capacity = l.capacity;
+            level = c.args.level;
+          };
+      pairs = l.pairs;
+    }))
     (sym c.in_ok-chain.ensures.empty)
-    (kept_none (record { number = c.args.number; initial = c.args.initial; capacity = c.args.capacity; level = c.args.level }) c.requires.initial c.requires.capacity c.requires.level)
+    (kept_none
+    (record { number = c.args.number; initial = c.args.initial; capacity = c.args.capacity; level = c.args.level })
+    c.requires.initial c.requires.capacity c.requires.level)

@@ -11,5 +11,8 @@ pub searched-requires : goal.searched-requires
 searched-requires c =
     let b = c.self.inside in
     let head : Head = record { number = b.number; initial = b.initial; capacity = b.capacity; level = b.level } in
-    let here : verdict head (code_of (key_of c.args.call.now)) c.args.k ≡ Here = subst (λ (s : Seen). verdict s.head (code_of (key_of c.args.call.now)) c.args.k ≡ Here) (sym c.self.view_is) c.requires.here in
-    is_answer head (Search c.key-2.result.now) _ c.args.k c.self.invariant.kept.initial c.requires.low (ap (λ key. verdict head (code_of key) c.args.k) c.key-2.ensures ∙ here)
+    let here : verdict head (code_of (key_of c.args.call.now)) c.args.k ≡ Here =
+    subst (λ (s : Seen). verdict s.head (code_of (key_of c.args.call.now)) c.args.k ≡ Here) (sym c.self.view_is)
+    c.requires.here in
+    is_answer head (Search c.key-2.result.now) _ c.args.k c.self.invariant.kept.initial c.requires.low
+    (ap (λ key. verdict head (code_of key) c.args.k) c.key-2.ensures ∙ here)

@@ -14,5 +14,8 @@ returns-clause-value c =
     let entries = c.self.inside.records.entries in
     ap (λ (s : Seen). slice_get s.pairs c.args.place) (sym c.self.view_is)
     ∙ slice_get-map as_pair entries c.args.place
-    ∙ ap (option_map as_pair) (sym (nth_from_yields_List c.nth.result c.nth.new.self c.args.place c.nth.ensures.ran (YieldsList-from_rest entries c.iter.ensures.rest)))
+    ∙ ap (option_map as_pair)
+    (sym
+    (nth_from_yields_List c.nth.result c.nth.new.self c.args.place c.nth.ensures.ran
+    (YieldsList-from_rest entries c.iter.ensures.rest)))
     ∙ ap (λ r. option_map as_pair (option_map deref_pair r)) c.in-Some.is

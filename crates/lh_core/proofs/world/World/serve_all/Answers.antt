@@ -6,7 +6,9 @@ use Rattle.lh_core.proofs.OneCaller.Serving.{served_none, served_more, served_al
 use Rattle.lh_core.proofs.world.World.serve_all.Goals as goal
 
 pub loop-call-init : goal.loop-call-init
-loop-call-init g c = λ m stands count. rw c.in_ok-replies.ensures.items (served_none c.args.self.now m c.args.start c.requires.rest stands count)
+loop-call-init g c =
+    λ m stands count.
+    rw c.in_ok-replies.ensures.items (served_none c.args.self.now m c.args.start c.requires.rest stands count)
 
 pub serve_and_grow-requires-clause-rest : goal.serve_and_grow-requires-clause-rest
 serve_and_grow-requires-clause-rest g c =
@@ -22,17 +24,24 @@ serve_and_grow-requires-clause-few g c =
 pub loop-call-preserved : goal.loop-call-preserved
 loop-call-preserved g c = λ m stands count.
     let done = take c.loop-call.call-index c.args.calls.now in
-    let next : take (c.loop-call.call-index + 1) c.args.calls.now ≡ done ++ c.call-item.result ∷ [] = taken c.args.calls.now c.loop-call.call-index c.call-item.result c.loop-call-test.true c.call-item.is in
+    let next : take (c.loop-call.call-index + 1) c.args.calls.now ≡ done ++ c.call-item.result ∷ [] =
+    taken c.args.calls.now c.loop-call.call-index c.call-item.result c.loop-call-test.true c.call-item.is in
     let h = c.loop-call.invariant m stands count in
-    rw (next, c.in_ok-push.ensures.items) (served_more c.args.self.now m c.args.start done c.loop-call.replies.items c.loop-call.self c.serve_and_grow.new.self c.loop-call.records c.call-item.result c.in_ok-reply.reply c.in_ok-reply.count h c.in_ok-reply.ensures.few (c.in_ok-reply.ensures.served (outcome m done) h.stands h.count))
+    rw (next, c.in_ok-push.ensures.items)
+    (served_more c.args.self.now m c.args.start done c.loop-call.replies.items c.loop-call.self
+    c.serve_and_grow.new.self c.loop-call.records c.call-item.result c.in_ok-reply.reply c.in_ok-reply.count h
+    c.in_ok-reply.ensures.few (c.in_ok-reply.ensures.served (outcome m done) h.stands h.count))
 
 pub returns-clause-served : goal.returns-clause-served
 returns-clause-served g c = λ m stands count.
-    let whole : take c.loop-call.call-index c.args.calls.now ≡ c.args.calls.now = take_all c.loop-call.call-index c.args.calls.now c.loop-call-test.false in
-    served_all c.args.self.now m c.args.start c.args.calls.now c.loop-call.replies.items c.loop-call.self c.loop-call.records c.is_kept.ensures (rw whole at (c.loop-call.invariant m stands count))
+    let whole : take c.loop-call.call-index c.args.calls.now ≡ c.args.calls.now =
+    take_all c.loop-call.call-index c.args.calls.now c.loop-call-test.false in
+    served_all c.args.self.now m c.args.start c.args.calls.now c.loop-call.replies.items c.loop-call.self
+    c.loop-call.records c.is_kept.ensures (rw whole at (c.loop-call.invariant m stands count))
 
 pub returns-clause-unchanged : goal.returns-clause-unchanged
 returns-clause-unchanged g c = λ none.
     let had = c.requires.records in
-    let whole : take c.loop-call.call-index c.args.calls.now ≡ c.args.calls.now = take_all c.loop-call.call-index c.args.calls.now c.loop-call-test.false in
+    let whole : take c.loop-call.call-index c.args.calls.now ≡ c.args.calls.now =
+    take_all c.loop-call.call-index c.args.calls.now c.loop-call-test.false in
     (c.loop-call.invariant had.0 had.1 had.2).unchanged (whole ∙ none)

@@ -23,7 +23,8 @@ module _ (g : Over) (c : goal.After-ended g) where
   row = map read_guard_value c.in_ok-guards.guards.items
 
   is_row : AreBucketsOf config row
-  is_row = subst (λ l. AreBucketsOf config (map read_guard_value l)) c.deref.ensures.value c.in_ok-check_held.ensures.row
+  is_row =
+      subst (λ l. AreBucketsOf config (map read_guard_value l)) c.deref.ensures.value c.in_ok-check_held.ensures.row
 
   same : c.words.inside.config ≡ c.args.self.now.state.config
   same = ap (λ (f : FileState). f.config) c.words.view_is ∙ ap (λ (s : Shared). s.state.config) c.self.view_is
@@ -35,10 +36,14 @@ module _ (g : Over) (c : goal.After-ended g) where
   long = length-map c.in_ok-guards.guards.items read_guard_value ∙ sym c.in_ok-guards.guards.ok.0
 
   least : config.initial ≤ length row
-  least = let own = ap (λ (f : FileState). f.config.initial) c.words.view_is in omega (arith, long, c.in_ok-guards.ensures.least, c.buckets-buckets.ensures.range.0, own)
+  least =
+      let own = ap (λ (f : FileState). f.config.initial) c.words.view_is in
+      omega (arith, long, c.in_ok-guards.ensures.least, c.buckets-buckets.ensures.range.0, own)
 
   size : buckets_of c.ended.result.root ≡ length row
-  size = ap (λ (f : ClosedFile). buckets_of f.root) c.ended.ensures ∙ c.new-root.ensures.buckets ∙ c.len-size.ensures ∙ sym long
+  size =
+      ap (λ (f : ClosedFile). buckets_of f.root) c.ended.ensures ∙ c.new-root.ensures.buckets ∙ c.len-size.ensures
+      ∙ sym long
 
   even : c.ended.result.root % 2 ≡ 0
   even = ap (λ (f : ClosedFile). f.root % 2) c.ended.ensures ∙ fields.even c.new-root.result c.new-root.ensures.split
@@ -51,7 +56,9 @@ returns-clause-config g c = ap (λ (f : ClosedFile). f.config) c.ended.ensures �
 
 pub returns-clause-whole : goal.returns-clause-whole
 returns-clause-whole g c =
-    row_whole c.address_is_only_bucket.ensures c.records_make_a_map.ensures.keys c.full_buckets_are_placed.ensures (config g c) (row g c) (pos g c) (least g c) (is_row g c) c.ended.result (ap (λ (f : ClosedFile). f.config) c.ended.ensures) (size g c) (lists g c) (even g c)
+    row_whole c.address_is_only_bucket.ensures c.records_make_a_map.ensures.keys c.full_buckets_are_placed.ensures
+    (config g c) (row g c) (pos g c) (least g c) (is_row g c) c.ended.result
+    (ap (λ (f : ClosedFile). f.config) c.ended.ensures) (size g c) (lists g c) (even g c)
 
 pub returns-clause-told : goal.returns-clause-told
 returns-clause-told g c =
@@ -66,15 +73,32 @@ returns-clause-told g c =
     let stamps = sym (ap (λ (f : ClosedFile). f.stamps) c.ended.ensures) in (
       n,
       log,
-      (λ i. record (hand_state_of inside) { table = c.survey_held-acts.ensures.at i; view = (told.1 i).0.view; entries = (told.1 i).0.entries; logs = (told.1 i).0.logs })
+      (λ i.
+          record (hand_state_of inside) {
+            table = c.survey_held-acts.ensures.at i;
+            view = (told.1 i).0.view;
+            entries = (told.1 i).0.entries;
+            logs = (told.1 i).0.logs;
+          })
           ∙ ap (λ (h : HandState). told_of h acts log) knows
           ∙ ap (λ k. told_of (knowing old n) k log) stamps,
-      λ on. row_snapshot c.address_is_only_bucket.ensures c.records_make_a_map.ensures.keys c.full_buckets_are_placed.ensures (config g c) (row g c) (pos g c) (least g c) (is_row g c) c.ended.result (ap (λ (f : ClosedFile). f.config) c.ended.ensures) (size g c) (lists g c) state.listing old.entries old.logs log
+      λ on.
+          row_snapshot c.address_is_only_bucket.ensures c.records_make_a_map.ensures.keys
+          c.full_buckets_are_placed.ensures (config g c) (row g c) (pos g c) (least g c) (is_row g c) c.ended.result
+          (ap (λ (f : ClosedFile). f.config) c.ended.ensures) (size g c) (lists g c) state.listing old.entries old.logs
+          log
           (surveyed_as _ state.listing _ c.ended.result.stamps _ old.entries _ old.logs _ (row g c) log
           (ap (λ (s : Shared). s.state.listing) c.self.view_is)
           stamps
           (ap (λ (h : HandState). h.entries) knows)
           (ap (λ (h : HandState). h.logs) knows)
           (ap (map read_guard_value) c.deref-2.ensures.value)
-          (told.2 on (omega (arith, c.if-seats-len.false, c.len.ensures, ap length c.deref-2.ensures.value, c.in_ok-guards.guards.ok.0)))),
+          (told.2 on
+          (omega (
+            arith,
+            c.if-seats-len.false,
+            c.len.ensures,
+            ap length c.deref-2.ensures.value,
+            c.in_ok-guards.guards.ok.0,
+          )))),
     )

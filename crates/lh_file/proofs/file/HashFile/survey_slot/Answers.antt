@@ -15,9 +15,18 @@ returns-clause-told g c =
     let joined = c.borrow_seat.ensures.taken c.if-not-borrow_seat.false in (
       told.0,
       c.return_seat.ensures.left
-          ∙ ap (λ (m : Seated). (dealt_seat m.0, m.1)) (told.1 ∙ ap (λ (m : Seated). (told_seat stamps told.0 m.0, m.1)) joined)
-          ∙ ap (λ (ps : List Seen). (record (told_seat stamps told.0 old.0) { parts = other_buckets_of (ps ++ c.args.slot.now ∷ []) }, old.1)) c.requires.bucketless
-          ∙ ap (λ (ps : List Seen). (record (told_seat stamps told.0 old.0) { parts = ps }, old.1)) (sym c.requires.bucketless),
-      λ on. surveyed_as _ _ _ _ _ _ _ _ _ _ told.0 (ap (λ (s : Shared). s.state.listing) c.self.view_is) refl (ap (λ (m : Seated). m.0.entries) joined) (ap (λ (m : Seated). m.0.logs) joined)
-          (ap (λ (m : Seated). m.0.parts) joined ∙ ap (λ (ps : List Seen). ps ++ c.args.slot.now ∷ []) c.requires.bucketless) (told.2 on),
+          ∙ ap (λ (m : Seated). (dealt_seat m.0, m.1))
+          (told.1 ∙ ap (λ (m : Seated). (told_seat stamps told.0 m.0, m.1)) joined)
+          ∙ ap
+          (λ (ps : List Seen). (
+            record (told_seat stamps told.0 old.0) { parts = other_buckets_of (ps ++ c.args.slot.now ∷ []) },
+            old.1,
+          )) c.requires.bucketless
+          ∙ ap (λ (ps : List Seen). (record (told_seat stamps told.0 old.0) { parts = ps }, old.1))
+          (sym c.requires.bucketless),
+      λ on.
+          surveyed_as _ _ _ _ _ _ _ _ _ _ told.0 (ap (λ (s : Shared). s.state.listing) c.self.view_is) refl
+          (ap (λ (m : Seated). m.0.entries) joined) (ap (λ (m : Seated). m.0.logs) joined)
+          (ap (λ (m : Seated). m.0.parts) joined
+          ∙ ap (λ (ps : List Seen). ps ++ c.args.slot.now ∷ []) c.requires.bucketless) (told.2 on),
     )

@@ -19,8 +19,12 @@ loop-place-preserved g c =
     let is = c.if-not-is_numbered.ensures.0 refl in
     let found : b.head.level ≡ Some c.level_of-level.result = search rules in
     let level : b.head.level ≡ Some (level_of config.initial (length guards) n) =
-    found ∙ ap Some (c.level_of-level.ensures.value ∙ ap (λ (e : Extent). level_of e.initial e.buckets n) c.root-root.ensures.value) in
-    let head : b.head ≡ head_in config (length guards) n = λ i. record { number = is.number i; initial = is.initial i; capacity = is.capacity i; level = level i } in
+    found
+    ∙ ap Some
+    (c.level_of-level.ensures.value
+    ∙ ap (λ (e : Extent). level_of e.initial e.buckets n) c.root-root.ensures.value) in
+    let head : b.head ≡ head_in config (length guards) n =
+    λ i. record { number = is.number i; initial = is.initial i; capacity = is.capacity i; level = level i } in
     row_more config (length guards) (map read_guard_value guards) n (read_guard_value v)
     (row_at read_guard_value guards n v c.loop-place-test.true c.index-guards-place.is (read_guard_value v))
     (subst (IsInPlace config (length guards) n) met (head, c.len-records.ensures.kept))
@@ -30,4 +34,5 @@ pub returns-clause-row : goal.returns-clause-row
 returns-clause-row g c =
     let guards = c.args.guards.now in
     let size = sym (length-map guards read_guard_value) in
-    row_whole c.args.config.now (length guards) (map read_guard_value guards) c.loop-place.place size (subst (λ n. n ≤ c.loop-place.place) size c.loop-place-test.false) c.loop-place.invariant
+    row_whole c.args.config.now (length guards) (map read_guard_value guards) c.loop-place.place size
+    (subst (λ n. n ≤ c.loop-place.place) size c.loop-place-test.false) c.loop-place.invariant

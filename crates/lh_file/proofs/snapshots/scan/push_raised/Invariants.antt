@@ -11,7 +11,8 @@ invariant-loop-level l = record {
   room : vec_len l.aims + (l.to - l.level) ≤ vec_capacity l.aims;
   upto : l.level ≤ l.to;
   reached : l.bucket < l.first * 2 ^ l.level;
-  all : (code : ℕ) → aimed l.first code l.aims.items + bit (leads l.first code (record { level = l.level; bucket = l.bucket }))
+  all : (code : ℕ) →
+      aimed l.first code l.aims.items + bit (leads l.first code (record { level = l.level; bucket = l.bucket }))
       ≡ aimed l.first code l.fn.aims.items + bit (leads l.first code (record { level = l.from; bucket = l.bucket }));
   ahead : total (λ (a : Aim). 2 ^ (16 - a.level)) l.aims.items + 2 ^ (16 - l.level)
       ≡ total (λ (a : Aim). 2 ^ (16 - a.level)) l.fn.aims.items + 2 ^ (16 - l.from);

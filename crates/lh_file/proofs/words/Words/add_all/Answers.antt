@@ -14,9 +14,24 @@ loop-other-preserved g c =
     let e : into_iter_items c.loop-other.other-iterator ≡ c.in-Some.other ∷ rest = search rules in
     let acts = λ (h : HandState). length h.acts in
     let before = fold united c.args.first (into_iter_items c.into_iter-other-iterator.result) in record {
-      of = of_joined c.args.self.now c.loop-other.first c.in-Some.other c.add_hand.new.first c.loop-other.invariant.of c.add_hand.ensures.joined;
-      others = All-tail (MayBeJoined c.args.self.now) c.in-Some.other rest (subst (All (MayBeJoined c.args.self.now)) e c.loop-other.invariant.others);
-      room = omega (arith, ap (sum_by acts) e, sum_by-cons acts c.in-Some.other rest, c.add_hand.ensures.room, c.loop-other.invariant.room);
-      joined = same_then before (fold united c.loop-other.first (into_iter_items c.loop-other.other-iterator)) (fold united c.add_hand.new.first rest) c.loop-other.invariant.joined
-          (subst (λ l. IsSame (fold united c.loop-other.first l) (fold united c.add_hand.new.first rest)) (sym e) (same_all rest (united c.loop-other.first c.in-Some.other) c.add_hand.new.first c.add_hand.ensures.joined));
+      of =
+          of_joined c.args.self.now c.loop-other.first c.in-Some.other c.add_hand.new.first c.loop-other.invariant.of
+          c.add_hand.ensures.joined;
+      others =
+          All-tail (MayBeJoined c.args.self.now) c.in-Some.other rest
+          (subst (All (MayBeJoined c.args.self.now)) e c.loop-other.invariant.others);
+      room =
+          omega (
+            arith,
+            ap (sum_by acts) e,
+            sum_by-cons acts c.in-Some.other rest,
+            c.add_hand.ensures.room,
+            c.loop-other.invariant.room,
+          );
+      joined =
+          same_then before (fold united c.loop-other.first (into_iter_items c.loop-other.other-iterator))
+          (fold united c.add_hand.new.first rest) c.loop-other.invariant.joined
+          (subst (λ l. IsSame (fold united c.loop-other.first l) (fold united c.add_hand.new.first rest)) (sym e)
+          (same_all rest (united c.loop-other.first c.in-Some.other) c.add_hand.new.first
+          c.add_hand.ensures.joined));
     }

@@ -11,5 +11,6 @@ invariant-loop-other g l = record {
   of : IsOf l.self l.first;
   others : All (MayBeJoined l.self) (into_iter_items l.other-iterator);
   room : sum_by (λ h. length h.acts) (into_iter_items l.other-iterator) ≤ l.first.room;
-  joined : IsSame (fold united l.initial.first (into_iter_items l.initial.other-iterator)) (fold united l.first (into_iter_items l.other-iterator));
+  joined : IsSame (fold united l.initial.first (into_iter_items l.initial.other-iterator))
+      (fold united l.first (into_iter_items l.other-iterator));
 }

@@ -16,5 +16,6 @@ loop-place-preserved g c =
       c.borrow_seat.ensures.taken c.if-not-borrow_seat.false
           ∙ ap (λ (m : Seated). (with_token m.0 (holder (c.deref.result.now ∷ [])), m.1)) c.loop-place.invariant.1
           ∙ ap (λ (ps : List Seen). (record (old.0) { parts = ps }, old.1))
-          (ap (λ (b : Seen). take n (map read_guard_value guards) ++ b ∷ []) c.deref.ensures ∙ row_taken read_guard_value guards n v c.loop-place-test.true c.index-guards-place.is),
+          (ap (λ (b : Seen). take n (map read_guard_value guards) ++ b ∷ []) c.deref.ensures
+          ∙ row_taken read_guard_value guards n v c.loop-place-test.true c.index-guards-place.is),
     )

@@ -15,11 +15,24 @@ returns-then-self-clause-acted g c =
     let none = uncounted (content c.args.bucket.now) (Search c.args.key.now) refl in (
       stamp,
       record {
-        newest = subst (All (λ x. x < stamp)) (ap (λ (h : HandState). h.view.stamps) c.hand.view_is) c.deal_look-stamp.ensures.newest;
+        newest =
+            subst (All (λ x. x < stamp)) (ap (λ (h : HandState). h.view.stamps) c.hand.view_is)
+            c.deal_look-stamp.ensures.newest;
         view = ap (λ (m : Seated). m.0.view) c.deal_look-stamp.ensures.acted
-            ∙ stamped_same c.hand.inside.seat.me.0.view stamp (inserts_of given) (deletes_of given) (ap inserts_of is ∙ none.0) (ap deletes_of is ∙ none.1)
-            ∙ ap (λ (h : HandState). record (h.view) { stamps = h.view.stamps ++ stamp ∷ []; left = h.view.left - 1; inserted = h.view.inserted + inserts_of given; deleted = h.view.deleted + deletes_of given }) c.hand.view_is;
-        logs = ap (λ (m : Seated). m.0.logs) c.deal_look-stamp.ensures.acted ∙ ap (λ (h : HandState). h.logs) c.hand.view_is;
+            ∙ stamped_same c.hand.inside.seat.me.0.view stamp (inserts_of given) (deletes_of given)
+            (ap inserts_of is ∙ none.0) (ap deletes_of is ∙ none.1)
+            ∙ ap
+            (λ (h : HandState).
+            record (h.view) {
+              stamps = h.view.stamps ++ stamp ∷ [];
+              left = h.view.left - 1;
+              inserted = h.view.inserted + inserts_of given;
+              deleted = h.view.deleted + deletes_of given;
+            })
+            c.hand.view_is;
+        logs =
+            ap (λ (m : Seated). m.0.logs) c.deal_look-stamp.ensures.acted
+            ∙ ap (λ (h : HandState). h.logs) c.hand.view_is;
         acts = search rules;
         room = search rules;
         table = search rules;
@@ -34,11 +47,24 @@ returns-else-self-clause-acted g c =
     let none = uncounted (content c.args.bucket.now) (Search c.args.key.now) refl in (
       stamp,
       record {
-        newest = subst (All (λ x. x < stamp)) (ap (λ (h : HandState). h.view.stamps) c.hand.view_is) c.deal_look-stamp.ensures.newest;
+        newest =
+            subst (All (λ x. x < stamp)) (ap (λ (h : HandState). h.view.stamps) c.hand.view_is)
+            c.deal_look-stamp.ensures.newest;
         view = ap (λ (m : Seated). m.0.view) c.deal_look-stamp.ensures.acted
-            ∙ stamped_same c.hand.inside.seat.me.0.view stamp (inserts_of given) (deletes_of given) (ap inserts_of is ∙ none.0) (ap deletes_of is ∙ none.1)
-            ∙ ap (λ (h : HandState). record (h.view) { stamps = h.view.stamps ++ stamp ∷ []; left = h.view.left - 1; inserted = h.view.inserted + inserts_of given; deleted = h.view.deleted + deletes_of given }) c.hand.view_is;
-        logs = ap (λ (m : Seated). m.0.logs) c.deal_look-stamp.ensures.acted ∙ ap (λ (h : HandState). h.logs) c.hand.view_is;
+            ∙ stamped_same c.hand.inside.seat.me.0.view stamp (inserts_of given) (deletes_of given)
+            (ap inserts_of is ∙ none.0) (ap deletes_of is ∙ none.1)
+            ∙ ap
+            (λ (h : HandState).
+            record (h.view) {
+              stamps = h.view.stamps ++ stamp ∷ [];
+              left = h.view.left - 1;
+              inserted = h.view.inserted + inserts_of given;
+              deleted = h.view.deleted + deletes_of given;
+            })
+            c.hand.view_is;
+        logs =
+            ap (λ (m : Seated). m.0.logs) c.deal_look-stamp.ensures.acted
+            ∙ ap (λ (h : HandState). h.logs) c.hand.view_is;
         acts = search rules;
         room = search rules;
         table = search rules;
@@ -51,7 +77,8 @@ returns-then-self-clause-entered g c = (
   c.deal_look-stamp.result,
   search rules,
   search rules,
-  ap (λ (m : Seated). m.0.view.stamps) c.deal_look-stamp.ensures.acted ∙ ap (λ (h : HandState). h.view.stamps ++ c.deal_look-stamp.result ∷ []) c.hand.view_is,
+  ap (λ (m : Seated). m.0.view.stamps) c.deal_look-stamp.ensures.acted
+      ∙ ap (λ (h : HandState). h.view.stamps ++ c.deal_look-stamp.result ∷ []) c.hand.view_is,
 )
 
 pub returns-else-self-clause-entered : goal.returns-else-self-clause-entered
@@ -59,5 +86,6 @@ returns-else-self-clause-entered g c = (
   c.deal_look-stamp.result,
   search rules,
   search rules,
-  ap (λ (m : Seated). m.0.view.stamps) c.deal_look-stamp.ensures.acted ∙ ap (λ (h : HandState). h.view.stamps ++ c.deal_look-stamp.result ∷ []) c.hand.view_is,
+  ap (λ (m : Seated). m.0.view.stamps) c.deal_look-stamp.ensures.acted
+      ∙ ap (λ (h : HandState). h.view.stamps ++ c.deal_look-stamp.result ∷ []) c.hand.view_is,
 )

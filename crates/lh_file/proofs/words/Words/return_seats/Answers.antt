@@ -9,7 +9,9 @@ use Rattle.lh_file.proofs.words.Words.return_seats.Goals as goal
 pub return_seat-requires-clause-first : goal.return_seat-requires-clause-first
 return_seat-requires-clause-first g c =
     ap (λ (m : Seated). first_bucket_of m.0.parts) c.loop-place.invariant.1
-    ∙ ap first_bucket_of (row_left read_guard_value c.args.guards.now c.loop-place.place c.index-guards-place.result c.loop-place-test.true c.index-guards-place.is)
+    ∙ ap first_bucket_of
+    (row_left read_guard_value c.args.guards.now c.loop-place.place c.index-guards-place.result
+    c.loop-place-test.true c.index-guards-place.is)
     ∙ ap (λ (b : Seen). b ∷ []) (sym c.deref.ensures)
 
 pub loop-place-preserved : goal.loop-place-preserved
@@ -18,5 +20,6 @@ loop-place-preserved g c = let old : Seated = c.args.seat.now.me in (
   c.return_seat.ensures.left
       ∙ ap (λ (m : Seated). (dealt_seat m.0, m.1)) c.loop-place.invariant.1
       ∙ ap (λ (ps : List Seen). (record (old.0) { parts = other_buckets_of ps }, old.1))
-      (row_left read_guard_value c.args.guards.now c.loop-place.place c.index-guards-place.result c.loop-place-test.true c.index-guards-place.is),
+      (row_left read_guard_value c.args.guards.now c.loop-place.place c.index-guards-place.result c.loop-place-test.true
+      c.index-guards-place.is),
 )

@@ -8,4 +8,6 @@ use Rattle.lh_image.proofs.checked.CheckedImage.buckets.Goals as goal
 
 pub returns : goal.returns
 returns c =
-    (listed c.self.inside.bytes.now c.self.inside.header c.self.inside.root c.self.invariant.opened (λ (h : Header). h.buckets) (listing_of (view_of c.self.inside.bytes.now)) c.self.invariant.image).1 ∙ ap size c.self.view_is
+    (listed c.self.inside.bytes.now c.self.inside.header c.self.inside.root c.self.invariant.opened
+    (λ (h : Header). h.buckets) (listing_of (view_of c.self.inside.bytes.now)) c.self.invariant.image).1
+    ∙ ap size c.self.view_is

@@ -8,4 +8,6 @@ use Rattle.lh_image.proofs.checked.CheckedImage.len.Goals as goal
 
 pub returns : goal.returns
 returns c =
-    (listed c.self.inside.bytes.now c.self.inside.header c.self.inside.root c.self.invariant.opened (λ (h : Header). h.records) (listing_of (view_of c.self.inside.bytes.now)) c.self.invariant.image).1 ∙ ap (λ (l : Lists). count_of l.lists) c.self.view_is
+    (listed c.self.inside.bytes.now c.self.inside.header c.self.inside.root c.self.invariant.opened
+    (λ (h : Header). h.records) (listing_of (view_of c.self.inside.bytes.now)) c.self.invariant.image).1
+    ∙ ap (λ (l : Lists). count_of l.lists) c.self.view_is

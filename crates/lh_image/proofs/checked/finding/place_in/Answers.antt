@@ -18,16 +18,22 @@ pub is_there-requires-clause-good : goal.is_there-requires-clause-good
 is_there-requires-clause-good c = c.requires.good c.loop-place.place (omega (arith, c.requires.entry.used))
 
 pub loop-place-preserved : goal.loop-place-preserved
-loop-place-preserved c = scanned_on c.args.format c.args.page.now c.args.key.now c.loop-place.place c.loop-place.invariant (sym c.if-is_there.ensures)
+loop-place-preserved c =
+    scanned_on c.args.format c.args.page.now c.args.key.now c.loop-place.place c.loop-place.invariant
+    (sym c.if-is_there.ensures)
 
 pub returns-then-is_there : goal.returns-then-is_there
 returns-then-is_there c =
-    let good = good_lengths c.args.format _ (c.requires.good c.loop-place.place (omega (arith, c.requires.entry.used))) in (
+    let good =
+    good_lengths c.args.format _ (c.requires.good c.loop-place.place (omega (arith, c.requires.entry.used))) in (
       omega (arith, c.requires.few, c.requires.entry.used),
       good.1,
-      found_first_there c.args.format c.args.page.now c.args.key.now c.loop-place.place c.loop-place.invariant (sym c.if-is_there.ensures)
+      found_first_there c.args.format c.args.page.now c.args.key.now c.loop-place.place c.loop-place.invariant
+          (sym c.if-is_there.ensures)
           (used_of c.args.page.now) refl (omega (arith, c.requires.entry.used)),
     )
 
 pub returns : goal.returns
-returns c = not_found_there c.args.format c.args.page.now c.args.key.now c.loop-place.place c.args.entry.now.used c.loop-place.invariant (omega arith) c.requires.entry.used
+returns c =
+    not_found_there c.args.format c.args.page.now c.args.key.now c.loop-place.place c.args.entry.now.used
+    c.loop-place.invariant (omega arith) c.requires.entry.used

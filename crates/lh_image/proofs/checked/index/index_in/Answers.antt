@@ -6,20 +6,27 @@ use Rattle.lh_image.proofs.looking.Steps.{format_is, page_size_is}
 use Rattle.lh_image.proofs.checked.index.index_in.Goals as goal
 
 pub index_of-requires-clause-size : goal.index_of-requires-clause-size
-index_of-requires-clause-size c = page_size_is c.args.header.now.version c.format-format.result _ c.page_at.ensures.size c.format-format.ensures
+index_of-requires-clause-size c =
+    page_size_is c.args.header.now.version c.format-format.result _ c.page_at.ensures.size c.format-format.ensures
 
 pub index_of-requires-clause-few : goal.index_of-requires-clause-few
 index_of-requires-clause-few c =
-    (image_page c.image_is_of_only_listing.ensures c.args.bytes.now c.args.header.now c.args.root.now (listing_of (view_of c.args.bytes.now)) c.requires.opened c.requires.image c.loop-page.page (omega arith) (omega arith)
+    (image_page c.image_is_of_only_listing.ensures c.args.bytes.now c.args.header.now c.args.root.now
+    (listing_of (view_of c.args.bytes.now)) c.requires.opened c.requires.image c.loop-page.page (omega arith)
+    (omega arith)
     c.format-format.result c.page_at.result.now c.format-format.ensures c.page_at.ensures.page).0
 
 pub index_of-requires-clause-good : goal.index_of-requires-clause-good
 index_of-requires-clause-good c =
-    (image_page c.image_is_of_only_listing.ensures c.args.bytes.now c.args.header.now c.args.root.now (listing_of (view_of c.args.bytes.now)) c.requires.opened c.requires.image c.loop-page.page (omega arith) (omega arith)
+    (image_page c.image_is_of_only_listing.ensures c.args.bytes.now c.args.header.now c.args.root.now
+    (listing_of (view_of c.args.bytes.now)) c.requires.opened c.requires.image c.loop-page.page (omega arith)
+    (omega arith)
     c.format-format.result c.page_at.result.now c.format-format.ensures c.page_at.ensures.page).1
 
 pub loop-page-preserved : goal.loop-page-preserved
 loop-page-preserved c =
     rw c.in_ok-push-2.ensures.items
-    (pages_more c.args.bytes.now c.loop-page.index.items c.loop-page.page c.index_of.result c.format-format.result c.page_at.result.now
-    (format_is c.args.bytes.now c.args.header.now c.args.root.now c.requires.opened c.format-format.result c.format-format.ensures) c.page_at.ensures.page c.loop-page.invariant c.index_of.ensures)
+    (pages_more c.args.bytes.now c.loop-page.index.items c.loop-page.page c.index_of.result c.format-format.result
+    c.page_at.result.now
+    (format_is c.args.bytes.now c.args.header.now c.args.root.now c.requires.opened c.format-format.result
+    c.format-format.ensures) c.page_at.ensures.page c.loop-page.invariant c.index_of.ensures)

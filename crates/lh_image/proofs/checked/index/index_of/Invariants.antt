@@ -8,5 +8,6 @@ use Rattle.lh_image.proofs.checked.index.index_of.Given as goal
 abbrev pub invariant-loop-place : goal.invariant-loop-place
 invariant-loop-place l = record {
   size : length l.marks ≡ 24;
-  marks : (i : ℕ) → i < l.place → get_or l.marks i 0 ≡ mark_of (code_of (pair_of l.fn.format (slot l.fn.format l.page i)).key);
+  marks : (i : ℕ) → i < l.place →
+      get_or l.marks i 0 ≡ mark_of (code_of (pair_of l.fn.format (slot l.fn.format l.page i)).key);
 }

@@ -3,4 +3,6 @@ use Rattle.lh_image.proofs.looking.Maps.{listed}
 use Rattle.lh_image.proofs.image.Image.len.Goals as goal
 
 pub returns-clause-listed : goal.returns-clause-listed
-returns-clause-listed c l image = (listed c.self.inside.bytes.now c.self.inside.header c.self.inside.root c.self.invariant (λ (h : Header). h.records) l (rw c.self.view_is image)).1
+returns-clause-listed c l image =
+    (listed c.self.inside.bytes.now c.self.inside.header c.self.inside.root c.self.invariant (λ (h : Header). h.records)
+    l (rw c.self.view_is image)).1

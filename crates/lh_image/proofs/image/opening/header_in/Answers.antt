@@ -14,11 +14,16 @@ returns-then-bytes-page_bytes-clause-header c =
 
 pub header_of-requires-clause-version : goal.header_of-requires-clause-version
 header_of-requires-clause-version c =
-    c.in-Some.ensures.version ∙ sym (version-front c.page_bytes-2.result c.args.bytes.now (omega (arith, c.page_bytes-2.ensures.value, least_page c.in-Some.version)))
+    c.in-Some.ensures.version
+    ∙ sym
+    (version-front c.page_bytes-2.result c.args.bytes.now
+    (omega (arith, c.page_bytes-2.ensures.value, least_page c.in-Some.version)))
 
 pub returns-clause-header : goal.returns-clause-header
 returns-clause-header c =
     let size = c.page_bytes.ensures.value ∙ ap page_bytes c.in-Some.ensures.version in
     let size2 = c.page_bytes-2.ensures.value ∙ ap page_bytes c.in-Some.ensures.version in
-    opens_header c.args.bytes.now (take c.page_bytes-2.result c.args.bytes.now) c.header_of.result (ap (λ n. take n c.args.bytes.now) size2)
-    c.in-Some.ensures.some (omega (arith, size, c.if-bytes-page_bytes.false)) c.header_of.ensures.header c.header_of.ensures.fault
+    opens_header c.args.bytes.now (take c.page_bytes-2.result c.args.bytes.now) c.header_of.result
+    (ap (λ n. take n c.args.bytes.now) size2)
+    c.in-Some.ensures.some (omega (arith, size, c.if-bytes-page_bytes.false)) c.header_of.ensures.header
+    c.header_of.ensures.fault

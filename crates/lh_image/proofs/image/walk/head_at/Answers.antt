@@ -4,4 +4,5 @@ use Rattle.lh_image.proofs.looking.Steps.{head_is}
 use Rattle.lh_image.proofs.image.walk.head_at.Goals as goal
 
 pub returns : goal.returns
-returns c = c.head_of.ensures ∙ ap head_of c.page_at.ensures.page ∙ head_is c.args.bytes.now c.args.number c.requires.from
+returns c =
+    c.head_of.ensures ∙ ap head_of c.page_at.ensures.page ∙ head_is c.args.bytes.now c.args.number c.requires.from

@@ -8,7 +8,9 @@ pub returns-clause-least : goal.returns-clause-least
 returns-clause-least c =
     let marks : List Bool = c.in_ok-marks.marks.items in
     let size : length marks ≡ c.args.pages = c.in_ok-marks.ensures.size in
-    let first : c.least_unmarked.result ≡ find (λ p. not (get_or marks p false)) (range_with_len 1 (length marks - 1)) = rw c.deref.ensures.value at c.least_unmarked.ensures in
+    let first : c.least_unmarked.result ≡ find (λ p. not (get_or marks p false)) (range_with_len 1 (length marks - 1)) =
+    rw c.deref.ensures.value at c.least_unmarked.ensures in
     first ∙ ap (λ (n : ℕ). find (λ p. not (get_or marks p false)) (range_with_len 1 (n - 1))) size
-    ∙ find_same (λ p. not (get_or marks p false)) (λ p. not (list_any (λ (chain : Vec ℕ Global). stands_in chain.items p) c.args.chains.now)) 1 (c.args.pages - 1)
+    ∙ find_same (λ p. not (get_or marks p false))
+    (λ p. not (list_any (λ (chain : Vec ℕ Global). stands_in chain.items p) c.args.chains.now)) 1 (c.args.pages - 1)
     (λ p low high. ap not (c.in_ok-marks.ensures.marks p (omega arith)))

@@ -9,11 +9,21 @@ loop-page-init c = record { size = refl; marked = λ p l. mark_none (get_or c.ar
 pub loop-page-preserved : goal.loop-page-preserved
 loop-page-preserved c = elim c.if-page-marks.branch [
   | then-page-marks w ↦ rw w.marks-is (record {
-    size = length-set c.loop-page.marks (get_or c.args.pages.now c.loop-page.page-index 0) true ∙ c.loop-page.invariant.size;
-    marked = λ p l. mark_more c.args.marks.now c.loop-page.marks c.args.pages.now c.loop-page.page-index (get_or c.args.pages.now c.loop-page.page-index 0) p (omega arith) refl w.if-page-marks.true (c.loop-page.invariant.marked p l);
+    size =
+        length-set c.loop-page.marks (get_or c.args.pages.now c.loop-page.page-index 0) true
+        ∙ c.loop-page.invariant.size;
+    marked =
+        λ p l.
+        mark_more c.args.marks.now c.loop-page.marks c.args.pages.now c.loop-page.page-index
+        (get_or c.args.pages.now c.loop-page.page-index 0) p (omega arith) refl w.if-page-marks.true
+        (c.loop-page.invariant.marked p l);
   })
   | else-page-marks w ↦ rw w.marks-is (record {
     size = c.loop-page.invariant.size;
-    marked = λ p l. mark_skip c.args.marks.now c.loop-page.marks c.args.pages.now c.loop-page.page-index (get_or c.args.pages.now c.loop-page.page-index 0) p (omega arith) refl (omega (arith, w.if-page-marks.false)) (c.loop-page.invariant.marked p l);
+    marked =
+        λ p l.
+        mark_skip c.args.marks.now c.loop-page.marks c.args.pages.now c.loop-page.page-index
+        (get_or c.args.pages.now c.loop-page.page-index 0) p (omega arith) refl (omega (arith, w.if-page-marks.false))
+        (c.loop-page.invariant.marked p l);
   })
 ]

@@ -5,5 +5,6 @@ use Rattle.lh_image.proofs.judge.chains.mark.Given as goal
 abbrev pub invariant-loop-page : goal.invariant-loop-page
 invariant-loop-page l = record {
   size : length l.marks ≡ length l.fn.marks;
-  marked : (p : ℕ) → p < length l.fn.marks → slice_index_or l.marks p false ≡ (slice_index_or l.fn.marks p false || stands_in (take l.page-index l.pages) p);
+  marked : (p : ℕ) → p < length l.fn.marks →
+      slice_index_or l.marks p false ≡ (slice_index_or l.fn.marks p false || stands_in (take l.page-index l.pages) p);
 }

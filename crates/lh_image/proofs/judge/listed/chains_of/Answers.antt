@@ -14,23 +14,35 @@ returns-in-Some-clause-fault c =
 pub returns-in-Some-2-clause-fault : goal.returns-in-Some-2-clause-fault
 returns-in-Some-2-clause-fault c =
     let l : Links = links_in c.args.table.now.entries.items c.args.header.now.buckets in
-    let none : None ≡ least l.pages (bad_next l) = rw c.deref.ensures.value at (sym c.in_default.is ∙ c.least_bad_next.ensures) in
-    links_twice l c.in-Some-2.page none (rw c.deref-2.ensures.value at (sym c.in-Some-2.is ∙ c.in_ok-page.ensures.least c.args.header.now.buckets))
+    let none : None ≡ least l.pages (bad_next l) =
+    rw c.deref.ensures.value at (sym c.in_default.is ∙ c.least_bad_next.ensures) in
+    links_twice l c.in-Some-2.page none
+    (rw c.deref-2.ensures.value at (sym c.in-Some-2.is ∙ c.in_ok-page.ensures.least c.args.header.now.buckets))
 
 pub returns-in-Some-3-clause-fault : goal.returns-in-Some-3-clause-fault
 returns-in-Some-3-clause-fault c =
     let l : Links = links_in c.args.table.now.entries.items c.args.header.now.buckets in
-    let none : None ≡ least l.pages (bad_next l) = rw c.deref.ensures.value at (sym c.in_default.is ∙ c.least_bad_next.ensures) in
-    let once : None ≡ least l.pages (named_twice l) = rw c.deref-2.ensures.value at (sym c.in_default-2.is ∙ c.in_ok-page.ensures.least c.args.header.now.buckets) in
-    let made : map (λ (chain : Vec ℕ Global). chain.items) c.in_ok-chains.chains.items ≡ map (chain l.next l.pages) (range_with_len 0 l.heads) = rw c.deref-3.ensures.value at c.in_ok-chains.ensures.ok in
+    let none : None ≡ least l.pages (bad_next l) =
+    rw c.deref.ensures.value at (sym c.in_default.is ∙ c.least_bad_next.ensures) in
+    let once : None ≡ least l.pages (named_twice l) =
+    rw c.deref-2.ensures.value at (sym c.in_default-2.is ∙ c.in_ok-page.ensures.least c.args.header.now.buckets) in
+    let made : map (λ (chain : Vec ℕ Global). chain.items) c.in_ok-chains.chains.items ≡
+    map (chain l.next l.pages) (range_with_len 0 l.heads) =
+    rw c.deref-3.ensures.value at c.in_ok-chains.ensures.ok in
     let found = rw c.deref-4.ensures.value at (sym c.in-Some-3.is ∙ c.in_ok-page-2.ensures.least) in
-    links_never l c.in-Some-3.page none once (found ∙ never_same l c.args.header.now.pages c.in_ok-chains.chains.items c.requires.size made)
+    links_never l c.in-Some-3.page none once
+    (found ∙ never_same l c.args.header.now.pages c.in_ok-chains.chains.items c.requires.size made)
 
 pub returns-in-None-clause-faultless : goal.returns-in-None-clause-faultless
 returns-in-None-clause-faultless c =
     let l : Links = links_in c.args.table.now.entries.items c.args.header.now.buckets in
-    let none : None ≡ least l.pages (bad_next l) = rw c.deref.ensures.value at (sym c.in_default.is ∙ c.least_bad_next.ensures) in
-    let once : None ≡ least l.pages (named_twice l) = rw c.deref-2.ensures.value at (sym c.in_default-2.is ∙ c.in_ok-page.ensures.least c.args.header.now.buckets) in
-    let made : map (λ (chain : Vec ℕ Global). chain.items) c.in_ok-chains.chains.items ≡ map (chain l.next l.pages) (range_with_len 0 l.heads) = rw c.deref-3.ensures.value at c.in_ok-chains.ensures.ok in
+    let none : None ≡ least l.pages (bad_next l) =
+    rw c.deref.ensures.value at (sym c.in_default.is ∙ c.least_bad_next.ensures) in
+    let once : None ≡ least l.pages (named_twice l) =
+    rw c.deref-2.ensures.value at (sym c.in_default-2.is ∙ c.in_ok-page.ensures.least c.args.header.now.buckets) in
+    let made : map (λ (chain : Vec ℕ Global). chain.items) c.in_ok-chains.chains.items ≡
+    map (chain l.next l.pages) (range_with_len 0 l.heads) =
+    rw c.deref-3.ensures.value at c.in_ok-chains.ensures.ok in
     let found = rw c.deref-4.ensures.value at (sym c.in-None.is ∙ c.in_ok-page-2.ensures.least) in
-    links_none l none once (found ∙ never_same l c.args.header.now.pages c.in_ok-chains.chains.items c.requires.size made)
+    links_none l none once
+    (found ∙ never_same l c.args.header.now.pages c.in_ok-chains.chains.items c.requires.size made)

@@ -5,4 +5,7 @@ use Rattle.lh_image.specs.Table.{page_records}
 use Rattle.lh_image.proofs.judge.lists.count_of.Given as goal
 
 abbrev pub invariant-loop-page : goal.invariant-loop-page
-invariant-loop-page l = l.count ≡ u64_saturate (length (flat_map (page_records l.table.entries.items l.table.pairs.items) (take l.page-index l.chain)))
+invariant-loop-page l =
+    l.count ≡
+    u64_saturate
+    (length (flat_map (page_records l.table.entries.items l.table.pairs.items) (take l.page-index l.chain)))

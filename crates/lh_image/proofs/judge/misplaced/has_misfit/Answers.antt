@@ -1,4 +1,5 @@
-use Rattle.std.proofs.Common.{◌≡◌, ℕ, ◌+◌, ◌<◌, Bool, not, ◌||◌, List, ◌++◌, length, take, drop, get_or, sym, ◌∙◌, arith}
+use Rattle.std.proofs.Common.{◌≡◌, ℕ, ◌+◌, ◌<◌, Bool, not, ◌||◌, List, ◌++◌, length, take, drop, get_or, sym, ◌∙◌}
+use Rattle.std.proofs.Common.{arith}
 use Rattle.std.specs.List.{list_any}
 use Rattle.std.specs.Str.{bytes_eq}
 use Rattle.std.proofs.lemmas.List.{get_or_default}
@@ -19,20 +20,32 @@ loop-pair-preserved c =
     let less : i < length rs = omega arith in
     let is : get_or rs i no_pair ≡ r = get_or_default rs i no_pair r less ∙ sym c.pair-item.is in
     record {
-      known = λ before set. rw (keys_more before rs i r less is) at (c.in_ok-is_misfit.ensures.known (before ++ keys_of (take i rs)) (c.loop-pair.invariant.known before set));
+      known =
+          λ before set.
+          rw (keys_more before rs i r less is) at
+          (c.in_ok-is_misfit.ensures.known (before ++ keys_of (take i rs)) (c.loop-pair.invariant.known before set));
       value = λ before set.
           let came : List (List ℕ) = before ++ keys_of (take i rs) in
           let rest : Bool = misfits home (before ++ keys_of (take (i + 1) rs)) (drop (i + 1) rs) in
           let here : Bool = not (home r.key) || list_any (bytes_eq r.key) came in
-          let is_here : c.in_ok-is_misfit.field-0 ≡ here = c.in_ok-is_misfit.ensures.value came (c.loop-pair.invariant.known before set) in
-          let total : ((c.loop-pair.misfit || here) || rest) ≡ misfits home before rs = sym (misfit_step home before rs i r c.loop-pair.misfit less is) ∙ c.loop-pair.invariant.value before set in
+          let is_here : c.in_ok-is_misfit.field-0 ≡ here =
+          c.in_ok-is_misfit.ensures.value came (c.loop-pair.invariant.known before set) in
+          let total : ((c.loop-pair.misfit || here) || rest) ≡ misfits home before rs =
+          sym (misfit_step home before rs i r c.loop-pair.misfit less is)
+          ∙ c.loop-pair.invariant.value before set in
           elim c.if-branch.branch [
-            | then-branch w ↦ rw w.misfit-is (then_true c.loop-pair.misfit here rest (misfits home before rs) (sym is_here ∙ w.if-branch.true) total)
-            | else-branch w ↦ rw w.misfit-is (else_same c.loop-pair.misfit here rest (misfits home before rs) (sym is_here ∙ w.if-branch.false) total)
+            | then-branch w ↦
+                rw w.misfit-is
+                (then_true c.loop-pair.misfit here rest (misfits home before rs) (sym is_here ∙ w.if-branch.true) total)
+            | else-branch w ↦
+                rw w.misfit-is
+                (else_same c.loop-pair.misfit here rest (misfits home before rs) (sym is_here ∙ w.if-branch.false)
+                total)
           ];
     }
 
 pub returns-clause-value : goal.returns-clause-value
 returns-clause-value c before set =
-    misfit_end (is_home c.args.root.now c.args.bucket) before c.args.pairs.now c.loop-pair.pair-index c.loop-pair.misfit (misfits (is_home c.args.root.now c.args.bucket) before c.args.pairs.now)
+    misfit_end (is_home c.args.root.now c.args.bucket) before c.args.pairs.now c.loop-pair.pair-index c.loop-pair.misfit
+    (misfits (is_home c.args.root.now c.args.bucket) before c.args.pairs.now)
     (omega arith) (c.loop-pair.invariant.value before set)

@@ -9,7 +9,10 @@ use Rattle.lh_image.proofs.judge.misplaced.has_misfit.Given as goal
 
 abbrev pub invariant-loop-pair : goal.invariant-loop-pair
 invariant-loop-pair l = record {
-  known : (before : List (List ℕ)) → IsSetOf (contains (slice_cmp nat_cmp) l.initial.came) before → IsSetOf (contains (slice_cmp nat_cmp) l.came) (before ++ keys_of (take l.pair-index l.pairs));
+  known : (before : List (List ℕ)) → IsSetOf (contains (slice_cmp nat_cmp) l.initial.came) before →
+      IsSetOf (contains (slice_cmp nat_cmp) l.came) (before ++ keys_of (take l.pair-index l.pairs));
   value : (before : List (List ℕ)) → IsSetOf (contains (slice_cmp nat_cmp) l.initial.came) before →
-      (l.misfit || misfits (is_home l.root l.bucket) (before ++ keys_of (take l.pair-index l.pairs)) (drop l.pair-index l.pairs)) ≡ misfits (is_home l.root l.bucket) before l.pairs;
+      (l.misfit
+      || misfits (is_home l.root l.bucket) (before ++ keys_of (take l.pair-index l.pairs))
+      (drop l.pair-index l.pairs)) ≡ misfits (is_home l.root l.bucket) before l.pairs;
 }

@@ -24,18 +24,32 @@ loop-page-preserved c =
     let before : List (List ℕ) = keys_of (flat_map rec (take i chain)) in
     let less : i < length chain = omega arith in
     record {
-      known = rw (chain_keys rec chain i (get_or chain i 0) c.records.result.now less refl c.records.ensures) at (c.in_ok-has_misfit.ensures.known before c.loop-page.invariant.known);
+      known =
+          rw (chain_keys rec chain i (get_or chain i 0) c.records.result.now less refl c.records.ensures) at
+          (c.in_ok-has_misfit.ensures.known before c.loop-page.invariant.known);
       least = λ bad seen tests old.
-          let so_far : IsLeastAmong bad (seen ++ take i chain) c.loop-page.least = c.loop-page.invariant.least bad seen tests old in
-          let here : c.in_ok-has_misfit.field-0 ≡ misfits (is_home c.args.root.now c.args.bucket) before c.records.result.now = c.in_ok-has_misfit.ensures.value before c.loop-page.invariant.known in
-          let test : bad (get_or chain i 0) ≡ c.in_ok-has_misfit.field-0 = tests i less ∙ ap (misfits (is_home c.args.root.now c.args.bucket) before) (sym c.records.ensures) ∙ sym here in
+          let so_far : IsLeastAmong bad (seen ++ take i chain) c.loop-page.least =
+          c.loop-page.invariant.least bad seen tests old in
+          let here : c.in_ok-has_misfit.field-0 ≡
+          misfits (is_home c.args.root.now c.args.bucket) before c.records.result.now =
+          c.in_ok-has_misfit.ensures.value before c.loop-page.invariant.known in
+          let test : bad (get_or chain i 0) ≡ c.in_ok-has_misfit.field-0 =
+          tests i less ∙ ap (misfits (is_home c.args.root.now c.args.bucket) before) (sym c.records.ensures)
+          ∙ sym here in
           rw (pages_more seen chain i less) (elim c.if-branch.branch [
-            | then-branch w ↦ rw (w.least-is, w.lesser.ensures) (least_bad bad (seen ++ take i chain) (get_or chain i 0) c.loop-page.least (test ∙ w.if-branch.true) so_far)
-            | else-branch w ↦ rw w.least-is (least_sound bad (seen ++ take i chain) (get_or chain i 0) c.loop-page.least (test ∙ w.if-branch.false) so_far)
+            | then-branch w ↦
+                rw (w.least-is, w.lesser.ensures)
+                (least_bad bad (seen ++ take i chain) (get_or chain i 0) c.loop-page.least (test ∙ w.if-branch.true)
+                so_far)
+            | else-branch w ↦
+                rw w.least-is
+                (least_sound bad (seen ++ take i chain) (get_or chain i 0) c.loop-page.least (test ∙ w.if-branch.false)
+                so_far)
           ]);
     }
 
 pub returns-clause-least : goal.returns-clause-least
 returns-clause-least c bad seen tests old =
-    let all : take c.loop-page.page-index c.args.chain.now ≡ c.args.chain.now = take_all c.loop-page.page-index c.args.chain.now (omega arith) in
+    let all : take c.loop-page.page-index c.args.chain.now ≡ c.args.chain.now =
+    take_all c.loop-page.page-index c.args.chain.now (omega arith) in
     rw all at (c.loop-page.invariant.least bad seen tests old)

@@ -10,7 +10,10 @@ use Rattle.lh_image.proofs.judge.misplaced.least_in_chain.Given as goal
 
 abbrev pub invariant-loop-page : goal.invariant-loop-page
 invariant-loop-page l = record {
-  known : IsSetOf (contains (slice_cmp nat_cmp) l.came) (keys_of (flat_map (page_records l.table.entries.items l.table.pairs.items) (take l.page-index l.chain)));
-  least : (bad : ℕ → Bool) (seen : List ℕ) → IsTestOf bad (is_home l.root l.bucket) (page_records l.table.entries.items l.table.pairs.items) l.chain → IsLeastAmong bad seen l.fn.before →
+  known : IsSetOf (contains (slice_cmp nat_cmp) l.came)
+      (keys_of (flat_map (page_records l.table.entries.items l.table.pairs.items) (take l.page-index l.chain)));
+  least : (bad : ℕ → Bool) (seen : List ℕ) →
+      IsTestOf bad (is_home l.root l.bucket) (page_records l.table.entries.items l.table.pairs.items) l.chain →
+      IsLeastAmong bad seen l.fn.before →
       IsLeastAmong bad (seen ++ take l.page-index l.chain) l.least;
 }

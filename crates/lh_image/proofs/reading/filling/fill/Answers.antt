@@ -9,6 +9,9 @@ loop-filled-preserved g c =
     record {
       within = search rules;
       size = search rules;
-      bytes = fills_on (g.R.Read.remaining c.args.reader.now) (g.R.Read.remaining c.loop-filled.reader) (g.R.Read.remaining c.read.new.self) c.loop-filled.filled c.in_ok-count.count
-          c.loop-filled.buffer c.read.new.buf c.loop-filled.invariant.within left count c.loop-filled.invariant.bytes c.in_ok-count.ensures.bytes.0;
+      bytes =
+          fills_on (g.R.Read.remaining c.args.reader.now) (g.R.Read.remaining c.loop-filled.reader)
+          (g.R.Read.remaining c.read.new.self) c.loop-filled.filled c.in_ok-count.count
+          c.loop-filled.buffer c.read.new.buf c.loop-filled.invariant.within left count c.loop-filled.invariant.bytes
+          c.in_ok-count.ensures.bytes.0;
     }

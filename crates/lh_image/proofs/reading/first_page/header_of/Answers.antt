@@ -8,13 +8,16 @@ use Rattle.lh_image.proofs.reading.first_page.header_of.Goals as goal
 
 pub returns-in-Err-clause-fault : goal.returns-in-Err-clause-fault
 returns-in-Err-clause-fault c =
-    let shown : header_with c.args.version c.fields_of-fields.result ≡ header_of c.args.page.now = ap (λ v. header_with v c.fields_of-fields.result) c.requires.version ∙ c.fields_of-fields.ensures in
+    let shown : header_with c.args.version c.fields_of-fields.result ≡ header_of c.args.page.now =
+    ap (λ v. header_with v c.fields_of-fields.result) c.requires.version ∙ c.fields_of-fields.ensures in
     due_field (header_of c.args.page.now) (ends_in_zeros c.args.page.now) c.in-Err.offset
-    (due_range (header_of c.args.page.now) (ends_in_zeros c.args.page.now) c.in-Err.offset (rw shown at c.in-Err.ensures.fault))
+    (due_range (header_of c.args.page.now) (ends_in_zeros c.args.page.now) c.in-Err.offset
+    (rw shown at c.in-Err.ensures.fault))
 
 pub returns-then-not-is_zero-clause-fault : goal.returns-then-not-is_zero-clause-fault
 returns-then-not-is_zero-clause-fault c =
-    let shown : header_with c.args.version c.fields_of-fields.result ≡ header_of c.args.page.now = ap (λ v. header_with v c.fields_of-fields.result) c.requires.version ∙ c.fields_of-fields.ensures in
+    let shown : header_with c.args.version c.fields_of-fields.result ≡ header_of c.args.page.now =
+    ap (λ v. header_with v c.fields_of-fields.result) c.requires.version ∙ c.fields_of-fields.ensures in
     due_field (header_of c.args.page.now) (ends_in_zeros c.args.page.now) fields_end
     (due_zeros (header_of c.args.page.now) (ends_in_zeros c.args.page.now) (rw shown at c.in-Ok.ensures.fault)
     (zeros_behind c.args.version c.args.page.now c.requires.version c.requires.size ∙ sym c.if-not-is_zero.ensures))
@@ -24,19 +27,25 @@ has_bad_counts-requires-clause-buckets c = omega (arith, c.in-Ok.ensures.buckets
 
 pub returns-then-has_bad_counts-clause-fault : goal.returns-then-has_bad_counts-clause-fault
 returns-then-has_bad_counts-clause-fault c =
-    let shown : header_with c.args.version c.fields_of-fields.result ≡ header_of c.args.page.now = ap (λ v. header_with v c.fields_of-fields.result) c.requires.version ∙ c.fields_of-fields.ensures in
+    let shown : header_with c.args.version c.fields_of-fields.result ≡ header_of c.args.page.now =
+    ap (λ v. header_with v c.fields_of-fields.result) c.requires.version ∙ c.fields_of-fields.ensures in
     due_counts (header_of c.args.page.now) (ends_in_zeros c.args.page.now) true (rw shown at c.in-Ok.ensures.fault)
-    (zeros_behind c.args.version c.args.page.now c.requires.version c.requires.size ∙ sym c.if-not-is_zero.ensures) (rw shown at (c.if-has_bad_counts.ensures c.args.version))
+    (zeros_behind c.args.version c.args.page.now c.requires.version c.requires.size ∙ sym c.if-not-is_zero.ensures)
+    (rw shown at (c.if-has_bad_counts.ensures c.args.version))
 
 pub returns-clause-fault : goal.returns-clause-fault
 returns-clause-fault c =
-    let shown : header_with c.args.version c.fields_of-fields.result ≡ header_of c.args.page.now = ap (λ v. header_with v c.fields_of-fields.result) c.requires.version ∙ c.fields_of-fields.ensures in
+    let shown : header_with c.args.version c.fields_of-fields.result ≡ header_of c.args.page.now =
+    ap (λ v. header_with v c.fields_of-fields.result) c.requires.version ∙ c.fields_of-fields.ensures in
     due_counts (header_of c.args.page.now) (ends_in_zeros c.args.page.now) false (rw shown at c.in-Ok.ensures.fault)
-    (zeros_behind c.args.version c.args.page.now c.requires.version c.requires.size ∙ sym c.if-not-is_zero.ensures) (rw shown at (c.if-has_bad_counts.ensures c.args.version))
+    (zeros_behind c.args.version c.args.page.now c.requires.version c.requires.size ∙ sym c.if-not-is_zero.ensures)
+    (rw shown at (c.if-has_bad_counts.ensures c.args.version))
 
 pub returns-clause-in_range : goal.returns-clause-in_range
 returns-clause-in_range c =
-    let counts = few_pages (header_with c.args.version c.fields_of-fields.result) (sym (c.if-has_bad_counts.ensures c.args.version)) in
+    let counts =
+    few_pages (header_with c.args.version c.fields_of-fields.result)
+    (sym (c.if-has_bad_counts.ensures c.args.version)) in
     record {
       settings = c.in-Ok.ensures.in_range;
       room = c.in-Ok.ensures.room;

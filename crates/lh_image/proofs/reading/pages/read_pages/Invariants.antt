@@ -11,5 +11,6 @@ invariant-loop-page g l = record {
   size : length l.table.entries.items ≡ l.page;
   sum : l.faults.sum ≤ 255 * l.page;
   come : (bytes : List ℕ) → HasHeader l.header bytes (g.R.Read.remaining l.initial.reader) →
-      HaveCome bytes l.header l.page l.table.entries.items l.table.pairs.items l.faults × (g.R.Read.remaining l.reader ≡ Some (drop (page_bytes (version_of bytes) * l.page) bytes));
+      HaveCome bytes l.header l.page l.table.entries.items l.table.pairs.items l.faults
+      × (g.R.Read.remaining l.reader ≡ Some (drop (page_bytes (version_of bytes) * l.page) bytes));
 }

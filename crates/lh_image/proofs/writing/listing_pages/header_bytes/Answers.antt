@@ -10,8 +10,16 @@ use Rattle.lh_image.proofs.writing.listing_pages.header_bytes.Goals as goal
 
 pub returns : goal.returns
 returns c =
-    let records : c.len.result ≡ count_of c.args.listing.now.lists = omega (arith, c.len.ensures, records_few c.args.listing.now c.pages_are_pieces.ensures c.config-config.ensures.kept.config.capacity c.requires.few) in
-    let numbers : c.number_bytes-numbers.result ≡ number_text (header_for c.args.version c.args.listing.now c.args.pages) = c.number_bytes-numbers.ensures c.args.version
+    let records : c.len.result ≡ count_of c.args.listing.now.lists =
+    omega (
+      arith,
+      c.len.ensures,
+      records_few c.args.listing.now c.pages_are_pieces.ensures c.config-config.ensures.kept.config.capacity
+          c.requires.few,
+    ) in
+    let numbers : c.number_bytes-numbers.result ≡
+    number_text (header_for c.args.version c.args.listing.now c.args.pages) =
+    c.number_bytes-numbers.ensures c.args.version
     ∙ (λ i. number_text (record {
       version = c.args.version;
       config = record {
@@ -24,6 +32,9 @@ returns c =
       pages = c.args.pages;
       records = records i;
     })) in
-    header_written c.args.version c.copy_from_slice.new.self c.copy_from_slice-2.new.self c.copy_from_slice.ensures.len (ap length (c.copy_from_slice-2.ensures.after ∙ numbers))
-    ∙ ap (λ xs. xs ++ c.copy_from_slice-2.new.self ++ replicate (padding c.args.version) 0) (c.copy_from_slice.ensures.after ∙ c.magic.ensures)
-    ∙ ap (λ xs. magic c.args.version ++ xs ++ replicate (padding c.args.version) 0) (c.copy_from_slice-2.ensures.after ∙ numbers)
+    header_written c.args.version c.copy_from_slice.new.self c.copy_from_slice-2.new.self c.copy_from_slice.ensures.len
+    (ap length (c.copy_from_slice-2.ensures.after ∙ numbers))
+    ∙ ap (λ xs. xs ++ c.copy_from_slice-2.new.self ++ replicate (padding c.args.version) 0)
+    (c.copy_from_slice.ensures.after ∙ c.magic.ensures)
+    ∙ ap (λ xs. magic c.args.version ++ xs ++ replicate (padding c.args.version) 0)
+    (c.copy_from_slice-2.ensures.after ∙ numbers)

@@ -17,7 +17,8 @@ invariant_of-self-2 c =
     let absent = rw (← c.self.view_is) at c.requires in
     let key = ap (λ (q : Pair). q.key) (get_or_push k.pairs p no_pair c.len-place.result (sym last)) in
     record {
-      list = record { capacity = h.list.capacity; distinct = rw items (distinct_push k.pairs p h.list.distinct absent) };
+      list =
+          record { capacity = h.list.capacity; distinct = rw items (distinct_push k.pairs p h.list.distinct absent) };
       room = c.put_mark.ensures.room ∙ h.room;
       marked = rw items (marked_push k.marks c.put_mark.new.marks k.pairs p c.len-place.result last h.marked (record {
         marked = λ low within. c.put_mark.ensures.marked low ∙ ap mark_of (sym key);

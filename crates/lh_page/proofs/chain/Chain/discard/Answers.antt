@@ -9,7 +9,9 @@ pub move_mark-requires-clause-moved : goal.move_mark-requires-clause-moved
 move_mark-requires-clause-moved c =
     let k = c.self.inside in
     let within = rw (← c.self.view_is) at c.requires in
-    rw (c.discard.ensures) (λ low below. moved_mark k.marks k.pairs c.args.place _ _ (omega arith) within c.self.invariant.marked low below)
+    rw (c.discard.ensures)
+    (λ low below.
+    moved_mark k.marks k.pairs c.args.place _ _ (omega arith) within c.self.invariant.marked low below)
 
 pub invariant_of-self : goal.invariant_of-self
 invariant_of-self c =
@@ -19,7 +21,14 @@ invariant_of-self c =
     let within = rw (← c.self.view_is) at c.requires in
     let is = get_or_default k.pairs c.args.place no_pair p within in
     record {
-      list = record { capacity = h.list.capacity; distinct = rw c.discard.ensures (distinct_remove k.pairs c.args.place p within is h.list.distinct) };
+      list =
+          record {
+            capacity = h.list.capacity;
+            distinct = rw c.discard.ensures (distinct_remove k.pairs c.args.place p within is h.list.distinct);
+          };
       room = c.move_mark.ensures.room ∙ h.room;
-      marked = rw c.discard.ensures (marked_remove k.marks c.move_mark.new.marks k.pairs c.args.place p within h.marked (rw c.discard.ensures at c.move_mark.ensures));
+      marked =
+          rw c.discard.ensures
+          (marked_remove k.marks c.move_mark.new.marks k.pairs c.args.place p within h.marked
+          (rw c.discard.ensures at c.move_mark.ensures));
     }

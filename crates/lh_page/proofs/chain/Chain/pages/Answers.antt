@@ -8,5 +8,6 @@ returns c =
     let pairs = c.self.inside.pairs in
     let b = c.self.inside.capacity in
     let all : c.len.result ≡ length pairs = omega arith in
-    c.pages_needed.ensures ∙ ap (pages_needed b) all ∙ sym (length-pieces (length pairs) b pairs c.self.invariant.list.capacity.0 (omega arith))
+    c.pages_needed.ensures ∙ ap (pages_needed b) all
+    ∙ sym (length-pieces (length pairs) b pairs c.self.invariant.list.capacity.0 (omega arith))
     ∙ ap (λ list. length (pages_of list.capacity list.pairs)) c.self.view_is

@@ -10,7 +10,17 @@ invariant_of-self c =
     let h = c.self.invariant in
     let within = rw (← c.self.view_is) at c.requires in
     rw c.set_value.ensures (record {
-      list = record { capacity = h.list.capacity; distinct = rw (keys_of-set k.pairs c.args.place (record { key = key_at k.pairs c.args.place; value = c.args.value.now }) refl within) h.list.distinct };
+      list =
+          record {
+            capacity = h.list.capacity;
+            distinct =
+                rw
+                (keys_of-set k.pairs c.args.place
+                (record { key = key_at k.pairs c.args.place; value = c.args.value.now })
+                refl within) h.list.distinct;
+          };
       room = h.room;
-      marked = marked_set k.marks k.pairs c.args.place (record { key = key_at k.pairs c.args.place; value = c.args.value.now }) refl h.marked;
+      marked =
+          marked_set k.marks k.pairs c.args.place
+          (record { key = key_at k.pairs c.args.place; value = c.args.value.now }) refl h.marked;
     })

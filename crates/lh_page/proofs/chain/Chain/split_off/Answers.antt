@@ -8,7 +8,13 @@ invariant_of-result g c =
     let h = c.self.invariant in
     let test : Pair → Bool = λ p. g.S.KeySet.member c.args.keys.now p.key in
     record {
-      list = record { capacity = h.list.capacity; distinct = rw (c.gone.view_is ∙ c.in_ok-gone.ensures.gone) (distinct_filter test c.self.inside.pairs h.list.distinct) };
+      list =
+          record {
+            capacity = h.list.capacity;
+            distinct =
+                rw (c.gone.view_is ∙ c.in_ok-gone.ensures.gone)
+                (distinct_filter test c.self.inside.pairs h.list.distinct);
+          };
       room = c.gone.invariant.0;
       marked = c.gone.invariant.1;
     }
@@ -18,7 +24,13 @@ invariant_of-self g c =
     let h = c.self.invariant in
     let test : Pair → Bool = λ p. not (g.S.KeySet.member c.args.keys.now p.key) in
     record {
-      list = record { capacity = h.list.capacity; distinct = rw (c.kept.view_is ∙ c.in_ok-gone.ensures.kept) (distinct_filter test c.self.inside.pairs h.list.distinct) };
+      list =
+          record {
+            capacity = h.list.capacity;
+            distinct =
+                rw (c.kept.view_is ∙ c.in_ok-gone.ensures.kept)
+                (distinct_filter test c.self.inside.pairs h.list.distinct);
+          };
       room = c.kept.invariant.0;
       marked = c.kept.invariant.1;
     }

@@ -7,7 +7,9 @@ returns-then-fits-clause-record c =
     let v = c.args.value.now in
     let long : length c.bytes-bytes.result.now ≡ length v = ap length c.bytes-bytes.ensures.value in
     let same = c.copy_from_slice.ensures.after ∙ c.bytes-bytes.ensures.value in
-    rw same (put_near _ c.args.self.now.bytes v c.args.cold.now _ (omega arith) long refl (sym c.fits.ensures ∙ c.if-fits.true))
+    rw same
+    (put_near _ c.args.self.now.bytes v c.args.cold.now _ (omega arith) long refl
+    (sym c.fits.ensures ∙ c.if-fits.true))
 
 pub returns-else-fits-clause-record : goal.returns-else-fits-clause-record
 returns-else-fits-clause-record c =

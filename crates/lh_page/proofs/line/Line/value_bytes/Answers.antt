@@ -6,7 +6,9 @@ pub returns-then-fits-clause-value : goal.returns-then-fits-clause-value
 returns-then-fits-clause-value c =
     let line = c.args.self.now in
     let all : line.key_len + line.value_len - line.key_len ≡ line.value_len = omega arith in
-    ap (λ n. take n (drop line.key_len line.bytes)) all ∙ sym (value_in-near line c.args.cold.now (sym c.fits.ensures ∙ c.if-fits.true))
+    ap (λ n. take n (drop line.key_len line.bytes)) all
+    ∙ sym (value_in-near line c.args.cold.now (sym c.fits.ensures ∙ c.if-fits.true))
 
 pub returns-else-fits-clause-value : goal.returns-else-fits-clause-value
-returns-else-fits-clause-value c = sym (value_in-far c.args.self.now c.args.cold.now (sym c.fits.ensures ∙ c.if-fits.false))
+returns-else-fits-clause-value c =
+    sym (value_in-far c.args.self.now c.args.cold.now (sym c.fits.ensures ∙ c.if-fits.false))

@@ -7,7 +7,8 @@ pub returns-clause-ok : goal.returns-clause-ok
 returns-clause-ok c =
     let room = c.in_ok-make_room.ensures in
     let p : Pair = record { key = c.args.key.now; value = c.args.value.now } in
-    push-first c.self.inside.len c.make_room.new.units.items c.index_mut-unit.result.now _ p room.units room.room c.index_mut-unit.ensures.value c.put.ensures
+    push-first c.self.inside.len c.make_room.new.units.items c.index_mut-unit.result.now _ p room.units room.room
+    c.index_mut-unit.ensures.value c.put.ensures
     ∙ ap (λ list. list ++ p ∷ []) (room.same ∙ c.self.view_is)
 
 pub returns-in_err-make_room-clause-full : goal.returns-in_err-make_room-clause-full

@@ -12,8 +12,11 @@ returns-clause-ok c =
     let was = c.index_mut-unit.result.now in
     let p = get_or c.args.other.now c.args.place no_pair in
     let below = within-first o.len o.units.items c.args.place c.args.other.now h.0 h.1 c.other.view_is c.requires in
-    let same = get_or-first o.len o.units.items c.args.place c.index-from.result.now no_pair h.0 h.1 below c.index-from.ensures in
-    push-first n c.make_room.new.units.items was _ p room.units room.room c.index_mut-unit.ensures.value (c.copy_row.ensures ∙ ap (set was (n % 4)) (rw c.other.view_is at same))
+    let same =
+    get_or-first o.len o.units.items c.args.place c.index-from.result.now no_pair h.0 h.1 below
+    c.index-from.ensures in
+    push-first n c.make_room.new.units.items was _ p room.units room.room c.index_mut-unit.ensures.value
+    (c.copy_row.ensures ∙ ap (set was (n % 4)) (rw c.other.view_is at same))
     ∙ ap (λ list. list ++ p ∷ []) (room.same ∙ c.self.view_is)
 
 pub returns-in_err-make_room-clause-full : goal.returns-in_err-make_room-clause-full

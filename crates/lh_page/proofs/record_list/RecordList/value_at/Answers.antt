@@ -9,5 +9,7 @@ returns c =
     let r = c.self.inside in
     let h = c.self.invariant in
     let below = within-first r.len r.units.items c.args.place c.args.self.now h.0 h.1 c.self.view_is c.requires in
-    let same = get_or-first r.len r.units.items c.args.place c.index-unit.result.now no_pair h.0 h.1 below c.index-unit.ensures in
+    let same =
+    get_or-first r.len r.units.items c.args.place c.index-unit.result.now no_pair h.0 h.1 below
+    c.index-unit.ensures in
     c.value_at.ensures ∙ ap (λ (p : Pair). p.value) (rw c.self.view_is at same)

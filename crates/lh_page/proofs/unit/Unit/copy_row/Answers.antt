@@ -10,7 +10,9 @@ returns-then-not-fits c =
     let o = c.other.inside in
     let h = c.other.invariant in
     rw (← c.self.view_is, ← c.other.view_is) (records_in-set u.hot u.cold c.args.row _ _
-    ∙ ap (set (records_in u.hot u.cold) c.args.row) (sym (get_or-records_in o.hot o.cold c.args.from _ [] no_pair (omega (arith, h.lines)) (omega (arith, h.rows)))))
+    ∙ ap (set (records_in u.hot u.cold) c.args.row)
+    (sym
+    (get_or-records_in o.hot o.cold c.args.from _ [] no_pair (omega (arith, h.lines)) (omega (arith, h.rows)))))
 
 pub returns-else-not-fits : goal.returns-else-not-fits
 returns-else-not-fits c =
@@ -19,4 +21,6 @@ returns-else-not-fits c =
     let h = c.other.invariant in
     let near : fits_line (get_or o.hot c.args.from _) ≡ true = sym c.fits.ensures ∙ c.if-not-fits.false in
     rw (← c.self.view_is, ← c.other.view_is) (set_line u.hot u.cold c.args.row _ (get_or o.cold c.args.from []) near
-    ∙ ap (set (records_in u.hot u.cold) c.args.row) (sym (get_or-records_in o.hot o.cold c.args.from _ [] no_pair (omega (arith, h.lines)) (omega (arith, h.rows)))))
+    ∙ ap (set (records_in u.hot u.cold) c.args.row)
+    (sym
+    (get_or-records_in o.hot o.cold c.args.from _ [] no_pair (omega (arith, h.lines)) (omega (arith, h.rows)))))

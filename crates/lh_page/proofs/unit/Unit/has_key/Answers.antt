@@ -9,4 +9,9 @@ pub returns : goal.returns
 returns c =
     let u = c.self.inside in
     let h = c.self.invariant in
-    rw (← c.self.view_is) (c.has_key.ensures ∙ ap (λ (p : Pair). bytes_eq p.key c.args.key.now) (sym (get_or-records_in u.hot u.cold c.args.row _ [] no_pair (omega (arith, h.lines)) (omega (arith, h.rows)))))
+    rw (← c.self.view_is)
+    (c.has_key.ensures
+    ∙ ap (λ (p : Pair). bytes_eq p.key c.args.key.now)
+    (sym
+    (get_or-records_in u.hot u.cold c.args.row _ [] no_pair (omega (arith, h.lines))
+    (omega (arith, h.rows)))))

@@ -9,4 +9,6 @@ invariant_of-self c = unit_set c.self.inside.hot c.self.inside.cold c.args.row _
 pub returns : goal.returns
 returns c =
     let u = c.self.inside in
-    rw (← c.self.view_is) (records_in-set u.hot u.cold c.args.row _ _ ∙ ap (set (records_in u.hot u.cold) c.args.row) c.put.ensures.record)
+    rw (← c.self.view_is)
+    (records_in-set u.hot u.cold c.args.row _ _
+    ∙ ap (set (records_in u.hot u.cold) c.args.row) c.put.ensures.record)

@@ -8,4 +8,9 @@ pub returns : goal.returns
 returns c =
     let u = c.self.inside in
     let h = c.self.invariant in
-    rw (← c.self.view_is) (c.value.ensures ∙ ap (λ (p : Pair). p.value) (sym (get_or-records_in u.hot u.cold c.args.row _ _ no_pair (omega (arith, h.lines)) (omega (arith, h.rows)))))
+    rw (← c.self.view_is)
+    (c.value.ensures
+    ∙ ap (λ (p : Pair). p.value)
+    (sym
+    (get_or-records_in u.hot u.cold c.args.row _ _ no_pair (omega (arith, h.lines))
+    (omega (arith, h.rows)))))

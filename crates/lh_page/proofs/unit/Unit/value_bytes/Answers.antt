@@ -8,4 +8,9 @@ pub returns-clause-value : goal.returns-clause-value
 returns-clause-value c =
     let u = c.self.inside in
     let h = c.self.invariant in
-    rw (← c.self.view_is) (c.value_bytes.ensures.value ∙ ap (λ (p : Pair). p.value) (sym (get_or-records_in u.hot u.cold c.args.row _ _ no_pair (omega (arith, h.lines)) (omega (arith, h.rows)))))
+    rw (← c.self.view_is)
+    (c.value_bytes.ensures.value
+    ∙ ap (λ (p : Pair). p.value)
+    (sym
+    (get_or-records_in u.hot u.cold c.args.row _ _ no_pair (omega (arith, h.lines))
+    (omega (arith, h.rows)))))

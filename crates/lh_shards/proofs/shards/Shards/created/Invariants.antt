@@ -9,5 +9,6 @@ abbrev pub invariant-loop-shard : goal.invariant-loop-shard
 invariant-loop-shard l = record {
   files : length l.files.items ≡ l._shard;
   hands : length l.hands.items ≡ l._shard;
-  each : EachShard (λ shard. IsOpened l.config l.config.initial l.recording 0) (map (λ (file : Shared). file.state) l.files.items) l.hands.items;
+  each : EachShard (λ shard. IsOpened l.config l.config.initial l.recording 0)
+      (map (λ (file : Shared). file.state) l.files.items) l.hands.items;
 }

@@ -6,11 +6,17 @@ use Rattle.lh_shards.proofs.OneShard.{ready, of_served}
 use Rattle.lh_shards.proofs.shards.Shards.delete.Goals as goal
 
 pub delete-requires : goal.delete-requires
-delete-requires g c = (lit< tt, (ready _ _ _ _ _ _ _ c.self.view_is c.hands.view_is c.requires c.shard_of-shard.ensures.within c.index.ensures c.index_mut.ensures.value).of)
+delete-requires g c = (
+  lit< tt,
+  (ready _ _ _ _ _ _ _ c.self.view_is c.hands.view_is c.requires c.shard_of-shard.ensures.within c.index.ensures
+      c.index_mut.ensures.value).of,
+)
 
 pub returns-clause-of : goal.returns-clause-of
 returns-clause-of g c =
     of_served c.args.self.now c.args.hands.now _ _ c.hands.view_is c.requires
-    (c.shard_of-shard.ensures.value ∙ ap (λ code. shard_of code (length c.args.self.now)) (c.fnv1a.ensures ∙ ap code_of c.bytes.ensures.value))
-    (ready _ _ _ _ _ _ _ c.self.view_is c.hands.view_is c.requires c.shard_of-shard.ensures.within c.index.ensures c.index_mut.ensures.value)
+    (c.shard_of-shard.ensures.value
+    ∙ ap (λ code. shard_of code (length c.args.self.now)) (c.fnv1a.ensures ∙ ap code_of c.bytes.ensures.value))
+    (ready _ _ _ _ _ _ _ c.self.view_is c.hands.view_is c.requires c.shard_of-shard.ensures.within c.index.ensures
+    c.index_mut.ensures.value)
     c.delete.ensures.served

@@ -12,7 +12,9 @@ invariant-loop-shard l = record {
   len : vec_len l.given ≡ l.shard;
   room : length l.fn.hands ≤ vec_capacity l.given;
   count : length l.hands-inside.hands.items ≡ length l.fn.hands;
-  given : (k : ℕ) (old new : HandState) → slice_get l.fn.hands k ≡ Some old → slice_get l.given.items k ≡ Some new → IsBranch l.calls old new;
-  kept : (k : ℕ) (old new : HandState) → suc k ≤ l.shard → slice_get l.fn.hands k ≡ Some old → slice_get l.hands-inside.hands.items k ≡ Some new → HasGiven l.calls old new;
+  given : (k : ℕ) (old new : HandState) → slice_get l.fn.hands k ≡ Some old → slice_get l.given.items k ≡ Some new →
+      IsBranch l.calls old new;
+  kept : (k : ℕ) (old new : HandState) → suc k ≤ l.shard → slice_get l.fn.hands k ≡ Some old →
+      slice_get l.hands-inside.hands.items k ≡ Some new → HasGiven l.calls old new;
   rest : (k : ℕ) → l.shard ≤ k → slice_get l.hands-inside.hands.items k ≡ slice_get l.fn.hands k;
 }

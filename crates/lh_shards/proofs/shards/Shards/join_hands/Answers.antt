@@ -3,14 +3,18 @@ use Rattle.lh_shards.proofs.Joins.{joined_are_of, joined_from, same_are_of}
 use Rattle.lh_shards.proofs.shards.Shards.join_hands.Goals as goal
 
 pub joined-requires-clause-first : goal.joined-requires-clause-first
-joined-requires-clause-first c = same_are_of c.args.self.now c.args.first c.make_room.new.first c.requires.first c.make_room.ensures.same
+joined-requires-clause-first c =
+    same_are_of c.args.self.now c.args.first c.make_room.new.first c.requires.first c.make_room.ensures.same
 
 pub returns-in-Some-clause-first_of : goal.returns-in-Some-clause-first_of
-returns-in-Some-clause-first_of c = same_are_of c.args.self.now c.args.first c.make_room.new.first c.requires.first c.make_room.ensures.same
+returns-in-Some-clause-first_of c =
+    same_are_of c.args.self.now c.args.first c.make_room.new.first c.requires.first c.make_room.ensures.same
 
 pub returns-in-None-clause-united : goal.returns-in-None-clause-united
 returns-in-None-clause-united c = record {
-  ok = joined_from c.args.first c.make_room.new.first c.args.second c.joined.result c.make_room.ensures.same c.joined.ensures;
+  ok =
+      joined_from c.args.first c.make_room.new.first c.args.second c.joined.result c.make_room.ensures.same
+      c.joined.ensures;
   first_back = tt;
   second_back = tt;
   short = tt;
@@ -20,4 +24,5 @@ returns-in-None-clause-united c = record {
 pub returns-in-None-clause-of : goal.returns-in-None-clause-of
 returns-in-None-clause-of c =
     joined_are_of c.args.self.now c.args.first c.args.second c.joined.result c.requires.first c.requires.second
-    (joined_from c.args.first c.make_room.new.first c.args.second c.joined.result c.make_room.ensures.same c.joined.ensures)
+    (joined_from c.args.first c.make_room.new.first c.args.second c.joined.result c.make_room.ensures.same
+    c.joined.ensures)

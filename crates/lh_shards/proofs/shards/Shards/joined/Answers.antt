@@ -1,5 +1,6 @@
 -- The next hands are joined, and stand behind those that were.
-use Rattle.std.proofs.Common.{suc, ◌≡◌, ℕ, ◌+◌, ◌<◌, ◌≤◌, List, [], ◌∷◌, ◌++◌, drop, length, Some, add-one, append_assoc, sym, ap, ◌∙◌, subst, arith}
+use Rattle.std.proofs.Common.{suc, ◌≡◌, ℕ, ◌+◌, ◌<◌, ◌≤◌, List, [], ◌∷◌, ◌++◌, drop, length, Some, add-one}
+use Rattle.std.proofs.Common.{append_assoc, sym, ap, ◌∙◌, subst, arith}
 use Rattle.std.specs.List.{slice_get}
 use Rattle.std.specs.Vec.Iter.{into_iter_items, into_iter_len}
 use Rattle.std.proofs.lemmas.List.{drop_all, length_push}
@@ -16,20 +17,34 @@ is_within c =
     let fewer : into_iter_len c.next.new.self + 1 ≡ into_iter_len c.loop-shard.others = c.in-Some-next.ensures.len in
     omega (arith, fewer, c.loop-shard.invariant.others_left)
 
-own_next : (c : After-index) → (slice_get c.args.first c.loop-shard.shard ≡ Some c.in-Some.own) × (c.pop_front.new.self.items ≡ drop (suc c.loop-shard.shard) c.args.first ++ c.loop-shard.invariant.done)
-own_next c = front_next c.args.first c.loop-shard.invariant.done c.pop_front.new.self.items c.loop-shard.shard c.in-Some.own (is_within c) (sym c.loop-shard.invariant.hands ∙ c.in-Some.ensures.items)
+own_next : (c : After-index) →
+    (slice_get c.args.first c.loop-shard.shard ≡ Some c.in-Some.own)
+    × (c.pop_front.new.self.items ≡ drop (suc c.loop-shard.shard) c.args.first ++ c.loop-shard.invariant.done)
+own_next c =
+    front_next c.args.first c.loop-shard.invariant.done c.pop_front.new.self.items c.loop-shard.shard c.in-Some.own
+    (is_within c) (sym c.loop-shard.invariant.hands ∙ c.in-Some.ensures.items)
 
-other_next : (c : After-index) → (slice_get c.args.second c.loop-shard.shard ≡ Some c.in-Some-next.other) × (drop (suc c.loop-shard.shard) c.args.second ≡ into_iter_items c.next.new.self)
-other_next c = left_next c.args.second (into_iter_items c.next.new.self) c.loop-shard.shard c.in-Some-next.other (sym c.loop-shard.invariant.others ∙ c.in-Some-next.ensures.items)
+other_next : (c : After-index) →
+    (slice_get c.args.second c.loop-shard.shard ≡ Some c.in-Some-next.other)
+    × (drop (suc c.loop-shard.shard) c.args.second ≡ into_iter_items c.next.new.self)
+other_next c =
+    left_next c.args.second (into_iter_items c.next.new.self) c.loop-shard.shard c.in-Some-next.other
+    (sym c.loop-shard.invariant.others ∙ c.in-Some-next.ensures.items)
 
 file_at : (c : After-index) → slice_get c.args.self.now c.loop-shard.shard ≡ Some c.index.result.now.state
-file_at c = read_at (λ (file : Shared). file.state) c.self.inside.files.items c.args.self.now c.loop-shard.shard c.index.result.now c.self.view_is (subst (λ n. c.loop-shard.shard < n) c.requires.first.count (is_within c)) c.index.ensures
+file_at c =
+    read_at (λ (file : Shared). file.state) c.self.inside.files.items c.args.self.now c.loop-shard.shard
+    c.index.result.now c.self.view_is (subst (λ n. c.loop-shard.shard < n) c.requires.first.count (is_within c))
+    c.index.ensures
 
-own_of : (c : After-index) → IsOfShard (length c.args.self.now) c.loop-shard.shard c.index.result.now.state c.in-Some.own
+own_of : (c : After-index) →
+    IsOfShard (length c.args.self.now) c.loop-shard.shard c.index.result.now.state c.in-Some.own
 own_of c = c.requires.first.each c.loop-shard.shard c.index.result.now.state c.in-Some.own (file_at c) (own_next c).0
 
-other_of : (c : After-index) → IsOfShard (length c.args.self.now) c.loop-shard.shard c.index.result.now.state c.in-Some-next.other
-other_of c = c.requires.second.each c.loop-shard.shard c.index.result.now.state c.in-Some-next.other (file_at c) (other_next c).0
+other_of : (c : After-index) →
+    IsOfShard (length c.args.self.now) c.loop-shard.shard c.index.result.now.state c.in-Some-next.other
+other_of c =
+    c.requires.second.each c.loop-shard.shard c.index.result.now.state c.in-Some-next.other (file_at c) (other_next c).0
 
 pub join-requires-clause-first : goal.join-requires-clause-first
 join-requires-clause-first c = (own_of c).of
@@ -41,7 +56,8 @@ pub join-requires-clause-right : goal.join-requires-clause-right
 join-requires-clause-right c = (other_of c).right
 
 pub join-requires-clause-room : goal.join-requires-clause-room
-join-requires-clause-room c = c.requires.room c.loop-shard.shard c.in-Some.own c.in-Some-next.other (own_next c).0 (other_next c).0
+join-requires-clause-room c =
+    c.requires.room c.loop-shard.shard c.in-Some.own c.in-Some-next.other (own_next c).0 (other_next c).0
 
 pub loop-shard-preserved : goal.loop-shard-preserved
 loop-shard-preserved c =
@@ -54,19 +70,29 @@ loop-shard-preserved c =
       done = more;
       many = length_push c.loop-shard.invariant.done c.join.result ∙ ap (λ n. n + 1) c.loop-shard.invariant.many;
       hands = subst (λ n. c.push_back_reserved.new.self.items ≡ drop n c.args.first ++ more) (sym (add-one i))
-          (c.push_back_reserved.ensures.items ∙ ap (λ (l : List HandState). l ++ c.join.result ∷ []) own.1 ∙ append_assoc (drop (suc i) c.args.first) c.loop-shard.invariant.done (c.join.result ∷ []));
+          (c.push_back_reserved.ensures.items ∙ ap (λ (l : List HandState). l ++ c.join.result ∷ []) own.1
+          ∙ append_assoc (drop (suc i) c.args.first) c.loop-shard.invariant.done (c.join.result ∷ []));
       others = subst (λ n. into_iter_items c.next.new.self ≡ drop n c.args.second) (sym (add-one i)) (sym other.1);
       others_left = omega (arith, fewer, c.loop-shard.invariant.others_left);
-      each = three_next IsJoined c.args.first c.args.second c.loop-shard.invariant.done i c.in-Some.own c.in-Some-next.other c.join.result c.loop-shard.invariant.many own.0 other.0 c.join.ensures c.loop-shard.invariant.each;
+      each =
+          three_next IsJoined c.args.first c.args.second c.loop-shard.invariant.done i c.in-Some.own
+          c.in-Some-next.other c.join.result c.loop-shard.invariant.many own.0 other.0 c.join.ensures
+          c.loop-shard.invariant.each;
     }
 
 pub returns : goal.returns
 returns c =
-    let long : length c.args.self.now ≡ length c.self.inside.files.items = ap length (sym c.self.view_is) ∙ length_mapped (λ (file : Shared). file.state) c.self.inside.files.items in
+    let long : length c.args.self.now ≡ length c.self.inside.files.items =
+    ap length (sym c.self.view_is) ∙ length_mapped (λ (file : Shared). file.state) c.self.inside.files.items in
     let many : length c.args.first ≡ length c.args.self.now = c.requires.first.count in
-    let size : c.len-shard-end.result ≡ length c.self.inside.files.items = c.len-shard-end.ensures ∙ c.self.inside.files.ok.0 in
+    let size : c.len-shard-end.result ≡ length c.self.inside.files.items =
+    c.len-shard-end.ensures ∙ c.self.inside.files.ok.0 in
     let past : length c.args.first ≤ c.loop-shard.shard = omega (arith, long, many, size, c.loop-shard-test.false) in
     let end : c.loop-shard.shard ≤ c.len-shard-end.result = c.loop-shard.auto.shard-end in
     let all : c.loop-shard.shard ≡ length c.args.first = omega (arith, long, many, size, past, end) in
-    let is : c.into_vec.result.items ≡ c.loop-shard.invariant.done = c.into_vec.ensures.items ∙ c.loop-shard.invariant.hands ∙ ap (λ (l : List HandState). l ++ c.loop-shard.invariant.done) (drop_all c.loop-shard.shard c.args.first past) in
-    subst (λ (l : List HandState). AreJoined c.args.first c.args.second l) (sym is) (record { count = c.loop-shard.invariant.many ∙ all; each = c.loop-shard.invariant.each })
+    let is : c.into_vec.result.items ≡ c.loop-shard.invariant.done =
+    c.into_vec.ensures.items ∙ c.loop-shard.invariant.hands
+    ∙ ap (λ (l : List HandState). l ++ c.loop-shard.invariant.done)
+    (drop_all c.loop-shard.shard c.args.first past) in
+    subst (λ (l : List HandState). AreJoined c.args.first c.args.second l) (sym is)
+    (record { count = c.loop-shard.invariant.many ∙ all; each = c.loop-shard.invariant.each })

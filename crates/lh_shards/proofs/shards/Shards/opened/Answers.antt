@@ -1,5 +1,6 @@
 -- A file and its first hand more, from the listing whose turn it is, and what stands there at the end
-use Rattle.std.proofs.Common.{◌≡◌, ◌+◌, ◌-◌, ◌^◌, ◌≤◌, ◌∷◌, ◌++◌, [], List, length, map, min, Some, refl, sym, ap, ◌∙◌, subst, arith}
+use Rattle.std.proofs.Common.{◌≡◌, ◌+◌, ◌-◌, ◌^◌, ◌≤◌, ◌∷◌, ◌++◌, [], List, length, map, min, Some, refl, sym, ap, ◌∙◌}
+use Rattle.std.proofs.Common.{subst, arith}
 use Rattle.std.specs.List.{slice_get}
 use Rattle.std.proofs.lemmas.List.{length_push}
 use Rattle.std.proofs.lemmas.Option.{same_Some, slice_get_read}
@@ -19,25 +20,50 @@ loop-shard-preserved c =
     let fs : List Shared = c.loop-shard.files.items in
     let hs : List HandState = c.loop-shard.hands.items in
     let many : length fs ≡ length hs = c.loop-shard.invariant.files ∙ sym c.loop-shard.invariant.hands in
-    let here : slice_get c.args.listings.now c.loop-shard.shard ≡ Some c.index-listings-shard.result = slice_get_read c.args.listings.now (length c.args.listings.now) c.loop-shard.shard c.index-listings-shard.result refl (omega (arith, c.loop-shard-test.true)) c.index-listings-shard.is in record {
-      files = ap length c.in_ok-push.ensures.items ∙ length_push fs c.in_ok-file.file ∙ ap (λ n. n + 1) c.loop-shard.invariant.files;
-      hands = ap length c.in_ok-push-2.ensures.items ∙ length_push hs c.in_ok-file.hand ∙ ap (λ n. n + 1) c.loop-shard.invariant.hands;
-      each = subst (λ (l : List Shared). EachShard Fact (map (λ (file : Shared). file.state) l) c.push-in-loop-shard.new.self.items) (sym c.in_ok-push.ensures.items)
-          (subst (λ (l : List HandState). EachShard Fact (map (λ (file : Shared). file.state) (fs ++ c.in_ok-file.file ∷ [])) l) (sym c.in_ok-push-2.ensures.items)
+    let here : slice_get c.args.listings.now c.loop-shard.shard ≡ Some c.index-listings-shard.result =
+    slice_get_read c.args.listings.now (length c.args.listings.now) c.loop-shard.shard c.index-listings-shard.result
+    refl (omega (arith, c.loop-shard-test.true)) c.index-listings-shard.is in
+    record {
+      files =
+          ap length c.in_ok-push.ensures.items ∙ length_push fs c.in_ok-file.file
+          ∙ ap (λ n. n + 1) c.loop-shard.invariant.files;
+      hands =
+          ap length c.in_ok-push-2.ensures.items ∙ length_push hs c.in_ok-file.hand
+          ∙ ap (λ n. n + 1) c.loop-shard.invariant.hands;
+      each =
+          subst
+          (λ (l : List Shared).
+          EachShard Fact (map (λ (file : Shared). file.state) l) c.push-in-loop-shard.new.self.items)
+          (sym c.in_ok-push.ensures.items)
+          (subst
+          (λ (l : List HandState).
+          EachShard Fact (map (λ (file : Shared). file.state) (fs ++ c.in_ok-file.file ∷ [])) l)
+          (sym c.in_ok-push-2.ensures.items)
           (grown_files Fact fs hs c.in_ok-file.file c.in_ok-file.hand many c.loop-shard.invariant.each
           (λ listing at.
-          let same : c.index-listings-shard.result ≡ listing = same_Some c.index-listings-shard.result listing (sym here ∙ subst (λ k. slice_get c.args.listings.now k ≡ Some listing) c.loop-shard.invariant.hands at) in
-          subst (λ (l : Lists). IsOpened l.config (size l) c.args.recording (min (count_of l.lists) (2 ^ 64 - 1)) c.in_ok-file.file.state c.in_ok-file.hand) same c.in_ok-file.ensures)));
+          let same : c.index-listings-shard.result ≡ listing =
+          same_Some c.index-listings-shard.result listing
+          (sym here
+          ∙ subst (λ k. slice_get c.args.listings.now k ≡ Some listing) c.loop-shard.invariant.hands at) in
+          subst
+          (λ (l : Lists).
+          IsOpened l.config (size l) c.args.recording (min (count_of l.lists) (2 ^ 64 - 1))
+          c.in_ok-file.file.state c.in_ok-file.hand) same c.in_ok-file.ensures)));
     }
 
 pub returns : goal.returns
 returns c =
     let fs : List Shared = c.loop-shard.files.items in
-    let seen : length (map (λ (file : Shared). file.state) fs) ≡ length fs = length_mapped (λ (file : Shared). file.state) fs in
+    let seen : length (map (λ (file : Shared). file.state) fs) ≡ length fs =
+    length_mapped (λ (file : Shared). file.state) fs in
     let end : c.loop-shard.shard ≤ length c.args.listings.now = c.loop-shard.auto.shard-end in
     let all : c.loop-shard.shard ≡ length c.args.listings.now = omega (arith, c.loop-shard-test.false, end) in
-    let count : length (map (λ (file : Shared). file.state) fs) ≡ length c.args.listings.now = seen ∙ c.loop-shard.invariant.files ∙ all in record {
+    let count : length (map (λ (file : Shared). file.state) fs) ≡ length c.args.listings.now =
+    seen ∙ c.loop-shard.invariant.files ∙ all in
+    record {
       count = count;
       each = λ i listing file hand li fi hi. c.loop-shard.invariant.each i file hand fi hi listing li;
-      of = opened_are_of c.args.listings.now c.args.recording (map (λ (file : Shared). file.state) fs) c.loop-shard.hands.items count (c.loop-shard.invariant.hands ∙ all) c.loop-shard.invariant.each;
+      of =
+          opened_are_of c.args.listings.now c.args.recording (map (λ (file : Shared). file.state) fs)
+          c.loop-shard.hands.items count (c.loop-shard.invariant.hands ∙ all) c.loop-shard.invariant.each;
     }

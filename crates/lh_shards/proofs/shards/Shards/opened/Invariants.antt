@@ -9,5 +9,6 @@ abbrev pub invariant-loop-shard : goal.invariant-loop-shard
 invariant-loop-shard l = record {
   files : length l.files.items ≡ l.shard;
   hands : length l.hands.items ≡ l.shard;
-  each : EachShard (OpenedFrom l.listings l.recording) (map (λ (file : Shared). file.state) l.files.items) l.hands.items;
+  each : EachShard (OpenedFrom l.listings l.recording) (map (λ (file : Shared). file.state) l.files.items)
+      l.hands.items;
 }

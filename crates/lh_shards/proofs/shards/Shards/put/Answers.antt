@@ -5,11 +5,16 @@ use Rattle.lh_shards.proofs.OneShard.{ready, of_made}
 use Rattle.lh_shards.proofs.shards.Shards.put.Goals as goal
 
 pub put-requires : goal.put-requires
-put-requires g c = (lit< tt, (ready _ _ _ _ _ _ _ c.self.view_is c.hands.view_is c.requires c.shard_of-shard.ensures.within c.index.ensures c.index_mut.ensures.value).of)
+put-requires g c = (
+  lit< tt,
+  (ready _ _ _ _ _ _ _ c.self.view_is c.hands.view_is c.requires c.shard_of-shard.ensures.within c.index.ensures
+      c.index_mut.ensures.value).of,
+)
 
 pub returns-clause-of : goal.returns-clause-of
 returns-clause-of g c =
     of_made c.args.self.now c.args.hands.now _ _ c.hands.view_is c.requires
     (c.shard_of-shard.ensures.value ∙ ap (λ code. shard_of code (length c.args.self.now)) c.code.ensures)
-    (ready _ _ _ _ _ _ _ c.self.view_is c.hands.view_is c.requires c.shard_of-shard.ensures.within c.index.ensures c.index_mut.ensures.value)
+    (ready _ _ _ _ _ _ _ c.self.view_is c.hands.view_is c.requires c.shard_of-shard.ensures.within c.index.ensures
+    c.index_mut.ensures.value)
     c.put.ensures.served

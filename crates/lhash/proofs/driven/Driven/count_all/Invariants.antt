@@ -6,6 +6,7 @@ use Rattle.lhash.proofs.driven.Driven.count_all.Given as goal
 
 abbrev pub invariant-loop-stamp : goal.invariant-loop-stamp
 invariant-loop-stamp l = record {
-  counts : (replies : List Reply) → Counts replies l.fn.self → Counts (replies ++ take l.stamp (replies_of l.history)) l.self;
+  counts : (replies : List Reply) → Counts replies l.fn.self →
+      Counts (replies ++ take l.stamp (replies_of l.history)) l.self;
   records : l.self.records ≡ l.fn.self.records;
 }

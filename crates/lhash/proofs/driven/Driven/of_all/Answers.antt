@@ -9,14 +9,21 @@ pub count_all-requires : goal.count_all-requires
 count_all-requires c =
     let histories = c.args.histories.now in
     let i = c.loop-history.history-index in
-    let here = slice_get_read histories (length histories) i c.history-item.result refl c.loop-history-test.true c.history-item.is in
-    (flat_map replies_of (take i histories), c.loop-history.invariant.counts, replies_within-next histories i c.history-item.result (2 ^ 64) here c.requires)
+    let here =
+    slice_get_read histories (length histories) i c.history-item.result refl c.loop-history-test.true
+    c.history-item.is in (
+      flat_map replies_of (take i histories),
+      c.loop-history.invariant.counts,
+      replies_within-next histories i c.history-item.result (2 ^ 64) here c.requires,
+    )
 
 pub loop-history-preserved : goal.loop-history-preserved
 loop-history-preserved c =
     let histories = c.args.histories.now in
     let i = c.loop-history.history-index in
-    let here = slice_get_read histories (length histories) i c.history-item.result refl c.loop-history-test.true c.history-item.is in
+    let here =
+    slice_get_read histories (length histories) i c.history-item.result refl c.loop-history-test.true
+    c.history-item.is in
     record {
       counts = counts-next histories i c.history-item.result c.count_all.new.self here
           (c.count_all.ensures.counts (flat_map replies_of (take i histories)) c.loop-history.invariant.counts);

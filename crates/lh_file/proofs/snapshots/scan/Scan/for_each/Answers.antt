@@ -3,7 +3,8 @@ use Rattle.lh_file.proofs.snapshots.scan.Scan.for_each.Goals as goal
 
 pub returns-in_err-copy-clause-called : goal.returns-in_err-copy-clause-called
 returns-in_err-copy-clause-called g c =
-    let all = c.loop-f.invariant.goes_on [] c.loop-f.f c.next.new.self c.next.new.hand refl c.in_err-copy.ensures.err in (all.0, c.loop-f.f, all.1, all.2)
+    let all = c.loop-f.invariant.goes_on [] c.loop-f.f c.next.new.self c.next.new.hand refl c.in_err-copy.ensures.err in
+    (all.0, c.loop-f.f, all.1, all.2)
 
 pub loop-f-preserved : goal.loop-f-preserved
 loop-f-preserved g c = record {
@@ -17,4 +18,7 @@ loop-f-preserved g c = record {
 
 pub returns-clause-called : goal.returns-clause-called
 returns-clause-called g c =
-    let all = c.loop-f.invariant.goes_on [] c.loop-f.f c.next.new.self c.next.new.hand refl (c.in_ok-copy.ensures.same c.in_default.is) in (all.0, c.loop-f.f, all.1, all.2)
+    let all =
+    c.loop-f.invariant.goes_on [] c.loop-f.f c.next.new.self c.next.new.hand refl
+    (c.in_ok-copy.ensures.same c.in_default.is) in
+    (all.0, c.loop-f.f, all.1, all.2)

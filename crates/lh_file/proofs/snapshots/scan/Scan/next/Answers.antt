@@ -1,4 +1,5 @@
-use Rattle.std.proofs.Common.{rules, ◌≡◌, ◌-◌, ◌^◌, ◌<◌, Some, List, [], ◌∷◌, ◌++◌, length, get_or, refl, sym, ap, ◌∙◌, subst, arith}
+use Rattle.std.proofs.Common.{rules, ◌≡◌, ◌-◌, ◌^◌, ◌<◌, Some, List, [], ◌∷◌, ◌++◌, length, get_or, refl, sym, ap, ◌∙◌}
+use Rattle.std.proofs.Common.{subst, arith}
 use Rattle.std.specs.Option.{option_to_list}
 use Rattle.std.proofs.lemmas.Nat.{pow_pos}
 use Rattle.lh_addr.specs.declared.aim.Aim.{Aim}
@@ -15,13 +16,15 @@ push_raised-requires-clause-reached g c =
     let aims : List Aim = c.self.inside.aims.items in
     let below : length aims - 1 < length aims = search rules in
     let last : c.in-Some.aim ≡ get_or aims (length aims - 1) c.in-Some.aim = search rules in
-    (each_end (IsWithin c.self.inside.initial) aims (length aims - 1) c.in-Some.aim below last c.self.invariant.within).reached
+    (each_end (IsWithin c.self.inside.initial) aims (length aims - 1) c.in-Some.aim below last
+    c.self.invariant.within).reached
 
 pub push_raised-requires-clause-within : goal.push_raised-requires-clause-within
 push_raised-requires-clause-within g c =
     each_front (IsWithin c.self.inside.initial) c.pop.new.self.items (option_to_list c.pop.result)
     (subst (λ (l : List Aim). Each l (IsWithin c.self.inside.initial)) c.pop.ensures.items
-    (subst (λ (l : List Aim). Each l (IsWithin c.self.inside.initial)) (sym c.try_reserve.ensures.items) c.self.invariant.within))
+    (subst (λ (l : List Aim). Each l (IsWithin c.self.inside.initial)) (sym c.try_reserve.ensures.items)
+    c.self.invariant.within))
 
 pub returns-clause-met : goal.returns-clause-met
 returns-clause-met g c =
@@ -30,12 +33,20 @@ returns-clause-met g c =
     let copy = c.in_ok-copy.copy in
     let aim : Aim = c.in-Some.aim in
     let top : c.pop.result ≡ Some aim = search rules in
-    let cut : c.self.inside.aims.items ≡ rest ++ aim ∷ [] = sym c.try_reserve.ensures.items ∙ c.pop.ensures.items ∙ ap (λ o. rest ++ option_to_list o) top in
-    subst (λ (s : Scanning). HasMet s copy.aim (record { initial = first; aims = c.push_raised.new.aims.items })) c.self.view_is (
+    let cut : c.self.inside.aims.items ≡ rest ++ aim ∷ [] =
+    sym c.try_reserve.ensures.items ∙ c.pop.ensures.items ∙ ap (λ o. rest ++ option_to_list o) top in
+    subst (λ (s : Scanning). HasMet s copy.aim (record { initial = first; aims = c.push_raised.new.aims.items }))
+    c.self.view_is (
       refl,
       λ code.
           let same = ap (λ b. bit (leads first code (at_level copy.aim.level b))) c.in_ok-copy.ensures.bucket in
-          omega (arith, ap (aimed first code) cut, aimed-snoc first code rest aim, c.push_raised.ensures.all code, same),
+          omega (
+            arith,
+            ap (aimed first code) cut,
+            aimed-snoc first code rest aim,
+            c.push_raised.ensures.all code,
+            same,
+          ),
     )
 
 pub returns-clause-fewer : goal.returns-clause-fewer
@@ -44,7 +55,11 @@ returns-clause-fewer g c =
     let copy = c.in_ok-copy.copy in
     let aim : Aim = c.in-Some.aim in
     let top : c.pop.result ≡ Some aim = search rules in
-    let cut : c.self.inside.aims.items ≡ rest ++ aim ∷ [] = sym c.try_reserve.ensures.items ∙ c.pop.ensures.items ∙ ap (λ o. rest ++ option_to_list o) top in
+    let cut : c.self.inside.aims.items ≡ rest ++ aim ∷ [] =
+    sym c.try_reserve.ensures.items ∙ c.pop.ensures.items ∙ ap (λ o. rest ++ option_to_list o) top in
     let some : 0 < 2 ^ (16 - copy.aim.level) = pow_pos (16 - copy.aim.level) in
-    subst (λ (s : Scanning). ahead (record { initial = c.self.inside.initial; aims = c.push_raised.new.aims.items }) < ahead s) c.self.view_is
+    subst
+    (λ (s : Scanning).
+    ahead (record { initial = c.self.inside.initial; aims = c.push_raised.new.aims.items }) < ahead s)
+    c.self.view_is
     (omega (arith, ap (total room_of) cut, ahead-snoc rest aim, c.push_raised.ensures.ahead, some))

@@ -8,9 +8,14 @@ divide-requires g c =
     let calls = length c.captures.calls.now in
     let first = c.loop-first.first in
     let more = places_before-more first c.captures.threads calls c.loop-first-test.true in
-    let within = places_before-within (first + 1) c.captures.threads calls c.requires.threads (omega (arith, c.loop-first-test.true)) in record {
+    let within =
+    places_before-within (first + 1) c.captures.threads calls c.requires.threads
+    (omega (arith, c.loop-first-test.true)) in
+    record {
       of = c.loop-first.invariant.of;
-      enough = have_fewer (calls - places_before first c.captures.threads calls) c.calls_of_thread-share.result c.loop-first.all
+      enough =
+          have_fewer (calls - places_before first c.captures.threads calls) c.calls_of_thread-share.result
+          c.loop-first.all
           (omega (arith, c.calls_of_thread-share.ensures, more, within)) c.loop-first.invariant.enough;
     }
 
@@ -20,7 +25,9 @@ loop-first-preserved g c =
     let first = c.loop-first.first in
     let share = c.calls_of_thread-share.result in
     let more = places_before-more first c.captures.threads calls c.loop-first-test.true in
-    let within = places_before-within (first + 1) c.captures.threads calls c.requires.threads (omega (arith, c.loop-first-test.true)) in
+    let within =
+    places_before-within (first + 1) c.captures.threads calls c.requires.threads
+    (omega (arith, c.loop-first-test.true)) in
     let rest = calls - places_before (first + 1) c.captures.threads calls in
     let kept = c.keep.ensures.calls c.if-not-keep.false in
     let promised = ap (λ p. p.calls) c.in-Ok.ensures.ok in record {

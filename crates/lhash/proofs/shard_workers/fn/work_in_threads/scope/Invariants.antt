@@ -9,7 +9,8 @@ abbrev pub invariant-loop-first : goal.invariant-loop-first
 invariant-loop-first g l = record {
   of : AreOf l.shards.now l.all;
   each : All (λ worker. worker.promise.shards.now ≡ l.shards.now) l.workers.items;
-  dealt : sum_by (λ worker. worker.promise.calls) l.workers.items ≡ places_before l.first l.threads (length l.calls.now);
+  dealt : sum_by (λ worker. worker.promise.calls) l.workers.items ≡
+      places_before l.first l.threads (length l.calls.now);
   acts : acts_of l.all ≡ acts_of l.initial.all;
   enough : AllHave (length l.calls.now - places_before l.first l.threads (length l.calls.now)) l.all;
 }

@@ -10,6 +10,7 @@ invariant-loop-first g l = record {
   each : All (λ worker. worker.promise.file.now.state ≡ l.file.now.state) l.workers.items;
   shares : share_of l.all + sum_by (λ worker. worker.promise.calls) l.workers.items ≡ share_of l.initial.all;
   acts : l.all.acts ≡ l.initial.all.acts;
-  dealt : sum_by (λ worker. worker.promise.calls) l.workers.items ≡ places_before l.first l.threads (length l.calls.now);
+  dealt : sum_by (λ worker. worker.promise.calls) l.workers.items ≡
+      places_before l.first l.threads (length l.calls.now);
   missing : IfSome l.missing IsWorkersFault;
 }
