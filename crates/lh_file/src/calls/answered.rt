@@ -6,14 +6,14 @@ ghost use Rattle.lh_file.specs.FileState.{IsOf};
 ghost use Rattle.lh_file.specs.History.Told.{HasEntered};
 
 use crate::buckets::room::Room;
+use crate::calls::coded::Coded;
 use crate::fault::FileFault;
 use crate::file::HashFile;
 use crate::gate::Gate;
 use crate::words::hand::Hand;
 use crate::words::mode::Mode;
-use lh_addr::fnv1a;
 use lh_bucket::{Answer, Change};
-use lh_page::{Key, Value};
+use lh_page::Value;
 use std::sync::Wait;
 
 impl<G: Gate, M: Mode, J: Room> HashFile<G, M, J> {
@@ -21,45 +21,56 @@ impl<G: Gate, M: Mode, J: Room> HashFile<G, M, J> {
     // Inlined, as the others here are; `find_into` and `change` below aren't: the answer is made when the bucket is
     // free, and what nobody looks at isn't made.
     #[inline(always)]
-    pub fn search<R: Wait>(&self, rt: &R, hand: &mut Hand, key: Key) -> Result<Answer, FileFault>
+    pub fn search<K: Coded + Copy, R: Wait>(
+        &self,
+        rt: &R,
+        hand: &mut Hand,
+        key: K,
+    ) -> Result<Answer, FileFault>
         requires { IsOf self.now.state hand.old }
-        ensures served { Serves self.now.state hand.old (call.Search key) result hand.new }
+        ensures served { Serves self.now.state hand.old (call.Search (K.bytes key)) result hand.new }
         ensures entered { M.traced ≡ true → IfOk result (λ a. HasEntered false hand.old a.call a.reply hand.new) }
     {
         let mut value = Value::empty();
-        let (is_there, home) = self.find_into(rt, hand, &key, fnv1a(key.bytes()), &mut value)?;
+        let (is_there, home) = self.find_into(rt, hand, key.key(), key.code(), &mut value)?;
         let found = if is_there { Some(&value) } else { None };
-        Ok(Answer::of_search(&key, found, home))
+        Ok(Answer::of_search(key.key(), found, home))
     }
 
     /// Inserts a record, unless the key is there. Where the record is new, the load of the file asks for a
     /// split and the hand hasn't the right to one, the call asks once for it, and splits a bucket if it
     /// gets it; whether that succeeds makes no difference to the answer.
     #[inline(always)]
-    pub fn insert<R: Wait>(
+    pub fn insert<K: Coded + Copy, R: Wait>(
         &self,
         rt: &R,
         hand: &mut Hand,
-        key: Key,
+        key: K,
         value: Value,
     ) -> Result<Answer, FileFault>
         requires { IsOf self.now.state hand.old }
-        ensures served { Serves self.now.state hand.old (call.Insert key value) result hand.new }
+        ensures served { Serves self.now.state hand.old (call.Insert (K.bytes key) value) result hand.new }
         ensures entered { M.traced ≡ true → IfOk result (λ a. HasEntered false hand.old a.call a.reply hand.new) }
     {
-        let (reply, home) = self.add(rt, hand, &key, &value, fnv1a(key.bytes()))?;
-        Ok(Answer::of_change(Change::Insert(&key, &value), reply, home))
+        let lent = key.key();
+        let (reply, home) = self.add(rt, hand, lent, &value, key.code())?;
+        Ok(Answer::of_change(Change::Insert(lent, &value), reply, home))
     }
 
     /// Deletes a record: the answer's reply is whether the key was there.
     #[inline(always)]
-    pub fn delete<R: Wait>(&self, rt: &R, hand: &mut Hand, key: Key) -> Result<Answer, FileFault>
+    pub fn delete<K: Coded + Copy, R: Wait>(
+        &self,
+        rt: &R,
+        hand: &mut Hand,
+        key: K,
+    ) -> Result<Answer, FileFault>
         requires { IsOf self.now.state hand.old }
-        ensures served { Serves self.now.state hand.old (call.Delete key) result hand.new }
+        ensures served { Serves self.now.state hand.old (call.Delete (K.bytes key)) result hand.new }
         ensures entered { M.traced ≡ true → IfOk result (λ a. HasEntered false hand.old a.call a.reply hand.new) }
     {
-        let change = Change::Delete(&key);
-        let (reply, home) = self.change(rt, hand, change, fnv1a(key.bytes()))?;
+        let change = Change::Delete(key.key());
+        let (reply, home) = self.change(rt, hand, change, key.code())?;
         Ok(Answer::of_change(change, reply, home))
     }
 
@@ -67,19 +78,19 @@ impl<G: Gate, M: Mode, J: Room> HashFile<G, M, J> {
     /// record stays where it is, and a key that isn't there is not added. No count changes and no split
     /// is asked for, since the file has as many records as before.
     #[inline(always)]
-    pub fn replace<R: Wait>(
+    pub fn replace<K: Coded + Copy, R: Wait>(
         &self,
         rt: &R,
         hand: &mut Hand,
-        key: Key,
+        key: K,
         value: Value,
     ) -> Result<Answer, FileFault>
         requires { IsOf self.now.state hand.old }
-        ensures served { Serves self.now.state hand.old (call.Replace key value) result hand.new }
+        ensures served { Serves self.now.state hand.old (call.Replace (K.bytes key) value) result hand.new }
         ensures entered { M.traced ≡ true → IfOk result (λ a. HasEntered false hand.old a.call a.reply hand.new) }
     {
-        let change = Change::Replace(&key, &value);
-        let (reply, home) = self.change(rt, hand, change, fnv1a(key.bytes()))?;
+        let change = Change::Replace(key.key(), &value);
+        let (reply, home) = self.change(rt, hand, change, key.code())?;
         Ok(Answer::of_change(change, reply, home))
     }
 }

@@ -1,6 +1,5 @@
 -- The hand at the key's shard is one of the file there, and stays one; the others are as they were.
 use Rattle.std.proofs.Common.{ap, ◌∙◌, length, lit<}
-use Rattle.lh_addr.specs.Fnv.{code_of}
 use Rattle.lh_shards.specs.Number.{shard_of}
 use Rattle.lh_shards.proofs.OneShard.{ready, of_served}
 use Rattle.lh_shards.proofs.shards.Shards.search.Goals as goal
@@ -15,8 +14,7 @@ search-requires g c = (
 pub returns-clause-of : goal.returns-clause-of
 returns-clause-of g c =
     of_served c.args.self.now c.args.hands.now _ _ c.hands.view_is c.requires
-    (c.shard_of-shard.ensures.value
-    ∙ ap (λ code. shard_of code (length c.args.self.now)) (c.fnv1a.ensures ∙ ap code_of c.bytes.ensures.value))
+    (c.shard_of-shard.ensures.value ∙ ap (λ code. shard_of code (length c.args.self.now)) c.code.ensures)
     (ready _ _ _ _ _ _ _ c.self.view_is c.hands.view_is c.requires c.shard_of-shard.ensures.within c.index.ensures
     c.index_mut.ensures.value)
     c.search.ensures.served
