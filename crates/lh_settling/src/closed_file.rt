@@ -59,7 +59,7 @@ fn copied(alloc: Global, lists: &[Vec<Pair>]) -> Result<Vec<Vec<Pair>>, Memory>
 
 impl Closed {
     ghost use Rattle.lh_addr.specs.RootWord.{buckets_of};
-    ghost use Rattle.lh_bucket.specs.Listing.{count_of};
+    ghost use Rattle.lh_bucket.specs.Listing.{count_of, IsListing};
     ghost use Rattle.lh_bucket.specs.ListingFault.{IsFaultOf};
     ghost use Rattle.lh_settling.specs.ClosedFile.{IsClosed, IsWhole};
 
@@ -191,6 +191,7 @@ impl Closed {
           config = self.config;
           lists = take (buckets_of self.root) self.lists;
         }) }
+        ensures kept { IfOk result IsListing }
         ensures err { IfErr result (IsFaultOf self.config (buckets_of self.root)
             (take (buckets_of self.root) self.lists)) }
     {

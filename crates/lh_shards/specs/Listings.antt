@@ -1,7 +1,7 @@
 -- The listings of closed shards
-use Rattle.std.specs.Prelude.{◌≡◌, ◌⊎◌, ℕ, List, length, take, Some, slice_get}
+use Rattle.std.specs.Prelude.{◌≡◌, ◌⊎◌, ℕ, ◌<◌, List, length, take, Some, slice_get}
 use Rattle.lh_addr.specs.RootWord.{buckets_of}
-use Rattle.lh_bucket.specs.Listing.{Lists}
+use Rattle.lh_bucket.specs.Listing.{Lists, IsListing}
 use Rattle.lh_bucket.specs.ListingFault.{IsFaultOf}
 use Rattle.lh_bucket.specs.declared.listing.ListingFault.TheVariants.{Memory}
 use Rattle.lh_settling.specs.ClosedFile.{ClosedFile}
@@ -22,12 +22,14 @@ pub record AreListed (shards : List ClosedShard) (listings : List Lists) : Type 
   pub each : (shard : ℕ) (closed : ClosedShard) (listing : Lists) → slice_get shards shard ≡ Some closed →
       slice_get listings shard ≡ Some listing → listing ≡ listing_of closed.closed
 
--- the closed file of the shard has this fault as a listing, or memory ran out
+-- the closed file of the shard has this fault as a listing, or memory ran out; those of all shards before it have none
 pub record IsListingsFault (shards : List ClosedShard) (at : ListingsFault) : Type 0 where
   pub closed : ClosedShard
   pub closed_is : slice_get shards at.shard ≡ Some closed
   pub due : (at.fault ≡ Memory) ⊎ IsFaultOf closed.closed.config (buckets_of closed.closed.root)
       (listing_of closed.closed).lists at.fault
+  pub before : (shard : ℕ) (earlier : ClosedShard) → shard < at.shard → slice_get shards shard ≡ Some earlier →
+      IsListing (listing_of earlier.closed)
 
 -- Where shards were opened from listings whose records stand in their own shards, and are settled, so do the records of
 -- the listings that they leave.

@@ -1,11 +1,12 @@
 -- The next shard gives its listing, or a fault.
-use Rattle.std.proofs.Common.{suc, ◌≡◌, ℕ, ◌+◌, ◌≤◌, List, drop, length, Some, add-one, refl, sym, ap, ◌∙◌, subst, inl}
+use Rattle.std.proofs.Common.{suc, ◌≡◌, ℕ, ◌+◌, ◌<◌, ◌≤◌, List, drop, length, Some, add-one, refl, sym, ap, ◌∙◌, subst, inl}
 use Rattle.std.proofs.Common.{inr, ⊎_elim, arith}
 use Rattle.std.specs.List.{slice_get}
 use Rattle.std.specs.Vec.Iter.{into_iter_items, into_iter_len}
+use Rattle.std.proofs.lemmas.Bool.{cases_lt}
 use Rattle.std.proofs.lemmas.List.{length_push}
 use Rattle.std.proofs.lemmas.Option.{same_Some}
-use Rattle.lh_bucket.specs.Listing.{Lists}
+use Rattle.lh_bucket.specs.Listing.{Lists, IsListing}
 use Rattle.lh_shards.specs.Listings.{listing_of}
 use Rattle.lh_shards.specs.declared.closed_shard.ClosedShard.{ClosedShard}
 use Rattle.lh_shards.proofs.Places.{at_push, left_next, there}
@@ -26,6 +27,7 @@ returns-in_default-clause-err c =
       closed = closed.0;
       closed_is = closed.1;
       due = inl refl;
+      before = λ k earlier below. absurd (omega arith);
     }
 
 pub returns-in-Err-clause-err : goal.returns-in-Err-clause-err
@@ -33,6 +35,7 @@ returns-in-Err-clause-err c = record {
   closed = c.in-Some.field-0;
   closed_is = (next_shard (goal.at.returns-in-Err-clause-err c).In-Some).0;
   due = inr c.in-Err.ensures.err;
+  before = c.loop-shard.invariant.kept;
 }
 
 pub loop-shard-preserved : goal.loop-shard-preserved
@@ -58,4 +61,15 @@ loop-shard-preserved c =
           (λ e. c.loop-shard.invariant.each k closed listing ko e)
           (at_push c.loop-shard.listings.items c.in-Ok-into_listing.listing k listing
           (subst (λ (l : List Lists). slice_get l k ≡ Some listing) c.push_reserved.ensures.items kl));
+      kept = λ k closed below at.
+          ⊎_elim
+          (λ (less : k < i). c.loop-shard.invariant.kept k closed less at)
+          (λ (rest : i ≤ k).
+          let here : k ≡ i = omega arith in
+          let same : c.in-Some.field-0 ≡ closed =
+          same_Some c.in-Some.field-0 closed
+          (sym next.0 ∙ subst (λ j. slice_get c.args.self j ≡ Some closed) here at) in
+          subst IsListing (c.in-Ok-into_listing.ensures.ok ∙ ap (λ (x : ClosedShard). listing_of x.closed) same)
+          c.in-Ok-into_listing.ensures.kept)
+          (cases_lt k i);
     }
