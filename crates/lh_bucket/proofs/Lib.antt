@@ -6,5 +6,4 @@ pub mod Listings
 pub mod MapOf
 pub mod PlacedLaw
 pub mod PlainBuckets
-pub mod PlainMaps
 pub mod RecordLaws

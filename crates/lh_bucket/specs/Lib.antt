@@ -10,6 +10,7 @@ pub mod ListingFault
 pub mod PagedBucket
 pub mod PlainBucket
 pub mod PlainMap
+pub mod PlainMapLaws
 pub mod Records
 pub mod Tags
 pub mod Verdict

@@ -15,4 +15,5 @@ pub mod Sound
 pub mod Spans
 pub mod Splits
 pub mod State
+pub mod StepLaws
 pub mod World

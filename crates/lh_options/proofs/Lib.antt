@@ -1,6 +1,5 @@
 -- Lemmas by subject; beside them the proofs of each function, by its module
 pub mod Accepted
-pub mod Asking
 pub mod CommandShapes
 pub mod Levels
 pub mod NumberLemmas

@@ -1,3 +1,4 @@
+pub mod AskingLaws
 pub mod Escapes
 pub mod OptionLaws
 pub mod OptionSteps

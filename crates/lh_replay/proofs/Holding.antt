@@ -23,7 +23,7 @@ use Rattle.lh_core.specs.Log.{Entry}
 use Rattle.lh_core.specs.Rules.{WorkerStep, act, allowed, at_worker, begin_split, called, drop_split, free_both, lock}
 use Rattle.lh_core.specs.Rules.{lock_both, move_records, point, read, rehash, release}
 use Rattle.lh_core.specs.State.{State, local_level}
-use Rattle.lh_core.proofs.Logs.Steps.{became, err_ok, passed, some_same, step_at, told}
+use Rattle.lh_core.specs.StepLaws.{became, err_ok, passed, some_same, step_at, told}
 use Rattle.lh_replay.specs.Lanes.{ends_at}
 use Rattle.lh_replay.specs.Meaning.{DoesHold, HeldLaw}
 

@@ -20,7 +20,7 @@ use Rattle.lh_core.specs.Log.{Entry, Log}
 use Rattle.lh_core.specs.Rules.{WorkerStep, act, allowed, at_worker, begin_split, called, drop_split, lock, lock_both}
 use Rattle.lh_core.specs.Rules.{move_records, point, read, rehash, release}
 use Rattle.lh_core.specs.State.{State, splitting, with_splitter}
-use Rattle.lh_core.proofs.Logs.Steps.{became, err_ok, passed, some_same, step_at, told}
+use Rattle.lh_core.specs.StepLaws.{became, err_ok, passed, some_same, step_at, told}
 use Rattle.lh_replay.specs.Lanes.{ends_at}
 use Rattle.lh_replay.specs.Meaning.{BothHeldLaw}
 use Rattle.lh_replay.proofs.Holding.{neither}

@@ -12,8 +12,9 @@ use Rattle.lh_image.specs.declared.version.Version.{Version}
 use Rattle.lh_image.specs.Reading.{following, leading, reading_of}
 use Rattle.lh_options.specs.Options.{Asks, AsksForHelp, IsTurned, Text, asked_by, asked_for, image_begins, number_given}
 use Rattle.lh_options.specs.Options.{settings_given, settings_typed, subcommand_named, version_numbered}
-use Rattle.lh_options.proofs.Asking.{apply, asked_named, build, commands, drive, refused_alone, refuses_setting, replay}
-use Rattle.lh_options.proofs.Asking.{serves_file, serves_image, steps, unapplied, undriven}
+use Rattle.lh_options.specs.AskingLaws.{apply, asked_named, build, commands, drive, refused_alone, refuses_setting}
+use Rattle.lh_options.specs.AskingLaws.{replay}
+use Rattle.lh_options.specs.AskingLaws.{serves_file, serves_image, steps, unapplied, undriven}
 use Rattle.lh_options.specs.declared.options.Request.{Request}
 use Rattle.lh_options.specs.declared.options.Request.TheVariants as request
 use Rattle.lh_script.specs.declared.fault.ScriptFault.{ScriptFault}

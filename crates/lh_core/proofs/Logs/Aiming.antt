@@ -25,7 +25,8 @@ use Rattle.lh_core.specs.Rules.{WorkerStep, allowed, called, read, lock, rehash,
 use Rattle.lh_core.specs.Rules.{lock_both, move_records, free_both, point, drop_split}
 use Rattle.lh_core.specs.Sound.{IsPhase, IsSound}
 use Rattle.lh_core.specs.Laws.{LinearHashing}
-use Rattle.lh_core.proofs.Logs.Steps.{err_ok, became, passed, step_at, all_at, written, unwritten}
+use Rattle.lh_core.specs.StepLaws.{err_ok, became, passed, step_at}
+use Rattle.lh_core.proofs.Logs.Steps.{all_at, written, unwritten}
 
 -- a file at rest
 pub resting_sound : (s : Settings) (n : ℕ) → 1 ≤ s.initial → s.initial ≤ n → n ≤ s.max → IsSound s (resting n)

@@ -27,7 +27,8 @@ use Rattle.lh_core.specs.Spans.{ActLiesInSpan, ActsLieInSpans, HasRisenToAct}
 use Rattle.lh_core.specs.Rises.{ActHasRisen, ActsHaveRisen}
 use Rattle.lh_core.specs.Sound.{IsSound}
 use Rattle.lh_core.specs.Laws.{LinearHashing, AimsLaw, SpansLaw, RisesLaw}
-use Rattle.lh_core.proofs.Logs.Steps.{IsOther, err_ok, step_at, all_at, written, unwritten}
+use Rattle.lh_core.specs.StepLaws.{err_ok, step_at}
+use Rattle.lh_core.proofs.Logs.Steps.{IsOther, all_at, written, unwritten}
 use Rattle.lh_core.proofs.Logs.Tied.{IsTied, tied_other, tied_refused, tied_called, tied_read, tied_lock, tied_rehash}
 use Rattle.lh_core.proofs.Logs.Tied.{tied_act, tied_release}
 use Rattle.lh_core.proofs.Logs.Spans.{open_call_law}

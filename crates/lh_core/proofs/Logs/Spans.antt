@@ -9,7 +9,8 @@ use Rattle.lh_core.specs.declared.event.Event.TheVariants as event
 use Rattle.lh_core.specs.Log.{Entry, Log, open_call}
 use Rattle.lh_core.specs.Spans.{is_bound, IsInSpan}
 use Rattle.lh_core.specs.Laws.{OpenCallLaw}
-use Rattle.lh_core.proofs.Logs.Steps.{none_some, some_same, same_eq}
+use Rattle.lh_core.specs.StepLaws.{none_some, some_same}
+use Rattle.lh_core.proofs.Logs.Steps.{same_eq}
 
 module _ (w : ℕ) (c : Call) where
   add : (d : Event × Entry) (log : Log) → is_bound w d ≡ false → IsInSpan w log c → IsInSpan w (d ∷ log) c

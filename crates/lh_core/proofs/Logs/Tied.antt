@@ -19,7 +19,8 @@ use Rattle.lh_core.specs.Rules.{called, read, lock, rehash, act, release, home}
 use Rattle.lh_core.specs.Log.{Entry, Log, open_after, open_call}
 use Rattle.lh_core.specs.Spans.{is_turn, is_turn_by, is_accepted_rehash, is_rehash_by, HasRisen}
 use Rattle.lh_core.specs.History.{outline}
-use Rattle.lh_core.proofs.Logs.Steps.{IsOther, other_eq, other_cond, same_cond, err_ok, became, told, passed, outlined}
+use Rattle.lh_core.specs.StepLaws.{err_ok, became, told, passed}
+use Rattle.lh_core.proofs.Logs.Steps.{IsOther, other_eq, other_cond, same_cond, outlined}
 
 -- what the log tells of a worker
 abbrev pub IsTied : Log → ℕ → WorkerState → Type 0

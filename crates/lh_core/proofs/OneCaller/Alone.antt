@@ -34,7 +34,7 @@ use Rattle.lh_core.specs.Sound.{IsPhase}
 use Rattle.lh_core.specs.Kept.{IsWorld}
 use Rattle.lh_core.specs.Serial.{IsAtRest, IsGivenUp, IsServedAlone, HasGrown}
 use Rattle.lh_core.specs.World.{WorldSeen, IsStep, StandsFor, reply_to, map_after}
-use Rattle.lh_core.proofs.Logs.Steps.{became, told, some_same, none_some}
+use Rattle.lh_core.specs.StepLaws.{became, told, some_same, none_some}
 use Rattle.lh_core.proofs.Logs.Leading.{idle_filled}
 
 -- a call that is served at once, while nobody is at work

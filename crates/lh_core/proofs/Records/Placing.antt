@@ -23,7 +23,7 @@ use Rattle.lh_core.specs.World.{IsPlaced, HasKeysOnce, no_bucket}
 use Rattle.lh_core.specs.Kept.{IsRow, head_at}
 use Rattle.lh_core.specs.Splits.{IsSplit, unfilled}
 use Rattle.lh_core.specs.Laws.{LinearHashing}
-use Rattle.lh_bucket.proofs.PlainMaps.{reply_here, after_here, after_elsewhere, kept_twice, kept_alike}
+use Rattle.lh_bucket.specs.PlainMapLaws.{reply_here, after_here, after_elsewhere, kept_twice, kept_alike}
 
 not_below : (l : ℕ) → nat_lt l l ≡ false
 not_below l = grind (arith, nat_tests)

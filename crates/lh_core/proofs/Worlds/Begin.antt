@@ -23,7 +23,7 @@ use Rattle.lh_core.specs.Kept.{AreBuckets, IsRow, IsWorld, IsEmptyRow, empty_at}
 use Rattle.lh_core.specs.Laws.{LinearHashing}
 use Rattle.lh_core.specs.Sound.{IsSound}
 use Rattle.lh_core.specs.World.{IsPlaced, HasKeysOnce, no_bucket}
-use Rattle.lh_bucket.proofs.PlainMaps.{same, get_kept}
+use Rattle.lh_bucket.specs.PlainMapLaws.{same, get_kept}
 use Rattle.lh_core.proofs.Logs.Aiming.{first_sound}
 
 pub buckets_none : (is : ℕ → Seen) → AreBuckets is 0 []

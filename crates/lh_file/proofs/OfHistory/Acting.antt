@@ -24,7 +24,7 @@ use Rattle.lh_file.specs.Words.Sums.{total}
 use Rattle.lh_file.specs.declared.words.numbers.FileWords.{FileWords}
 use Rattle.lh_file.specs.declared.words.seat_view.Entry.{Entry}
 use Rattle.lh_file.specs.declared.words.seat_view.SeatView.{SeatView}
-use Rattle.lh_bucket.proofs.PlainMaps.{reply_here, after_here, after_elsewhere, kept_alike}
+use Rattle.lh_bucket.specs.PlainMapLaws.{reply_here, after_here, after_elsewhere, kept_alike}
 use Rattle.lh_file.proofs.OfHistory.Logs.{left_after-snoc, legal-snoc, stamps_in-append}
 use Rattle.lh_file.proofs.OfHistory.Rows.{each_other, each_set, each_snoc, each_one}
 use Rattle.lh_file.proofs.OfWords.Lists.{total-set, term_le, terms_le}

@@ -25,7 +25,7 @@ use Rattle.lh_bucket.specs.Bucket.{Seen}
 use Rattle.lh_bucket.specs.Listing.{list_at}
 use Rattle.lh_bucket.specs.PlainMap.{Records, after, replies, outcome}
 use Rattle.lh_bucket.specs.Records.{map_of}
-use Rattle.lh_bucket.proofs.PlainMaps.{kept_alike}
+use Rattle.lh_bucket.specs.PlainMapLaws.{kept_alike}
 use Rattle.lh_settling.specs.Acts.{stamps_of, calls_of, replies_of, IsInOrder}
 use Rattle.lh_settling.specs.Laws.{OrderLaw, FilledLaw}
 use Rattle.lh_settling.specs.Settled.{map_in, HoldsMap, IsSettled}

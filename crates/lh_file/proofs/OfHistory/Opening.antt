@@ -15,7 +15,7 @@ use Rattle.lh_addr.specs.RootWord.{buckets_of}
 use Rattle.lh_bucket.specs.Bucket.{Seen}
 use Rattle.lh_bucket.specs.Laws.{PlacedLaw}
 use Rattle.lh_bucket.specs.Listing.{Lists, IsListing, size}
-use Rattle.lh_bucket.proofs.PlainMaps.{kept_alike}
+use Rattle.lh_bucket.specs.PlainMapLaws.{kept_alike}
 use Rattle.lh_settling.specs.Settled.{map_in}
 use Rattle.lh_file.specs.Buckets.Segments.{start_of, end_of}
 use Rattle.lh_file.specs.History.Buckets.{bit, owns, belongs, owners_in, Mirrors, IsPlacedIn}

@@ -1,6 +1,7 @@
 use Rattle.std.proofs.Common.{◌∙◌, inl, inr}
-use Rattle.lh_options.proofs.Asking.{apply, build, check, commands, drive_by, draw, dump, migrate, out_of_order, query}
-use Rattle.lh_options.proofs.Asking.{replay, serve_by, steps}
+use Rattle.lh_options.specs.AskingLaws.{apply, build, check, commands, drive_by, draw, dump, migrate, out_of_order}
+use Rattle.lh_options.specs.AskingLaws.{query}
+use Rattle.lh_options.specs.AskingLaws.{replay, serve_by, steps}
 use Rattle.lh_options.proofs.options.asked.Goals as goal
 
 pub returns-in-Some-clause-value : goal.returns-in-Some-clause-value

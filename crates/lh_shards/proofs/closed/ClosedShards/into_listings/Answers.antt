@@ -1,5 +1,6 @@
 -- The next shard gives its listing, or a fault.
-use Rattle.std.proofs.Common.{suc, ◌≡◌, ℕ, ◌+◌, ◌<◌, ◌≤◌, List, drop, length, Some, add-one, refl, sym, ap, ◌∙◌, subst, inl}
+use Rattle.std.proofs.Common.{suc, ◌≡◌, ℕ, ◌+◌, ◌<◌, ◌≤◌, List, drop, length, Some, add-one, refl, sym, ap, ◌∙◌, subst}
+use Rattle.std.proofs.Common.{inl}
 use Rattle.std.proofs.Common.{inr, ⊎_elim, arith}
 use Rattle.std.specs.List.{slice_get}
 use Rattle.std.specs.Vec.Iter.{into_iter_items, into_iter_len}

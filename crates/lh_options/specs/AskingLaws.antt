@@ -1,4 +1,4 @@
--- What each subcommand asks for
+-- Laws of the definitions in specs/Options.antt: what each subcommand asks for
 use Rattle.std.proofs.Common.{◌≡◌, ◌∙◌, ◌≤◌, ◌<◌, ◌⊎◌, ℕ, Bool, true, false, inl, inr, refl, sym, ap, List, Option}
 use Rattle.std.proofs.Common.{None, Some, codes, if◌then◌else◌}
 use Rattle.std.specs.Prelude.{option_and_then, option_map}

@@ -1,4 +1,4 @@
--- A call on a part of a map is that call on the whole map
+-- Laws of the plain map: a call on a part of a map is that call on the whole map
 use Rattle.std.proofs.Common.{◌≡◌, ℕ, ◌&&◌, Bool, true, false, cond, List, Option, Some, None, is_some, refl, sym, ap}
 use Rattle.std.proofs.Common.{◌∙◌}
 use Rattle.std.specs.Ordering.{nat_cmp, eq_by_cmp}
