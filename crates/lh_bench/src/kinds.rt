@@ -1,6 +1,6 @@
 //! The workloads on tables of each kind: an untraced file, a traced one, and several as one.
 ghost use Rattle.std.specs.Prelude.{true};
-ghost use Rattle.lh_file.specs.Buckets.Rooms.{IsRoomOf};
+ghost use Rattle.lh_file.specs.Buckets.Brands.{IsBrandOf};
 
 use crate::meter::resident_bytes;
 use crate::on_file::OnFile;
@@ -12,7 +12,7 @@ use crate::table::Table;
 use crate::workloads::{empty_file, inserts, searches, settings, shared};
 use anyhow::Result;
 use lh_bucket::Listing;
-use lh_file::{NoGate, Opening, Room};
+use lh_file::{FileBrand, NoGate, Opening};
 use lh_shards::Shards;
 use std::marker::Brand;
 use std::rt::{Clock, Files};
@@ -68,9 +68,9 @@ fn run_opened<J, R>(
     before: u64,
 ) -> Result<Outcome>
 where
-    J: Room + Send + Sync,
+    J: FileBrand + Send + Sync,
     R: Threads + Wait + Sync + Clock + CpuClock + Files + AllocGlobal,
-    requires { IsRoomOf true J.named J.table opening.table }
+    requires { IsBrandOf true J.named J.table opening.table }
 {
     let (file, hand) = opening.file::<J>()?;
     run_on(rt, OnFile::new(&file, hand), order, before)

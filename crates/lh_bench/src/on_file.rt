@@ -7,19 +7,19 @@ use crate::looks::Met;
 use crate::table::{CALLS, Table};
 use anyhow::Result;
 use lh_bucket::Answer;
-use lh_file::{Closed, FileFault, Hand, HashFile, Mode, NoGate, Room, Scan};
+use lh_file::{Closed, FileBrand, FileFault, Hand, HashFile, Mode, NoGate, Scan};
 use lh_page::{Key, Value};
 use std::marker::Model;
 use std::sync::Wait;
 
 /// A file, and a hand of it.
 #[derive(Drop)]
-pub struct OnFile<'a, M: Mode, J: Room> {
+pub struct OnFile<'a, M: Mode, J: FileBrand> {
     file: &'a HashFile<NoGate, M, J>,
     hand: Hand,
 }
 
-impl<'a, M: Mode, J: Room> Model for OnFile<'a, M, J> {
+impl<'a, M: Mode, J: FileBrand> Model for OnFile<'a, M, J> {
     ghost use Rattle.lh_file.specs.FileState.{IsOf};
     ghost use Rattle.lh_file.specs.Words.HandState.{HandState};
 
@@ -30,7 +30,7 @@ impl<'a, M: Mode, J: Room> Model for OnFile<'a, M, J> {
     ghost invariant = { λ own. IsOf own.file.now.state own.hand };
 }
 
-impl<'a, M: Mode, J: Room> OnFile<'a, M, J> {
+impl<'a, M: Mode, J: FileBrand> OnFile<'a, M, J> {
     pub fn new(file: &'a HashFile<NoGate, M, J>, hand: Hand) -> OnFile<'a, M, J>
         requires { IsOf file.now.state hand }
         ensures { result ≡ hand }
@@ -40,7 +40,7 @@ impl<'a, M: Mode, J: Room> OnFile<'a, M, J> {
 }
 
 /// What a scan meets.
-fn met_by_scan<M: Mode, J: Room, R: Wait + AllocGlobal>(
+fn met_by_scan<M: Mode, J: FileBrand, R: Wait + AllocGlobal>(
     rt: &R,
     file: &HashFile<NoGate, M, J>,
     hand: &mut Hand,
@@ -59,7 +59,7 @@ fn met_by_scan<M: Mode, J: Room, R: Wait + AllocGlobal>(
     Ok(met)
 }
 
-impl<'a, M: Mode, J: Room> Table for OnFile<'a, M, J> {
+impl<'a, M: Mode, J: FileBrand> Table for OnFile<'a, M, J> {
     #[inline(always)]
     fn search<R: Wait>(&mut self, rt: &R, key: Key) -> Result<Answer, FileFault> {
         self.file.search(rt, &mut self.hand, key)

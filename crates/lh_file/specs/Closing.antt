@@ -59,17 +59,17 @@ pub record AreGathered (buckets : List Seen) (lists : List (List Pair)) (whole :
   pub beyond : clean ≡ true → (place : ℕ) → whole ≤ place → list_at lists place ≡ []
 
 -- none of these acts was made on a bucket that isn't the file's
-abbrev pub NoneLent : List Entry → Type 0
-NoneLent entries = Each entries (λ e. e.lent ≡ false)
+abbrev pub NoneOutside : List Entry → Type 0
+NoneOutside entries = Each entries (λ e. e.outside ≡ false)
 
 -- A traced file was closed with all its buckets and no split under way: the hand that closed it was told of a log, of
 -- all that was done with the file, and the closed file holds just what that leaves. Where each call came home to this
--- hand and none was lent, these acts are the log's, of which none is lent, and the file is settled.
+-- hand and none was outside, these acts are the log's, of which none is outside, and the file is settled.
 abbrev pub HasHistory : Lists → ClosedFile → List ActLine → HandState → Type 0
 HasHistory opening closed acts hand =
     (log : List Entry) × IsSnapshot opening closed hand.entries hand.logs log
-    × (hand.view.left + length hand.acts ≡ 2 ^ 63 → NoneLent hand.entries →
-    IsSettled opening closed acts (lines_of log) × NoneLent log)
+    × (hand.view.left + length hand.acts ≡ 2 ^ 63 → NoneOutside hand.entries →
+    IsSettled opening closed acts (lines_of log) × NoneOutside log)
 
 -- No stamp is missing where the file records and all calls came home to the hand that closed it.
 abbrev pub NoneMissingLaw : Type 0

@@ -4,7 +4,7 @@ ghost use Rattle.lh_file.specs.Closing.{NoneIsLost, AreGathered, HasHistory};
 ghost use Rattle.lh_file.specs.FileState.{IsOf};
 ghost use Rattle.lh_file.specs.HashFile.{IsClosing};
 
-use crate::buckets::room::Room;
+use crate::buckets::brand::FileBrand;
 use crate::buckets::segments::Segments;
 use crate::buckets::slot::Slot;
 use crate::file::HashFile;
@@ -35,7 +35,7 @@ struct Copies {
 
 impl Copies {
     /// Copies the next bucket. In a traced file its seat is taken in, if those of all buckets before it were.
-    fn add<M: Mode, J: Room>(
+    fn add<M: Mode, J: FileBrand>(
         &mut self,
         alloc: Global,
         words: &Words<M>,
@@ -43,7 +43,7 @@ impl Copies {
         slot: &Slot<J>,
     ) -> Result<(), Memory>
         requires at { seat.old.table_id ≡ words.now.table }
-        requires room { M.traced ≡ true → words.now.table ≡ J.table }
+        requires brand { M.traced ≡ true → words.now.table ≡ J.table }
         requires few { length self.old.lists.items < 2 ^ 32 - 1 }
         requires before { AreGathered seat.old.me.0.parts
             (map (λ v. v.items) self.old.lists.items) self.old.whole self.old.clean }
@@ -64,7 +64,7 @@ impl Copies {
     }
 }
 
-impl<J: Room> Segments<J> {
+impl<J: FileBrand> Segments<J> {
     /// The records of each bucket that was made, each copied under its lock. In a traced file the seats of the buckets
     /// come into this one.
     fn copied<M: Mode, R: Wait>(
@@ -75,7 +75,7 @@ impl<J: Room> Segments<J> {
         buckets: u32,
     ) -> Result<Copies, Memory>
         requires at { seat.old.table_id ≡ words.now.table }
-        requires room { M.traced ≡ true → words.now.table ≡ J.table }
+        requires brand { M.traced ≡ true → words.now.table ≡ J.table }
         requires bucketless { seat.old.me.0.parts ≡ [] }
         ensures few { IfOk result (λ copies. length copies.lists.items ≤ self.now.config.max) }
         ensures at { seat.new.table_id ≡ seat.old.table_id }
@@ -98,7 +98,7 @@ impl<J: Room> Segments<J> {
     }
 }
 
-impl<G: Gate, M: Mode, J: Room> HashFile<G, M, J> {
+impl<G: Gate, M: Mode, J: FileBrand> HashFile<G, M, J> {
     /// Closes the file: how far it has grown, with the records of its buckets, and the acts of the hand
     /// that closes it. A hand that was not joined into this one is lost with its acts. Without memory
     /// for the records, the file and the hand are gone.

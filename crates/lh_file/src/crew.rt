@@ -6,7 +6,7 @@ ghost use Rattle.lh_file.specs.Words.Calls.{IsNotGiven};
 ghost use Rattle.lh_file.specs.Words.HandState.{AreJoined, IsBranch, IsSame, seeing};
 ghost use Rattle.lh_file.specs.Words.Views.{lessened};
 
-use crate::buckets::room::Room;
+use crate::buckets::brand::FileBrand;
 use crate::fault::{FileFault, JoinAllFault};
 use crate::file::HashFile;
 use crate::gate::Gate;
@@ -86,7 +86,7 @@ impl<M: Mode> Words<M> {
     }
 }
 
-impl<G: Gate, M: Mode, J: Room> HashFile<G, M, J> {
+impl<G: Gate, M: Mode, J: FileBrand> HashFile<G, M, J> {
     /// Moves `calls` of the calls that the hand may make to each of `count` new hands, one for each of several threads.
     /// Where the hand may make fewer, or memory runs out, it stays as it was.
     pub fn split_hands(

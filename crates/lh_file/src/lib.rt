@@ -40,7 +40,7 @@ pub mod settle_laws;
 mod snapshots;
 mod words;
 
-pub use buckets::room::{Loose, Room};
+pub use buckets::brand::{FileBrand, Unbranded};
 pub use buckets::segment::Segment;
 pub use calls::coded::{Coded, CodedKey};
 pub use calls::parts;

@@ -20,7 +20,7 @@ mod root;
 mod rule;
 pub(crate) mod seat_view;
 mod shares;
-pub(crate) mod tokens;
+pub(crate) mod traced_acts;
 mod traced_looks;
 pub(crate) mod view;
 

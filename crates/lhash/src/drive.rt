@@ -1,7 +1,7 @@
 //! The subcommand `drive`: a command script in threads, settled, from its bytes to its totals.
 ghost use Rattle.std.specs.Prelude.{◌≡◌, ◌%◌, ◌≤◌, true, All, IfOk, IfErr, IfSome, OnOk, length};
 ghost use Rattle.lh_settling.specs.Acts.{calls_of};
-ghost use Rattle.lh_file.specs.Buckets.Rooms.{IsRoomOf};
+ghost use Rattle.lh_file.specs.Buckets.Brands.{IsBrandOf};
 ghost use Rattle.lhash.specs.Driving.{AreSettled, EndsDriving, IsDriven, IsDrivenWith, IsDriveFault, IsDriveFaultWith};
 ghost use Rattle.lhash.specs.Driving.{IsFaultOfOne, IsSettledBefore, empty_file, ended_by, unsettled_as};
 
@@ -11,7 +11,7 @@ use lh_addr::Config;
 use lh_bucket::{Call, Listing, Memory};
 use lh_file::laws::snapshots_are_settled;
 use lh_file::{
-    Acts, Closed, FileFault, Gate, NoGate, Opening, Room, SettleFault, settle, settle_snapshot,
+    Acts, Closed, FileBrand, FileFault, Gate, NoGate, Opening, SettleFault, settle, settle_snapshot,
 };
 use lh_subcommands::{DeviceFault, Status, Unsettled, read_script, write_all};
 use std::alloc::Global;
@@ -112,7 +112,7 @@ fn settled(
 }
 
 /// Runs calls in threads on a file that is opened empty, takes snapshots meanwhile, and settles what they did.
-fn driven_in<G: Gate + Sync, J: Room + Send + Sync, R: Threads + Wait + Sync>(
+fn driven_in<G: Gate + Sync, J: FileBrand + Send + Sync, R: Threads + Wait + Sync>(
     rt: &R,
     alloc: Global,
     opening: Opening<'_, &G>,
@@ -121,7 +121,7 @@ fn driven_in<G: Gate + Sync, J: Room + Send + Sync, R: Threads + Wait + Sync>(
     threads: u32,
     snapshots: u32,
 ) -> Result<Driven, DriveFault>
-    requires room { IsRoomOf true J.named J.table opening.table }
+    requires room { IsBrandOf true J.named J.table opening.table }
     requires records { opening.recording ≡ true }
     requires from { opening.listing ≡ empty.now }
     requires empty { empty.now ≡ empty_file empty.now.config }

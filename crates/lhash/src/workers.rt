@@ -9,7 +9,7 @@ ghost use Rattle.lhash.specs.Workers.{HasLookedOn, HasTaken, HasTakenOne, IsPart
 use crate::drive::DriveFault;
 use lh_bucket::{Answer, Call};
 use lh_file::laws::hands_keep_their_shares;
-use lh_file::{Closed, FileFault, Gate, Hand, HashFile, Room, Traced};
+use lh_file::{Closed, FileBrand, FileFault, Gate, Hand, HashFile, Traced};
 use std::alloc::Global;
 use std::sync::Wait;
 use std::sync::atomic::{AtomicU64, Ordering};
@@ -26,17 +26,17 @@ struct Worked {
 /// The hand that comes back is one of this file, hasn't the right to split, and made its calls out of this number: all
 /// of them, unless there is a fault, which is none for want of calls.
 #[derive(Clone, Copy)]
-struct Part<'a, G: Gate, J: Room> {
+struct Part<'a, G: Gate, J: FileBrand> {
     file: &'a HashFile<G, Traced, J>,
     calls: u64,
 }
 
-impl<'a, G: Gate, J: Room> Promise<Worked> for Part<'a, G, J> {
+impl<'a, G: Gate, J: FileBrand> Promise<Worked> for Part<'a, G, J> {
     ghost kept_by = { λ part worked. IsWorked part.file.now.state part.calls worked };
 }
 
 /// Makes a call, which takes one of those that the hand may make.
-fn make<G: Gate, J: Room, R: Wait>(
+fn make<G: Gate, J: FileBrand, R: Wait>(
     rt: &R,
     file: &HashFile<G, Traced, J>,
     hand: &mut Hand,
@@ -64,7 +64,7 @@ fn make<G: Gate, J: Room, R: Wait>(
 
 /// Makes every call of a script whose place is `first` plus a multiple of `threads`, in turn, up to
 /// the first that isn't answered. The hand may make just as many.
-fn work<G: Gate, J: Room, R: Wait>(
+fn work<G: Gate, J: FileBrand, R: Wait>(
     rt: &R,
     file: &HashFile<G, Traced, J>,
     mut hand: Hand,
@@ -98,7 +98,7 @@ pub(crate) fn calls_of_thread(calls: &[Call], first: usize, threads: usize) -> u
 }
 
 /// Keeps a worker beside the others, or answers that there is no memory for it.
-fn keep<'a, G: Gate, J: Room>(
+fn keep<'a, G: Gate, J: FileBrand>(
     file: &'a HashFile<G, Traced, J>,
     workers: &mut Vec<PromisedHandle<Worked, Part<'a, G, J>>>,
     worker: PromisedHandle<Worked, Part<'a, G, J>>,
@@ -114,7 +114,7 @@ fn keep<'a, G: Gate, J: Room>(
 }
 
 /// A hand of this many of the calls that another one may make.
-fn divide<G: Gate, J: Room>(
+fn divide<G: Gate, J: FileBrand>(
     file: &HashFile<G, Traced, J>,
     hand: &mut Hand,
     calls: u64,
@@ -133,7 +133,7 @@ fn divide<G: Gate, J: Room>(
 }
 
 /// One hand of two.
-fn unite<G: Gate, J: Room>(
+fn unite<G: Gate, J: FileBrand>(
     file: &HashFile<G, Traced, J>,
     first: Hand,
     second: Hand,
@@ -157,7 +157,7 @@ fn unite<G: Gate, J: Room>(
 
 /// Waits for a worker, and makes one hand of its hand and another one. A hand that did nothing is joined
 /// into the worker's, so that no act is copied.
-fn join<G: Gate, J: Room, R: Threads + Wait>(
+fn join<G: Gate, J: FileBrand, R: Threads + Wait>(
     rt: &R,
     file: &HashFile<G, Traced, J>,
     hand: Hand,
@@ -184,7 +184,7 @@ fn join<G: Gate, J: Room, R: Threads + Wait>(
 }
 
 /// Waits for all workers, and makes one hand of theirs and another one, which did nothing.
-fn join_all<G: Gate, J: Room, R: Threads + Wait>(
+fn join_all<G: Gate, J: FileBrand, R: Threads + Wait>(
     rt: &R,
     file: &HashFile<G, Traced, J>,
     mut hand: Hand,
@@ -217,7 +217,7 @@ struct Progress {
 
 /// Waits until this many acts were made, or no worker is running.
 #[tactic(auto, using(crate::proofs::Looking::looked_told, crate::proofs::Looking::looked_first))]
-fn await_acts<G: Gate, J: Room, R: Wait>(
+fn await_acts<G: Gate, J: FileBrand, R: Wait>(
     rt: &R,
     file: &HashFile<G, Traced, J>,
     hand: &mut Hand,
@@ -246,7 +246,7 @@ fn acts_before(calls: u64, number: u32, snapshots: u32) -> u64
 }
 
 /// Takes the next snapshot when it is due.
-fn take_snapshot<G: Gate, J: Room, R: Wait>(
+fn take_snapshot<G: Gate, J: FileBrand, R: Wait>(
     rt: &R,
     file: &HashFile<G, Traced, J>,
     hand: &mut Hand,
@@ -265,7 +265,7 @@ fn take_snapshot<G: Gate, J: Room, R: Wait>(
 /// Takes snapshots while the workers run, evenly spread over the calls, and those that are left when they have ended. A
 /// worker that is missing is the fault that is answered.
 #[tactic(auto, using(crate::proofs::Looking::looked_again, crate::proofs::Looking::looked_first))]
-fn take_snapshots<G: Gate, J: Room, R: Wait>(
+fn take_snapshots<G: Gate, J: FileBrand, R: Wait>(
     rt: &R,
     alloc: Global,
     file: &HashFile<G, Traced, J>,
@@ -297,7 +297,7 @@ fn take_snapshots<G: Gate, J: Room, R: Wait>(
 
 /// Makes all calls in this number of threads, takes snapshots meanwhile, and joins the hands of all of them into one.
 /// Of several faults it is the one of the first thread that has one.
-pub fn work_in_threads<G: Gate + Sync, J: Room + Send + Sync, R: Threads + Wait + Sync>(
+pub fn work_in_threads<G: Gate + Sync, J: FileBrand + Send + Sync, R: Threads + Wait + Sync>(
     rt: &R,
     alloc: Global,
     file: &HashFile<G, Traced, J>,

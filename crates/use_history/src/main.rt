@@ -3,7 +3,7 @@
 #![tactic(auto)]
 
 ghost use Rattle.std.specs.Prelude.{true, IfOk, IfSome};
-ghost use Rattle.lh_file.specs.Buckets.Rooms.{IsRoomOf};
+ghost use Rattle.lh_file.specs.Buckets.Brands.{IsBrandOf};
 ghost use Rattle.lh_file.specs.History.Own.{IsOwn};
 ghost use Rattle.lh_settling.specs.Settled.{Settled};
 ghost use Rattle.use_history.specs.Booked.{IsBooked};
@@ -12,7 +12,7 @@ use anyhow::Context;
 use lh_addr::Config;
 use lh_bucket::{Call, Listing};
 use lh_file::laws::hands_keep_their_shares;
-use lh_file::{Acts, Closed, Hand, HashFile, NoGate, Opening, Room, Traced};
+use lh_file::{Acts, Closed, FileBrand, Hand, HashFile, NoGate, Opening, Traced};
 use lh_page::{Key, Value};
 use std::marker::Brand;
 use std::sync::Wait;
@@ -30,14 +30,14 @@ struct Booked {
 
 /// What comes back from a thread that uses this file.
 #[derive(Clone, Copy)]
-struct OfFile<'a, J: Room>(&'a File<J>);
+struct OfFile<'a, J: FileBrand>(&'a File<J>);
 
-impl<'a, J: Room> Promise<Booked> for OfFile<'a, J> {
+impl<'a, J: FileBrand> Promise<Booked> for OfFile<'a, J> {
     ghost kept_by = { λ file booked. IsBooked file.0.now.state booked };
 }
 
 /// Makes a call. Whether a seat was free doesn't matter here.
-fn make<J: Room, R: Wait>(rt: &R, file: &File<J>, hand: &mut Hand, call: Call)
+fn make<J: FileBrand, R: Wait>(rt: &R, file: &File<J>, hand: &mut Hand, call: Call)
     requires { IsOwn file.now.state hand.old }
     ensures { IsOwn file.now.state hand.new }
 {
@@ -53,7 +53,7 @@ fn make<J: Room, R: Wait>(rt: &R, file: &File<J>, hand: &mut Hand, call: Call)
 
 /// What one thread does with its hand: it books each seat that is free, looks who has it, and gives up those
 /// before `m`.
-fn book<J: Room, R: Wait>(rt: &R, file: &File<J>, mut hand: Hand, name: u8) -> Booked
+fn book<J: FileBrand, R: Wait>(rt: &R, file: &File<J>, mut hand: Hand, name: u8) -> Booked
     requires { IsOwn file.now.state hand }
     ensures { IsBooked file.now.state result }
 {
@@ -74,7 +74,7 @@ fn book<J: Room, R: Wait>(rt: &R, file: &File<J>, mut hand: Hand, name: u8) -> B
 }
 
 /// A hand for a thread, with this many of the calls of this one.
-fn split_own<J: Room>(file: &File<J>, hand: &mut Hand, calls: u64) -> Option<Hand>
+fn split_own<J: FileBrand>(file: &File<J>, hand: &mut Hand, calls: u64) -> Option<Hand>
     requires { IsOwn file.now.state hand.old }
     ensures first { IsOwn file.now.state hand.new }
     ensures second { IfSome result (IsOwn file.now.state) }
@@ -84,7 +84,7 @@ fn split_own<J: Room>(file: &File<J>, hand: &mut Hand, calls: u64) -> Option<Han
 }
 
 /// One hand of two.
-fn join_own<J: Room>(file: &File<J>, first: Hand, second: Booked) -> Option<Hand>
+fn join_own<J: FileBrand>(file: &File<J>, first: Hand, second: Booked) -> Option<Hand>
     requires first { IsOwn file.now.state first }
     requires second { IsBooked file.now.state second }
     ensures { IfSome result (IsOwn file.now.state) }
@@ -97,7 +97,7 @@ fn join_own<J: Room>(file: &File<J>, first: Hand, second: Booked) -> Option<Hand
 }
 
 /// Two threads, each with a hand of its own. All hands are joined into the first.
-fn book_in_threads<J: Room + Send + Sync, R: Threads + Wait + Sync>(
+fn book_in_threads<J: FileBrand + Send + Sync, R: Threads + Wait + Sync>(
     rt: &R,
     file: &File<J>,
     hand: Hand,
@@ -144,7 +144,7 @@ fn book_in_threads<J: Room + Send + Sync, R: Threads + Wait + Sync>(
 
 /// Closes a file. What was done with it is one legal history, and the closed file holds just what that leaves. None
 /// where memory ran out, a call is left with another hand, a bucket wasn't met, or a split is under way.
-fn close<J: Room, R: Wait>(rt: &R, file: File<J>, hand: Hand) -> Option<(Closed, Acts)>
+fn close<J: FileBrand, R: Wait>(rt: &R, file: File<J>, hand: Hand) -> Option<(Closed, Acts)>
     requires { IsOwn file.state hand }
     ensures { IfSome result (λ r. Settled file.state.listing r.0 r.1) }
 {
@@ -166,11 +166,11 @@ struct Bookings {
 }
 
 /// Opens a file, lets two threads book its seats, and closes it.
-fn take_bookings<J: Room + Send + Sync, R: Threads + Wait + Sync>(
+fn take_bookings<J: FileBrand + Send + Sync, R: Threads + Wait + Sync>(
     rt: &R,
     opening: Opening<'_, NoGate>,
 ) -> anyhow::Result<Bookings>
-    requires { IsRoomOf true J.named J.table opening.table }
+    requires { IsBrandOf true J.named J.table opening.table }
     ensures { IfOk result (λ made. Settled opening.entry.listing made.closed made.acts) }
 {
     let (file, hand) = opening.file::<J>()?;

@@ -20,13 +20,13 @@ use Rattle.lh_file.specs.History.Log.{entry}
 use Rattle.lh_file.specs.History.Told.{HasEntered}
 use Rattle.lh_file.specs.Words.HandState.{HandState, IsSame, knowing, with_right}
 use Rattle.lh_file.specs.Words.Recording.{Acted, inserts_of, deletes_of, kept_of}
-use Rattle.lh_file.specs.Calls.Served.{HasLooked, HasServed, IsNotSpent, Makes, Serves}
+use Rattle.lh_file.specs.Calls.Served.{KnowsMore, HasServed, IsNotSpent, Makes, Serves}
 use Rattle.lh_file.specs.Words.Views.{rooted, stamped_with}
 use Rattle.lh_file.specs.declared.fault.FileFault.{FileFault}
 use Rattle.lh_file.specs.declared.words.view.View.{View}
 
 -- a hand that nothing happened to
-pub looked_same : (h : HandState) → HasLooked h h
+pub looked_same : (h : HandState) → KnowsMore h h
 looked_same h =
     record {
       known = h.view.known;
@@ -39,10 +39,10 @@ looked_same h =
       recording = refl;
     }
 
-pub looked_equal : (a b : HandState) → b ≡ a → HasLooked a b
-looked_equal a b e = subst (HasLooked a) (sym e) (looked_same a)
+pub looked_equal : (a b : HandState) → b ≡ a → KnowsMore a b
+looked_equal a b e = subst (KnowsMore a) (sym e) (looked_same a)
 
-pub looked_room : (a b : HandState) → IsSame a b → HasLooked a b
+pub looked_room : (a b : HandState) → IsSame a b → KnowsMore a b
 looked_room a b same =
     record {
       known = a.view.known;
@@ -55,7 +55,7 @@ looked_room a b same =
       recording = same.recording;
     }
 
-pub looked_knowing : (h : HandState) (n : ℕ) → h.view.known ≤ n → HasLooked h (knowing h n)
+pub looked_knowing : (h : HandState) (n : ℕ) → h.view.known ≤ n → KnowsMore h (knowing h n)
 looked_knowing h n rises =
     record {
       known = n;
@@ -69,7 +69,7 @@ looked_knowing h n rises =
     }
 
 -- two looks are one
-pub looked_twice : (a b c : HandState) → HasLooked a b → HasLooked b c → HasLooked a c
+pub looked_twice : (a b c : HandState) → KnowsMore a b → KnowsMore b c → KnowsMore a c
 looked_twice a b c first second = record {
   known = second.known;
   rises = let k = ap (λ (v : View). v.known) first.view in omega (arith, first.rises, second.rises, k);
@@ -83,7 +83,7 @@ looked_twice a b c first second = record {
 
 -- the right was got and given up again
 pub looked_right : (a b : HandState) (n m : ℕ) → a.view.has_right ≡ false → a.view.known ≤ n → n ≤ m →
-    b ≡ with_right (knowing (with_right (knowing a n) true) m) false → HasLooked a b
+    b ≡ with_right (knowing (with_right (knowing a n) true) m) false → KnowsMore a b
 looked_right a b n m none rises more is = record {
   known = m;
   rises = omega (arith, rises, more);
@@ -96,7 +96,7 @@ looked_right a b n m none rises more is = record {
 }
 
 -- a look and then an act serve a call
-pub looked_then_acted : (a b c : HandState) (call : Call) (reply : Reply) → 1 ≤ a.view.left → HasLooked a b →
+pub looked_then_acted : (a b c : HandState) (call : Call) (reply : Reply) → 1 ≤ a.view.left → KnowsMore a b →
     Acted b call reply c → HasServed a call reply c
 looked_then_acted a b c call reply enough looked (stamp, act) = record {
   stamp = stamp;
@@ -137,7 +137,7 @@ acted_of file a c call reply of (stamp, act) = record {
 }
 
 -- a call that was served, and then a look
-pub served_then_looked : (a b c : HandState) (call : Call) (reply : Reply) → HasServed a call reply b → HasLooked b c →
+pub served_then_looked : (a b c : HandState) (call : Call) (reply : Reply) → HasServed a call reply b → KnowsMore b c →
     HasServed a call reply c
 served_then_looked a b c call reply served looked = record {
   stamp = served.stamp;
@@ -153,7 +153,7 @@ served_then_looked a b c call reply served looked = record {
 }
 
 -- a look before a call that was served
-pub looked_then_served : (a b c : HandState) (call : Call) (reply : Reply) → HasLooked a b → HasServed b call reply c →
+pub looked_then_served : (a b c : HandState) (call : Call) (reply : Reply) → KnowsMore a b → HasServed b call reply c →
     HasServed a call reply c
 looked_then_served a b c call reply looked served = record {
   stamp = served.stamp;
@@ -182,12 +182,12 @@ looked_then_served a b c call reply looked served = record {
 }
 
 -- a hand that may make a call after a look may have made it before
-may_call : (a b : HandState) → HasLooked a b → 1 ≤ b.view.left → 1 ≤ a.view.left
+may_call : (a b : HandState) → KnowsMore a b → 1 ≤ b.view.left → 1 ≤ a.view.left
 may_call a b looked left = let l = ap (λ (v : View). v.left) looked.view in omega (arith, left, l)
 
 -- a look, and then an answer or a fault that left the hand as it was, are what a call promises
 pub looked_then_serves : (file : FileState) (a b c : HandState) (asked : Call) (r : Result Answered FileFault) →
-    HasLooked a b → 1 ≤ b.view.left →
+    KnowsMore a b → 1 ≤ b.view.left →
     IfOk r (λ x. x.call ≡ asked) → IfOk r (λ x. HasServed b x.call x.reply c) → IsOf file c → OnErr r (c ≡ b) →
     IfErr r IsNotSpent → Serves file a asked r c
 looked_then_serves file a b c asked (Ok x) looked left call served of same fault = record {
@@ -209,14 +209,14 @@ looked_then_serves file a b c asked (Err f) looked left call served of same faul
     (λ none. let may = may_call a b looked left in absurd (omega (arith, may, none))),
   );
   not_spent = λ may. fault;
-  err = subst (HasLooked a) (sym same) looked;
+  err = subst (KnowsMore a) (sym same) looked;
   of = of;
 }
 
 module _ {T : Type 0} where
   -- a look, and then a result or a fault that left the hand as it was, are what a call without an answer promises
   pub looked_then_makes : (file : FileState) (a b c : HandState) (call : Call) (r : Result T FileFault)
-      (reply_in : T → Reply) → HasLooked a b → 1 ≤ b.view.left →
+      (reply_in : T → Reply) → KnowsMore a b → 1 ≤ b.view.left →
       IfOk r (λ t. HasServed b call (reply_in t) c) → IsOf file c → OnErr r (c ≡ b) → IfErr r IsNotSpent →
       Makes file a call r reply_in c
   looked_then_makes file a b c call (Ok t) reply_in looked left served of same fault = record {
@@ -236,7 +236,7 @@ module _ {T : Type 0} where
       (λ none. let may = may_call a b looked left in absurd (omega (arith, may, none))),
     );
     not_spent = λ may. fault;
-    err = subst (HasLooked a) (sym same) looked;
+    err = subst (KnowsMore a) (sym same) looked;
     of = of;
   }
 
@@ -276,18 +276,18 @@ module _ {T U : Type 0} where
   }
 
 -- an act that was entered between two looks is entered
-pub looked_then_entered : (lent : Bool) (a b c : HandState) (call : Call) (reply : Reply) → HasLooked a b →
-    HasEntered lent b call reply c → HasEntered lent a call reply c
-looked_then_entered lent a b c call reply looked (stamp, above, entered, drawn) = (
+pub looked_then_entered : (outside : Bool) (a b c : HandState) (call : Call) (reply : Reply) → KnowsMore a b →
+    HasEntered outside b call reply c → HasEntered outside a call reply c
+looked_then_entered outside a b c call reply looked (stamp, above, entered, drawn) = (
   stamp,
   (let f = ap (λ (v : View). v.floor) looked.view in omega arith),
-  entered ∙ ap (λ es. es ++ entry lent stamp call reply ∷ []) looked.entries,
+  entered ∙ ap (λ es. es ++ entry outside stamp call reply ∷ []) looked.entries,
   drawn ∙ ap (λ (v : View). v.stamps ++ stamp ∷ []) looked.view,
 )
 
-pub entered_then_looked : (lent : Bool) (a b c : HandState) (call : Call) (reply : Reply) →
-    HasEntered lent a call reply b → HasLooked b c → HasEntered lent a call reply c
-entered_then_looked lent a b c call reply (stamp, above, entered, drawn) looked =
+pub entered_then_looked : (outside : Bool) (a b c : HandState) (call : Call) (reply : Reply) →
+    HasEntered outside a call reply b → KnowsMore b c → HasEntered outside a call reply c
+entered_then_looked outside a b c call reply (stamp, above, entered, drawn) looked =
     (stamp, above, looked.entries ∙ entered, ap (λ (v : View). v.stamps) looked.view ∙ drawn)
 
 -- a bucket at which a call is owns the call's key

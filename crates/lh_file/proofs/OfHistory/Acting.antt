@@ -44,18 +44,18 @@ none_or_all b never =
 module _ (k : Lists) (old new : FileWords) (seats : List SeatView) (id : ℕ) (d : SeatView)
     (me : get_elem? seats id ≡ some d) (drawn : new.stamps ≡ old.stamps + 1) (root : new.root ≡ old.root) where
   -- the log that is one act longer is legal, and leaves what the buckets hold
-  pub enters : (lent : Bool) (call : Call) (given : Reply) (parts : List Seen) (o : History k old seats)
-      → (lent ≡ false → given ≡ reply (left_after (map_in k) o.log) call)
-      → Each parts (Mirrors (left_after (map_in k) (o.log ++ entry lent old.stamps call given ∷ [])))
+  pub enters : (outside : Bool) (call : Call) (given : Reply) (parts : List Seen) (o : History k old seats)
+      → (outside ≡ false → given ≡ reply (left_after (map_in k) o.log) call)
+      → Each parts (Mirrors (left_after (map_in k) (o.log ++ entry outside old.stamps call given ∷ [])))
       → ((j : ℕ) (u : SeatView) → j ≢ id → get_elem? seats j ≡ some u →
-      Each u.parts (Mirrors (left_after (map_in k) (o.log ++ entry lent old.stamps call given ∷ []))))
+      Each u.parts (Mirrors (left_after (map_in k) (o.log ++ entry outside old.stamps call given ∷ []))))
       → ((c : ℕ) → owners_in c parts ≡ owners c d)
       → ((n : ℕ) → Each d.parts (IsPlacedIn k.config.initial n) → Each parts (IsPlacedIn k.config.initial n))
-      → History k new (set seats id (with_act lent call given parts old.stamps d))
-  enters lent call given parts o legal mine others counts places =
-      let e : Entry = entry lent old.stamps call given in
+      → History k new (set seats id (with_act outside call given parts old.stamps d))
+  enters outside call given parts o legal mine others counts places =
+      let e : Entry = entry outside old.stamps call given in
       let log : List Entry = o.log ++ e ∷ [] in
-      let w : SeatView = with_act lent call given parts old.stamps d in
+      let w : SeatView = with_act outside call given parts old.stamps d in
       let size : buckets_of new.root ≡ buckets_of old.root = ap buckets_of root in
       let sum : buckets_of old.root + total moves_in seats ≡ buckets_of new.root + total moves_in (set seats id w) =
       (let a = total-set moves_in seats id d w me in omega arith) in

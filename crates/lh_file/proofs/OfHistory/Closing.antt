@@ -30,7 +30,7 @@ use Rattle.lh_settling.specs.Acts.{stamps_of, calls_of, replies_of, IsInOrder}
 use Rattle.lh_settling.specs.Laws.{OrderLaw, FilledLaw}
 use Rattle.lh_settling.specs.Settled.{map_in, HoldsMap, IsSettled}
 use Rattle.lh_settling.specs.declared.act.ActLine.{ActLine}
-use Rattle.lh_file.specs.Closing.{IsEnd, AreGathered, NoneLent, HasHistory}
+use Rattle.lh_file.specs.Closing.{IsEnd, AreGathered, NoneOutside, HasHistory}
 use Rattle.lh_file.specs.FileState.{FileState}
 use Rattle.lh_file.specs.History.Buckets.{belongs, Mirrors, IsPlacedIn}
 use Rattle.lh_file.specs.History.History.{moves_in}
@@ -140,13 +140,13 @@ module _ (parts : List Seen) (lists : List (List Pair)) (whole : ℕ) (clean : B
         (λ other. index_past (lists ++ p.pairs ∷ []) [] i (omega (arith, length-append lists (p.pairs ∷ [])))));
   }
 
--- no act is lent: the log is a history of plain calls, and leaves their outcome
-pub plain : (m : Records) (log : List Entry) → NoneLent log → IsLegalLog m log
+-- no act is outside: the log is a history of plain calls, and leaves their outcome
+pub plain : (m : Records) (log : List Entry) → NoneOutside log → IsLegalLog m log
     → (replies_of (lines_of log) ≡ replies m (calls_of (lines_of log)))
     × (left_after m log ≡ outcome m (calls_of (lines_of log)))
 plain m [] none legal = (refl, refl)
 plain m (e ∷ log) none legal =
-    let here : e.lent ≡ false = none 0 e refl in
+    let here : e.outside ≡ false = none 0 e refl in
     let rest = plain (passed m e) log (λ j x at. none (suc j) x at) legal.1 in
     let same : passed m e ≡ after m e.line.call = ap (λ b. cond b m (after m e.line.call)) here in (
       (λ i. legal.0 here i ∷ (rest.0 ∙ ap (λ n. replies n (calls_of (lines_of log))) same) i),
@@ -183,12 +183,12 @@ stamp_read history i d z below =
     get_or_default (stamps_of history) i d z.stamp (omega (arith, length-map history (λ (a : ActLine). a.stamp)))
     ∙ get_or-map (λ (a : ActLine). a.stamp) history i z
 
--- a line that stands in a log at its stamp, of an act that isn't lent
+-- a line that stands in a log at its stamp, of an act that isn't outside
 abbrev InLog : List Entry → ActLine → Type 0
-InLog log a = (e : Entry) × (e.line ≡ a) × (get_elem? log a.stamp ≡ some e) × (e.lent ≡ false)
+InLog log a = (e : Entry) × (e.line ≡ a) × (get_elem? log a.stamp ≡ some e) × (e.outside ≡ false)
 
 module _ (order_of : OrderLaw) (log entries : List Entry) (q : ℕ) (len : length log ≡ q)
-    (stand : Each entries (StandsIn log)) (none : NoneLent entries)
+    (stand : Each entries (StandsIn log)) (none : NoneOutside entries)
     (once : (x : ℕ) → times x (stamps_in entries) ≡ once_below x q) where
   all_in : All (InLog log) (lines_of entries)
   all_in k d below =
@@ -198,7 +198,8 @@ module _ (order_of : OrderLaw) (log entries : List Entry) (q : ℕ) (len : lengt
       (b.0, b.2, subst (λ (a : ActLine). get_elem? log a.stamp ≡ some b.0) b.2 (stand k b.0 b.1), none k b.0 b.1)
 
   -- the log is the acts in the order of their stamps, of which none is missing
-  ordered : IsInOrder (lines_of entries) (lines_of log) × (stamps_of (lines_of log) ≡ range_with_len 0 q) × NoneLent log
+  ordered : IsInOrder (lines_of entries) (lines_of log) × (stamps_of (lines_of log) ≡ range_with_len 0 q)
+      × NoneOutside log
   ordered =
       let z = no_act in
       let o = order_of (lines_of entries) in
@@ -215,7 +216,7 @@ module _ (order_of : OrderLaw) (log entries : List Entry) (q : ℕ) (len : lengt
       let c = get_or-range_with_len 0 q t 0 below in
       omega arith) in
       let there : (t : ℕ) → t < q →
-      (e : Entry) × (e.line ≡ get_or history t z) × (get_elem? log t ≡ some e) × (e.lent ≡ false) =
+      (e : Entry) × (e.line ≡ get_or history t z) × (get_elem? log t ≡ some e) × (e.outside ≡ false) =
       λ t below. (
       let i = inside t z (omega arith) in
       (i.0, i.1, subst (λ (x : ℕ). get_elem? log x ≡ some i.0) (number t below) i.2, i.3)) in
@@ -229,7 +230,7 @@ module _ (order_of : OrderLaw) (log entries : List Entry) (q : ℕ) (len : lengt
         (λ t e at.
             let below : t < q = (let b = below_end t log e at in omega arith) in
             let x = there t below in
-            subst (λ (y : Entry). y.lent ≡ false) (some-injective x.0 e (sym x.2 ∙ at)) x.3),
+            subst (λ (y : Entry). y.outside ≡ false) (some-injective x.0 e (sym x.2 ∙ at)) x.3),
       )
 
 -- a bucket in its place holds what the log leaves of its address
@@ -278,17 +279,17 @@ leaves law placed file last d lists whole clean gathered pos e even g tidy all =
           (λ b past. g.beyond tidy b (let c = all in omega arith)) g.distinct,
     )
 
--- where all its calls are at home and no act was lent, it is settled
+-- where all its calls are at home and no act was outside, it is settled
 settles : OrderLaw → (file : FileState) (last : FileWords) (d : SeatView) (lists : List (List Pair)) (gathered : Bool) →
     (e : IsEnd true file last d) → last.root % 2 ≡ 0
-    → NoneLent d.entries → d.view.left + length d.view.stamps ≡ 2 ^ 63
+    → NoneOutside d.entries → d.view.left + length d.view.stamps ≡ 2 ^ 63
     → IsSnapshot file.listing
     (record { config = file.config; root = last.root; stamps = last.stamps; lists = lists; gathered = gathered })
     d.entries d.logs (e.history refl).log
     → IsSettled file.listing
     (record { config = file.config; root = last.root; stamps = last.stamps; lists = lists; gathered = gathered })
     (lines_of d.entries) (lines_of (e.history refl).log)
-    × NoneLent (e.history refl).log
+    × NoneOutside (e.history refl).log
 settles order_of file last d lists gathered e even none full held =
     let h = e.history refl in let m : Records = map_in file.listing in
     let once : (x : ℕ) → times x (stamps_in d.entries) ≡ once_below x last.stamps = λ x.
@@ -414,8 +415,8 @@ closes law order_of placed traced file last h H d lists whole clean gathered see
           subst (λ (x : HandState). x.view.left + length x.acts ≡ 2 ^ 63) (sym seen) full in
           let lines : h.acts.items ≡ lines_of own.entries =
           kept_lines traced file last h is h.recording refl left d e view in
-          let apart : NoneLent d.entries =
-          subst NoneLent (ap (λ (x : HandState). x.entries) (sym seen) ∙ sym entries) none in
+          let apart : NoneOutside d.entries =
+          subst NoneOutside (ap (λ (x : HandState). x.entries) (sym seen) ∙ sym entries) none in
           let home : d.view.left + length d.view.stamps ≡ 2 ^ 63 = (
           let a = ap length lines in
           let b = length-map own.entries (λ (x : Entry). x.line) in
@@ -431,6 +432,6 @@ closes law order_of placed traced file last h H d lists whole clean gathered see
             stamps = last.stamps;
             lists = lists;
             gathered = gathered;
-          }) ls (lines_of log) × NoneLent log) (ap lines_of entries ∙ sym lines)
+          }) ls (lines_of log) × NoneOutside log) (ap lines_of entries ∙ sym lines)
           (settles order_of file last d lists gathered ends even apart home held),
     )

@@ -21,7 +21,7 @@ use Rattle.lh_file.specs.Buckets.Segments.{start_of, end_of}
 use Rattle.lh_file.specs.History.Buckets.{bit, owns, belongs, owners_in, Mirrors, IsPlacedIn}
 use Rattle.lh_file.specs.History.History.{owners, moves_in, History}
 use Rattle.lh_file.specs.History.Log.{stamps_in, StandsIn, Begins}
-use Rattle.lh_file.specs.Words.Dealing.{first_bucket_of, other_buckets_of, dealt_seat, dealt_token, buckets_from}
+use Rattle.lh_file.specs.Words.Dealing.{first_bucket_of, other_buckets_of, dealt_seat, dealt_bucket_seat, buckets_from}
 use Rattle.lh_file.specs.Words.Dealing.{undealt}
 use Rattle.lh_file.specs.Words.Plays.{Seated}
 use Rattle.lh_file.specs.Words.Rule.{Each, rights_of, words_of}
@@ -154,7 +154,7 @@ counts_cut c (p ∷ ps) =
     omega (arith, total-cons (λ (b : Seen). bit (owns c b)) p ps, total-cons (λ (b : Seen). bit (owns c b)) p [])
 
 pub deals : (traced : Bool) (k : Lists) (id : ℕ) (d : SeatView) →
-    Splits (IsFileTable traced k) id d (dealt_seat d) (dealt_token d)
+    Splits (IsFileTable traced k) id d (dealt_seat d) (dealt_bucket_seat d)
 deals traced k id d s o me = record {
   wide = o.wide;
   rule =
@@ -176,7 +176,7 @@ none_from k n past = let e : size k - n ≡ 0 = omega arith in ap (λ m. map (op
 
 module _ (k : Lists) where
   pub next_dealt : (n : ℕ) → n < size k → (traced : Bool) → traced ≡ true →
-      (dealt_token (undealt traced k n)).parts ≡ opened_at k n ∷ []
+      (dealt_bucket_seat (undealt traced k n)).parts ≡ opened_at k n ∷ []
   next_dealt n below true on = ap first_bucket_of (next_of k n below)
   next_dealt n below false on = absurd (false≢true on)
 

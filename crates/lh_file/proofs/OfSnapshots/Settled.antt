@@ -16,7 +16,7 @@ use Rattle.lh_settling.specs.Acts.{stamps_of, IsInOrder, acts_before}
 use Rattle.lh_settling.specs.Laws.{HistoryLaw, OrderLaw}
 use Rattle.lh_settling.specs.Settled.{map_in, HoldsMap, IsSettled}
 use Rattle.lh_settling.specs.declared.act.ActLine.{ActLine}
-use Rattle.lh_file.specs.Closing.{NoneLent}
+use Rattle.lh_file.specs.Closing.{NoneOutside}
 use Rattle.lh_file.specs.History.Log.{lines_of, Begins}
 use Rattle.lh_file.specs.Snapshots.Settled.{BeforeLaw, SnapshotLaw}
 use Rattle.lh_file.specs.Words.Sums.{times, once_below}
@@ -201,7 +201,7 @@ snapshot_law history_law order_of opening snapshot closed entries logs log hand 
     let same : history ≡ lines_of whole =
     history_law closed acts history (lines_of whole) settled.stamped both.0.stamped in
     let starts : Begins whole log = begun kept.0 log (at_index hand.logs kept.0 log kept.1 (sym kept.2)) in
-    let apart : NoneLent log =
+    let apart : NoneOutside log =
     λ k e at.
     both.1 k e (subst (λ (l : List Entry). get_elem? l k ≡ some e) starts.1 (begun_at log starts.0 k e at)) in
     let simple = plain (map_in opening) log apart legal in

@@ -174,20 +174,20 @@ module _ (traced : Bool) (k : Lists) where
       )
 
   -- a stamp is drawn, by a seat that enters an act with it
-  draws : (slots id : ℕ) (m : Seated) (lent : Bool) (call : Call) (given : Reply) (parts : List Seen) →
+  draws : (slots id : ℕ) (m : Seated) (outside : Bool) (call : Call) (given : Reply) (parts : List Seen) →
       0 < m.0.view.initial → 0 < m.0.view.left
       → (s : Words) → IsFileTable traced k s → get_elem? s.views id ≡ some m.0
       → (let q : ℕ =
       get_or s.words STAMPS 0 in
       traced ≡ true → History k (words_of s.words) s.views →
       History k (record (words_of s.words) { stamps = q + 1 })
-      (set s.views id (with_act lent call given parts q m.0)))
+      (set s.views id (with_act outside call given parts q m.0)))
       → (let q : ℕ =
       get_or s.words STAMPS 0 in
-      IsFileTable traced k (stepped s STAMPS ((q + 1) % 2 ^ 64) id m.1 (with_act lent call given parts q m.0) keeps)
+      IsFileTable traced k (stepped s STAMPS ((q + 1) % 2 ^ 64) id m.1 (with_act outside call given parts q m.0) keeps)
       × All (λ x. x < q) m.0.view.stamps × (m.0.view.floor ≤ q)
       × (m.0.view.inserted + m.0.view.deleted ≤ length m.0.view.stamps))
-  draws slots id m lent call given parts live some_left s o me past =
+  draws slots id m outside call given parts live some_left s o me past =
       let q : ℕ = get_or s.words STAMPS 0 in let rule = o.rule in let v : View = m.0.view in
       let vs : List View = map shown s.views in let there = at_map shown s.views id m.0 me in
       let b = rule.budget in let t = term_le (λ (u : View). u.left) vs id v there in let f = rule.few id v there in
@@ -195,7 +195,7 @@ module _ (traced : Bool) (k : Lists) where
       let n : ℕ = (q + 1) % 2 ^ 64 in
       let new : FileWords = record (words_of s.words) { stamps = q + 1 } in
       let len = length-append v.stamps (q ∷ []) in (
-        after_step traced k s o STAMPS id n m (with_act lent call given parts q m.0) new me
+        after_step traced k s o STAMPS id n m (with_act outside call given parts q m.0) new me
             (stamps_stored s.words n (q + 1) o.wide (omega arith))
             (recounted k.config.initial k.config.max (words_of s.words) new vs rule id v w there live refl
             (refl, refl, refl, refl) (omega arith) (let fl = rule.floors id v there in omega arith)

@@ -12,7 +12,7 @@ use Rattle.lh_file.specs.declared.fault.FileFault.TheVariants.{Spent, Memory, De
 
 -- The hand is as it was, but that it may have seen more buckets since: its right to split, its stamps, its counts, its
 -- acts and what it may still draw are as before.
-pub record HasLooked (old new : HandState) : Type 0 where
+pub record KnowsMore (old new : HandState) : Type 0 where
   pub known : ℕ
   pub rises : old.view.known ≤ known
   pub view : new.view ≡ rooted old.view known old.view.has_right
@@ -60,7 +60,7 @@ pub record Makes {T : Type 0} (file : FileState) (old : HandState) (call : Call)
   -- and no other fault says so.
   pub not_spent : 1 ≤ old.view.left → IfErr result IsNotSpent
   -- After a fault the hand is as it was, but for what it knows of the root.
-  pub err : OnErr result (HasLooked old new)
+  pub err : OnErr result (KnowsMore old new)
   -- The hand stays one of this file.
   pub of : IsOf file new
 
@@ -77,6 +77,6 @@ pub record Serves (file : FileState) (old : HandState) (asked : Call)
   -- and no other fault says so.
   pub not_spent : 1 ≤ old.view.left → IfErr result IsNotSpent
   -- After a fault the hand is as it was, but for what it knows of the root.
-  pub err : OnErr result (HasLooked old new)
+  pub err : OnErr result (KnowsMore old new)
   -- The hand stays one of this file.
   pub of : IsOf file new

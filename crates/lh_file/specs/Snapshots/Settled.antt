@@ -5,7 +5,7 @@ use Rattle.lh_settling.specs.Acts.{acts_before}
 use Rattle.lh_settling.specs.ClosedFile.{ClosedFile}
 use Rattle.lh_settling.specs.Settled.{IsHistory, IsSettled}
 use Rattle.lh_settling.specs.declared.act.ActLine.{ActLine}
-use Rattle.lh_file.specs.Closing.{NoneLent, HasHistory}
+use Rattle.lh_file.specs.Closing.{NoneOutside, HasHistory}
 use Rattle.lh_file.specs.Snapshots.Moments.{IsSnapshot}
 use Rattle.lh_file.specs.Words.HandState.{HandState}
 use Rattle.lh_file.specs.declared.words.seat_view.Entry.{Entry}
@@ -23,13 +23,13 @@ BeforeLaw =
     before ≡ take snapshot.stamps history
 
 -- A snapshot of a traced file, with no split under way, was taken by the hand that closed the file, or by one that was
--- joined into it. Where each call came home to that hand and none was lent, the acts that came before the snapshot are
--- settled with it, and their history is the first part of the file's.
+-- joined into it. Where each call came home to that hand and none was outside, the acts that came before the snapshot
+-- are settled with it, and their history is the first part of the file's.
 abbrev pub SnapshotLaw : Type 0
 SnapshotLaw =
     (opening : Lists) (snapshot closed : ClosedFile) (entries : List Entry) (logs : List (List Entry))
     (log : List Entry)
     (hand : HandState) (acts history : List ActLine) → snapshot.root % 2 ≡ 0 →
     IsSnapshot opening snapshot entries logs log → Contains hand.logs log → HasHistory opening closed acts hand →
-    hand.view.left + length hand.acts ≡ 2 ^ 63 → NoneLent hand.entries → IsSettled opening closed acts history →
+    hand.view.left + length hand.acts ≡ 2 ^ 63 → NoneOutside hand.entries → IsSettled opening closed acts history →
     IsSettledFirst opening snapshot acts history

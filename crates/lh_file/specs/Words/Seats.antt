@@ -43,11 +43,11 @@ holder parts = record { view = spent; entries = []; logs = []; parts = parts; mo
 abbrev pub with_view : SeatView → View → SeatView
 with_view seat view = record seat { view = view }
 
--- the seat made an act, lent or not: it has one stamp and one entry more, and these buckets
+-- the seat made an act, outside or not: it has one stamp and one entry more, and these buckets
 abbrev pub with_act : Bool → Call → Reply → List Seen → ℕ → SeatView → SeatView
-with_act lent call given parts stamp seat = record {
+with_act outside call given parts stamp seat = record {
   view = stamped_with seat.view stamp;
-  entries = seat.entries ++ entry lent stamp call given ∷ [];
+  entries = seat.entries ++ entry outside stamp call given ∷ [];
   logs = seat.logs;
   parts = parts;
   moved = seat.moved;
@@ -55,7 +55,7 @@ with_act lent call given parts stamp seat = record {
 
 -- the seat took in what another knows of buckets
 abbrev pub with_token : SeatView → SeatView → SeatView
-with_token seat token = record seat { parts = seat.parts ++ token.parts }
+with_token seat bucket_seat = record seat { parts = seat.parts ++ bucket_seat.parts }
 
 -- the seat gave its buckets to a new one
 abbrev pub partless : SeatView → SeatView

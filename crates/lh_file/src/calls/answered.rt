@@ -5,7 +5,7 @@ ghost use Rattle.lh_file.specs.Calls.Served.{Serves};
 ghost use Rattle.lh_file.specs.FileState.{IsOf};
 ghost use Rattle.lh_file.specs.History.Told.{HasEntered};
 
-use crate::buckets::room::Room;
+use crate::buckets::brand::FileBrand;
 use crate::calls::coded::Coded;
 use crate::fault::FileFault;
 use crate::file::HashFile;
@@ -16,7 +16,7 @@ use lh_bucket::{Answer, Change};
 use lh_page::Value;
 use std::sync::Wait;
 
-impl<G: Gate, M: Mode, J: Room> HashFile<G, M, J> {
+impl<G: Gate, M: Mode, J: FileBrand> HashFile<G, M, J> {
     /// Searches for a key: the answer's reply is the value, or that the key is absent.
     // Inlined, as the others here are; `find_into` and `change` below aren't: the answer is made when the bucket is
     // free, and what nobody looks at isn't made.

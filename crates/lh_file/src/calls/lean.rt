@@ -12,7 +12,7 @@ ghost use Rattle.lh_file.specs.Calls.Served.{Makes};
 ghost use Rattle.lh_file.specs.FileState.{IsOf};
 ghost use Rattle.lh_file.specs.History.Told.{HasEntered};
 
-use crate::buckets::room::Room;
+use crate::buckets::brand::FileBrand;
 use crate::calls::coded::Coded;
 use crate::fault::FileFault;
 use crate::file::HashFile;
@@ -40,7 +40,7 @@ fn lend_found<T, F: FnOnce(&[u8]) -> T + Drop>(
     }
 }
 
-impl<G: Gate, M: Mode, J: Room> HashFile<G, M, J> {
+impl<G: Gate, M: Mode, J: FileBrand> HashFile<G, M, J> {
     /// The value under a key.
     ///
     /// ```text

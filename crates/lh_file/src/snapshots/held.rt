@@ -8,7 +8,7 @@ ghost use Rattle.lh_file.specs.Snapshots.Held.{AreBucketsOf, reaches, is_outgrow
 ghost use Rattle.lh_file.specs.Words.Seats.{partless, told_seat};
 ghost use Rattle.lh_file.specs.declared.words.seat_view.Entry.{Entry};
 
-use crate::buckets::room::Room;
+use crate::buckets::brand::FileBrand;
 use crate::buckets::segments::Segments;
 use crate::buckets::slot::Slot;
 use crate::calls::aim::defect;
@@ -36,7 +36,7 @@ fn reaches(found: Option<u8>, level: u8) -> bool
 
 /// Whether a file has more buckets than these, which are all that one of so many has, and are held: whether the next
 /// split of such a file has divided its bucket.
-fn is_outgrown<J: Room>(config: &Config, guards: &[RwLockReadGuard<'_, Slot<J>>]) -> bool
+fn is_outgrown<J: FileBrand>(config: &Config, guards: &[RwLockReadGuard<'_, Slot<J>>]) -> bool
     requires least { config.now.initial ≤ length guards.now }
     requires below { length guards.now < config.now.max }
     ensures { result ≡ is_outgrown config.now.initial (map read_guard_value guards.now) }
@@ -50,7 +50,7 @@ fn is_outgrown<J: Room>(config: &Config, guards: &[RwLockReadGuard<'_, Slot<J>>]
     }
 }
 
-impl<J: Room> Segments<J> {
+impl<J: FileBrand> Segments<J> {
     /// Takes the locks of all buckets shared, in the order of their numbers, where there are this many or more. Buckets
     /// that splits fill meanwhile are taken too, until the bucket of the next split is among those that are held.
     // There is no deadlock: a call holds one bucket, and whoever holds several took them in this order.
@@ -86,7 +86,7 @@ impl<J: Room> Segments<J> {
 }
 
 /// Makes sure that these are the buckets of a file, all of them. A bucket that isn't what it has to be is a defect.
-pub(crate) fn check_held<J: Room>(
+pub(crate) fn check_held<J: FileBrand>(
     config: &Config,
     guards: &[RwLockReadGuard<'_, Slot<J>>],
 ) -> Result<(), FileFault>
@@ -113,14 +113,14 @@ pub(crate) fn check_held<J: Room>(
 
 impl<M: Mode> Words<M> {
     /// Takes in the seats of buckets of a traced file, from the first on as long as there are any: how many.
-    fn borrow_seats<J: Room, R: Wait>(
+    fn borrow_seats<J: FileBrand, R: Wait>(
         &self,
         rt: &R,
         seat: &mut Seat<(), SeatView>,
         guards: &[RwLockReadGuard<'_, Slot<J>>],
     ) -> usize
         requires at { seat.old.table_id ≡ self.now.table }
-        requires room { self.now.table ≡ J.table }
+        requires brand { self.now.table ≡ J.table }
         requires bucketless { seat.old.me.0.parts ≡ [] }
         ensures at { seat.new.table_id ≡ seat.old.table_id }
         ensures within { result ≤ length guards.now }
@@ -140,13 +140,13 @@ impl<M: Mode> Words<M> {
     }
 
     /// Gives buckets their seats back.
-    fn return_seats<J: Room>(
+    fn return_seats<J: FileBrand>(
         &self,
         seat: &mut Seat<(), SeatView>,
         guards: &[RwLockReadGuard<'_, Slot<J>>],
     )
         requires at { seat.old.table_id ≡ self.now.table }
-        requires room { self.now.table ≡ J.table }
+        requires brand { self.now.table ≡ J.table }
         requires parts { seat.old.me.0.parts ≡ map read_guard_value guards.now }
         ensures at { seat.new.table_id ≡ seat.old.table_id }
         ensures left { seat.new.me ≡ (partless seat.old.me.0, seat.old.me.1) }
@@ -158,14 +158,14 @@ impl<M: Mode> Words<M> {
 
     /// One load of the stamp word while the seats of these buckets, whose locks the caller has, lie with the hand's,
     /// where the file is traced: how many acts there were, and how many of the buckets, from the first on, had a seat.
-    pub(crate) fn survey_held<J: Room, R: Wait>(
+    pub(crate) fn survey_held<J: FileBrand, R: Wait>(
         &self,
         rt: &R,
         seat: &mut Seat<(), SeatView>,
         guards: &[RwLockReadGuard<'_, Slot<J>>],
     ) -> (u64, usize)
         requires at { seat.old.table_id ≡ self.now.table }
-        requires room { M.traced ≡ true → self.now.table ≡ J.table }
+        requires brand { M.traced ≡ true → self.now.table ≡ J.table }
         requires live { 0 < seat.old.me.0.view.initial }
         requires bucketless { seat.old.me.0.parts ≡ [] }
         ensures at { seat.new.table_id ≡ seat.old.table_id }
@@ -185,7 +185,7 @@ impl<M: Mode> Words<M> {
 }
 
 /// The records of buckets. Each is let go as soon as its records are copied, the first one first.
-pub(crate) fn copied_held<J: Room>(
+pub(crate) fn copied_held<J: FileBrand>(
     alloc: Global,
     mut guards: Vec<RwLockReadGuard<'_, Slot<J>>>,
 ) -> Result<Vec<Vec<Pair>>, Memory>

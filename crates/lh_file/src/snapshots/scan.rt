@@ -11,7 +11,7 @@ ghost use Rattle.lh_file.specs.Words.Rule.{Each};
 ghost use Rattle.lh_file.specs.Words.Sums.{total};
 ghost use Rattle.lh_file.specs.declared.snapshots.bucket_copy.BucketCopy.{BucketCopy as BucketCopyOf};
 
-use crate::buckets::room::Room;
+use crate::buckets::brand::FileBrand;
 use crate::fault::FileFault;
 use crate::file::HashFile;
 use crate::gate::Gate;
@@ -93,7 +93,7 @@ fn push_raised(aims: &mut Vec<Aim>, first: u32, bucket: u32, from: u8, to: u8)
 
 impl Scan {
     /// A scan of a file, which has met no code.
-    pub fn new<G: Gate, M: Mode, J: Room>(
+    pub fn new<G: Gate, M: Mode, J: FileBrand>(
         alloc: Global,
         file: &HashFile<G, M, J>,
     ) -> Result<Scan, Memory>
@@ -106,7 +106,7 @@ impl Scan {
     }
 
     /// A copy of the next bucket, or none where each code was met. After a fault the scan is as it was.
-    pub fn next<G: Gate, M: Mode, J: Room, R: Wait>(
+    pub fn next<G: Gate, M: Mode, J: FileBrand, R: Wait>(
         &mut self,
         rt: &R,
         file: &HashFile<G, M, J>,
@@ -145,7 +145,7 @@ impl Scan {
 
     /// Gives a copy of each bucket that is still to be visited to a closure, one after the other, with no lock held.
     /// After a fault the scan stands where it met that, and may go on.
-    pub fn for_each<G: Gate, M: Mode, J: Room, R: Wait, F: FnMut(BucketCopy)>(
+    pub fn for_each<G: Gate, M: Mode, J: FileBrand, R: Wait, F: FnMut(BucketCopy)>(
         &mut self,
         rt: &R,
         file: &HashFile<G, M, J>,

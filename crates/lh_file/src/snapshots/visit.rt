@@ -8,7 +8,7 @@ ghost use Rattle.lh_file.specs.Snapshots.Scans.{bucket_of, HasVisited};
 ghost use Rattle.lh_file.specs.Words.Seats.{told_seat};
 ghost use Rattle.lh_file.specs.declared.words.seat_view.Entry.{Entry};
 
-use crate::buckets::room::Room;
+use crate::buckets::brand::FileBrand;
 use crate::buckets::slot::Slot;
 use crate::calls::aim::defect;
 use crate::calls::split::is_numbered;
@@ -24,7 +24,7 @@ use lh_addr::Aim;
 use lh_bucket::{Bucket, copied_pairs};
 use std::sync::Wait;
 
-impl<G: Gate, M: Mode, J: Room> HashFile<G, M, J> {
+impl<G: Gate, M: Mode, J: FileBrand> HashFile<G, M, J> {
     /// One load of the stamp word while the seat of a bucket, whose lock the caller has, lies with the hand's, where
     /// the file is traced. A bucket that is wanted at this level and has no seat is a defect of the file.
     fn survey_slot<R: Wait>(

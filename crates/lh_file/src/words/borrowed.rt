@@ -1,12 +1,12 @@
 //! How the seats of buckets whose locks are held shared come to a hand and go back.
 ghost use Rattle.std.specs.Prelude.{◌≡◌, true, false, [], ◌∷◌};
 
-use crate::buckets::room::Room;
+use crate::buckets::brand::FileBrand;
 use crate::buckets::slot::Slot;
 use crate::words::Words;
 use crate::words::mode::Mode;
 use crate::words::seat_view::SeatView;
-use crate::words::tokens::taken;
+use crate::words::traced_acts::taken;
 use atomic_table::Seat;
 use std::sync::Wait;
 
@@ -15,14 +15,14 @@ impl<M: Mode> Words<M> {
     ghost use Rattle.lh_file.specs.Words.Seats.{holder, with_token};
 
     /// Takes in the seat of a bucket of a traced file, whose lock the caller has: whether the bucket has one.
-    pub(crate) fn borrow_seat<J: Room, R: Wait>(
+    pub(crate) fn borrow_seat<J: FileBrand, R: Wait>(
         &self,
         rt: &R,
         seat: &mut Seat<(), SeatView>,
         slot: &Slot<J>,
     ) -> bool
         requires at { seat.old.table_id ≡ self.now.table }
-        requires room { self.now.table ≡ J.table }
+        requires brand { self.now.table ≡ J.table }
         ensures at { seat.new.table_id ≡ seat.old.table_id }
         ensures taken { result ≡ true → seat.new.me
             ≡ (with_token seat.old.me.0 (holder (slot.now ∷ [])), seat.old.me.1) }
@@ -31,32 +31,32 @@ impl<M: Mode> Words<M> {
         let Slot {
             bucket,
             perch,
-            room: _,
+            brand: _,
         } = slot;
         let Some(perch) = perch else {
             return false;
         };
-        let token = taken(rt, perch);
-        self.take_in(seat, token, bucket);
+        let bucket_seat = taken(rt, perch);
+        self.take_in(seat, bucket_seat, bucket);
         true
     }
 
     /// Gives a bucket its seat back, the first of those that lie with this one.
-    pub(crate) fn return_seat<J: Room>(&self, seat: &mut Seat<(), SeatView>, slot: &Slot<J>)
+    pub(crate) fn return_seat<J: FileBrand>(&self, seat: &mut Seat<(), SeatView>, slot: &Slot<J>)
         requires at { seat.old.table_id ≡ self.now.table }
-        requires room { self.now.table ≡ J.table }
+        requires brand { self.now.table ≡ J.table }
         requires first { first_bucket_of seat.old.me.0.parts ≡ slot.now ∷ [] }
         ensures at { seat.new.table_id ≡ seat.old.table_id }
         ensures left { seat.new.me ≡ (dealt_seat seat.old.me.0, seat.old.me.1) }
     {
-        let token = self.deal_out(seat);
+        let bucket_seat = self.deal_out(seat);
         let Slot {
             bucket: _,
             perch,
-            room: _,
+            brand: _,
         } = slot;
         if let Some(perch) = perch {
-            let _ = perch.give(token, 0, 2);
+            let _ = perch.give(bucket_seat, 0, 2);
         }
     }
 }

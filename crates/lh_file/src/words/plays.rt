@@ -7,7 +7,7 @@ ghost use Rattle.lh_bucket.specs.declared.call.Call.{Call};
 ghost use Rattle.lh_bucket.specs.declared.call.Call.TheVariants.{Search};
 ghost use Rattle.lh_bucket.specs.declared.call.Reply.{Reply};
 ghost use Rattle.lh_bucket.specs.declared.call.Reply.TheVariants.{Absent};
-ghost use Rattle.lh_file.specs.Words.Dealing.{dealt_seat, dealt_token};
+ghost use Rattle.lh_file.specs.Words.Dealing.{dealt_seat, dealt_bucket_seat};
 ghost use Rattle.lh_file.specs.Words.Seats.{holder, unowned_bucket, no_listing, with_token, partless, token_of, mover};
 ghost use Rattle.lh_file.specs.Words.Seats.{upper_half, lessened_seat, branch_seat, joined_seats};
 ghost use Rattle.lh_file.specs.Words.Plays.{loaded_root, claimed, pointed, dropped, lent_out, drawn, told};
@@ -66,11 +66,11 @@ impl Deed for Brand {
 }
 
 /// An addition of 1 to the stamp word, for an act on a bucket that isn't the file's.
-pub struct LendStamp<D> {
+pub struct DrawOutside<D> {
     of: PhantomData<D>,
 }
 
-impl<D: Deed> Play<(), SeatView> for LendStamp<D> {
+impl<D: Deed> Play<(), SeatView> for DrawOutside<D> {
     ghost then = { lent_out D.call D.reply };
 }
 
@@ -135,7 +135,7 @@ pub struct DealOut;
 impl Split<SeatView> for DealOut {
     ghost left = { dealt_seat };
 
-    ghost right = { dealt_token };
+    ghost right = { dealt_bucket_seat };
 }
 
 /// The two halves of a bucket that was split. Each call that moves a split picks them.

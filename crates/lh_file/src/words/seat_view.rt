@@ -8,8 +8,8 @@ use std::collections::LinkedList;
 #[derive(Clone, Copy)]
 pub struct Entry {
     pub line: ActLine,
-    /// Made on a bucket that isn't the file's, and so no part of the file's history.
-    pub lent: bool,
+    /// Outside the file's history: made by a call that isn't traced, or on a bucket that isn't the file's.
+    pub outside: bool,
 }
 
 /// What the rule knows of a seat, which is a hand's or a bucket's. It stands in proofs alone: no value of it is ever

@@ -4,7 +4,7 @@ ghost use Rattle.std.specs.Prelude.{IfOk, IfSome};
 ghost use Rattle.lh_file.specs.FileState.{IsOf};
 
 use lh_addr::Config;
-use lh_file::{Acts, Closed, Gate, Hand, HashFile, Memory, Mode, Right, Room};
+use lh_file::{Acts, Closed, FileBrand, Gate, Hand, HashFile, Memory, Mode, Right};
 use std::alloc::Global;
 use std::sync::Wait;
 
@@ -29,7 +29,7 @@ pub(crate) fn second_of<G: Gate>(file: &HashFile<G>, first: &mut Hand, calls: u6
 }
 
 /// Splits a bucket, where the right to do so is free: whether it was split.
-pub(crate) fn split_once<G: Gate, M: Mode, J: Room, R: Wait>(
+pub(crate) fn split_once<G: Gate, M: Mode, J: FileBrand, R: Wait>(
     rt: &R,
     file: &HashFile<G, M, J>,
     hand: &mut Hand,

@@ -1,20 +1,20 @@
 //! Traced files, whose calls stand at the points at which those of untraced ones stand.
 ghost use Rattle.std.specs.Prelude.{◌≡◌, true};
-ghost use Rattle.lh_file.specs.Buckets.Rooms.{IsRoomOf};
+ghost use Rattle.lh_file.specs.Buckets.Brands.{IsBrandOf};
 ghost use Rattle.lh_file.specs.FileState.{IsOf};
 
 use super::made::{made, split_once};
 use super::stage::{Log, Progress, Stage};
 use lh_addr::Config;
 use lh_bucket::{Listing, Reply};
-use lh_file::{Gate, Hand, HashFile, Mode, Opening, Point, Room};
+use lh_file::{FileBrand, Gate, Hand, HashFile, Mode, Opening, Point};
 use lh_page::{Key, Value};
 use std::marker::Brand;
 use std::sync::Wait;
 use std::test::Fail;
 
 /// Inserts three records by one letter each, the last of which splits a bucket. The replies.
-fn inserts<G: Gate, M: Mode, J: Room, R: Wait>(
+fn inserts<G: Gate, M: Mode, J: FileBrand, R: Wait>(
     rt: &R,
     file: &HashFile<G, M, J>,
     hand: &mut Hand,
@@ -30,7 +30,7 @@ fn inserts<G: Gate, M: Mode, J: Room, R: Wait>(
 }
 
 /// A call of each other kind by the second letter, and one that misses it. The replies.
-fn others<G: Gate, M: Mode, J: Room, R: Wait>(
+fn others<G: Gate, M: Mode, J: FileBrand, R: Wait>(
     rt: &R,
     file: &HashFile<G, M, J>,
     hand: &mut Hand,
@@ -55,7 +55,7 @@ fn others<G: Gate, M: Mode, J: Room, R: Wait>(
 type Told = ([Reply; 3], [Reply; 4], bool);
 
 /// Three inserts, a call of each other kind, and a split.
-fn told<G: Gate, M: Mode, J: Room, R: Wait>(
+fn told<G: Gate, M: Mode, J: FileBrand, R: Wait>(
     rt: &R,
     file: &HashFile<G, M, J>,
     mut hand: Hand,
@@ -68,8 +68,8 @@ fn told<G: Gate, M: Mode, J: Room, R: Wait>(
 }
 
 /// The same in a file that is being opened.
-fn told_of<J: Room, R: Wait>(rt: &R, opening: Opening<'_, Stage<'_>>) -> Option<Told>
-    requires { IsRoomOf true J.named J.table opening.table }
+fn told_of<J: FileBrand, R: Wait>(rt: &R, opening: Opening<'_, Stage<'_>>) -> Option<Told>
+    requires { IsBrandOf true J.named J.table opening.table }
 {
     let (file, hand) = opening.file::<J>().ok()?;
     told(rt, &file, hand)

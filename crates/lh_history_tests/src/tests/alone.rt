@@ -1,12 +1,12 @@
 //! Traced files that one thread uses.
 ghost use Rattle.std.specs.Prelude.{◌≡◌, true, IfSome};
-ghost use Rattle.lh_file.specs.Buckets.Rooms.{IsRoomOf};
+ghost use Rattle.lh_file.specs.Buckets.Brands.{IsBrandOf};
 ghost use Rattle.lh_file.specs.FileState.{IsOf};
 
 use super::ended::{Ended, File, close};
 use lh_addr::Config;
 use lh_bucket::{Listing, Reply};
-use lh_file::{Hand, HashFile, NoGate, Opening, Room};
+use lh_file::{FileBrand, Hand, HashFile, NoGate, Opening};
 use lh_page::{Key, Value};
 use std::alloc::Global;
 use std::marker::Brand;
@@ -14,7 +14,7 @@ use std::sync::Wait;
 use std::test::Fail;
 
 /// Inserts a hundred records, and deletes every second one after it. None where a reply isn't the one that is due.
-fn hundred<J: Room, R: Wait>(rt: &R, file: &File<NoGate, J>, mut hand: Hand) -> Option<Hand>
+fn hundred<J: FileBrand, R: Wait>(rt: &R, file: &File<NoGate, J>, mut hand: Hand) -> Option<Hand>
     requires { IsOf file.now.state hand }
     ensures { IfSome result (IsOf file.now.state) }
 {
@@ -32,13 +32,13 @@ fn hundred<J: Room, R: Wait>(rt: &R, file: &File<NoGate, J>, mut hand: Hand) -> 
 }
 
 /// What a file tells that is closed after a hundred inserts and fifty deletes.
-fn hundred_of<J: Room, R: Wait>(
+fn hundred_of<J: FileBrand, R: Wait>(
     rt: &R,
     alloc: Global,
     listing: &Listing,
     opening: Opening<'_, NoGate>,
 ) -> Option<Ended>
-    requires { IsRoomOf true J.named J.table opening.table }
+    requires { IsBrandOf true J.named J.table opening.table }
 {
     let (file, hand) = opening.file::<J>().ok()?;
     let hand = hundred(rt, &file, hand)?;
@@ -84,7 +84,7 @@ fn a_traced_file_need_not_record(rt: HostRuntime) -> Result<(), Fail> {
 }
 
 /// A hand that may make one of the calls of another.
-fn part_of<J: Room>(file: &File<NoGate, J>, hand: &mut Hand) -> Option<Hand>
+fn part_of<J: FileBrand>(file: &File<NoGate, J>, hand: &mut Hand) -> Option<Hand>
     requires { IsOf file.now.state hand.old }
     ensures old { IsOf file.now.state hand.new }
     ensures new { IfSome result (IsOf file.now.state) }
@@ -93,7 +93,7 @@ fn part_of<J: Room>(file: &File<NoGate, J>, hand: &mut Hand) -> Option<Hand>
 }
 
 /// Inserts one record by a hand that is dropped then. Says whether it was told what is due.
-fn lose<J: Room, R: Wait>(rt: &R, file: &File<NoGate, J>, mut hand: Hand) -> bool
+fn lose<J: FileBrand, R: Wait>(rt: &R, file: &File<NoGate, J>, mut hand: Hand) -> bool
     requires { IsOf file.now.state hand }
 {
     let (Ok(key), Ok(value)) = (Key::new(b"a"), Value::new(b"1")) else {
@@ -106,13 +106,13 @@ fn lose<J: Room, R: Wait>(rt: &R, file: &File<NoGate, J>, mut hand: Hand) -> boo
 }
 
 /// What a file tells that is closed after its only act was lost with its hand.
-fn loss_of<J: Room, R: Wait>(
+fn loss_of<J: FileBrand, R: Wait>(
     rt: &R,
     alloc: Global,
     listing: &Listing,
     opening: Opening<'_, NoGate>,
 ) -> Option<Ended>
-    requires { IsRoomOf true J.named J.table opening.table }
+    requires { IsBrandOf true J.named J.table opening.table }
 {
     let (file, mut hand) = opening.file::<J>().ok()?;
     let lost = part_of(&file, &mut hand)?;

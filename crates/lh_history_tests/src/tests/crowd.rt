@@ -1,13 +1,13 @@
 //! Eight threads on one traced file, under a gate at which each call lets others go first.
 ghost use Rattle.std.specs.Prelude.{◌≡◌, true, false, All, IfSome};
-ghost use Rattle.lh_file.specs.Buckets.Rooms.{IsRoomOf};
+ghost use Rattle.lh_file.specs.Buckets.Brands.{IsBrandOf};
 ghost use Rattle.lh_file.specs.FileState.{IsOf};
 ghost use Rattle.lh_history_tests.specs.Crowds.{IsFree};
 
 use super::ended::{Ended, File, close};
 use lh_addr::Config;
 use lh_bucket::{Call, Listing};
-use lh_file::{Gate, Hand, Opening, Point, Right, Room};
+use lh_file::{FileBrand, Gate, Hand, Opening, Point, Right};
 use lh_page::{Key, Value};
 use std::alloc::Global;
 use std::marker::Brand;
@@ -35,9 +35,9 @@ struct Finished {
 
 /// The hand that comes back is one of this file, and hasn't the right to split.
 #[derive(Clone, Copy)]
-struct OfCrowd<'a, J: Room>(&'a File<GiveWay, J>);
+struct OfCrowd<'a, J: FileBrand>(&'a File<GiveWay, J>);
 
-impl<'a, J: Room> Promise<Finished> for OfCrowd<'a, J> {
+impl<'a, J: FileBrand> Promise<Finished> for OfCrowd<'a, J> {
     ghost kept_by = { λ file finished. IsFree file.0.now.state finished.hand };
 }
 
@@ -56,7 +56,7 @@ fn call_of(first: u32, turn: u32) -> Option<Call> {
 }
 
 /// Makes the call of a turn, and says whether it was answered and more acts are told than before it.
-fn take_turn<J: Room, R: Wait>(
+fn take_turn<J: FileBrand, R: Wait>(
     rt: &R,
     file: &File<GiveWay, J>,
     hand: &mut Hand,
@@ -80,7 +80,7 @@ fn take_turn<J: Room, R: Wait>(
 }
 
 /// Splits a bucket, where the right to do so is there to be got.
-fn grow<J: Room, R: Wait>(rt: &R, file: &File<GiveWay, J>, hand: &mut Hand) -> bool
+fn grow<J: FileBrand, R: Wait>(rt: &R, file: &File<GiveWay, J>, hand: &mut Hand) -> bool
     requires { IsFree file.now.state hand.old }
     ensures { IsFree file.now.state hand.new }
 {
@@ -91,7 +91,12 @@ fn grow<J: Room, R: Wait>(rt: &R, file: &File<GiveWay, J>, hand: &mut Hand) -> b
 }
 
 /// Makes two thousand calls, and asks for a split after each sixteenth.
-fn share<J: Room, R: Wait>(rt: &R, file: &File<GiveWay, J>, mut hand: Hand, first: u32) -> Finished
+fn share<J: FileBrand, R: Wait>(
+    rt: &R,
+    file: &File<GiveWay, J>,
+    mut hand: Hand,
+    first: u32,
+) -> Finished
     requires { IsFree file.now.state hand }
     ensures { IsFree file.now.state result.hand }
 {
@@ -106,7 +111,7 @@ fn share<J: Room, R: Wait>(rt: &R, file: &File<GiveWay, J>, mut hand: Hand, firs
 }
 
 /// Keeps a worker beside the others, or answers that there is no memory for it.
-fn keep<'a, J: Room>(
+fn keep<'a, J: FileBrand>(
     file: &'a File<GiveWay, J>,
     workers: &mut Vec<PromisedHandle<Finished, OfCrowd<'a, J>>>,
     worker: PromisedHandle<Finished, OfCrowd<'a, J>>,
@@ -119,7 +124,7 @@ fn keep<'a, J: Room>(
 }
 
 /// Waits for a worker, and makes one hand of its hand and another one. None where one of its calls went wrong.
-fn join<J: Room, R: Threads + Wait>(
+fn join<J: FileBrand, R: Threads + Wait>(
     rt: &R,
     file: &File<GiveWay, J>,
     hand: Hand,
@@ -140,7 +145,7 @@ fn join<J: Room, R: Threads + Wait>(
 }
 
 /// Eight threads do their shares at once.
-fn shares<J: Room + Send + Sync, R: Threads + Wait + Sync>(
+fn shares<J: FileBrand + Send + Sync, R: Threads + Wait + Sync>(
     rt: &R,
     alloc: Global,
     file: &File<GiveWay, J>,
@@ -182,13 +187,13 @@ fn shares<J: Room + Send + Sync, R: Threads + Wait + Sync>(
 }
 
 /// What a file tells that is closed after eight threads have done their shares.
-fn crowded<J: Room + Send + Sync, R: Threads + Wait + Sync>(
+fn crowded<J: FileBrand + Send + Sync, R: Threads + Wait + Sync>(
     rt: &R,
     alloc: Global,
     listing: &Listing,
     opening: Opening<'_, GiveWay>,
 ) -> Option<Ended>
-    requires { IsRoomOf true J.named J.table opening.table }
+    requires { IsBrandOf true J.named J.table opening.table }
 {
     let (file, hand) = opening.file::<J>().ok()?;
     let all = shares(rt, alloc, &file, hand)?;

@@ -2,7 +2,7 @@
 ghost use Rattle.lh_file.specs.FileState.{IsOf};
 
 use lh_bucket::Listing;
-use lh_file::{Acts, Closed, Gate, Hand, HashFile, Room, Traced, settle};
+use lh_file::{Acts, Closed, FileBrand, Gate, Hand, HashFile, Traced, settle};
 use std::alloc::Global;
 use std::sync::Wait;
 
@@ -30,7 +30,7 @@ fn settled(alloc: Global, listing: &Listing, closed: &Closed, acts: &Acts) -> Op
 }
 
 /// Closes a file that was opened from a listing, unless there is no memory.
-pub(crate) fn close<G: Gate + Drop, J: Room, R: Wait>(
+pub(crate) fn close<G: Gate + Drop, J: FileBrand, R: Wait>(
     rt: &R,
     alloc: Global,
     listing: &Listing,

@@ -1,12 +1,12 @@
 //! Memory that is refused a traced file: run with each request for it refused in turn, one in each run.
 ghost use Rattle.std.specs.Prelude.{◌≡◌, true, IfSome};
-ghost use Rattle.lh_file.specs.Buckets.Rooms.{IsRoomOf};
+ghost use Rattle.lh_file.specs.Buckets.Brands.{IsBrandOf};
 ghost use Rattle.lh_file.specs.FileState.{IsOf};
 
 use super::ended::{Ended, File, close};
 use lh_addr::Config;
 use lh_bucket::{Listing, Reply};
-use lh_file::{FileFault, Hand, NoGate, Opening, Room};
+use lh_file::{FileBrand, FileFault, Hand, NoGate, Opening};
 use lh_page::{Key, Value};
 use std::alloc::Global;
 use std::marker::Brand;
@@ -15,7 +15,7 @@ use std::test::Fail;
 
 /// Inserts a number, and once more where memory was refused, which is told as no act and takes none of the hand's
 /// calls. Says whether all went as it has to.
-fn insert_again<J: Room, R: Wait>(
+fn insert_again<J: FileBrand, R: Wait>(
     rt: &R,
     file: &File<NoGate, J>,
     hand: &mut Hand,
@@ -42,7 +42,7 @@ fn insert_again<J: Room, R: Wait>(
 }
 
 /// Inserts ten records. None where one went otherwise than it has to.
-fn inserted<J: Room, R: Wait>(rt: &R, file: &File<NoGate, J>, mut hand: Hand) -> Option<Hand>
+fn inserted<J: FileBrand, R: Wait>(rt: &R, file: &File<NoGate, J>, mut hand: Hand) -> Option<Hand>
     requires { IsOf file.now.state hand }
     ensures { IfSome result (IsOf file.now.state) }
 {
@@ -64,13 +64,13 @@ enum Outcome {
 }
 
 /// Opens a file, inserts ten records, and closes it.
-fn ten<J: Room, R: Wait>(
+fn ten<J: FileBrand, R: Wait>(
     rt: &R,
     alloc: Global,
     listing: &Listing,
     opening: Opening<'_, NoGate>,
 ) -> Outcome
-    requires { IsRoomOf true J.named J.table opening.table }
+    requires { IsBrandOf true J.named J.table opening.table }
 {
     let Ok((file, hand)) = opening.file::<J>() else {
         return Outcome::Gone;

@@ -5,7 +5,7 @@ use super::lean::lean_as;
 use super::rights::split_if_free;
 use super::tasks::{REFUSED, Task, Told};
 use lh_bucket::{Call, Reply};
-use lh_file::{Gate, Hand, HashFile, Mode, Room};
+use lh_file::{FileBrand, Gate, Hand, HashFile, Mode};
 use lh_page::{Key, Value};
 use std::sync::Wait;
 
@@ -29,7 +29,7 @@ fn telling_of(reply: Reply) -> Told {
 }
 
 /// Makes a call.
-pub(crate) fn asked<G: Gate, M: Mode, J: Room, R: Wait>(
+pub(crate) fn asked<G: Gate, M: Mode, J: FileBrand, R: Wait>(
     rt: &R,
     file: &HashFile<G, M, J>,
     hand: &mut Hand,
@@ -51,7 +51,7 @@ pub(crate) fn asked<G: Gate, M: Mode, J: Room, R: Wait>(
 }
 
 /// Makes a call, and once more where memory was refused.
-fn asked_again<G: Gate, M: Mode, J: Room, R: Wait>(
+fn asked_again<G: Gate, M: Mode, J: FileBrand, R: Wait>(
     rt: &R,
     file: &HashFile<G, M, J>,
     hand: &mut Hand,
@@ -88,7 +88,7 @@ pub(crate) fn call_of(task: Task) -> Option<Call> {
 }
 
 /// Makes the call of a task by a letter.
-pub(crate) fn call<G: Gate, M: Mode, J: Room, R: Wait>(
+pub(crate) fn call<G: Gate, M: Mode, J: FileBrand, R: Wait>(
     rt: &R,
     file: &HashFile<G, M, J>,
     hand: &mut Hand,
@@ -104,7 +104,7 @@ pub(crate) fn call<G: Gate, M: Mode, J: Room, R: Wait>(
 }
 
 /// Inserts the eight letters: whether each was inserted.
-pub(crate) fn fill<G: Gate, M: Mode, J: Room, R: Wait>(
+pub(crate) fn fill<G: Gate, M: Mode, J: FileBrand, R: Wait>(
     rt: &R,
     file: &HashFile<G, M, J>,
     hand: &mut Hand,
@@ -122,7 +122,7 @@ pub(crate) fn fill<G: Gate, M: Mode, J: Room, R: Wait>(
 
 /// Replaces the values of the eight letters, and finds the new ones: whether each call was answered so. Then no
 /// bucket's lock is held, and in a traced file each bucket has its seat.
-pub(crate) fn works_on<G: Gate, M: Mode, J: Room, R: Wait>(
+pub(crate) fn works_on<G: Gate, M: Mode, J: FileBrand, R: Wait>(
     rt: &R,
     file: &HashFile<G, M, J>,
     hand: &mut Hand,
@@ -156,7 +156,7 @@ fn drawn(number: u32, turn: u32) -> Option<Call> {
 
 /// Makes a hundred calls, every third as one makes it of a map, and asks for a split after each eighth: whether each
 /// call was answered.
-pub(crate) fn draw_calls<G: Gate, M: Mode, J: Room, R: Wait>(
+pub(crate) fn draw_calls<G: Gate, M: Mode, J: FileBrand, R: Wait>(
     rt: &R,
     file: &HashFile<G, M, J>,
     hand: &mut Hand,

@@ -4,7 +4,7 @@ ghost use Rattle.lh_file.specs.FileState.{IsOf};
 use super::scene::{ONE_BUCKET, Scene, perform};
 use super::tasks::{Task, Told};
 use lh_bucket::Call;
-use lh_file::{Coded, CodedKey, FileFault, Gate, Hand, HashFile, Mode, Room};
+use lh_file::{Coded, CodedKey, FileBrand, FileFault, Gate, Hand, HashFile, Mode};
 use lh_page::{Key, Value};
 use std::sync::Wait;
 use std::test::Fail;
@@ -37,7 +37,7 @@ fn either(is_first: bool, first: Told, second: Told) -> Told {
 }
 
 /// Reads a value over one that is there, which stays where the key is absent.
-fn read<K: Coded, G: Gate, M: Mode, J: Room, R: Wait>(
+fn read<K: Coded, G: Gate, M: Mode, J: FileBrand, R: Wait>(
     rt: &R,
     file: &HashFile<G, M, J>,
     hand: &mut Hand,
@@ -56,7 +56,7 @@ fn read<K: Coded, G: Gate, M: Mode, J: Room, R: Wait>(
 }
 
 /// Makes a call by a key.
-fn make_lean<K: Coded, G: Gate, M: Mode, J: Room, R: Wait>(
+fn make_lean<K: Coded, G: Gate, M: Mode, J: FileBrand, R: Wait>(
     rt: &R,
     file: &HashFile<G, M, J>,
     hand: &mut Hand,
@@ -96,7 +96,7 @@ fn make_lean<K: Coded, G: Gate, M: Mode, J: Room, R: Wait>(
 }
 
 /// Makes a call by a key with its code, and by the key alone where memory was refused.
-fn lean_either<G: Gate, M: Mode, J: Room, R: Wait>(
+fn lean_either<G: Gate, M: Mode, J: FileBrand, R: Wait>(
     rt: &R,
     file: &HashFile<G, M, J>,
     hand: &mut Hand,
@@ -118,7 +118,7 @@ fn lean_either<G: Gate, M: Mode, J: Room, R: Wait>(
 }
 
 /// Makes a call by a key of one letter, and once more where memory was refused.
-pub(crate) fn lean_again<G: Gate, M: Mode, J: Room, R: Wait>(
+pub(crate) fn lean_again<G: Gate, M: Mode, J: FileBrand, R: Wait>(
     rt: &R,
     file: &HashFile<G, M, J>,
     hand: &mut Hand,
@@ -139,7 +139,7 @@ pub(crate) fn lean_again<G: Gate, M: Mode, J: Room, R: Wait>(
 }
 
 /// Makes a call without an answer in place of one with an answer.
-pub(crate) fn lean_as<G: Gate, M: Mode, J: Room, R: Wait>(
+pub(crate) fn lean_as<G: Gate, M: Mode, J: FileBrand, R: Wait>(
     rt: &R,
     file: &HashFile<G, M, J>,
     hand: &mut Hand,

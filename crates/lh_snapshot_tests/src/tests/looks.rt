@@ -5,14 +5,14 @@ use super::calls::works_on;
 use super::scene::{ONE_BUCKET, Scene, perform};
 use super::tasks::{REFUSED, Task, Told};
 use lh_bucket::Listing;
-use lh_file::{Closed, Gate, Hand, HashFile, Mode, Room};
+use lh_file::{Closed, FileBrand, Gate, Hand, HashFile, Mode};
 use lh_image::{read_image, write_image};
 use std::alloc::Global;
 use std::sync::Wait;
 use std::test::Fail;
 
 /// Takes a snapshot and keeps it. The hand has its calls and its right as before.
-fn keep_once<G: Gate, M: Mode, J: Room, R: Wait>(
+fn keep_once<G: Gate, M: Mode, J: FileBrand, R: Wait>(
     rt: &R,
     file: &HashFile<G, M, J>,
     hand: &mut Hand,
@@ -37,7 +37,7 @@ fn keep_once<G: Gate, M: Mode, J: Room, R: Wait>(
 
 /// Takes a snapshot and keeps it, and once more where memory was refused: the file works on then, and no stamp was
 /// drawn.
-pub(crate) fn keep_snapshot<G: Gate, M: Mode, J: Room, R: Wait>(
+pub(crate) fn keep_snapshot<G: Gate, M: Mode, J: FileBrand, R: Wait>(
     rt: &R,
     file: &HashFile<G, M, J>,
     hand: &mut Hand,
@@ -79,7 +79,7 @@ fn read_back(alloc: Global, listing: &Listing) -> Option<Listing> {
 }
 
 /// Writes the image of a snapshot, and reads it back: how many records it has, if they are those of the snapshot.
-pub(crate) fn image<G: Gate, M: Mode, J: Room, R: Wait>(
+pub(crate) fn image<G: Gate, M: Mode, J: FileBrand, R: Wait>(
     rt: &R,
     alloc: Global,
     file: &HashFile<G, M, J>,

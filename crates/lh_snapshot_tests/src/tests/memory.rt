@@ -8,7 +8,7 @@ use super::rights::drop_right;
 use super::scene::{ONE_BUCKET, Scene, perform_refused};
 use super::stage::{Counts, Progress};
 use super::tasks::{REFUSED, Task, Told};
-use lh_file::{Gate, Hand, HashFile, Mode, Room};
+use lh_file::{FileBrand, Gate, Hand, HashFile, Mode};
 use std::sync::Wait;
 use std::test::Fail;
 
@@ -55,7 +55,7 @@ fn refused_calls_without_an_answer_do_nothing(rt: HostRuntime) -> Result<(), Fai
 
 /// Inserts a letter, and once more where memory was refused: whether it was inserted. A refused insert has stood at no
 /// point that tells of an act or a split.
-fn insert<G: Gate, M: Mode, J: Room, R: Wait>(
+fn insert<G: Gate, M: Mode, J: FileBrand, R: Wait>(
     rt: &R,
     file: &HashFile<G, M, J>,
     progress: &Progress,
@@ -77,7 +77,7 @@ fn insert<G: Gate, M: Mode, J: Room, R: Wait>(
 }
 
 /// Whether the right to split is there to be got. It is given up again.
-fn is_right_free<G: Gate, M: Mode, J: Room>(file: &HashFile<G, M, J>, hand: &mut Hand) -> bool
+fn is_right_free<G: Gate, M: Mode, J: FileBrand>(file: &HashFile<G, M, J>, hand: &mut Hand) -> bool
     requires { IsOf file.now.state hand.old }
     ensures { IsOf file.now.state hand.new }
 {
@@ -90,7 +90,7 @@ fn is_right_free<G: Gate, M: Mode, J: Room>(file: &HashFile<G, M, J>, hand: &mut
 
 /// Inserts a letter, which asks for a split: whether a bucket was split, or none where something went wrong. Where the
 /// split was refused, the file has its size, and no point tells of a move or of a new pointer. The right is free again.
-fn insert_and_split<G: Gate, M: Mode, J: Room, R: Wait>(
+fn insert_and_split<G: Gate, M: Mode, J: FileBrand, R: Wait>(
     rt: &R,
     file: &HashFile<G, M, J>,
     progress: &Progress,
@@ -119,7 +119,7 @@ fn insert_and_split<G: Gate, M: Mode, J: Room, R: Wait>(
 
 /// Inserts the eight letters, each of which asks for a split: whether all went as it has to, and no more than one split
 /// was refused.
-pub(crate) fn fill_and_grow<G: Gate, M: Mode, J: Room, R: Wait>(
+pub(crate) fn fill_and_grow<G: Gate, M: Mode, J: FileBrand, R: Wait>(
     rt: &R,
     file: &HashFile<G, M, J>,
     progress: &Progress,

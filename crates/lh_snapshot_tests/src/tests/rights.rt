@@ -3,12 +3,12 @@ ghost use Rattle.lh_file.specs.FileState.{IsOf};
 
 use super::scene::{EIGHT, ONE_BUCKET, Scene, perform};
 use super::tasks::{Task, Told};
-use lh_file::{Gate, Hand, HashFile, Mode, Right, Room};
+use lh_file::{FileBrand, Gate, Hand, HashFile, Mode, Right};
 use std::sync::Wait;
 use std::test::Fail;
 
 /// Splits a bucket, where the right to do so is free: whether it was split.
-fn split_once<G: Gate, M: Mode, J: Room, R: Wait>(
+fn split_once<G: Gate, M: Mode, J: FileBrand, R: Wait>(
     rt: &R,
     file: &HashFile<G, M, J>,
     hand: &mut Hand,
@@ -23,7 +23,7 @@ fn split_once<G: Gate, M: Mode, J: Room, R: Wait>(
 }
 
 /// Splits a bucket, where the right to do so is free: whether no fault was met.
-pub(crate) fn split_if_free<G: Gate, M: Mode, J: Room, R: Wait>(
+pub(crate) fn split_if_free<G: Gate, M: Mode, J: FileBrand, R: Wait>(
     rt: &R,
     file: &HashFile<G, M, J>,
     hand: &mut Hand,
@@ -38,7 +38,7 @@ pub(crate) fn split_if_free<G: Gate, M: Mode, J: Room, R: Wait>(
 }
 
 /// Splits so many buckets, each once more where memory was refused: whether they were split.
-pub(crate) fn grow<G: Gate, M: Mode, J: Room, R: Wait>(
+pub(crate) fn grow<G: Gate, M: Mode, J: FileBrand, R: Wait>(
     rt: &R,
     file: &HashFile<G, M, J>,
     hand: &mut Hand,
@@ -56,7 +56,7 @@ pub(crate) fn grow<G: Gate, M: Mode, J: Room, R: Wait>(
 }
 
 /// Splits, if the hand has the right: whether a bucket was split.
-pub(crate) fn split<G: Gate, M: Mode, J: Room, R: Wait>(
+pub(crate) fn split<G: Gate, M: Mode, J: FileBrand, R: Wait>(
     rt: &R,
     file: &HashFile<G, M, J>,
     hand: &mut Hand,
@@ -68,7 +68,7 @@ pub(crate) fn split<G: Gate, M: Mode, J: Room, R: Wait>(
 }
 
 /// Drops the right, if the hand has it: whether it had it.
-pub(crate) fn drop_right<G: Gate, M: Mode, J: Room>(
+pub(crate) fn drop_right<G: Gate, M: Mode, J: FileBrand>(
     file: &HashFile<G, M, J>,
     hand: &mut Hand,
 ) -> bool
@@ -83,7 +83,7 @@ pub(crate) fn drop_right<G: Gate, M: Mode, J: Room>(
 }
 
 /// Asks for the right to split by a new hand, which is dropped.
-pub(crate) fn lose_right<G: Gate, M: Mode, J: Room>(
+pub(crate) fn lose_right<G: Gate, M: Mode, J: FileBrand>(
     file: &HashFile<G, M, J>,
     hand: &mut Hand,
 ) -> Told

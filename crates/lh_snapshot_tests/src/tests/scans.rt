@@ -6,7 +6,7 @@ use super::calls::{LETTERS, call, works_on};
 use super::rights::grow;
 use super::scene::{ONE_BUCKET, Scene, perform};
 use super::tasks::{Task, Told};
-use lh_file::{BucketCopy, FileFault, Gate, Hand, HashFile, Mode, Room, Scan};
+use lh_file::{BucketCopy, FileBrand, FileFault, Gate, Hand, HashFile, Mode, Scan};
 use lh_page::Pair;
 use std::alloc::Global;
 use std::sync::Wait;
@@ -31,7 +31,7 @@ fn is_whole(met: &Met) -> bool {
 }
 
 /// A scan of a file, begun once more where memory was refused.
-fn begun<G: Gate, M: Mode, J: Room>(alloc: Global, file: &HashFile<G, M, J>) -> Option<Scan>
+fn begun<G: Gate, M: Mode, J: FileBrand>(alloc: Global, file: &HashFile<G, M, J>) -> Option<Scan>
     ensures { IfSome result (λ scan. scan.initial ≡ file.now.state.config.initial) }
 {
     match Scan::new(alloc, file) {
@@ -41,7 +41,7 @@ fn begun<G: Gate, M: Mode, J: Room>(alloc: Global, file: &HashFile<G, M, J>) -> 
 }
 
 /// The next copy of a scan, asked for once more where memory was refused, if the file works on then.
-fn next<G: Gate, M: Mode, J: Room, R: Wait>(
+fn next<G: Gate, M: Mode, J: FileBrand, R: Wait>(
     rt: &R,
     file: &HashFile<G, M, J>,
     hand: &mut Hand,
@@ -60,7 +60,7 @@ fn next<G: Gate, M: Mode, J: Room, R: Wait>(
 
 /// Searches for a letter between two copies, and splits so many buckets: whether the letter was found, by an act that
 /// came after the copy.
-fn goes_on<G: Gate, M: Mode, J: Room, R: Wait>(
+fn goes_on<G: Gate, M: Mode, J: FileBrand, R: Wait>(
     rt: &R,
     file: &HashFile<G, M, J>,
     hand: &mut Hand,
@@ -77,7 +77,7 @@ fn goes_on<G: Gate, M: Mode, J: Room, R: Wait>(
 }
 
 /// Whether a scan that has ended gives no copy any more.
-fn is_over<G: Gate, M: Mode, J: Room, R: Wait>(
+fn is_over<G: Gate, M: Mode, J: FileBrand, R: Wait>(
     rt: &R,
     file: &HashFile<G, M, J>,
     hand: &mut Hand,
@@ -95,7 +95,7 @@ fn is_over<G: Gate, M: Mode, J: Room, R: Wait>(
 
 /// Scans a file, and splits so many buckets after each copy: whether each letter was met, and no key twice, and each
 /// copy came after what was told before it.
-pub(crate) fn scan<G: Gate, M: Mode, J: Room, R: Wait>(
+pub(crate) fn scan<G: Gate, M: Mode, J: FileBrand, R: Wait>(
     rt: &R,
     alloc: Global,
     file: &HashFile<G, M, J>,
@@ -128,7 +128,7 @@ pub(crate) fn scan<G: Gate, M: Mode, J: Room, R: Wait>(
 
 /// Gives each copy of a scan to a closure, and goes on where memory was refused: whether each letter was met, and no
 /// key twice.
-pub(crate) fn for_each<G: Gate, M: Mode, J: Room, R: Wait>(
+pub(crate) fn for_each<G: Gate, M: Mode, J: FileBrand, R: Wait>(
     rt: &R,
     alloc: Global,
     file: &HashFile<G, M, J>,

@@ -1,6 +1,6 @@
 //! Scenes: what the hands of a file do beside each other, and what is to come of it.
 ghost use Rattle.std.specs.Prelude.{◌≡◌, true};
-ghost use Rattle.lh_file.specs.Buckets.Rooms.{IsRoomOf};
+ghost use Rattle.lh_file.specs.Buckets.Brands.{IsBrandOf};
 ghost use Rattle.lh_file.specs.FileState.{IsOf};
 
 use super::sound::{Buckets, fault_of, first_unsound};
@@ -9,7 +9,7 @@ use super::tasks::{Task, Tasks, Told, Worked, work};
 use super::threads::beside;
 use lh_addr::Config;
 use lh_bucket::{Listing, Memory};
-use lh_file::{Gate, Hand, HashFile, Mode, Opening, Point, Room, SettleFault};
+use lh_file::{FileBrand, Gate, Hand, HashFile, Mode, Opening, Point, SettleFault};
 use std::alloc::Global;
 use std::marker::Brand;
 use std::process::Abort;
@@ -67,7 +67,7 @@ struct Outcome {
 }
 
 /// Closes a file after a scene. None where memory was wanted for that.
-fn ended<G: Gate + Drop, M: Mode, J: Room, R: Wait>(
+fn ended<G: Gate + Drop, M: Mode, J: FileBrand, R: Wait>(
     rt: &R,
     alloc: Global,
     opening: &Listing,
@@ -99,7 +99,7 @@ fn ended<G: Gate + Drop, M: Mode, J: Room, R: Wait>(
 fn play<
     G: Gate + Drop + Sync,
     M: Mode + Send + Sync,
-    J: Room + Send + Sync,
+    J: FileBrand + Send + Sync,
     R: Threads + Wait + Sync,
 >(
     rt: &R,
@@ -118,7 +118,7 @@ fn play<
 }
 
 /// Plays a scene in a traced file that is being opened.
-fn play_traced<J: Room + Send + Sync, R: Threads + Wait + Sync>(
+fn play_traced<J: FileBrand + Send + Sync, R: Threads + Wait + Sync>(
     rt: &R,
     alloc: Global,
     listing: &Listing,
@@ -126,7 +126,7 @@ fn play_traced<J: Room + Send + Sync, R: Threads + Wait + Sync>(
     progress: &Progress,
     scene: &Scene,
 ) -> Option<Outcome>
-    requires { IsRoomOf true J.named J.table opening.table }
+    requires { IsBrandOf true J.named J.table opening.table }
 {
     let (file, hand) = opening.file::<J>().ok()?;
     play(rt, alloc, listing, file, hand, progress, scene)

@@ -8,7 +8,7 @@ use super::memory::fill_and_grow;
 use super::rights::{drop_right, grow, lose_right, split};
 use super::scans::{for_each, scan};
 use super::stage::Progress;
-use lh_file::{Closed, FileFault, Gate, Hand, HashFile, Mode, Right, Room};
+use lh_file::{Closed, FileBrand, FileFault, Gate, Hand, HashFile, Mode, Right};
 use std::alloc::Global;
 use std::sync::Wait;
 
@@ -97,7 +97,7 @@ pub(crate) fn done(is_well: bool) -> Told {
 }
 
 /// How many inserts and deletes the file counts.
-fn load<G: Gate, M: Mode, J: Room>(file: &HashFile<G, M, J>, hand: &mut Hand) -> Told
+fn load<G: Gate, M: Mode, J: FileBrand>(file: &HashFile<G, M, J>, hand: &mut Hand) -> Told
     requires { IsOf file.now.state hand.old }
     ensures { IsOf file.now.state hand.new }
 {
@@ -106,7 +106,7 @@ fn load<G: Gate, M: Mode, J: Room>(file: &HashFile<G, M, J>, hand: &mut Hand) ->
 }
 
 /// Does one task.
-fn one<G: Gate, M: Mode, J: Room, R: Wait>(
+fn one<G: Gate, M: Mode, J: FileBrand, R: Wait>(
     rt: &R,
     alloc: Global,
     file: &HashFile<G, M, J>,
@@ -154,7 +154,7 @@ fn turn(progress: &Progress, task: Task) -> Told {
 }
 
 /// Does tasks one after another, each beside the answer that is due.
-pub(crate) fn work<G: Gate, M: Mode, J: Room, R: Wait>(
+pub(crate) fn work<G: Gate, M: Mode, J: FileBrand, R: Wait>(
     rt: &R,
     alloc: Global,
     file: &HashFile<G, M, J>,

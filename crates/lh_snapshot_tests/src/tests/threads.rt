@@ -4,7 +4,7 @@ ghost use Rattle.lh_file.specs.FileState.{IsOf};
 
 use super::stage::Progress;
 use super::tasks::{Task, Told, Worked, work};
-use lh_file::{Gate, HashFile, Mode, Room};
+use lh_file::{FileBrand, Gate, HashFile, Mode};
 use std::alloc::Global;
 use std::sync::Wait;
 use std::thread;
@@ -12,14 +12,14 @@ use std::thread::{Promise, PromisedHandle, Threads};
 
 /// The hand that comes back from a thread is one of this file.
 #[derive(Clone, Copy)]
-struct OfFile<'a, G: Gate, M: Mode, J: Room>(&'a HashFile<G, M, J>);
+struct OfFile<'a, G: Gate, M: Mode, J: FileBrand>(&'a HashFile<G, M, J>);
 
-impl<'a, G: Gate, M: Mode, J: Room> Promise<Worked> for OfFile<'a, G, M, J> {
+impl<'a, G: Gate, M: Mode, J: FileBrand> Promise<Worked> for OfFile<'a, G, M, J> {
     ghost kept_by = { λ file worked. IsOf file.0.now.state worked.hand };
 }
 
 /// Keeps a worker beside the others, or answers that there is no memory for it.
-fn keep<'a, G: Gate, M: Mode, J: Room>(
+fn keep<'a, G: Gate, M: Mode, J: FileBrand>(
     file: &'a HashFile<G, M, J>,
     workers: &mut Vec<PromisedHandle<Worked, OfFile<'a, G, M, J>>>,
     worker: PromisedHandle<Worked, OfFile<'a, G, M, J>>,
@@ -33,7 +33,7 @@ fn keep<'a, G: Gate, M: Mode, J: Room>(
 
 /// Waits for a worker, and adds what it has to what others have. None where memory was wanted, or the hand still has
 /// the right to split.
-fn join<G: Gate, M: Mode, J: Room, R: Threads + Wait>(
+fn join<G: Gate, M: Mode, J: FileBrand, R: Threads + Wait>(
     rt: &R,
     file: &HashFile<G, M, J>,
     all: Worked,
@@ -69,7 +69,7 @@ fn join<G: Gate, M: Mode, J: Room, R: Threads + Wait>(
 pub(crate) fn beside<
     G: Gate + Sync,
     M: Mode + Send + Sync,
-    J: Room + Send + Sync,
+    J: FileBrand + Send + Sync,
     R: Threads + Wait + Sync,
 >(
     rt: &R,

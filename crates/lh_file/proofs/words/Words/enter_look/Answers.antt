@@ -10,15 +10,16 @@ use Rattle.lh_file.proofs.words.Words.enter_look.Goals as goal
 
 pub returns-then-self-clause-acted : goal.returns-then-self-clause-acted
 returns-then-self-clause-acted g c =
-    let stamp = c.deal_look-stamp.result in let given = found_at c.args.bucket.now.pairs c.find-place.result in
+    let stamp = c.draw_look_with_seat-stamp.result in
+    let given = found_at c.args.bucket.now.pairs c.find-place.result in
     let is = c.find-place.ensures.found in
     let none = uncounted (content c.args.bucket.now) (Search c.args.key.now) refl in (
       stamp,
       record {
         newest =
             subst (All (λ x. x < stamp)) (ap (λ (h : HandState). h.view.stamps) c.hand.view_is)
-            c.deal_look-stamp.ensures.newest;
-        view = ap (λ (m : Seated). m.0.view) c.deal_look-stamp.ensures.acted
+            c.draw_look_with_seat-stamp.ensures.newest;
+        view = ap (λ (m : Seated). m.0.view) c.draw_look_with_seat-stamp.ensures.acted
             ∙ stamped_same c.hand.inside.seat.me.0.view stamp (inserts_of given) (deletes_of given)
             (ap inserts_of is ∙ none.0) (ap deletes_of is ∙ none.1)
             ∙ ap
@@ -31,7 +32,7 @@ returns-then-self-clause-acted g c =
             })
             c.hand.view_is;
         logs =
-            ap (λ (m : Seated). m.0.logs) c.deal_look-stamp.ensures.acted
+            ap (λ (m : Seated). m.0.logs) c.draw_look_with_seat-stamp.ensures.acted
             ∙ ap (λ (h : HandState). h.logs) c.hand.view_is;
         acts = search rules;
         room = search rules;
@@ -42,15 +43,16 @@ returns-then-self-clause-acted g c =
 
 pub returns-else-self-clause-acted : goal.returns-else-self-clause-acted
 returns-else-self-clause-acted g c =
-    let stamp = c.deal_look-stamp.result in let given = found_at c.args.bucket.now.pairs c.find-place.result in
+    let stamp = c.draw_look_with_seat-stamp.result in
+    let given = found_at c.args.bucket.now.pairs c.find-place.result in
     let is = c.find-place.ensures.found in
     let none = uncounted (content c.args.bucket.now) (Search c.args.key.now) refl in (
       stamp,
       record {
         newest =
             subst (All (λ x. x < stamp)) (ap (λ (h : HandState). h.view.stamps) c.hand.view_is)
-            c.deal_look-stamp.ensures.newest;
-        view = ap (λ (m : Seated). m.0.view) c.deal_look-stamp.ensures.acted
+            c.draw_look_with_seat-stamp.ensures.newest;
+        view = ap (λ (m : Seated). m.0.view) c.draw_look_with_seat-stamp.ensures.acted
             ∙ stamped_same c.hand.inside.seat.me.0.view stamp (inserts_of given) (deletes_of given)
             (ap inserts_of is ∙ none.0) (ap deletes_of is ∙ none.1)
             ∙ ap
@@ -63,7 +65,7 @@ returns-else-self-clause-acted g c =
             })
             c.hand.view_is;
         logs =
-            ap (λ (m : Seated). m.0.logs) c.deal_look-stamp.ensures.acted
+            ap (λ (m : Seated). m.0.logs) c.draw_look_with_seat-stamp.ensures.acted
             ∙ ap (λ (h : HandState). h.logs) c.hand.view_is;
         acts = search rules;
         room = search rules;
@@ -74,18 +76,18 @@ returns-else-self-clause-acted g c =
 
 pub returns-then-self-clause-entered : goal.returns-then-self-clause-entered
 returns-then-self-clause-entered g c = (
-  c.deal_look-stamp.result,
+  c.draw_look_with_seat-stamp.result,
   search rules,
   search rules,
-  ap (λ (m : Seated). m.0.view.stamps) c.deal_look-stamp.ensures.acted
-      ∙ ap (λ (h : HandState). h.view.stamps ++ c.deal_look-stamp.result ∷ []) c.hand.view_is,
+  ap (λ (m : Seated). m.0.view.stamps) c.draw_look_with_seat-stamp.ensures.acted
+      ∙ ap (λ (h : HandState). h.view.stamps ++ c.draw_look_with_seat-stamp.result ∷ []) c.hand.view_is,
 )
 
 pub returns-else-self-clause-entered : goal.returns-else-self-clause-entered
 returns-else-self-clause-entered g c = (
-  c.deal_look-stamp.result,
+  c.draw_look_with_seat-stamp.result,
   search rules,
   search rules,
-  ap (λ (m : Seated). m.0.view.stamps) c.deal_look-stamp.ensures.acted
-      ∙ ap (λ (h : HandState). h.view.stamps ++ c.deal_look-stamp.result ∷ []) c.hand.view_is,
+  ap (λ (m : Seated). m.0.view.stamps) c.draw_look_with_seat-stamp.ensures.acted
+      ∙ ap (λ (h : HandState). h.view.stamps ++ c.draw_look_with_seat-stamp.result ∷ []) c.hand.view_is,
 )
