@@ -6,7 +6,7 @@ use crate::buckets::slot::Slot;
 use crate::words::Words;
 use crate::words::mode::Mode;
 use crate::words::seat_view::SeatView;
-use crate::words::traced_acts::taken;
+use crate::words::traced_acts::{give_back, taken};
 use atomic_table::Seat;
 use std::sync::Wait;
 
@@ -56,7 +56,7 @@ impl<M: Mode> Words<M> {
             brand: _,
         } = slot;
         if let Some(perch) = perch {
-            let _ = perch.give(bucket_seat, 0, 2);
+            give_back(perch, bucket_seat);
         }
     }
 }
