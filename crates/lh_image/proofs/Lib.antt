@@ -1,10 +1,10 @@
 -- Lemmas by subject; beside them the proofs of each function, by its module
-pub mod bytes
-pub mod paths
-pub mod faults
-pub mod images
-pub mod reads
-pub mod judging
-pub mod writes
-pub mod samples
-pub mod looking
+pub mod Bytes
+pub mod Paths
+pub mod Faults
+pub mod Images
+pub mod Reads
+pub mod Judging
+pub mod Writes
+pub mod Samples
+pub mod Looking

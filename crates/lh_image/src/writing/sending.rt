@@ -10,7 +10,7 @@ use std::io::Write;
 pub(crate) struct WriteFailed;
 
 /// One write, of at least one byte.
-#[tactic(auto, using(crate::proofs::writes::Sends::keeps_none))]
+#[tactic(auto, using(crate::proofs::Writes::Sends::keeps_none))]
 fn write_some<W: Write>(writer: &mut W, bytes: &[u8]) -> Result<usize, WriteFailed>
     ensures some { IfOk result (λ n. (0 < n) × (n ≤ length bytes.now)) }
     ensures ok { IfOk result (λ n. Appends (W.contents writer.old) (W.contents writer.new) (take n bytes.now)) }
@@ -26,7 +26,7 @@ fn write_some<W: Write>(writer: &mut W, bytes: &[u8]) -> Result<usize, WriteFail
 }
 
 /// Writes the bytes of a page. Writes are taken as they come.
-#[tactic(auto, using(crate::proofs::writes::Sends::writes_more, crate::proofs::writes::Sends::takes_beginning))]
+#[tactic(auto, using(crate::proofs::Writes::Sends::writes_more, crate::proofs::Writes::Sends::takes_beginning))]
 pub(crate) fn write_page<W: Write>(writer: &mut W, page: &[u8]) -> Result<(), WriteFailed>
     ensures { IsSent page.now result (W.contents writer.old) (W.contents writer.new) }
 {

@@ -3,8 +3,8 @@ use Rattle.lh_addr.specs.Growth.{level, pointer}
 use Rattle.lh_bucket.specs.Listing.{size, count_of}
 use Rattle.lh_image.specs.Canonical.{page_total}
 use Rattle.lh_image.specs.Census.{longest_before}
-use Rattle.lh_image.proofs.writes.Counting.{records_few}
-use Rattle.lh_image.proofs.writes.Counted.{longest_low}
+use Rattle.lh_image.proofs.Writes.Counting.{records_few}
+use Rattle.lh_image.proofs.Writes.Counted.{longest_low}
 use Rattle.lh_image.proofs.census.census_of.Goals as goal
 
 pub returns : goal.returns

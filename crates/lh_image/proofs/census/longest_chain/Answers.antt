@@ -1,6 +1,6 @@
 use Rattle.std.proofs.Common.{refl, arith}
 use Rattle.lh_image.specs.Census.{longest_before}
-use Rattle.lh_image.proofs.writes.Counted.{longest-more}
+use Rattle.lh_image.proofs.Writes.Counted.{longest-more}
 use Rattle.lh_image.proofs.census.longest_chain.Goals as goal
 
 pub loop-bucket-init : goal.loop-bucket-init

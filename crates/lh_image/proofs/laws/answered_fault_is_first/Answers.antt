@@ -1,4 +1,4 @@
-use Rattle.lh_image.proofs.faults.FirstFaults.{first_fault_law, no_fault_law}
+use Rattle.lh_image.proofs.Faults.FirstFaults.{first_fault_law, no_fault_law}
 use Rattle.lh_image.proofs.laws.answered_fault_is_first.Goals as goal
 
 pub returns-clause-first : goal.returns-clause-first

@@ -1,4 +1,4 @@
-use Rattle.lh_image.proofs.images.Counts.{census_law}
+use Rattle.lh_image.proofs.Images.Counts.{census_law}
 use Rattle.lh_image.proofs.laws.census_counts_pages.Goals as goal
 
 pub returns : goal.returns

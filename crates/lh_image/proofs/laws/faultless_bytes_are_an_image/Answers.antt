@@ -1,4 +1,4 @@
-use Rattle.lh_image.proofs.images.ImageLaws.{image_law}
+use Rattle.lh_image.proofs.Images.ImageLaws.{image_law}
 use Rattle.lh_image.proofs.laws.faultless_bytes_are_an_image.Goals as goal
 
 pub returns : goal.returns

@@ -1,5 +1,5 @@
-use Rattle.lh_image.proofs.paths.Paths.{paths_law}
-use Rattle.lh_image.proofs.paths.ShortPaths.{chain_law}
+use Rattle.lh_image.proofs.Paths.Paths.{paths_law}
+use Rattle.lh_image.proofs.Paths.ShortPaths.{chain_law}
 use Rattle.lh_image.proofs.laws.linked_pages_are_chains.Goals as goal
 
 pub returns-clause-chains : goal.returns-clause-chains

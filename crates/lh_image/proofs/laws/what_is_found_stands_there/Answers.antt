@@ -1,5 +1,5 @@
-use Rattle.lh_image.proofs.looking.Loops.{fault_law}
-use Rattle.lh_image.proofs.looking.Maps.{map_law, stands_law}
+use Rattle.lh_image.proofs.Looking.Loops.{fault_law}
+use Rattle.lh_image.proofs.Looking.Maps.{map_law, stands_law}
 use Rattle.lh_image.proofs.laws.what_is_found_stands_there.Goals as goal
 
 pub returns-clause-map : goal.returns-clause-map

@@ -1,4 +1,4 @@
-use Rattle.lh_image.proofs.writes.CanonicalPages.{canonical_image}
+use Rattle.lh_image.proofs.Writes.CanonicalPages.{canonical_image}
 use Rattle.lh_image.proofs.laws.what_is_written_is_an_image.Goals as goal
 
 pub returns : goal.returns

@@ -1,4 +1,4 @@
-use Rattle.lh_image.proofs.writes.CanonicalPages.{canonical_length}
+use Rattle.lh_image.proofs.Writes.CanonicalPages.{canonical_length}
 use Rattle.lh_image.proofs.laws.written_images_have_their_pages.Goals as goal
 
 pub returns : goal.returns

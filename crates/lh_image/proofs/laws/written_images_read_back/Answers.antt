@@ -1,4 +1,4 @@
-use Rattle.lh_image.proofs.images.RoundTrip.{round_trip}
+use Rattle.lh_image.proofs.Images.RoundTrip.{round_trip}
 use Rattle.lh_image.proofs.laws.written_images_read_back.Goals as goal
 
 pub returns : goal.returns

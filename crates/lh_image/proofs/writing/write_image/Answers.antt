@@ -1,4 +1,4 @@
-use Rattle.lh_image.proofs.bytes.Fitting.{fits_two}
+use Rattle.lh_image.proofs.Bytes.Fitting.{fits_two}
 use Rattle.lh_image.proofs.writing.write_image.Goals as goal
 
 pub write_version-requires-clause-fits : goal.write_version-requires-clause-fits

@@ -4,8 +4,8 @@ use Rattle.std.specs.Io.KnownBytes.{Appends}
 use Rattle.std.proofs.lemmas.Result.{err_from_is_err_and}
 use Rattle.lh_bucket.specs.Listing.{size}
 use Rattle.lh_image.specs.Canonical.{page_count_in, overflow_text, text_in}
-use Rattle.lh_image.proofs.writes.Counting.{overflow_within}
-use Rattle.lh_image.proofs.bytes.Joining.{appends_more, begins_more}
+use Rattle.lh_image.proofs.Writes.Counting.{overflow_within}
+use Rattle.lh_image.proofs.Bytes.Joining.{appends_more, begins_more}
 use Rattle.lh_image.proofs.writing.write_overflow_pages_of.Goals as goal
 
 pub overflow_cast-k-end : goal.overflow_cast-k-end

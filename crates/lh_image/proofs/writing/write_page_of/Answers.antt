@@ -1,7 +1,7 @@
 use Rattle.std.proofs.Common.{subst}
 use Rattle.lh_image.specs.Writing.{IsSent}
 use Rattle.lh_image.specs.declared.version.Version.TheVariants.{One, Two}
-use Rattle.lh_image.proofs.writes.Writable.{text_is}
+use Rattle.lh_image.proofs.Writes.Writable.{text_is}
 use Rattle.lh_image.proofs.writing.write_page_of.Goals as goal
 
 pub returns-in-One : goal.returns-in-One

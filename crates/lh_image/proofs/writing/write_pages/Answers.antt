@@ -7,7 +7,7 @@ use Rattle.lh_image.specs.Canonical.{canonical, page_total, text_in}
 use Rattle.lh_image.specs.Image.{header_for}
 use Rattle.lh_image.specs.Layout.{header_text}
 use Rattle.lh_image.specs.Writing.{TakesBeginning}
-use Rattle.lh_image.proofs.writes.Sends.{sent_after, takes_after, takes_longer}
+use Rattle.lh_image.proofs.Writes.Sends.{sent_after, takes_after, takes_longer}
 use Rattle.lh_image.proofs.writing.write_pages.Goals as goal
 
 pub returns-in_err-write_page : goal.returns-in_err-write_page

@@ -3,7 +3,7 @@ use Rattle.std.proofs.KnownBytes.{Appends-nil}
 use Rattle.std.proofs.lemmas.Result.{err_from_is_err_and}
 use Rattle.lh_bucket.specs.Listing.{size}
 use Rattle.lh_image.specs.Canonical.{overflow_before, text_in}
-use Rattle.lh_image.proofs.bytes.Joining.{appends_more, begins_more}
+use Rattle.lh_image.proofs.Bytes.Joining.{appends_more, begins_more}
 use Rattle.lh_image.proofs.writing.write_primary_pages.Goals as goal
 
 pub loop-bucket-init : goal.loop-bucket-init

@@ -3,7 +3,7 @@ use Rattle.lh_bucket.specs.Listing.{size}
 use Rattle.lh_image.specs.declared.reading.first_page.Header.{Header}
 use Rattle.lh_image.specs.Image.{listing_of}
 use Rattle.lh_image.specs.Layout.{view_of}
-use Rattle.lh_image.proofs.looking.Maps.{listed}
+use Rattle.lh_image.proofs.Looking.Maps.{listed}
 use Rattle.lh_image.proofs.checked.CheckedImage.buckets.Goals as goal
 
 pub returns : goal.returns

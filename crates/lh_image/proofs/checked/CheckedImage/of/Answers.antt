@@ -1,5 +1,5 @@
 use Rattle.std.proofs.lemmas.Result.{err_from_is_err_and}
-use Rattle.lh_image.proofs.looking.Checked.{checked_fault, checked_image}
+use Rattle.lh_image.proofs.Looking.Checked.{checked_fault, checked_image}
 use Rattle.lh_image.proofs.checked.CheckedImage.of.Goals as goal
 
 pub returns-in_err-listing_of_pages-clause-fault : goal.returns-in_err-listing_of_pages-clause-fault

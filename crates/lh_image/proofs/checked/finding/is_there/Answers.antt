@@ -1,4 +1,4 @@
-use Rattle.lh_image.proofs.looking.Slots.{good_lengths}
+use Rattle.lh_image.proofs.Looking.Slots.{good_lengths}
 use Rattle.lh_image.proofs.checked.finding.is_there.Goals as goal
 
 pub has_key-requires-clause-short : goal.has_key-requires-clause-short

@@ -5,8 +5,8 @@ use Rattle.lh_addr.specs.Fnv.{code_of}
 use Rattle.lh_image.specs.Checked.{mark_of}
 use Rattle.lh_image.specs.LookUp.{IsSlotOf, home_of}
 use Rattle.lh_image.specs.Layout.{view_of}
-use Rattle.lh_image.proofs.looking.Checked.{indexed_as, own_head, own_records}
-use Rattle.lh_image.proofs.looking.Steps.{format_is, head_is, page_size_is, slot_is, used_fits}
+use Rattle.lh_image.proofs.Looking.Checked.{indexed_as, own_head, own_records}
+use Rattle.lh_image.proofs.Looking.Steps.{format_is, head_is, page_size_is, slot_is, used_fits}
 use Rattle.lh_image.proofs.checked.finding.look_at.Goals as goal
 
 pub place_in-place-requires-clause-size : goal.place_in-place-requires-clause-size

@@ -1,8 +1,8 @@
 use Rattle.std.proofs.Common.{refl, sym, arith}
 use Rattle.lh_page.specs.PageFields.{used_of}
-use Rattle.lh_image.proofs.looking.Checked.{found_first_there, not_found_there, scanned_on}
-use Rattle.lh_image.proofs.looking.Slots.{good_lengths}
-use Rattle.lh_image.proofs.looking.Values.{value_in-none}
+use Rattle.lh_image.proofs.Looking.Checked.{found_first_there, not_found_there, scanned_on}
+use Rattle.lh_image.proofs.Looking.Slots.{good_lengths}
+use Rattle.lh_image.proofs.Looking.Values.{value_in-none}
 use Rattle.lh_image.proofs.checked.finding.place_in.Goals as goal
 
 pub loop-place-init : goal.loop-place-init

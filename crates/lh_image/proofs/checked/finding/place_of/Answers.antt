@@ -6,8 +6,8 @@ use Rattle.lh_image.specs.Image.{listing_of}
 use Rattle.lh_image.specs.Layout.{page, view_of}
 use Rattle.lh_image.specs.LookUp.{IsSlotOf, found_from}
 use Rattle.lh_image.specs.Version.{format_of, version_of}
-use Rattle.lh_image.proofs.looking.Checked.{never_past, step_good}
-use Rattle.lh_image.proofs.looking.Steps.{begins, found_end, goes_on, home_found, place_is, step_next}
+use Rattle.lh_image.proofs.Looking.Checked.{never_past, step_good}
+use Rattle.lh_image.proofs.Looking.Steps.{begins, found_end, goes_on, home_found, place_is, step_next}
 use Rattle.lh_image.proofs.checked.finding.place_of.Goals as goal
 
 pub loop-init : goal.loop-init

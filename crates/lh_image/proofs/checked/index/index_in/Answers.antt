@@ -1,8 +1,8 @@
 use Rattle.std.proofs.Common.{arith}
 use Rattle.lh_image.specs.Image.{listing_of}
 use Rattle.lh_image.specs.Layout.{view_of}
-use Rattle.lh_image.proofs.looking.Checked.{image_page, pages_more}
-use Rattle.lh_image.proofs.looking.Steps.{format_is, page_size_is}
+use Rattle.lh_image.proofs.Looking.Checked.{image_page, pages_more}
+use Rattle.lh_image.proofs.Looking.Steps.{format_is, page_size_is}
 use Rattle.lh_image.proofs.checked.index.index_in.Goals as goal
 
 pub index_of-requires-clause-size : goal.index_of-requires-clause-size

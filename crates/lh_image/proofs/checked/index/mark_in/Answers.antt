@@ -1,4 +1,4 @@
-use Rattle.lh_image.proofs.looking.Slots.{good_lengths}
+use Rattle.lh_image.proofs.Looking.Slots.{good_lengths}
 use Rattle.lh_image.proofs.checked.index.mark_in.Goals as goal
 
 pub key_in-requires-clause-key : goal.key_in-requires-clause-key

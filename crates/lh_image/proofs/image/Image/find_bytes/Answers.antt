@@ -1,7 +1,7 @@
 use Rattle.std.proofs.Common.{◌≡◌, Ok, Some, rules}
 use Rattle.lh_image.specs.Layout.{view_of}
 use Rattle.lh_image.specs.LookUp.{look_up}
-use Rattle.lh_image.proofs.looking.Maps.{stands_opened}
+use Rattle.lh_image.proofs.Looking.Maps.{stands_opened}
 use Rattle.lh_image.proofs.image.Image.find_bytes.Goals as goal
 
 pub returns-in-Some-clause-stands : goal.returns-in-Some-clause-stands

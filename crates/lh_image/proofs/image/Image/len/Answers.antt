@@ -1,5 +1,5 @@
 use Rattle.lh_image.specs.declared.reading.first_page.Header.{Header}
-use Rattle.lh_image.proofs.looking.Maps.{listed}
+use Rattle.lh_image.proofs.Looking.Maps.{listed}
 use Rattle.lh_image.proofs.image.Image.len.Goals as goal
 
 pub returns-clause-listed : goal.returns-clause-listed

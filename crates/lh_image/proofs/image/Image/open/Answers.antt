@@ -1,6 +1,6 @@
 use Rattle.std.proofs.Common.{sym, ◌∙◌}
 use Rattle.std.proofs.lemmas.Result.{err_from_is_err_and}
-use Rattle.lh_image.proofs.looking.Openings.{opening_size}
+use Rattle.lh_image.proofs.Looking.Openings.{opening_size}
 use Rattle.lh_image.proofs.image.Image.open.Goals as goal
 
 pub returns-in_err-check_size-clause-fault : goal.returns-in_err-check_size-clause-fault

@@ -1,6 +1,6 @@
 use Rattle.std.proofs.Common.{ap, ◌∙◌}
 use Rattle.lh_image.specs.Version.{version_of}
-use Rattle.lh_image.proofs.looking.Steps.{version_is}
+use Rattle.lh_image.proofs.Looking.Steps.{version_is}
 use Rattle.lh_image.proofs.image.Image.version.Goals as goal
 
 pub returns : goal.returns

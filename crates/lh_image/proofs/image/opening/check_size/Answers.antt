@@ -1,8 +1,8 @@
 use Rattle.std.proofs.Common.{◌*◌, ap, ◌∙◌, arith}
 use Rattle.lh_image.specs.declared.reading.first_page.Header.{Header}
 use Rattle.lh_image.specs.Version.{page_bytes}
-use Rattle.lh_image.proofs.bytes.Header.{version_shown}
-use Rattle.lh_image.proofs.looking.Openings.{size_short, size_trailing, size_whole}
+use Rattle.lh_image.proofs.Bytes.Header.{version_shown}
+use Rattle.lh_image.proofs.Looking.Openings.{size_short, size_trailing, size_whole}
 use Rattle.lh_image.proofs.image.opening.check_size.Goals as goal
 
 pub returns-then-bytes-size-clause-fault : goal.returns-then-bytes-size-clause-fault

@@ -1,7 +1,7 @@
 use Rattle.std.proofs.Common.{take, sym, ap, ◌∙◌, arith}
 use Rattle.lh_image.specs.Version.{page_bytes}
-use Rattle.lh_image.proofs.bytes.Versions.{least_page, version-front}
-use Rattle.lh_image.proofs.looking.Openings.{opening_magic, opening_short, opens_header}
+use Rattle.lh_image.proofs.Bytes.Versions.{least_page, version-front}
+use Rattle.lh_image.proofs.Looking.Openings.{opening_magic, opening_short, opens_header}
 use Rattle.lh_image.proofs.image.opening.header_in.Goals as goal
 
 pub returns-in_default-clause-header : goal.returns-in_default-clause-header

@@ -7,9 +7,9 @@ use Rattle.lh_page.specs.PageTable.{slot}
 use Rattle.lh_image.specs.declared.fault.ImageFault.TheVariants.{Slot, Misfit}
 use Rattle.lh_image.specs.LookUp.{IsScannedTo, IsSlotOf}
 use Rattle.lh_image.specs.Misplaced.{is_home}
-use Rattle.lh_image.proofs.looking.Scans.{first_pairs-all, scanned_none, scanned_more}
-use Rattle.lh_image.proofs.looking.Slots.{all_good, bad_slot_there, bad_used_slot, good_lengths, rest_bad, rest_seen}
-use Rattle.lh_image.proofs.looking.Slots.{row_slot, row_misfit, row_none}
+use Rattle.lh_image.proofs.Looking.Scans.{first_pairs-all, scanned_none, scanned_more}
+use Rattle.lh_image.proofs.Looking.Slots.{all_good, bad_slot_there, bad_used_slot, good_lengths, rest_bad, rest_seen}
+use Rattle.lh_image.proofs.Looking.Slots.{row_slot, row_misfit, row_none}
 use Rattle.lh_image.proofs.image.slots.place_in.Goals as goal
 
 pub loop-place-init : goal.loop-place-init

@@ -1,6 +1,6 @@
 use Rattle.std.proofs.Common.{◌≡◌, true, false, sym, ◌∙◌}
 use Rattle.lh_image.specs.Faults.{bad_bucket, bad_kind, bad_level, bad_used}
-use Rattle.lh_image.proofs.looking.Steps.{four_0, four_1, four_2, four_3, four_4, level_known, test_is}
+use Rattle.lh_image.proofs.Looking.Steps.{four_0, four_1, four_2, four_3, four_4, level_known, test_is}
 use Rattle.lh_image.proofs.image.walk.fault_of_head.Goals as goal
 
 pub returns-then-has_bad_kind : goal.returns-then-has_bad_kind

@@ -1,6 +1,6 @@
 use Rattle.std.proofs.Common.{ap, ◌∙◌}
 use Rattle.lh_page.specs.PageFields.{head_of}
-use Rattle.lh_image.proofs.looking.Steps.{head_is}
+use Rattle.lh_image.proofs.Looking.Steps.{head_is}
 use Rattle.lh_image.proofs.image.walk.head_at.Goals as goal
 
 pub returns : goal.returns

@@ -4,8 +4,8 @@ use Rattle.lh_page.specs.declared.head.PageHead.{PageHead}
 use Rattle.lh_page.specs.PageFields.{head_of}
 use Rattle.lh_image.specs.Layout.{view_of}
 use Rattle.lh_image.specs.LookUp.{home_of}
-use Rattle.lh_image.proofs.looking.Steps.{fault_behind_head, fault_by_head, format_is, head_is, home_is, page_size_is}
-use Rattle.lh_image.proofs.looking.Steps.{rest_next, rest_slots, slot_is, slots_are, used_fits}
+use Rattle.lh_image.proofs.Looking.Steps.{fault_behind_head, fault_by_head, format_is, head_is, home_is, page_size_is}
+use Rattle.lh_image.proofs.Looking.Steps.{rest_next, rest_slots, slot_is, slots_are, used_fits}
 use Rattle.lh_image.proofs.image.walk.look_at.Goals as goal
 
 pub fault_of_head-requires-clause-head : goal.fault_of_head-requires-clause-head

@@ -2,7 +2,7 @@ use Rattle.std.proofs.Common.{false, not, true, eqb, ap, ◌∙◌}
 use Rattle.lh_page.specs.declared.head.PageHead.{PageHead}
 use Rattle.lh_image.specs.Layout.{view_of}
 use Rattle.lh_image.specs.View.{bucket}
-use Rattle.lh_image.proofs.looking.Steps.{next_high, next_is, next_low, next_none, next_other}
+use Rattle.lh_image.proofs.Looking.Steps.{next_high, next_is, next_low, next_none, next_other}
 use Rattle.lh_image.proofs.image.walk.names_bad_next.Goals.{then-head-header-via-then-head-header}
 use Rattle.lh_image.proofs.image.walk.names_bad_next.Goals.{then-head-header-via-else-head-header+then-head-header-2}
 use Rattle.lh_image.proofs.image.walk.names_bad_next.Goals as goal

@@ -1,5 +1,5 @@
 use Rattle.std.proofs.Common.{arith}
-use Rattle.lh_image.proofs.looking.Steps.{page_fits, page_is}
+use Rattle.lh_image.proofs.Looking.Steps.{page_fits, page_is}
 use Rattle.lh_image.proofs.image.walk.page_at.Goals as goal
 
 pub slice_bounds-result-end : goal.slice_bounds-result-end

@@ -4,8 +4,8 @@ use Rattle.lh_addr.specs.Growth.{address}
 use Rattle.lh_image.specs.Layout.{page, view_of}
 use Rattle.lh_image.specs.LookUp.{IsSlotOf, found_from}
 use Rattle.lh_image.specs.Version.{format_of, version_of}
-use Rattle.lh_image.proofs.looking.Steps.{begins, found_end, found_twice, goes_on, home_found, place_is, step_fault}
-use Rattle.lh_image.proofs.looking.Steps.{step_next}
+use Rattle.lh_image.proofs.Looking.Steps.{begins, found_end, found_twice, goes_on, home_found, place_is, step_fault}
+use Rattle.lh_image.proofs.Looking.Steps.{step_next}
 use Rattle.lh_image.proofs.image.walk.place_of.Goals as goal
 
 pub loop-init : goal.loop-init

@@ -3,7 +3,7 @@ use Rattle.lh_page.specs.declared.format.Format.{Format}
 use Rattle.lh_page.specs.PageFields.{pair_of}
 use Rattle.lh_page.specs.PageTable.{slot}
 use Rattle.lh_image.specs.Layout.{page}
-use Rattle.lh_image.proofs.looking.Steps.{format_is, page_size_is}
+use Rattle.lh_image.proofs.Looking.Steps.{format_is, page_size_is}
 use Rattle.lh_image.proofs.image.walk.value_at.Goals as goal
 
 pub slot_at-requires-clause-size : goal.slot_at-requires-clause-size

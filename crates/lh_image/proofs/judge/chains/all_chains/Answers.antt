@@ -1,7 +1,7 @@
 use Rattle.std.proofs.Common.{ℕ, length, Vec, Global}
 use Rattle.lh_image.specs.Chains.{chain}
 use Rattle.lh_image.specs.Table.{next_in}
-use Rattle.lh_image.proofs.judging.Finding.{made_more}
+use Rattle.lh_image.proofs.Judging.Finding.{made_more}
 use Rattle.lh_image.proofs.judge.chains.all_chains.Goals as goal
 
 pub loop-bucket-preserved : goal.loop-bucket-preserved

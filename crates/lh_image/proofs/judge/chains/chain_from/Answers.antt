@@ -1,7 +1,7 @@
 use Rattle.std.proofs.Common.{rules, ◌≡◌, ◌-◌, length, ◌++◌, refl, sym, ◌∙◌, arith}
 use Rattle.lh_image.specs.Chains.{pages_from}
 use Rattle.lh_image.specs.Table.{next_in}
-use Rattle.lh_image.proofs.judging.Tables.{chain_step, chain_zero, chain_none}
+use Rattle.lh_image.proofs.Judging.Tables.{chain_step, chain_zero, chain_none}
 use Rattle.lh_image.proofs.judge.chains.chain_from.Goals.{else-loop-test, then-loop-test+then-page-eq0}
 use Rattle.lh_image.proofs.judge.chains.chain_from.Goals as goal
 

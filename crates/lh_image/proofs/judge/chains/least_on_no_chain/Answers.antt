@@ -1,7 +1,7 @@
 use Rattle.std.proofs.Common.{◌≡◌, ℕ, ◌-◌, Bool, List, Vec, Global, length, get_or, false, not, ap, ◌∙◌, arith}
 use Rattle.std.specs.List.{find, list_any, range_with_len}
 use Rattle.lh_image.specs.Chains.{stands_in}
-use Rattle.lh_image.proofs.judging.Finding.{find_same}
+use Rattle.lh_image.proofs.Judging.Finding.{find_same}
 use Rattle.lh_image.proofs.judge.chains.least_on_no_chain.Goals as goal
 
 pub returns-clause-least : goal.returns-clause-least

@@ -1,5 +1,5 @@
 use Rattle.std.proofs.Common.{get_or, refl, ◌∙◌, arith, true, false, length-set}
-use Rattle.lh_image.proofs.judging.Markings.{mark_none, mark_more, mark_skip}
+use Rattle.lh_image.proofs.Judging.Markings.{mark_none, mark_more, mark_skip}
 use Rattle.lh_image.proofs.judge.chains.mark.Goals.{then-page-marks, else-page-marks}
 use Rattle.lh_image.proofs.judge.chains.mark.Goals as goal
 

@@ -1,7 +1,7 @@
 use Rattle.std.proofs.Common.{rules, ◌≡◌, ◌<◌, ◌≤◌, ◌+◌, length, get_or, replicate, sym, ◌∙◌, arith, length-set}
 use Rattle.std.proofs.lemmas.List.{length-replicate, get_or_default}
 use Rattle.lh_image.specs.Table.{next_in}
-use Rattle.lh_image.proofs.judging.Tables.{named_none, named_set, named_kept, named_few}
+use Rattle.lh_image.proofs.Judging.Tables.{named_none, named_set, named_kept, named_few}
 use Rattle.lh_image.proofs.judge.links.count_names.Goals.{then-next-len, else-next-len}
 use Rattle.lh_image.proofs.judge.links.count_names.Goals as goal
 

@@ -3,7 +3,7 @@ use Rattle.std.specs.List.{find, range_with_len}
 use Rattle.lh_image.specs.Faults.{named_twice}
 use Rattle.lh_image.specs.Table.{links_in}
 use Rattle.lh_image.specs.View.{numbers}
-use Rattle.lh_image.proofs.judging.Finding.{find_same}
+use Rattle.lh_image.proofs.Judging.Finding.{find_same}
 use Rattle.lh_image.proofs.judge.links.least_named_twice.Goals as goal
 
 pub returns-clause-least : goal.returns-clause-least

@@ -3,7 +3,7 @@ use Rattle.std.specs.List.{range_with_len}
 use Rattle.lh_image.specs.Chains.{Links, chain}
 use Rattle.lh_image.specs.Faults.{bad_next, named_twice, least}
 use Rattle.lh_image.specs.Table.{links_in}
-use Rattle.lh_image.proofs.judging.LinkFaults.{links_next, links_twice, links_never, links_none, never_same}
+use Rattle.lh_image.proofs.Judging.LinkFaults.{links_next, links_twice, links_never, links_none, never_same}
 use Rattle.lh_image.proofs.judge.listed.chains_of.Goals as goal
 
 pub returns-in-Some-clause-fault : goal.returns-in-Some-clause-fault

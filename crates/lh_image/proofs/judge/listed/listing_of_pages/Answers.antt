@@ -14,11 +14,11 @@ use Rattle.lh_image.specs.Image.{listing_of}
 use Rattle.lh_image.specs.Listed.{IsMemoryOr, IsViewKept}
 use Rattle.lh_image.specs.Table.{links_in, next_in}
 use Rattle.lh_image.specs.View.{View, buckets, page_count, links}
-use Rattle.lh_image.proofs.judging.AtHome.{none_misfit}
-use Rattle.lh_image.proofs.judging.Closing.{AreChains, misfit_is, misfit_told, read_whole, listing_is}
-use Rattle.lh_image.proofs.judging.Judging.{heads_told, links_told, slots_told}
-use Rattle.lh_image.proofs.judging.Last.{AreFine, covered}
-use Rattle.lh_image.proofs.judging.Refusals.{lists_refused}
+use Rattle.lh_image.proofs.Judging.AtHome.{none_misfit}
+use Rattle.lh_image.proofs.Judging.Closing.{AreChains, misfit_is, misfit_told, read_whole, listing_is}
+use Rattle.lh_image.proofs.Judging.Judging.{heads_told, links_told, slots_told}
+use Rattle.lh_image.proofs.Judging.Last.{AreFine, covered}
+use Rattle.lh_image.proofs.Judging.Refusals.{lists_refused}
 use Rattle.lh_image.proofs.judge.listed.listing_of_pages.Goals as goal
 
 -- the links and the chains of what was kept are those of the View

@@ -7,7 +7,7 @@ use Rattle.lh_page.specs.declared.pair.Pair.{Pair}
 use Rattle.lh_page.specs.Records.{keys_of, no_pair}
 use Rattle.lh_image.specs.Faults.{misfits}
 use Rattle.lh_image.specs.Misplaced.{is_home}
-use Rattle.lh_image.proofs.judging.Misplacing.{misfit_step, misfit_end, keys_more, then_true, else_same}
+use Rattle.lh_image.proofs.Judging.Misplacing.{misfit_step, misfit_end, keys_more, then_true, else_same}
 use Rattle.lh_image.proofs.judge.misplaced.has_misfit.Goals as goal
 use Rattle.lh_image.proofs.judge.misplaced.has_misfit.Goals.{then-branch, else-branch}
 

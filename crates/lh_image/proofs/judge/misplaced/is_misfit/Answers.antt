@@ -1,7 +1,7 @@
 use Rattle.std.specs.BTreeSet.{contains}
 use Rattle.std.specs.Cmp.Lexicographic.{slice_cmp}
 use Rattle.std.specs.Ordering.{nat_cmp}
-use Rattle.lh_image.proofs.judging.Misplacing.{known_more}
+use Rattle.lh_image.proofs.Judging.Misplacing.{known_more}
 use Rattle.lh_image.proofs.judge.misplaced.is_misfit.Goals as goal
 
 pub returns-then-address-bucket-clause-known : goal.returns-then-address-bucket-clause-known

@@ -6,7 +6,7 @@ use Rattle.lh_page.specs.Records.{keys_of}
 use Rattle.lh_image.specs.Faults.{misfits}
 use Rattle.lh_image.specs.Misplaced.{IsLeastAmong, is_home}
 use Rattle.lh_image.specs.Table.{page_records}
-use Rattle.lh_image.proofs.judging.Misplacing.{chain_keys, pages_more, least_bad, least_sound}
+use Rattle.lh_image.proofs.Judging.Misplacing.{chain_keys, pages_more, least_bad, least_sound}
 use Rattle.lh_image.proofs.judge.misplaced.least_in_chain.Goals as goal
 use Rattle.lh_image.proofs.judge.misplaced.least_in_chain.Goals.{then-branch, else-branch}
 

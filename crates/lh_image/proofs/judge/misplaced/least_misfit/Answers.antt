@@ -6,7 +6,7 @@ use Rattle.lh_page.specs.declared.pair.Pair.{Pair}
 use Rattle.lh_image.specs.Chains.{stands_in}
 use Rattle.lh_image.specs.Misplaced.{IsTestOf, is_home}
 use Rattle.lh_image.specs.Table.{page_records}
-use Rattle.lh_image.proofs.judging.Finding.{flat_more, item_of}
+use Rattle.lh_image.proofs.Judging.Finding.{flat_more, item_of}
 use Rattle.lh_image.proofs.judge.misplaced.least_misfit.Goals as goal
 
 pub loop-bucket-init : goal.loop-bucket-init

@@ -1,8 +1,8 @@
 use Rattle.std.proofs.Common.{true, sym}
 use Rattle.lh_addr.specs.Settings.{IsInRange}
 use Rattle.lh_image.specs.Header.{HasRoom, header_with}
-use Rattle.lh_image.proofs.bytes.HeaderTests.{bad_initial, bad_capacity, bad_load, bad_buckets, bad_size, bad_max}
-use Rattle.lh_image.proofs.bytes.HeaderTests.{fields_fit, few_buckets}
+use Rattle.lh_image.proofs.Bytes.HeaderTests.{bad_initial, bad_capacity, bad_load, bad_buckets, bad_size, bad_max}
+use Rattle.lh_image.proofs.Bytes.HeaderTests.{fields_fit, few_buckets}
 use Rattle.lh_image.proofs.reading.first_page.config_of.Goals as goal
 use Rattle.lh_image.proofs.reading.first_page.config_of.Goals.{then-has_bad_buckets, else-has_bad_buckets}
 

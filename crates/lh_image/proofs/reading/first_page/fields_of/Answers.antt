@@ -2,7 +2,7 @@ use Rattle.std.proofs.Common.{◌∙◌}
 use Rattle.lh_image.specs.Layout.{initial_offset, capacity_offset, load_offset, buckets_offset, max_offset}
 use Rattle.lh_image.specs.Layout.{pages_offset, records_offset, header_of}
 use Rattle.lh_image.specs.Version.{version_of}
-use Rattle.lh_image.proofs.bytes.HeaderTests.{number_in_slice}
+use Rattle.lh_image.proofs.Bytes.HeaderTests.{number_in_slice}
 use Rattle.lh_image.proofs.reading.first_page.fields_of.Goals as goal
 
 pub returns : goal.returns

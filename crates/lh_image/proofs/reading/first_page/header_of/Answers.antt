@@ -1,9 +1,9 @@
 use Rattle.std.proofs.Common.{◌≡◌, true, false, sym, ap, ◌∙◌, arith}
 use Rattle.lh_image.specs.Header.{header_with}
 use Rattle.lh_image.specs.Layout.{fields_end, ends_in_zeros, header_of}
-use Rattle.lh_image.proofs.bytes.Header.{zeros_behind}
-use Rattle.lh_image.proofs.bytes.Versions.{least_page}
-use Rattle.lh_image.proofs.bytes.HeaderTests.{due_field, due_range, due_zeros, due_counts, few_pages}
+use Rattle.lh_image.proofs.Bytes.Header.{zeros_behind}
+use Rattle.lh_image.proofs.Bytes.Versions.{least_page}
+use Rattle.lh_image.proofs.Bytes.HeaderTests.{due_field, due_range, due_zeros, due_counts, few_pages}
 use Rattle.lh_image.proofs.reading.first_page.header_of.Goals as goal
 
 pub returns-in-Err-clause-fault : goal.returns-in-Err-clause-fault

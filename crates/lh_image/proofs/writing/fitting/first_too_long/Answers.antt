@@ -2,7 +2,7 @@ use Rattle.std.proofs.Common.{◌<◌, [], inl, inr, arith}
 use Rattle.std.proofs.lemmas.Bool.{cases_lt}
 use Rattle.std.proofs.lemmas.List.{get_or_past}
 use Rattle.lh_bucket.specs.Listing.{size}
-use Rattle.lh_image.proofs.writes.Lengths.{first_long, fitting_more}
+use Rattle.lh_image.proofs.Writes.Lengths.{first_long, fitting_more}
 use Rattle.lh_image.proofs.writing.fitting.first_too_long.Goals as goal
 
 pub returns-in-Some-clause-found : goal.returns-in-Some-clause-found

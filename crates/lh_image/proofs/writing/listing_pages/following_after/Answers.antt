@@ -1,6 +1,6 @@
 use Rattle.std.proofs.Common.{arith}
 use Rattle.lh_bucket.specs.Listing.{size}
-use Rattle.lh_image.proofs.writes.Counting.{overflow_within, overflow-more}
+use Rattle.lh_image.proofs.Writes.Counting.{overflow_within, overflow-more}
 use Rattle.lh_image.proofs.writing.listing_pages.following_after.Goals as goal
 
 pub overflow_cast-result : goal.overflow_cast-result

@@ -4,8 +4,8 @@ use Rattle.lh_bucket.specs.Listing.{count_of}
 use Rattle.lh_image.specs.Image.{header_for}
 use Rattle.lh_image.specs.Layout.{number_text, padding}
 use Rattle.lh_image.specs.Version.{magic}
-use Rattle.lh_image.proofs.bytes.HeaderText.{header_written}
-use Rattle.lh_image.proofs.writes.Counting.{records_few}
+use Rattle.lh_image.proofs.Bytes.HeaderText.{header_written}
+use Rattle.lh_image.proofs.Writes.Counting.{records_few}
 use Rattle.lh_image.proofs.writing.listing_pages.header_bytes.Goals as goal
 
 pub returns : goal.returns

@@ -1,6 +1,6 @@
 use Rattle.std.proofs.Common.{◌≡◌, ◌≤◌, ◌∙◌, sym, ap}
 use Rattle.lh_page.specs.PackedList.{pages_needed}
-use Rattle.lh_image.proofs.writes.Counting.{page_count_is}
+use Rattle.lh_image.proofs.Writes.Counting.{page_count_is}
 use Rattle.lh_image.proofs.writing.listing_pages.page_count_in.Goals as goal
 
 pub returns-clause-value : goal.returns-clause-value

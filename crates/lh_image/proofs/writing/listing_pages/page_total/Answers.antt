@@ -1,6 +1,6 @@
 use Rattle.std.proofs.Common.{arith}
 use Rattle.lh_image.specs.Canonical.{overflow_before}
-use Rattle.lh_image.proofs.writes.Counting.{overflow-more}
+use Rattle.lh_image.proofs.Writes.Counting.{overflow-more}
 use Rattle.lh_image.proofs.writing.listing_pages.page_total.Goals as goal
 
 pub loop-bucket-init : goal.loop-bucket-init

@@ -2,8 +2,8 @@ use Rattle.std.proofs.Common.{◌≡◌, ◌+◌, ◌*◌, ◌≤◌, ◌∙◌,
 use Rattle.lh_addr.specs.Growth.{level_of}
 use Rattle.lh_bucket.specs.Listing.{size, list_at}
 use Rattle.lh_image.specs.Canonical.{page_count_in, pages_in}
-use Rattle.lh_image.proofs.writes.Counting.{overflow_within, page_starts}
-use Rattle.lh_image.proofs.writes.Writable.{writable_page}
+use Rattle.lh_image.proofs.Writes.Counting.{overflow_within, page_starts}
+use Rattle.lh_image.proofs.Writes.Writable.{writable_page}
 use Rattle.lh_image.proofs.writing.listing_pages.put_page.Goals as goal
 
 pub next_page-next-requires-clause-fits : goal.next_page-next-requires-clause-fits

@@ -1,6 +1,6 @@
 use Rattle.std.proofs.Common.{◌∙◌, ◌∷◌, [], ◌++◌, ap}
 use Rattle.lh_bucket.specs.Listing.{list_at}
-use Rattle.lh_image.proofs.bytes.Joining.{record_more}
+use Rattle.lh_image.proofs.Bytes.Joining.{record_more}
 use Rattle.lh_image.proofs.writing.listing_pages.put_pairs.Goals as goal
 
 pub loop-place-preserved : goal.loop-place-preserved
