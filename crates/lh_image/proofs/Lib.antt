@@ -3,7 +3,7 @@ pub mod Bytes
 pub mod Paths
 pub mod Faults
 pub mod Images
-pub mod Reads
+pub mod OfReading
 pub mod Judging
 pub mod Writes
 pub mod Samples

@@ -22,7 +22,7 @@ use Rattle.lh_image.specs.Table.{has_plain_head}
 use Rattle.lh_image.specs.View.{View, buckets, bucket, capacity, page_count, record_count, numbers, used, next, links}
 use Rattle.lh_image.proofs.Judging.Finding.{find_same}
 use Rattle.lh_image.proofs.Faults.FirstAnswers.{first_behind, first_before}
-use Rattle.lh_image.proofs.Reads.FirstPage.{told}
+use Rattle.lh_image.proofs.OfReading.FirstPage.{told}
 use Rattle.lh_image.proofs.Paths.Packing.{used_rule}
 use Rattle.lh_image.proofs.Bytes.PageTests.{kind_rule, one_or_two}
 use Rattle.lh_image.proofs.Faults.Ranges.{find_none}

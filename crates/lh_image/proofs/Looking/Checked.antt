@@ -42,7 +42,7 @@ use Rattle.lh_image.proofs.Looking.Slots.{bad_used_slot}
 use Rattle.lh_image.proofs.Looking.Steps.{IsOnItsWay, format_is, found_twice, head_is, here, pages_is, so_none}
 use Rattle.lh_image.proofs.Looking.Values.{value_in-append}
 use Rattle.lh_image.proofs.Paths.Packing.{used_rule}
-use Rattle.lh_image.proofs.Reads.Whole.{AnswersView, exact_is, image_is}
+use Rattle.lh_image.proofs.OfReading.Whole.{AnswersView, exact_is, image_is}
 
 -- ---- what was checked
 

@@ -14,7 +14,7 @@ use Rattle.lh_image.specs.LookUp.{OpensHeader, opening_fault}
 use Rattle.lh_image.specs.Version.{page_bytes, version_of}
 use Rattle.lh_image.proofs.Faults.FirstAnswers.{first_before, first_behind}
 use Rattle.lh_image.proofs.Images.ImageLaws.{some_pages}
-use Rattle.lh_image.proofs.Reads.FirstPage.{due, due-front, due_is, front, header-front, magic_is}
+use Rattle.lh_image.proofs.OfReading.FirstPage.{due, due-front, due_is, front, header-front, magic_is}
 
 pub opening_magic : (bytes : List ℕ) → no_magic bytes ≡ true → opening_fault bytes ≡ Some Magic
 unfolding opening_fault

@@ -1,4 +1,4 @@
-use Rattle.lh_image.proofs.Reads.Leading.{leading_law}
+use Rattle.lh_image.proofs.OfReading.Leading.{leading_law}
 use Rattle.lh_image.proofs.laws.an_image_leads.Goals as goal
 
 pub returns : goal.returns

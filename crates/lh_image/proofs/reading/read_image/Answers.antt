@@ -1,7 +1,7 @@
 use Rattle.std.proofs.Common.{arith}
 use Rattle.std.proofs.lemmas.Result.{err_from_is_err_and}
-use Rattle.lh_image.proofs.Reads.FirstPage.{header_left}
-use Rattle.lh_image.proofs.Reads.Whole.{cut_told, end_told, end_left, have_all, answered, image_read}
+use Rattle.lh_image.proofs.OfReading.FirstPage.{header_left}
+use Rattle.lh_image.proofs.OfReading.Whole.{cut_told, end_told, end_left, have_all, answered, image_read}
 use Rattle.lh_image.proofs.reading.read_image.Goals as goal
 
 pub returns-in_err-header-clause-rest : goal.returns-in_err-header-clause-rest

@@ -3,7 +3,7 @@ use Rattle.std.proofs.Math.Nat.{mul-le-mul_left}
 use Rattle.lh_image.specs.Header.{HasHeader}
 use Rattle.lh_image.specs.Version.{page_bytes, version_of}
 use Rattle.lh_image.proofs.Images.ImageLaws.{some_pages}
-use Rattle.lh_image.proofs.Reads.FirstPages.{within_first, come_first}
+use Rattle.lh_image.proofs.OfReading.FirstPages.{within_first, come_first}
 use Rattle.lh_image.proofs.checked.pages.pages_in.Goals as goal
 
 pub loop-page-init : goal.loop-page-init

@@ -1,5 +1,5 @@
 use Rattle.std.proofs.Common.{rules, ◌≡◌, ◌≤◌, length, ◌-◌}
-use Rattle.lh_image.proofs.Reads.Fillings.{fills_on}
+use Rattle.lh_image.proofs.OfReading.Fillings.{fills_on}
 use Rattle.lh_image.proofs.reading.filling.fill.Goals as goal
 
 pub loop-filled-preserved : goal.loop-filled-preserved

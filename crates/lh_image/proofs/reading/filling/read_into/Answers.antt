@@ -1,4 +1,4 @@
-use Rattle.lh_image.proofs.Reads.Filled.{filled}
+use Rattle.lh_image.proofs.OfReading.Filled.{filled}
 use Rattle.lh_image.proofs.reading.filling.read_into.Goals as goal
 
 pub returns-in-Ok-clause-filled : goal.returns-in-Ok-clause-filled

@@ -2,7 +2,7 @@ use Rattle.std.proofs.Common.{◌≡◌, ◌+◌, ◌-◌, ◌++◌, ◌∙◌, 
 use Rattle.std.proofs.lemmas.Result.{err_from_is_err_and}
 use borrow.Rule.Slice.PartMut.{post_of, put_mid}
 use Rattle.lh_image.specs.Version.{page_bytes, version_of}
-use Rattle.lh_image.proofs.Reads.FirstPage.{joined, page_came, rest_cut, version_joined}
+use Rattle.lh_image.proofs.OfReading.FirstPage.{joined, page_came, rest_cut, version_joined}
 use Rattle.lh_image.proofs.reading.first_page.read_first_page.Goals as goal
 
 pub returns-in_err-version-clause-read : goal.returns-in_err-version-clause-read

@@ -1,7 +1,7 @@
 use Rattle.std.proofs.Common.{◌≡◌, ◌≤◌, ◌∙◌, length, ap, rules, arith}
 use Rattle.std.proofs.lemmas.List.{take_all}
 use Rattle.lh_image.specs.Version.{version_of}
-use Rattle.lh_image.proofs.Reads.FirstPage.{has_begun, not_magic, too_short}
+use Rattle.lh_image.proofs.OfReading.FirstPage.{has_begun, not_magic, too_short}
 use Rattle.lh_image.proofs.reading.first_page.read_front.Goals as goal
 
 pub returns-in_default-clause-read : goal.returns-in_default-clause-read

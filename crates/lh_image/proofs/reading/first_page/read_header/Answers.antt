@@ -1,7 +1,7 @@
 use Rattle.std.proofs.Common.{◌≡◌, length, take, rules}
 use Rattle.std.proofs.lemmas.Result.{err_from_is_err_and}
 use Rattle.lh_image.specs.Version.{page_bytes}
-use Rattle.lh_image.proofs.Reads.FirstPage.{header_told, reads_first}
+use Rattle.lh_image.proofs.OfReading.FirstPage.{header_told, reads_first}
 use Rattle.lh_image.proofs.reading.first_page.read_header.Goals as goal
 
 pub returns-in_err-version-clause-read : goal.returns-in_err-version-clause-read

@@ -1,7 +1,7 @@
 use Rattle.std.proofs.Common.{arith}
 use Rattle.std.proofs.lemmas.Result.{err_from_is_err_and}
-use Rattle.lh_image.proofs.Reads.FirstPage.{header_left}
-use Rattle.lh_image.proofs.Reads.Leading.{answered, cut_left, cut_told, header_told, image_read, left}
+use Rattle.lh_image.proofs.OfReading.FirstPage.{header_left}
+use Rattle.lh_image.proofs.OfReading.Leading.{answered, cut_left, cut_told, header_told, image_read, left}
 use Rattle.lh_image.proofs.reading.leading.read_leading_image.Goals as goal
 
 pub returns-in_err-header-clause-exact : goal.returns-in_err-header-clause-exact

@@ -6,8 +6,8 @@ use Rattle.lh_image.specs.Filling.{FillsWhole}
 use Rattle.lh_image.specs.Layout.{page}
 use Rattle.lh_image.specs.Version.{page_bytes, version_of}
 use Rattle.lh_image.proofs.Bytes.Header.{version_shown}
-use Rattle.lh_image.proofs.Reads.Filled.{cut_behind}
-use Rattle.lh_image.proofs.Reads.Steps.{reads_more}
+use Rattle.lh_image.proofs.OfReading.Filled.{cut_behind}
+use Rattle.lh_image.proofs.OfReading.Steps.{reads_more}
 use Rattle.lh_image.proofs.reading.pages.read_page.Goals as goal
 
 pub returns-in_err-read_whole-clause-read : goal.returns-in_err-read_whole-clause-read

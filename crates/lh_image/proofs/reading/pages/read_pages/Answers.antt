@@ -2,8 +2,8 @@ use Rattle.std.proofs.Common.{◌≡◌, ◌+◌, ◌*◌, ◌≤◌, ◌∙◌,
 use Rattle.std.proofs.Math.Nat.{mul-le-mul_left}
 use Rattle.std.proofs.lemmas.Result.{err_from_is_err_and}
 use Rattle.lh_image.specs.Version.{page_bytes, version_of}
-use Rattle.lh_image.proofs.Reads.Filled.{cut_more}
-use Rattle.lh_image.proofs.Reads.FirstPages.{within_first, come_first}
+use Rattle.lh_image.proofs.OfReading.Filled.{cut_more}
+use Rattle.lh_image.proofs.OfReading.FirstPages.{within_first, come_first}
 use Rattle.lh_image.proofs.reading.pages.read_pages.Goals as goal
 
 pub loop-page-init : goal.loop-page-init

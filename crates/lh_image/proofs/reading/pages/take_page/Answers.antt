@@ -1,5 +1,5 @@
 use Rattle.std.proofs.Common.{arith}
-use Rattle.lh_image.proofs.Reads.Steps.{come_more}
+use Rattle.lh_image.proofs.OfReading.Steps.{come_more}
 use Rattle.lh_image.proofs.reading.pages.take_page.Goals as goal
 
 pub returns-clause-come : goal.returns-clause-come

@@ -38,8 +38,8 @@ use Rattle.lh_image.proofs.Faults.FirstAnswers.{first_behind, none_first}
 use Rattle.lh_image.proofs.Judging.Finding.{find_same}
 use Rattle.lh_image.proofs.Looking.Steps.{so_none}
 use Rattle.lh_image.proofs.Paths.Totals.{sum_same}
-use Rattle.lh_image.proofs.Reads.FirstPage.{from_header, front, header-front, read_as, zeros-front}
-use Rattle.lh_image.proofs.Reads.Whole.{AnswersView, bytes_same, cut_is, exact_is, image_is}
+use Rattle.lh_image.proofs.OfReading.FirstPage.{from_header, front, header-front, read_as, zeros-front}
+use Rattle.lh_image.proofs.OfReading.Whole.{AnswersView, bytes_same, cut_is, exact_is, image_is}
 
 -- ---- what the first page shows
 

@@ -29,7 +29,7 @@ use Rattle.lh_image.specs.Table.{next_in, bucket_in, entry_at, no_entry}
 use Rattle.lh_image.specs.Version.{page_bytes, version_of}
 use Rattle.lh_image.specs.View.{View, buckets, bucket, next, page_count}
 use Rattle.lh_image.proofs.Faults.FirstAnswers.{first_behind}
-use Rattle.lh_image.proofs.Reads.FirstPage.{read_as}
+use Rattle.lh_image.proofs.OfReading.FirstPage.{read_as}
 use Rattle.lh_image.proofs.Images.ImageLaws.{is_view, some_pages, whole_rule}
 
 -- ---- fewer pages

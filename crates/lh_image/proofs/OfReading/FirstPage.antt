@@ -31,7 +31,7 @@ use Rattle.lh_image.proofs.Bytes.Header.{bytes_joined, cut}
 use Rattle.lh_image.proofs.Bytes.Versions.{least_page, no_magic-front, page_bytes-one, page_cut, version-front}
 use Rattle.lh_image.proofs.Bytes.Versions.{version_of-none}
 use Rattle.lh_image.proofs.Faults.FirstAnswers.{first_before}
-use Rattle.lh_image.proofs.Reads.Filled.{fills_whole}
+use Rattle.lh_image.proofs.OfReading.Filled.{fills_whole}
 
 -- ---- the fields are those of the first page
 
