@@ -154,6 +154,16 @@ impl<T: Table> Caller<T> {
             Step::Replace { record, length } => self.replace(rt, record, length),
         }
     }
+
+    /// Makes a call, and times it from the end of the one before.
+    #[inline]
+    fn take_timed<R: Wait + Clock>(&mut self, rt: &R, step: Step, laps: &mut Laps) {
+        self.take(rt, step);
+        match laps.next(rt) {
+            Ok(time) => self.tally.note_time(step.is_search(), time),
+            Err(_) => self.tally.note_wrong(),
+        }
+    }
 }
 
 /// Makes this many calls of a stream.
@@ -165,6 +175,23 @@ pub fn play<S: Stream, T: Table, R: Wait>(
 ) -> Caller<T> {
     for _ in 0..calls {
         caller.take(rt, stream.next());
+    }
+    caller
+}
+
+/// The same, each timed from the end of the one before.
+pub fn play_timed<S: Stream, T: Table, R: Wait + Clock>(
+    rt: &R,
+    mut caller: Caller<T>,
+    mut stream: S,
+    calls: u64,
+) -> Caller<T> {
+    let Ok(mut laps) = Laps::start(rt) else {
+        caller.tally.note_wrong();
+        return caller;
+    };
+    for _ in 0..calls {
+        caller.take_timed(rt, stream.next(), &mut laps);
     }
     caller
 }
@@ -184,12 +211,7 @@ pub fn play_to_end<S: Stream, T: Table, R: Wait + Clock>(
         if starter.is_over() {
             break;
         }
-        let step = stream.next();
-        caller.take(rt, step);
-        match laps.next(rt) {
-            Ok(time) => caller.tally.note_time(step.is_search(), time),
-            Err(_) => caller.tally.note_wrong(),
-        }
+        caller.take_timed(rt, stream.next(), &mut laps);
     }
     caller
 }

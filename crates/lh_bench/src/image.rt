@@ -1,19 +1,25 @@
-//! A file that is written as an image, read back and searched.
+//! A table that is written as images, one a file, read back and searched.
 ghost use Rattle.std.specs.Prelude.{IfOk};
 ghost use Rattle.lh_file.specs.FileState.{IsOf};
+ghost use Rattle.lh_shards.specs.Hands.{AreOf};
 
 use crate::caller::{Caller, play};
+use crate::listed::{Listed, list_file, list_shards};
 use crate::meter::{Spent, Stopwatch};
 use crate::on_file::OnFile;
+use crate::on_shards::OnShards;
 use crate::order::Order;
 use crate::report::Outcome;
 use crate::streams::Searches;
 use crate::table::Table;
-use crate::workloads::{empty_file, load};
+use crate::tally::Tally;
+use crate::workloads::{empty_file, empty_shards};
 use anyhow::Result;
 use lh_bucket::Listing;
 use lh_file::{Hand, HashFile, NoGate};
 use lh_image::{Version, read_image, write_image, write_image_v1};
+use lh_shards::{Hands, Shards};
+use std::alloc::Global;
 use std::fs;
 use std::io::{BufReader, BufWriter, Write};
 use std::os::unix::fs::MetadataExt;
@@ -21,9 +27,12 @@ use std::rt::{Clock, Files};
 use std::sync::Wait;
 use std::time::CpuClock;
 
-const PATH: &str = "lh_bench.lhf";
-
 const BUFFER: usize = 1 << 17;
+
+/// The path of the image of this file of a table.
+fn path_of(alloc: Global, file: u32) -> Result<String> {
+    Ok(format!(in alloc; "lh_bench.{file}.lhf")?)
+}
 
 /// Writes an image of a listing.
 pub fn write_listing<W: Write>(listing: &Listing, version: Version, writer: &mut W) -> Result<()> {
@@ -34,39 +43,126 @@ pub fn write_listing<W: Write>(listing: &Listing, version: Version, writer: &mut
     Ok(())
 }
 
-/// The same, to the file.
-fn write_to_file<R: Files + AllocGlobal>(
+/// Writes an image of each listing, and stops the watch. Answers what it tells, and whether the listings have all
+/// records.
+fn write_listed<R>(
     rt: &R,
-    listing: &Listing,
-    version: Version,
-) -> Result<()> {
-    let mut writer = BufWriter::with_capacity(rt.alloc(), BUFFER, fs::create(rt, PATH)?)?;
-    write_listing(listing, version, &mut writer)
+    order: &Order,
+    listed: &Listed,
+    watch: Stopwatch,
+) -> Result<(Spent, bool)>
+where
+    R: Files + Clock + CpuClock + AllocGlobal,
+{
+    for (listing, file) in listed.listings.iter().zip(0..order.files()) {
+        let path = path_of(rt.alloc(), file)?;
+        let mut writer = BufWriter::with_capacity(
+            rt.alloc(),
+            BUFFER,
+            fs::create(rt, path.as_str())?,
+        )?;
+        write_listing(listing, order.image, &mut writer)?;
+    }
+    Ok((watch.stop(rt)?, listed.has_all))
 }
 
-/// Inserts the records into an empty file, and writes a snapshot of it. Answers how long that took, and whether all
-/// were inserted.
-// The file is made, and it and the snapshot are let go, off the clock.
+/// Inserts the records into an empty table, and writes images of it. Answers how long that took, and whether all were
+/// inserted.
+// The table is made, and the listings are let go, off the clock; so is a file, but shards are closed on it.
 fn write<R>(rt: &R, order: &Order) -> Result<(Spent, bool)>
 where
     R: Wait + Files + Clock + CpuClock + AllocGlobal,
 {
-    let (file, hand) = empty_file(rt.alloc(), false)?;
-    let watch = Stopwatch::start(rt)?;
-    let mut caller = load(rt, OnFile::new(&file, hand), order, 1);
-    let listing = caller.table.snapshot(rt)?.into_known_listing();
-    write_to_file(rt, &listing, order.image)?;
-    let spent = watch.stop(rt)?;
-    Ok((spent, caller.tally.inserted == order.records))
+    match order.shards {
+        None => {
+            let (file, hand) = empty_file(rt.alloc(), false)?;
+            let watch = Stopwatch::start(rt)?;
+            let listed = list_file(rt, &file, hand, order)?;
+            write_listed(rt, order, &listed, watch)
+        }
+        Some(shards) => {
+            let (shards, hands) = empty_shards(rt.alloc(), shards)?;
+            let watch = Stopwatch::start(rt)?;
+            let listed = list_shards(rt, shards, hands, order)?;
+            write_listed(rt, order, &listed, watch)
+        }
+    }
+}
+
+/// The listing that the image of this file has.
+fn read_listing(rt: &(impl Files + AllocGlobal), file: u32) -> Result<Listing> {
+    let path = path_of(rt.alloc(), file)?;
+    let mut reader = BufReader::with_capacity(rt.alloc(), BUFFER, fs::open(rt, path.as_str())?)?;
+    Ok(read_image(rt.alloc(), &mut reader)?)
 }
 
 /// The file that was written.
-fn read(rt: &(impl Files + AllocGlobal)) -> Result<(HashFile<NoGate>, Hand)>
+fn read_file(rt: &(impl Files + AllocGlobal)) -> Result<(HashFile<NoGate>, Hand)>
     ensures { IfOk result (λ made. IsOf made.0.state made.1) }
 {
-    let mut reader = BufReader::with_capacity(rt.alloc(), BUFFER, fs::open(rt, PATH)?)?;
-    let listing = read_image(rt.alloc(), &mut reader)?;
+    let listing = read_listing(rt, 0)?;
     Ok(HashFile::open_from(rt.alloc(), &listing, false, NoGate)?)
+}
+
+/// The shards that were written.
+fn read_shards(rt: &(impl Files + AllocGlobal), shards: u32) -> Result<(Shards, Hands)>
+    ensures { IfOk result (λ made. AreOf made.0 made.1) }
+{
+    let mut listings = Vec::new(rt.alloc());
+    for shard in 0..shards {
+        listings.push(read_listing(rt, shard)?)?;
+    }
+    Ok(Shards::open_from(rt.alloc(), &listings, false)?)
+}
+
+/// Searches for each record, and stops the watch.
+fn search_all<T: Table, R: Wait + Clock + CpuClock>(
+    rt: &R,
+    table: T,
+    order: &Order,
+    watch: Stopwatch,
+) -> Result<(Spent, Tally)> {
+    let stream = Searches {
+        record: 0,
+        are_there: true,
+    };
+    let caller = play(rt, Caller::new(table, order), stream, order.records);
+    Ok((watch.stop(rt)?, caller.tally))
+}
+
+/// Reads the images, and searches. Answers how long that took, and the replies.
+fn read<R>(rt: &R, order: &Order) -> Result<(Spent, Tally)>
+where
+    R: Wait + Files + Clock + CpuClock + AllocGlobal,
+{
+    let watch = Stopwatch::start(rt)?;
+    match order.shards {
+        None => {
+            let (file, hand) = read_file(rt)?;
+            search_all(rt, OnFile::new(&file, hand), order, watch)
+        }
+        Some(shards) => {
+            let (shards, hands) = read_shards(rt, shards)?;
+            search_all(rt, OnShards::new(&shards, hands), order, watch)
+        }
+    }
+}
+
+/// The bytes that the images take on the disk.
+fn bytes_on_disk(rt: &(impl Files + AllocGlobal), order: &Order) -> Result<u64> {
+    let mut blocks = 0_u64;
+    for file in 0..order.files() {
+        let path = path_of(rt.alloc(), file)?;
+        blocks = blocks.saturating_add(fs::metadata(rt, path.as_str())?.blocks());
+    }
+    Ok(blocks.saturating_mul(512))
+}
+
+fn remove_images(rt: &(impl Files + AllocGlobal), order: &Order) -> Result<()> {
+    for file in 0..order.files() {
+        fs::remove_file(rt, path_of(rt.alloc(), file)?.as_str())?;
+    }
+    Ok(())
 }
 
 /// Writes, reads and searches.
@@ -75,22 +171,14 @@ where
     R: Wait + Files + Clock + CpuClock + AllocGlobal,
 {
     let (writing, is_written) = write(rt, order)?;
-    let blocks = fs::metadata(rt, PATH)?.blocks();
-    let watch = Stopwatch::start(rt)?;
-    let (file, hand) = read(rt)?;
-    let stream = Searches {
-        record: 0,
-        are_there: true,
-    };
-    let caller = Caller::new(OnFile::new(&file, hand), order);
-    let caller = play(rt, caller, stream, order.records);
-    let reading = watch.stop(rt)?;
-    fs::remove_file(rt, PATH)?;
-    let is_due = is_written && caller.tally.found == order.records;
+    let file_bytes = bytes_on_disk(rt, order)?;
+    let (reading, tally) = read(rt, order)?;
+    remove_images(rt, order)?;
+    let is_due = is_written && tally.found == order.records;
     Ok(Outcome {
         write: writing.wall,
         read: reading.wall,
-        file_bytes: blocks.saturating_mul(512),
-        ..Outcome::new(order.calls(), writing.with(reading), caller.tally, is_due)
+        file_bytes,
+        ..Outcome::new(order.calls(), writing.with(reading), tally, is_due)
     })
 }

@@ -9,11 +9,10 @@ use crate::order::{Order, Workload};
 use crate::replacing::replaces;
 use crate::report::Outcome;
 use crate::table::Table;
-use crate::workloads::{empty_file, inserts, searches, settings, shared};
+use crate::workloads::{empty_file, empty_shards, inserts, searches, settings, shared};
 use anyhow::Result;
 use lh_bucket::Listing;
 use lh_file::{FileBrand, NoGate, Opening};
-use lh_shards::Shards;
 use std::marker::Brand;
 use std::rt::{Clock, Files};
 use std::sync::Wait;
@@ -56,7 +55,7 @@ where
     R: Threads + Wait + Sync + Clock + CpuClock + Files + AllocGlobal,
 {
     let before = resident_bytes(rt);
-    let (shards, hands) = Shards::create(rt.alloc(), settings()?, shards, false)?;
+    let (shards, hands) = empty_shards(rt.alloc(), shards)?;
     run_on(rt, OnShards::new(&shards, hands), order, before)
 }
 

@@ -166,9 +166,10 @@ impl Workload {
         )
     }
 
-    /// Whether it may run on several files as one: it does where no image is written and nobody looks at all records.
+    /// Whether it may run on several files as one: it does where nobody looks at all records while others call, since
+    /// shards have neither snapshots nor scans.
     pub fn may_shard(self) -> bool {
-        self.may_trace() && !self.times_calls()
+        !self.has_looks() && !matches!(self, Workload::Steps | Workload::Settling | Workload::All)
     }
 }
 
@@ -187,6 +188,8 @@ pub struct Order {
     pub lends: bool,
     /// The version of the image, where one is written.
     pub image: Version,
+    /// Whether each insert is timed, so that the longest is told.
+    pub longest: bool,
 }
 
 /// How many calls a workload times at least.
@@ -219,12 +222,27 @@ impl Order {
         }
     }
 
-    /// Whether it can be run so.
-    pub fn is_possible(&self) -> bool {
-        let may_share = self.threads == 1 || self.workload.is_shared();
-        let may_trace = !self.traced || self.may_trace();
-        let may_shard = self.shards.is_none() || self.workload.may_shard();
-        may_share && may_trace && may_shard
+    /// How many files its table has.
+    pub fn files(&self) -> u32 {
+        self.shards.unwrap_or(1)
+    }
+
+    /// Why it can't be run so, where it can't.
+    pub fn refusal(&self) -> Option<&'static str> {
+        let is_sharded = self.shards.is_some();
+        if self.threads != 1 && !self.workload.is_shared() {
+            Some("it runs in one thread")
+        } else if self.traced && !self.may_trace() {
+            Some("its files are untraced")
+        } else if is_sharded && self.workload.has_looks() {
+            Some("shards have neither snapshots nor scans")
+        } else if is_sharded && !self.workload.may_shard() {
+            Some("it has one file")
+        } else if self.longest && self.workload != Workload::Inserts {
+            Some("W1 alone tells its longest insert")
+        } else {
+            None
+        }
     }
 
     /// Whether it can be run on a traced file.
@@ -295,12 +313,18 @@ fn command<'a>(alloc: Global) -> Result<Command<'a>, Error> {
         .long("lent")
         .help("Make the calls without an answer, which lend values")
         .action(ArgAction::SetTrue);
+    let longest = Arg::new(alloc, "longest")
+        .long("longest")
+        .help("Time each insert of W1 by the clock, and tell the longest")
+        .action(ArgAction::SetTrue);
     let threads = ValueParser::Unsigned(1, 64);
     let records = ValueParser::Unsigned(1, 1_000_000_000);
     let seed = ValueParser::Unsigned(0, u64::MAX);
     let shards = Arg::new(alloc, "shards")
         .long("shards")
-        .help("Run on this many files as one, and not on a file")
+        .help(
+            "Run on this many files as one, and not on a file; not W11 and W12: shards have neither snapshots nor scans",
+        )
         .action(ArgAction::Set)
         .value_parser(ValueParser::Unsigned(1, MOST_SHARDS as u64));
     let image = ValueParser::Unsigned(1, 2);
@@ -321,6 +345,7 @@ fn command<'a>(alloc: Global) -> Result<Command<'a>, Error> {
             .arg(shards)?
             .arg(traced)?
             .arg(lent)?
+            .arg(longest)?
             .arg(counts)?,
     )
 }
@@ -338,6 +363,7 @@ fn order_of(matches: &ArgMatches<'_>) -> Order {
             Some(1_u64) => Version::One,
             _ => Version::Two,
         },
+        longest: matches.get_flag("longest"),
     }
 }
 

@@ -105,6 +105,7 @@ impl Outcome {
         }
         match form {
             Form::Line if times_calls => self.print_lengths(rt)?,
+            Form::Line if order.longest => self.print_lengths_of_writes(rt)?,
             Form::Line if order.workload == Workload::LookUps => self.print_look_ups(rt)?,
             _ => {}
         }
@@ -141,8 +142,12 @@ impl Outcome {
     }
 
     fn print_lengths(&self, rt: &impl Print) -> io::Result<()> {
-        print_lengths_of(rt, "write", "writes", &self.tally.writes)?;
+        self.print_lengths_of_writes(rt)?;
         print_lengths_of(rt, "search", "searches", &self.tally.searches)
+    }
+
+    fn print_lengths_of_writes(&self, rt: &impl Print) -> io::Result<()> {
+        print_lengths_of(rt, "write", "writes", &self.tally.writes)
     }
 
     fn print_look_ups(&self, rt: &impl Print) -> io::Result<()> {
@@ -196,7 +201,7 @@ fn print_lengths_of(
     print!(rt; ",\"longest_{one}_ns\":{longest},\"{several}_by_length\":{lengths}")
 }
 
-/// The line of a workload that can't be run so.
-pub fn unsupported(rt: &impl Print) -> io::Result<()> {
-    println!(rt; "{{\"check\":\"unsupported\"}}")
+/// The line of a workload that can't be run so, and why it can't.
+pub fn unsupported(rt: &impl Print, why: &str) -> io::Result<()> {
+    println!(rt; "{{\"check\":\"unsupported\",\"why\":\"{why}\"}}")
 }

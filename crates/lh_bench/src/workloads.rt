@@ -1,8 +1,9 @@
 //! The workloads on a table in memory, which is empty at first.
 ghost use Rattle.std.specs.Prelude.{IfOk};
 ghost use Rattle.lh_file.specs.FileState.{IsOf};
+ghost use Rattle.lh_shards.specs.Hands.{AreOf};
 
-use crate::caller::{Caller, play};
+use crate::caller::{Caller, play, play_timed};
 use crate::crew::{Shift, play_in_threads};
 use crate::looks::sees_all;
 use crate::meter::{Stopwatch, resident_bytes};
@@ -15,6 +16,7 @@ use crate::tally::Tally;
 use anyhow::{Result, bail};
 use lh_addr::Config;
 use lh_file::{Hand, HashFile, NoGate};
+use lh_shards::{Hands, Shards};
 use std::alloc::Global;
 use std::rt::{Clock, Files};
 use std::sync::Wait;
@@ -36,11 +38,28 @@ pub fn empty_file(alloc: Global, recording: bool) -> Result<(HashFile<NoGate>, H
     Ok(HashFile::create(alloc, settings()?, recording, NoGate)?)
 }
 
+/// This many empty files with these settings, as one table.
+pub fn empty_shards(alloc: Global, shards: u32) -> Result<(Shards, Hands)>
+    ensures { IfOk result (λ made. AreOf made.0 made.1) }
+{
+    Ok(Shards::create(alloc, settings()?, shards, false)?)
+}
+
 /// The inserts of each `stride`th record.
 pub fn load<T: Table, R: Wait>(rt: &R, table: T, order: &Order, stride: u64) -> Caller<T> {
     let stream = Inserts { record: 0, stride };
     let caller = Caller::new(table, order);
     play(rt, caller, stream, order.records)
+}
+
+/// The inserts of all records, each timed.
+fn load_timed<T: Table, R: Wait + Clock>(rt: &R, table: T, order: &Order) -> Caller<T> {
+    let stream = Inserts {
+        record: 0,
+        stride: 1,
+    };
+    let caller = Caller::new(table, order);
+    play_timed(rt, caller, stream, order.records)
 }
 
 /// Inserts. The process had this many bytes of memory before the table was made.
@@ -49,7 +68,11 @@ where
     R: Wait + Clock + CpuClock + Files + AllocGlobal,
 {
     let watch = Stopwatch::start(rt)?;
-    let mut caller = load(rt, table, order, 1);
+    let mut caller = if order.longest {
+        load_timed(rt, table, order)
+    } else {
+        load(rt, table, order, 1)
+    };
     let spent = watch.stop(rt)?;
     let tally = caller.tally;
     let is_due = tally.inserted == order.records;
