@@ -39,9 +39,11 @@ looked_same h =
       recording = refl;
     }
 
+-- a hand that is as it was knows no less
 pub looked_equal : (a b : HandState) → b ≡ a → KnowsMore a b
 looked_equal a b e = subst (KnowsMore a) (sym e) (looked_same a)
 
+-- nor does one that has more room, and else is as it was
 pub looked_room : (a b : HandState) → IsSame a b → KnowsMore a b
 looked_room a b same =
     record {
@@ -55,6 +57,7 @@ looked_room a b same =
       recording = same.recording;
     }
 
+-- nor one that has only seen more buckets
 pub looked_knowing : (h : HandState) (n : ℕ) → h.view.known ≤ n → KnowsMore h (knowing h n)
 looked_knowing h n rises =
     record {
@@ -122,6 +125,7 @@ looked_then_acted a b c call reply enough looked (stamp, act) = record {
   recording = act.recording ∙ looked.recording;
 }
 
+-- a hand that made an act has made the call
 pub acted_served : (a c : HandState) (call : Call) (reply : Reply) → 1 ≤ a.view.left → Acted a call reply c →
     HasServed a call reply c
 acted_served a c call reply enough acted = looked_then_acted a a c call reply enough (looked_same a) acted
@@ -247,6 +251,7 @@ fault_in f (Err g) = g
 
 -- a call that was made and then given another result for the same reply
 module _ {T U : Type 0} where
+  -- what a call promises, said of a result that stands for the same reply
   pub made_as : (file : FileState) (old new : HandState) (call : Call) (reply_in : T → Reply) (other : U → Reply)
       (t : T) (u : U) → reply_in t ≡ other u →
       Makes file old call (Ok t) reply_in new → Makes file old call (Ok u) other new
@@ -261,6 +266,7 @@ module _ {T U : Type 0} where
     of = made.of;
   }
 
+  -- and of a fault, which stands for none
   pub failed_as : (file : FileState) (old new : HandState) (call : Call) (reply_in : T → Reply) (other : U → Reply)
       (f : FileFault) →
       Makes file old call (Err f) reply_in new → Makes file old call (Err f) other new
@@ -285,6 +291,7 @@ looked_then_entered outside a b c call reply looked (stamp, above, entered, draw
   drawn ∙ ap (λ (v : View). v.stamps ++ stamp ∷ []) looked.view,
 )
 
+-- an act that was entered stays so when the hand sees more buckets
 pub entered_then_looked : (outside : Bool) (a b c : HandState) (call : Call) (reply : Reply) →
     HasEntered outside a call reply b → KnowsMore b c → HasEntered outside a call reply c
 entered_then_looked outside a b c call reply (stamp, above, entered, drawn) looked =

@@ -154,6 +154,7 @@ plain m (e ∷ log) none legal =
     )
 
 module _ {A : Type 0} where
+  -- lists of one length with the same rows are the same
   pub same_rows : (xs ys : List A) → length xs ≡ length ys →
       ((i : ℕ) (a : A) → get_elem? xs i ≡ some a → get_elem? ys i ≡ some a) → xs ≡ ys
   same_rows [] [] len h = refl
@@ -164,6 +165,7 @@ module _ {A : Type 0} where
       let r = same_rows xs ys (omega arith) (λ i a at. h (suc i) a at) in
       λ i. sym e i ∷ r i
 
+  -- a row read by its place, and with a default
   pub read_at : (l : List A) (i : ℕ) (a d : A) → get_elem? l i ≡ some a → get_or l i d ≡ a
   read_at [] i a d e = absurd (some-ne-none a (sym e))
   read_at (x ∷ l) zero a d e = some-injective x a e
@@ -177,6 +179,7 @@ module _ {A : Type 0} where
   some_at (x ∷ l) zero below = (x, refl)
   some_at (x ∷ l) (suc i) below = some_at l i (omega arith)
 
+-- the stamp of a row of a history
 pub stamp_read : (history : List ActLine) (i d : ℕ) (z : ActLine) → i < length history →
     get_or (stamps_of history) i d ≡ (get_or history i z).stamp
 stamp_read history i d z below =
@@ -339,6 +342,7 @@ kept_lines traced file last h is false off full d e same =
     nil_of [] n = refl
     nil_of (x ∷ es) n = absurd (omega arith)
 
+-- what was gathered, by other names for the same
 pub gathered_as : (p q : List Seen) (l m : List (List Pair)) (w v : ℕ) (a b : Bool) → p ≡ q → l ≡ m → w ≡ v → a ≡ b →
     AreGathered p l w a → AreGathered q m v b
 gathered_as p q l m w v a b ps ls ws cs o =
@@ -349,10 +353,12 @@ gathered_as p q l m w v a b ps ls ws cs o =
 no_list : (i : ℕ) → list_at [] i ≡ []
 no_list i = index_past [] [] i (omega arith)
 
+-- no key stands twice where there is none
 pub no_key : IsDistinct bytes_eq (keys_of [])
 unfolding IsDistinct
 no_key = tt
 
+-- nothing is gathered yet
 pub none_gathered : AreGathered [] [] 0 true
 none_gathered = record {
   within = omega arith;

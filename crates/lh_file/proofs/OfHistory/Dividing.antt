@@ -18,6 +18,7 @@ use Rattle.lh_file.proofs.OfHistory.Logs.{stamps_in-append}
 use Rattle.lh_file.proofs.OfHistory.Rows.{each_set, each_snoc, each_none, each_append, total-cut, total-glue, was_there}
 use Rattle.lh_file.proofs.OfWords.Lists.{total-append}
 
+-- owners of a code in two lists
 pub owners_in-append : (c : ℕ) (l m : List Seen) → owners_in c (l ++ m) ≡ owners_in c l + owners_in c m
 owners_in-append c l m = total-append (λ p. bit (owns c p)) l m
 

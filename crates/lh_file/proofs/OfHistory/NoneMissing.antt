@@ -24,6 +24,7 @@ module _ {X : Type 0} (g : X → ℕ) where
   tail : (x : X) (xs : List X) → IsNonDecreasingBy g (x ∷ xs) → IsNonDecreasingBy g xs
   tail x xs h i j d upto below = h (suc i) (suc j) d (omega arith) (omega arith)
 
+  -- how often a number stands in a list, by what the list is made of
   pub times-map : (x : ℕ) (xs : List X) → times x (map g xs) ≡ sum_by (λ y. cond (nat_eq x (g y)) 1 0) xs
   times-map x [] = refl
   times-map x (y ∷ ys) =
@@ -102,6 +103,7 @@ all_drawn acts history q order once =
     rising_once (λ (a : ActLine). a.stamp) history 0 q order.rising
     (λ x. omega (arith, counted x, once-no x 0 (omega arith), ap (once_below x) (let e : 0 + q ≡ q = omega arith in e)))
 
+-- where the stamps drawn are as many as the acts kept, none is missing
 pub none_missing_law : NoneMissingLaw
 none_missing_law hand closed stamp recording all lost missing =
     missing.differ.here

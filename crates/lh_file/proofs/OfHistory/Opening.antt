@@ -60,6 +60,7 @@ alike f g a (suc n) h =
       alike f g (a + 1) n (λ i b. h i (omega arith)),
     )
 
+-- a sum over a list that is made of another
 pub total-map : {A B : Type 0} (g : B → ℕ) (f : A → B) (l : List A) → total g (map f l) ≡ total (λ a. g (f a)) l
 total-map g f [] = refl
 total-map g f (x ∷ xs) = omega (arith, total-cons g (f x) (map f xs), total-cons (λ a. g (f a)) x xs, total-map g f xs)
@@ -153,6 +154,7 @@ counts_cut c [] = refl
 counts_cut c (p ∷ ps) =
     omega (arith, total-cons (λ (b : Seen). bit (owns c b)) p ps, total-cons (λ (b : Seen). bit (owns c b)) p [])
 
+-- a seat deals out its first bucket: the table stays one of the file
 pub deals : (traced : Bool) (k : Lists) (id : ℕ) (d : SeatView) →
     Splits (IsFileTable traced k) id d (dealt_seat d) (dealt_bucket_seat d)
 deals traced k id d s o me = record {
@@ -175,6 +177,7 @@ none_from : (k : Lists) (n : ℕ) → size k ≤ n → buckets_from k n ≡ []
 none_from k n past = let e : size k - n ≡ 0 = omega arith in ap (λ m. map (opened_at k) (range_with_len n m)) e
 
 module _ (k : Lists) where
+  -- the bucket that is dealt next, and the seat that has the others
   pub next_dealt : (n : ℕ) → n < size k → (traced : Bool) → traced ≡ true →
       (dealt_bucket_seat (undealt traced k n)).parts ≡ opened_at k n ∷ []
   next_dealt n below true on = ap first_bucket_of (next_of k n below)
@@ -191,6 +194,7 @@ module _ (k : Lists) where
   undealt-off m n false off = refl
   undealt-off m n true off = absurd (false≢true (sym off))
 
+  -- past the last bucket nothing is left to deal
   pub undealt-past : (m n : ℕ) (traced : Bool) → size k ≤ m → size k ≤ n → undealt traced k m ≡ undealt traced k n
   undealt-past m n false low high = refl
   undealt-past m n true low high =
@@ -200,6 +204,7 @@ module _ (k : Lists) where
   undealt-all n false past = refl
   undealt-all n true past = ap (λ ps. record (first_seat true k) { parts = ps }) (none_from k n past)
 
+  -- before the first bucket all are
   pub undealt-none : (traced : Bool) → undealt traced k 0 ≡ first_seat traced k
   undealt-none true =
       let e : size k - 0 ≡ size k = omega arith in
@@ -227,6 +232,7 @@ begins_low initial (suc j) =
     let f : initial * 2 ^ (j + 1) ≡ initial * 2 ^ suc j = ap (λ n. initial * n) e in
     omega arith
 
+-- a segment has had its buckets dealt
 pub segment_dealt : (k : Lists) (traced : Bool) (j first end n : ℕ) → size k ≤ k.config.max →
     first ≡ start_of k.config.initial j → end ≡ end_of k.config.initial k.config.max j → end ≤ n →
     (n ≤ end) ⊎ (n ≡ first)

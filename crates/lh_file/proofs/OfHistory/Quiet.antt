@@ -51,6 +51,7 @@ module _ (k : Lists) (old new : FileWords) (seats : List SeatView) (id : ℕ) (d
             each_set (λ (u : SeatView). moves_in u ≤ rights_of u.view) seats id e o.movers (rights (o.movers id d me));
       }
 
+  -- a step that draws no stamp and moves no pointer leaves the history as it is
   pub quiet : (w : View) → buckets_of new.root ≡ buckets_of old.root → w.stamps ≡ d.view.stamps →
       (moves_in d ≤ rights_of d.view → moves_in d ≤ rights_of w)
       → History k old seats → History k new (set seats id (with_view d w))

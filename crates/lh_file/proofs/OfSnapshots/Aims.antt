@@ -16,6 +16,7 @@ use Rattle.lh_file.proofs.OfWords.Lists.{total-cons, total-append, once-yes, onc
 abbrev pub at_level : ℕ → ℕ → Aim
 at_level level bucket = record { level = level; bucket = bucket }
 
+-- one aim more: how often a code is aimed at, and the room that is left
 pub aimed-snoc : (initial code : ℕ) (aims : List Aim) (aim : Aim) →
     aimed initial code (aims ++ aim ∷ []) ≡ aimed initial code aims + bit (leads initial code aim)
 aimed-snoc initial code aims aim =
@@ -44,6 +45,7 @@ next_first initial code n aims h =
     let same : times x (n ∷ []) ≡ 0 + bit (leads initial code (at_level 0 n)) = refl in
     omega (arith, aimed-snoc initial code aims (at_level 0 n), once-more x n, h, same)
 
+-- a code is aimed at once, at the level of the beginning
 pub all_first : (initial code n : ℕ) → 1 ≤ initial → initial ≤ n → once_below (hash_at initial 0 code) n ≡ 1
 all_first initial code n pos past =
     let size : 0 < initial * 2 ^ 0 = omega arith in

@@ -20,6 +20,7 @@ module _ {V : Type 0} (f : V → Seen) (vs : List V) (n : ℕ) (v : V) (below : 
       let within : n < length (map f vs) = omega (arith, length-map vs f) in
       get_or_default (map f vs) n d (f v) within ∙ get_or-map f vs n v ∙ ap f (sym is)
 
+  -- the next row of a list
   pub row_taken : take n (map f vs) ++ f v ∷ [] ≡ take (n + 1) (map f vs)
   row_taken =
       let within : n < length (map f vs) = omega (arith, length-map vs f) in
@@ -30,6 +31,7 @@ module _ {V : Type 0} (f : V → Seen) (vs : List V) (n : ℕ) (v : V) (below : 
       let within : n < length (map f vs) = omega (arith, length-map vs f) in
       drop_more (map f vs) n (f v) within ∙ ap (λ (b : Seen). b ∷ drop (n + 1) (map f vs)) (row_at (f v))
 
+-- a row read by its place
 pub read_elem : {A : Type 0} (l : List A) (i : ℕ) (a d : A) → get_elem? l i ≡ some a → get_or l i d ≡ a
 read_elem [] i a d e = absurd (some-ne-none a (sym e))
 read_elem (x ∷ l) zero a d e = some-injective x a e
@@ -49,6 +51,7 @@ abbrev pub AreBucketsTo : Settings → ℕ → List Seen → ℕ → Type 0
 AreBucketsTo config size buckets n =
     (place : ℕ) (bucket : Seen) → place < n → get_elem? buckets place ≡ some bucket → IsInPlace config size place bucket
 
+-- buckets in their places: none yet, one more, and all
 pub no_row : (config : Settings) (size : ℕ) (buckets : List Seen) → AreBucketsTo config size buckets 0
 no_row config size buckets place bucket below at = absurd (omega (arith, below))
 
@@ -76,5 +79,6 @@ each_end P l i a below is all = all i a (there l i a below is)
     there (x ∷ l) zero a below is = ap some (sym is)
     there (x ∷ l) (suc i) a below is = there l i a (omega (arith, below)) is
 
+-- what holds of each row holds of the first ones
 pub each_front : {A : Type 0} (P : A → Type 0) (l m : List A) → Each (l ++ m) P → Each l P
 each_front P l m all i a at = all i a (at_longer l m i a at)

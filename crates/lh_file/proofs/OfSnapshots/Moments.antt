@@ -57,6 +57,7 @@ module _ (law : AddressLaw) (keys : KeyLaw) (filled : FilledLaw) (config : Setti
         level_is = ap (λ (h : Head). h.level) head ∙ ap (λ n. (head_in config (length row) n).level) (sym number);
       }
 
+  -- no key of a held bucket stands twice
   pub row_distinct : (b : ℕ) → IsDistinct bytes_eq (keys_of (list_at (lists_of row) b))
   row_distinct b = ⊎_elim
       (λ (below : b < length row).
@@ -99,6 +100,7 @@ module _ (law : AddressLaw) (keys : KeyLaw) (filled : FilledLaw) (config : Setti
 
   module _ (closed : ClosedFile) (same : closed.config ≡ config) (size : buckets_of closed.root ≡ length row)
       (lists : closed.lists ≡ lists_of row) where
+    -- no split is under way
     pub row_whole : closed.root % 2 ≡ 0 → IsWhole closed
     row_whole even = record {
       even = even;
@@ -134,6 +136,7 @@ surveyed_as k l m n es fs ss ts ps qs log a o b s c is =
     (subst (λ x. IsSurveyed l n x ss ps log) b
     (subst (λ x. IsSurveyed l x es ss ps log) o (subst (λ x. IsSurveyed x m es ss ps log) a is))))
 
+-- of an answer, where there is one
 pub ok_map : {X E : Type 0} (r : Result X E) (P Q : X → Type 0) → IfOk r P → ((x : X) → P x → Q x) → IfOk r Q
 ok_map (Ok x) P Q is f = f x is
 ok_map (Err e) P Q is f = tt

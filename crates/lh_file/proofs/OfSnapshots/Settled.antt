@@ -176,6 +176,7 @@ fewer n acts before whole part all =
         ))
         (cases_lt a.stamp n)
 
+-- the acts before a snapshot
 pub before_law : BeforeLaw
 before_law snapshot closed acts before history part all =
     let few : snapshot.stamps ≤ closed.stamps =
@@ -193,6 +194,7 @@ begun_at [] rest k e at = absurd (some-ne-none e (sym at))
 begun_at (x ∷ log) rest zero e at = at
 begun_at (x ∷ log) rest (suc k) e at = begun_at log rest k e at
 
+-- they are settled by it
 pub snapshot_law : HistoryLaw → OrderLaw → SnapshotLaw
 snapshot_law history_law order_of opening snapshot closed entries logs log hand acts history even
     ((size, legal, stand, begin), held) kept (whole, ((long, lawful, all, begun), placed), settles) full none settled =

@@ -124,6 +124,7 @@ module _ (initial max : ℕ) where
   }
 
 module _ (traced : Bool) (k : Lists) where
+  -- the rule allows to load a count,
   pub loads_inserts : (slots id : ℕ) (m : Seated) → 0 < m.0.view.initial →
       Allows (IsFileTable traced k) slots id m INSERTS (λ n. n) (loaded_inserts (step slots INSERTS 0 0 none) m)
   loads_inserts slots id m live s o _ me _ =
@@ -207,6 +208,7 @@ module _ (traced : Bool) (k : Lists) where
         f,
       )
 
+  -- to draw a stamp outside the history,
   pub lends_stamp : (slots id : ℕ) (m : Seated) (call : Call) (given : Reply) → 0 < m.0.view.initial → 0 < m.0.view.left
       → Allows (IsFileTable traced k) slots id m STAMPS (λ n. (n + 1) % 2 ^ 64)
       (lent_out call given (step slots STAMPS 1 0 none) m)
@@ -222,6 +224,7 @@ module _ (traced : Bool) (k : Lists) where
         (drawn.1, drawn.3, refl),
       )
 
+  -- to draw one for an act of the history,
   pub draws_stamp : (slots id : ℕ) (m : Seated) (p r : Seen) (call : Call) (given : Reply) → m.0.parts ≡ p ∷ [] →
       owns (code_of (key_of call)) p ≡ true → HasServedCall p call given r → 0 < m.0.view.initial → 0 < m.0.view.left
       → Allows (IsFileTable traced k) slots id m STAMPS (λ n. (n + 1) % 2 ^ 64)
@@ -277,6 +280,7 @@ module _ (traced : Bool) (k : Lists) where
         (rule.floors id v there, found.0, refl, found.2),
       )
 
+  -- and to count an act that has its stamp
   pub counts_insert : (slots id : ℕ) (m : Seated) → 0 < m.0.view.initial →
       m.0.view.inserted + m.0.view.deleted < length m.0.view.stamps
       → Allows (IsFileTable traced k) slots id m INSERTS (λ n. (n + 1) % 2 ^ 64)

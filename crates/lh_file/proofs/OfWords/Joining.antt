@@ -8,6 +8,7 @@ use Rattle.lh_file.specs.Words.Views.{joined_views}
 use Rattle.lh_file.specs.declared.words.seat_view.Entry.{Entry}
 use Rattle.lh_file.specs.declared.words.view.View.{View}
 
+-- as it was, twice
 pub same_then : (a b c : HandState) → IsSame a b → IsSame b c → IsSame a c
 same_then a b c one two = record {
   table = two.table ∙ one.table;
