@@ -6,8 +6,8 @@
 //! ```
 //!
 //! With `--shards 16` the table is 16 files as one, and the line says so; W11 and W12 are refused then, since shards have
-//! neither snapshots nor scans. With `--traced` the file is traced, and the line says so. `--workload all` runs on both
-//! kinds then. With `--lent` the calls are those without an answer, and a value is compared where it is lent. With
+//! neither snapshots nor scans. With `--traced` the file is traced, and the line says so. `--workload all` runs on a file
+//! first, and then on what of both is asked for. With `--lent` the calls are those without an answer, and a value is compared where it is lent. With
 //! `--image 1` the image of W5 and W10 is one of version 1, which has room for its records too. With `--longest` each
 //! insert of W1 is timed, and the line tells the longest.
 #![tactic(auto)]
@@ -101,21 +101,31 @@ where
     Ok(())
 }
 
-/// Runs one workload on an untraced file, and then on a traced one where that is asked for too.
+/// Runs one workload on an untraced file, and then on a traced one and on shards, where they are asked for and it may
+/// run on them.
 fn run_on_each<R>(rt: &R, order: &Order, form: Form) -> Result<()>
 where
     R: Runtime + AllocGlobal + CpuClock + Threads + Wait + Sync,
 {
-    run_one(
-        rt,
-        &Order {
-            traced: false,
-            ..*order
-        },
-        form,
-    )?;
-    if order.traced && order.may_trace() {
-        run_one(rt, order, form)?;
+    let plain = Order {
+        traced: false,
+        shards: None,
+        ..*order
+    };
+    run_one(rt, &plain, form)?;
+    if order.traced && order.workload.may_trace() {
+        let traced = Order {
+            traced: true,
+            ..plain
+        };
+        run_one(rt, &traced, form)?;
+    }
+    if order.shards.is_some() && order.workload.may_shard() {
+        let sharded = Order {
+            shards: order.shards,
+            ..plain
+        };
+        run_one(rt, &sharded, form)?;
     }
     Ok(())
 }
