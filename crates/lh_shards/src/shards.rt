@@ -68,6 +68,7 @@ impl Shards {
     }
 
     /// The number of shards.
+    #[inline]
     pub fn count(&self) -> u32
         ensures value { result ≡ length self.now }
         ensures range { IsCount result }
@@ -76,6 +77,7 @@ impl Shards {
     }
 
     /// The shard of a key with this code.
+    #[inline]
     pub fn shard_of(&self, code: u64) -> u32
         ensures value { result ≡ shard_of_code code (length self.now) }
         ensures within { result < length self.now }

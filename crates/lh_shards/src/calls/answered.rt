@@ -14,7 +14,7 @@ use std::sync::Wait;
 
 impl Shards {
     /// Searches for a key: the answer's reply is the value, or that the key is absent.
-    #[inline]
+    #[inline(always)]
     pub fn search<K: Coded + Copy, R: Wait>(
         &self,
         rt: &R,
@@ -33,7 +33,7 @@ impl Shards {
 
     /// Inserts a record, unless the key is there. Where the record is new and the load of the key's file asks for a
     /// split, the call asks once for that file's right to split, and splits a bucket of it if it gets it.
-    #[inline]
+    #[inline(always)]
     pub fn insert<K: Coded + Copy, R: Wait>(
         &self,
         rt: &R,
@@ -52,7 +52,7 @@ impl Shards {
     }
 
     /// Deletes a record: the answer's reply is whether the key was there.
-    #[inline]
+    #[inline(always)]
     pub fn delete<K: Coded + Copy, R: Wait>(
         &self,
         rt: &R,
@@ -70,7 +70,7 @@ impl Shards {
     }
 
     /// Gives a key this value in place of its own: the answer's reply is whether the key was there.
-    #[inline]
+    #[inline(always)]
     pub fn replace<K: Coded + Copy, R: Wait>(
         &self,
         rt: &R,

@@ -19,7 +19,7 @@ use std::sync::Wait;
 
 impl Shards {
     /// The value under a key.
-    #[inline]
+    #[inline(always)]
     pub fn get<K: Coded, R: Wait>(
         &self,
         rt: &R,
@@ -38,7 +38,7 @@ impl Shards {
 
     /// Copies the value under a key over another one: whether the key is there. Where it isn't, and after a fault, that
     /// one is as it was.
-    #[inline]
+    #[inline(always)]
     pub fn read_into<K: Coded, R: Wait>(
         &self,
         rt: &R,
@@ -84,7 +84,7 @@ impl Shards {
 
     /// Adds a record, unless its key is there: whether it was added. A value that is there stays. Where the load of the
     /// key's file asks for it, a bucket of that file is split, while other files may split theirs.
-    #[inline]
+    #[inline(always)]
     pub fn put<K: Coded, R: Wait>(
         &self,
         rt: &R,
@@ -103,7 +103,7 @@ impl Shards {
     }
 
     /// Gives a key this value in place of its own: whether the key is there. The value itself takes no memory.
-    #[inline]
+    #[inline(always)]
     pub fn set<K: Coded, R: Wait>(
         &self,
         rt: &R,
@@ -122,7 +122,7 @@ impl Shards {
     }
 
     /// Deletes the record of a key: whether the key was there.
-    #[inline]
+    #[inline(always)]
     pub fn remove<K: Coded, R: Wait>(
         &self,
         rt: &R,
