@@ -8,12 +8,13 @@ ghost use Rattle.lh_script.specs.Steps.{step};
 ghost use Rattle.lh_script.specs.Texts.{commands_text};
 ghost use Rattle.lh_subcommands.specs.Run.{Ends, EndsSteps, HaveEntries, ReadsScript, commands_due, is_want};
 
-use crate::device::{ReadError, WriteFailed, read_up_to};
+use crate::device::{ReadError, read_up_to};
 use crate::output::{room, write_entries, write_replies};
 use crate::status::{DeviceFault, InputFault, Status};
 use lh_addr::Config;
 use lh_bucket::{Call, PagedBucket};
 use lh_core::{Effect, Event, Refusal, SerialRan, run, serial};
+use lh_image::WriteFailed;
 use lh_script::{MOST_BYTES, ParseError, Statement, parse};
 use std::alloc::Global;
 use std::io::{Read, Write};

@@ -11,7 +11,7 @@ ghost use Rattle.lh_draw.specs.DrawingTexts.{bar_text};
 ghost use Rattle.lh_subcommands.specs.Images.{draw_due};
 ghost use Rattle.lh_subcommands.specs.Run.{Ends};
 
-use crate::device::{WriteFailed, write_all};
+use crate::device::write_all;
 use crate::images::unreadable;
 use crate::output::{put, room};
 use crate::status::{DeviceFault, Status};
@@ -21,7 +21,7 @@ use lh_draw::{
     is_detailed, label_count, label_of, legend_of, mark_of, more_of, page_bar, title_of,
     whole_tally,
 };
-use lh_image::read_image;
+use lh_image::{WriteFailed, read_image};
 use std::alloc::Global;
 use std::io::{Read, Write};
 

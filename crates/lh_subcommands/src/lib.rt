@@ -24,9 +24,10 @@ mod unsettled;
 
 pub use answer::{answer_commands, answer_steps, read_script};
 pub use continued::{answer_apply, answer_query};
-pub use device::{WriteFailed, write_all};
+pub use device::write_all;
 pub use draw::answer_draw;
 pub use images::{answer_build, answer_check, answer_dump, answer_migrate};
+pub use lh_image::WriteFailed;
 pub use replay::answer_replay;
 pub use serve::{answer_serve, answer_serve_from};
 pub use status::{DeviceFault, InputFault, Status};
