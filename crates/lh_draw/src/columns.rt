@@ -67,7 +67,7 @@ pub fn canvas_of(listing: &Listing, longest: usize) -> Canvas
     let buckets = listing.buckets();
     Canvas {
         width: 48 + left(buckets, column_count(buckets)).max(600),
-        height: floor_of(longest) + 56,
+        height: u128::from(floor_of(longest)) + 56,
     }
 }
 
