@@ -12,7 +12,7 @@ ghost use Rattle.lh_subcommands.specs.Images.{draw_due};
 ghost use Rattle.lh_subcommands.specs.Run.{Ends};
 
 use crate::device::write_all;
-use crate::images::unreadable;
+use crate::input::unreadable;
 use crate::output::{put, room};
 use crate::status::{DeviceFault, Status};
 use lh_bucket::Listing;

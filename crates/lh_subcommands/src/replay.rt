@@ -8,8 +8,8 @@ ghost use Rattle.lh_replay.specs.PictureTexts.{step_text};
 ghost use Rattle.lh_subcommands.specs.Devices.{Adds, Breaks, IsReserved, TakesBeginning};
 ghost use Rattle.lh_subcommands.specs.Run.{EndsReplay};
 
-use crate::answer::take_steps;
 use crate::device::write_all;
+use crate::input::take_steps;
 use crate::output::{put, room};
 use crate::status::{DeviceFault, Status};
 use lh_addr::Config;

@@ -11,7 +11,7 @@ ghost use Rattle.lh_subcommands.specs.Devices.{TakesBeginning};
 ghost use Rattle.lh_subcommands.specs.Serve.{Breaks, EndsServing, EndsServingFrom, IsCutShort, IsTelling, IsUnopened};
 
 use crate::device::write_all;
-use crate::images::unreadable;
+use crate::input::unreadable;
 use crate::status::{DeviceFault, Status};
 use lh_addr::Config;
 use lh_image::{WriteFailed, read_leading_image, write_image};
