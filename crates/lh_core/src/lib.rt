@@ -38,6 +38,7 @@ mod event;
 pub mod laws;
 mod listing;
 mod opened;
+mod quiet;
 mod ran;
 mod row;
 mod serial_ran;

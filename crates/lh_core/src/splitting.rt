@@ -1,18 +1,18 @@
-//! The steps of the splitter, and the choice among all quiet steps.
+//! The steps of the splitter.
 ghost use Rattle.std.specs.Prelude.{◌≡◌, ◌+◌, ◌<◌, Ok, Err, Some, IfOk, IfErr, OnErr};
 ghost use Rattle.lh_core.specs.declared.event.Event.TheVariants as event;
 ghost use Rattle.lh_core.specs.declared.state.SplitState.TheVariants as split;
 ghost use Rattle.lh_core.specs.State.{with_splitter, with_moved};
 ghost use Rattle.lh_core.specs.Rules.{begin_split, lock_both, free_both, point, drop_split, allowed};
-ghost use Rattle.lh_core.specs.Control.{IsControl, HasNoReply, IsQuiet, KeepsFile, control_state, step_to};
+ghost use Rattle.lh_core.specs.Control.{IsControl, HasNoReply, KeepsFile, control_state, step_to};
 
 use crate::control::Control;
 use crate::effect::{Effect, Refusal};
-use crate::event::Event;
 use crate::state::SplitState;
 
 impl Control {
-    fn begin_split(&mut self) -> Result<Effect, Refusal>
+    /// The splitter takes the right to split, if the file is not full.
+    pub(crate) fn begin_split(&mut self) -> Result<Effect, Refusal>
         requires { IsControl self.old }
         ensures value { step_to result self.new
             ≡ begin_split self.old.config (control_state self.old) self.old.splitter }
@@ -36,7 +36,8 @@ impl Control {
         }
     }
 
-    fn lock_both(&mut self) -> Result<Effect, Refusal>
+    /// The splitter locks the bucket that splits, and the new one.
+    pub(crate) fn lock_both(&mut self) -> Result<Effect, Refusal>
         requires { IsControl self.old }
         ensures value { step_to result self.new ≡ lock_both self.old.config (control_state self.old) self.old.splitter }
         ensures told { IfOk result HasNoReply }
@@ -89,7 +90,8 @@ impl Control {
         self.splitter = SplitState::LockedMoved;
     }
 
-    fn free_both(&mut self) -> Result<Effect, Refusal>
+    /// The splitter lets both buckets go.
+    pub(crate) fn free_both(&mut self) -> Result<Effect, Refusal>
         ensures value { step_to result self.new ≡ free_both (control_state self.old) self.old.splitter }
         ensures told { IfOk result HasNoReply }
         ensures keeps { KeepsFile self.old self.new }
@@ -109,7 +111,8 @@ impl Control {
         }
     }
 
-    fn point(&mut self) -> Result<Effect, Refusal>
+    /// The splitter moves the pointer to the next bucket, and lets the right go.
+    pub(crate) fn point(&mut self) -> Result<Effect, Refusal>
         requires { IsControl self.old }
         ensures value { step_to result self.new ≡ point (control_state self.old) self.old.splitter }
         ensures told { IfOk result HasNoReply }
@@ -129,7 +132,8 @@ impl Control {
         }
     }
 
-    fn drop_split(&mut self) -> Result<Effect, Refusal>
+    /// The splitter gives a split up that has moved nothing.
+    pub(crate) fn drop_split(&mut self) -> Result<Effect, Refusal>
         ensures value { step_to result self.new ≡ drop_split (control_state self.old) self.old.splitter }
         ensures told { IfOk result HasNoReply }
         ensures keeps { KeepsFile self.old self.new }
@@ -142,33 +146,6 @@ impl Control {
                 Ok(Effect::Dropped)
             }
             _ => Err(Refusal::WrongState),
-        }
-    }
-
-    /// Takes a step that leaves the records where they are, unless it is refused.
-    pub(crate) fn turn(&mut self, event: Event) -> Result<Effect, Refusal>
-        requires control { IsControl self.old }
-        requires quiet { IsQuiet event }
-        ensures value { step_to result self.new ≡ allowed self.old.config (control_state self.old) event }
-        ensures told { IfOk result HasNoReply }
-        ensures keeps { KeepsFile self.old self.new }
-        ensures filled { self.new.filled ≡ self.old.filled }
-        ensures err { OnErr result (self.new ≡ self.old) }
-    {
-        match event {
-            Event::Call(worker, call) => self.call(worker, call),
-            Event::Read(worker) => self.read(worker),
-            Event::Lock(worker) => self.lock(worker),
-            Event::Rehash(worker) => self.rehash(worker),
-            Event::Release(worker) => self.release(worker),
-            Event::SplitBegin => self.begin_split(),
-            Event::SplitLock => self.lock_both(),
-            Event::SplitRelease => self.free_both(),
-            Event::SplitPoint => self.point(),
-            Event::SplitDrop => self.drop_split(),
-            // These two change the records too, so the world takes them.
-            Event::Act(_) => unreachable!(),
-            Event::SplitMove => unreachable!(),
         }
     }
 }

@@ -19,6 +19,7 @@ use Rattle.lh_draw.specs.Drawing.{page_bar, part_of}
 use Rattle.lh_draw.specs.DrawingTexts.{bar_text, more_text}
 use Rattle.lh_draw.specs.declared.bars.More.{More}
 use Rattle.lh_draw.specs.Meaning.{ApartLaw, BoxLaw, ColourLaw, ColumnLaw, IsColumnOf, LegendLaw, boxes_at, used_on}
+use Rattle.lh_draw.specs.Sizes.{most_drawn, number_foot}
 use Rattle.lh_draw.proofs.Tallies.{lists_none, longest_more, pages_more}
 
 -- one item for each number
@@ -62,22 +63,22 @@ chain-within l (suc n) bucket within h =
     ])
 
 -- the boxes of a bucket without more pages than are drawn
-boxes-each : (l : Lists) (bucket : ℕ) → chain_length l.config.capacity (list_at l.lists bucket) ≤ 24 →
+boxes-each : (l : Lists) (bucket : ℕ) → chain_length l.config.capacity (list_at l.lists bucket) ≤ most_drawn →
     length (boxes_at l bucket) ≡ chain_length l.config.capacity (list_at l.lists bucket)
 boxes-each l bucket short =
-    length-turn (page_bar l bucket) (min (chain_length l.config.capacity (list_at l.lists bucket)) 24)
+    length-turn (page_bar l bucket) (min (chain_length l.config.capacity (list_at l.lists bucket)) most_drawn)
     ∙ omega (arith, short)
 
 -- the boxes of the first buckets
-boxes-count : (l : Lists) (n : ℕ) → n ≤ size l → longest_of l.config.capacity (lists_between l 0 n) ≤ 24 →
+boxes-count : (l : Lists) (n : ℕ) → n ≤ size l → longest_of l.config.capacity (lists_between l 0 n) ≤ most_drawn →
     length (in_turn (boxes_at l) n) ≡ sum_by (chain_length l.config.capacity) (lists_between l 0 n)
 unfolding in_turn
 boxes-count l zero within short = sym (ap (sum_by (chain_length l.config.capacity)) (lists_none l 0))
 boxes-count l (suc n) within short =
     let capacity : ℕ = l.config.capacity in
     let next : n + 1 ≡ suc n = omega arith in
-    let low : longest_of capacity (lists_between l 0 (n + 1)) ≤ 24 =
-    subst (λ (m : ℕ). longest_of capacity (lists_between l 0 m) ≤ 24) (sym next) short in
+    let low : longest_of capacity (lists_between l 0 (n + 1)) ≤ most_drawn =
+    subst (λ (m : ℕ). longest_of capacity (lists_between l 0 m) ≤ most_drawn) (sym next) short in
     let longest = longest_more l capacity 0 n (omega arith) (omega (arith, within)) in
     let before : length (in_turn (boxes_at l) n) ≡ sum_by (chain_length capacity) (lists_between l 0 n) =
     boxes-count l n (omega (arith, within)) (omega (arith, low, longest)) in
@@ -88,8 +89,8 @@ boxes-count l (suc n) within short =
     ∙ sym (pages_more l capacity 0 n (omega arith) (omega (arith, within)))
     ∙ ap (λ (m : ℕ). sum_by (chain_length capacity) (lists_between l 0 m)) next
 
--- no number stands above a chain of 24 pages or fewer
-more-none : (m : More) → m.pages ≤ 24 → more_text m ≡ []
+-- no number stands above a chain of which all pages are drawn
+more-none : (m : More) → m.pages ≤ most_drawn → more_text m ≡ []
 unfolding more_text
 more-none m short =
     ap
@@ -97,16 +98,18 @@ more-none m short =
     if b then []
     else (codes "<text transform='translate("
     ++ (decimal m.centre
-    ++ (codes " -964)rotate(-90)' dy='3' font-size='8'>+"
-    ++ (decimal (m.pages - 24) ++ codes "</text>\n")))))
-    (le-leb m.pages 24 short)
+    ++ (codes " -"
+    ++ (decimal number_foot
+    ++ (codes ")rotate(-90)' dy='3' font-size='8'>+"
+    ++ (decimal (m.pages - most_drawn) ++ codes "</text>\n")))))))
+    (le-leb m.pages most_drawn short)
 
 -- the text of a chain is that of its boxes
-chain-boxes : (l : Lists) (bucket : ℕ) → chain_length l.config.capacity (list_at l.lists bucket) ≤ 24 →
+chain-boxes : (l : Lists) (bucket : ℕ) → chain_length l.config.capacity (list_at l.lists bucket) ≤ most_drawn →
     chain_text l bucket ≡ flat_map bar_text (boxes_at l bucket)
 unfolding chain_text more_of
 chain-boxes l bucket short =
-    let shown : ℕ = min (chain_length l.config.capacity (list_at l.lists bucket)) 24 in
+    let shown : ℕ = min (chain_length l.config.capacity (list_at l.lists bucket)) most_drawn in
     let bars : List ℕ = in_turn (λ p. bar_text (page_bar l bucket p)) shown in
     ap (λ (more : List ℕ). bars ++ more) (more-none (more_of l bucket) short)
     ∙ append-nil bars

@@ -8,6 +8,7 @@ use Rattle.lh_draw.specs.Columns.{bar_width, centre, chain_length, column_count,
 use Rattle.lh_draw.specs.Columns.{is_detailed, is_next_level, label_step, left, lists_between, tally_of, whole_tally}
 use Rattle.lh_draw.specs.DrawingTexts.{bar_text, canvas_text, caption_text, cuts_text, label_text, legend_text}
 use Rattle.lh_draw.specs.DrawingTexts.{mark_text, more_text, plot_text, title_text}
+use Rattle.lh_draw.specs.Sizes.{head_height, most_drawn, most_places, page_gap, page_height, page_step}
 use Rattle.lh_draw.specs.declared.bars.Bar.{Bar}
 use Rattle.lh_draw.specs.declared.elements.Canvas.{Canvas}
 use Rattle.lh_draw.specs.declared.bars.Cuts.{Cuts}
@@ -18,19 +19,19 @@ use Rattle.lh_draw.specs.declared.bars.More.{More}
 use Rattle.lh_draw.specs.declared.elements.Title.{Title}
 use Rattle.lh_draw.specs.declared.tally.Tally.{Tally}
 
--- ---- the parts of a drawing; lengths are in pixels, and a page is 36 high, 40 above the one before it in its chain
+-- ---- the parts of a drawing; lengths are in pixels
 
 -- such a part of a height as is used of some slots
 abbrev pub part_of : ℕ → ℕ → ℕ → ℕ
 part_of height used slots = height * used / slots
 
--- how high the records of some slots stand, of which a page's are 40 high, up to a limit
+-- how high the records of some slots stand, of which a page's are as high as the step to the next page, up to a limit
 abbrev pub filling_of : ℕ → ℕ → ℕ → ℕ
-filling_of records slots most = min (40 * records / slots) most
+filling_of records slots most = min (page_step * records / slots) most
 
--- the floor is below the title and the longest chain, of which 24 pages are drawn and a number stands for the others
+-- the floor is below the head and the longest chain that is drawn, with a number for the pages that are not
 abbrev pub floor_of : ℕ → ℕ
-floor_of longest = 92 + 40 * min longest 25
+floor_of longest = head_height + page_step * min longest most_places
 
 unfoldable pub canvas_of : Lists → Canvas
 canvas_of l = record {
@@ -66,10 +67,10 @@ page_bar l bucket p =
     let capacity : ℕ = l.config.capacity in
     record {
       left = left (size l) bucket;
-      foot = 40 * p;
+      foot = page_step * p;
       width = bar_width (size l);
-      height = 36;
-      used = part_of 36 (min (length (list_at l.lists bucket) - capacity * p) capacity) capacity;
+      height = page_height;
+      used = part_of page_height (min (length (list_at l.lists bucket) - capacity * p) capacity) capacity;
       is_next = is_next_level l bucket;
     }
 
@@ -88,7 +89,7 @@ group_tally l column =
 unfoldable pub group_bar : Lists → ℕ → Bar
 group_bar l column =
     let slots : ℕ = l.config.capacity * (end_bucket (size l) column - first_bucket (size l) column) in
-    let height : ℕ = 40 * min (group_tally l column).longest 24 - 4 in
+    let height : ℕ = page_step * min (group_tally l column).longest most_drawn - page_gap in
     record {
       left = left (size l) column;
       foot = 0;
@@ -102,7 +103,7 @@ unfoldable pub cuts_of : Lists → Cuts
 cuts_of l = record {
   middle = left (size l) (column_count (size l)) / 2;
   width = left (size l) (column_count (size l));
-  height = 40 * min (whole_tally l).longest 24;
+  height = page_step * min (whole_tally l).longest most_drawn;
 }
 
 unfoldable pub label_count : Lists → ℕ
@@ -130,7 +131,8 @@ in_turn items (suc n) = in_turn items n ++ items n
 -- a bucket's pages from the floor up, and how many more there are
 unfoldable pub chain_text : Lists → ℕ → List ℕ
 chain_text l bucket =
-    in_turn (λ p. bar_text (page_bar l bucket p)) (min (chain_length l.config.capacity (list_at l.lists bucket)) 24)
+    in_turn (λ p. bar_text (page_bar l bucket p))
+    (min (chain_length l.config.capacity (list_at l.lists bucket)) most_drawn)
     ++ more_text (more_of l bucket)
 
 unfoldable pub columns_text : Lists → List ℕ

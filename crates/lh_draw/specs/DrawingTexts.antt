@@ -2,6 +2,7 @@
 use Rattle.std.specs.Prelude.{ℕ, ◌-◌, Bool, true, false, nat_le, if◌then◌else◌, List, [], ◌++◌, Option, None, Some}
 use Rattle.std.specs.Prelude.{codes}
 use Rattle.std.specs.Fmt.{decimal}
+use Rattle.lh_draw.specs.Sizes.{most_drawn, number_foot, page_gap, page_height}
 use Rattle.lh_draw.specs.declared.elements.Canvas.{Canvas}
 use Rattle.lh_draw.specs.declared.elements.Title.{Title}
 use Rattle.lh_draw.specs.declared.elements.Legend.{Legend}
@@ -90,19 +91,24 @@ unfoldable pub bar_text : Bar → List ℕ
 bar_text b =
     part_text (bar_part b b.height false) ++ (part_text (bar_part b b.used true) ++ codes "\n")
 
--- the pages beyond 24, if there are more: a number that stands upright above the chain
+-- the pages beyond those that are drawn, if there are more: a number that stands upright above the chain
 unfoldable pub more_text : More → List ℕ
 more_text m =
-    if nat_le m.pages 24 then []
+    if nat_le m.pages most_drawn then []
     else (codes "<text transform='translate(" ++ (
-    decimal m.centre ++ (codes " -964)rotate(-90)' dy='3' font-size='8'>+" ++ (
-    decimal (m.pages - 24) ++ codes "</text>\n"))))
+    decimal m.centre ++ (codes " -" ++ (decimal number_foot ++ (codes ")rotate(-90)' dy='3' font-size='8'>+" ++ (
+    decimal (m.pages - most_drawn) ++ codes "</text>\n"))))))
 
--- white lines across all columns, 40 apart: a broad dashed line from the top to the floor
+-- the dashes of the lines across all columns, from the top down: what is left free above a page, and the page
+unfoldable pub dashes_text : List ℕ
+dashes_text = decimal page_gap ++ (codes " " ++ decimal page_height)
+
+-- white lines across all columns, one above each page: a broad dashed line from the top to the floor
 unfoldable pub cuts_text : Cuts → List ℕ
 cuts_text c =
-    codes "<path stroke='#ffffff' stroke-width='" ++ (decimal c.width ++ (codes "' stroke-dasharray='4 36' d='M" ++ (
-    decimal c.middle ++ (codes " -" ++ (decimal c.height ++ (codes "v" ++ (decimal c.height ++ codes "'/>\n")))))))
+    codes "<path stroke='#ffffff' stroke-width='" ++ (decimal c.width ++ (codes "' stroke-dasharray='" ++ (
+    dashes_text ++ (codes "' d='M" ++ (decimal c.middle ++ (codes " -" ++ (decimal c.height ++ (codes "v" ++ (
+    decimal c.height ++ codes "'/>\n")))))))))
 
 -- a bucket's number below the floor
 unfoldable pub label_text : Label → List ℕ

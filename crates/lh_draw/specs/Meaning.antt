@@ -7,12 +7,14 @@ use Rattle.lh_page.specs.PackedList.{pages_of}
 use Rattle.lh_draw.specs.Columns.{chain_length, column_count, end_bucket, first_bucket, group_size, whole_tally}
 use Rattle.lh_draw.specs.Drawing.{columns_text, in_turn, legend_of, page_bar, part_of}
 use Rattle.lh_draw.specs.DrawingTexts.{bar_text}
+use Rattle.lh_draw.specs.Sizes.{most_drawn}
 use Rattle.lh_draw.specs.declared.bars.Bar.{Bar}
 
 -- a box for each page of a bucket that is drawn, from the floor up
 abbrev pub boxes_at : Lists → ℕ → List Bar
 boxes_at l bucket =
-    in_turn (λ page. page_bar l bucket page ∷ []) (min (chain_length l.config.capacity (list_at l.lists bucket)) 24)
+    in_turn (λ page. page_bar l bucket page ∷ [])
+    (min (chain_length l.config.capacity (list_at l.lists bucket)) most_drawn)
 
 -- the boxes of all buckets
 abbrev pub boxes_of : Lists → List Bar
@@ -23,9 +25,9 @@ pub record IsBoxes (l : Lists) : Type 0 where
   pub drawn : columns_text l ≡ flat_map bar_text (boxes_of l)
   pub as_many : length (boxes_of l) ≡ (whole_tally l).pages
 
--- Of a file of 128 buckets or fewer, with no chain of more than 24 pages, each page is drawn as a box.
+-- Of a file of 128 buckets or fewer, with no chain of more pages than are drawn, each page is drawn as a box.
 abbrev pub BoxLaw : Type 0
-BoxLaw = (l : Lists) → size l ≤ 128 → (whole_tally l).longest ≤ 24 → IsBoxes l
+BoxLaw = (l : Lists) → size l ≤ 128 → (whole_tally l).longest ≤ most_drawn → IsBoxes l
 
 -- the number of records on a page of a bucket
 abbrev pub used_on : Lists → ℕ → ℕ → ℕ

@@ -1,7 +1,8 @@
 //! The bars of a drawing and what belongs to them, each as the SVG text that a type displays.
 ghost use Rattle.std.specs.Prelude.{◌≡◌, Some};
-ghost use Rattle.lh_draw.specs.DrawingTexts.{bar_text, colour_of, cuts_text, more_text, part_text};
+ghost use Rattle.lh_draw.specs.DrawingTexts.{bar_text, colour_of, cuts_text, dashes_text, more_text, part_text};
 
+use crate::sizes::{MOST_DRAWN, NUMBER_FOOT, PAGE_GAP, PAGE_HEIGHT};
 use std::fmt;
 
 /// The colour of a bucket that was split at the file's level or came of such a split, or of another;
@@ -94,7 +95,7 @@ impl fmt::Display for Bar {
     }
 }
 
-/// How many pages a chain has beyond the 24 that are drawn, if it has more: a number that stands upright, so that it is
+/// How many pages a chain has beyond those that are drawn, if it has more: a number that stands upright, so that it is
 /// no broader than the column.
 #[derive(Clone, Copy)]
 pub struct More {
@@ -107,15 +108,31 @@ impl fmt::Display for More {
 
     #[tactic(auto, unfolding(crate::specs::DrawingTexts::more_text))]
     fn fmt<W: fmt::Write>(&self, f: &mut fmt::Formatter<W>) -> fmt::Result {
-        if self.pages <= 24 {
+        if self.pages <= MOST_DRAWN {
             return Ok(());
         }
         let centre = self.centre;
-        let beyond = self.pages - 24;
+        let foot = NUMBER_FOOT;
+        let beyond = self.pages - MOST_DRAWN;
         write!(
             f,
-            "<text transform='translate({centre} -964)rotate(-90)' dy='3' font-size='8'>+{beyond}</text>\n"
+            "<text transform='translate({centre} -{foot})rotate(-90)' dy='3' font-size='8'>+{beyond}</text>\n"
         )
+    }
+}
+
+/// The dashes of the lines across all columns, from the top down: what is left free above a page, and the page.
+#[derive(Clone, Copy)]
+struct Dashes;
+
+impl fmt::Display for Dashes {
+    ghost output = { λ dashes. Some dashes_text };
+
+    #[tactic(auto, unfolding(crate::specs::DrawingTexts::dashes_text))]
+    fn fmt<W: fmt::Write>(&self, f: &mut fmt::Formatter<W>) -> fmt::Result {
+        let gap = PAGE_GAP;
+        let page = PAGE_HEIGHT;
+        write!(f, "{gap} {page}")
     }
 }
 
@@ -137,9 +154,10 @@ impl fmt::Display for Cuts {
             width,
             height,
         } = *self;
+        let dashes = Dashes;
         write!(
             f,
-            "<path stroke='#ffffff' stroke-width='{width}' stroke-dasharray='4 36' d='M{middle} -{height}v{height}'/>\n"
+            "<path stroke='#ffffff' stroke-width='{width}' stroke-dasharray='{dashes}' d='M{middle} -{height}v{height}'/>\n"
         )
     }
 }

@@ -4,12 +4,14 @@ ghost use Rattle.lh_bucket.specs.Listing.{IsListing, list_at, size};
 ghost use Rattle.lh_draw.specs.Columns.{chain_length, column_count, is_next_level, whole_tally};
 ghost use Rattle.lh_draw.specs.Drawing.{canvas_of, cuts_of, filling_of, floor_of, group_bar, label_count, label_of};
 ghost use Rattle.lh_draw.specs.Drawing.{legend_of, level_above, more_of, page_bar, part_of, pointer_mark_of, title_of};
+ghost use Rattle.lh_draw.specs.Sizes.{most_drawn};
 
 use crate::bars::{Bar, Cuts, More};
 use crate::elements::{Canvas, Label, Legend, Mark, Title};
 use crate::measures::{
     bar_width, centre, column_count, end_bucket, first_bucket, group_size, label_step, left,
 };
+use crate::sizes::{HEAD_HEIGHT, MOST_DRAWN, MOST_PLACES, PAGE_GAP, PAGE_HEIGHT, PAGE_STEP};
 use crate::tally::{Tally, chain_length, counted_between};
 use lh_bucket::Listing;
 
@@ -33,13 +35,14 @@ fn part_of(height: u32, used: u128, slots: u128) -> u32
     (u128::from(height) * used / slots) as u32
 }
 
-/// How high the records of some slots stand, of which a page's are 40 high: to a given height at most.
+/// How high the records of some slots stand, of which a page's are as high as the step to the next page: to a given
+/// height at most.
 fn filling_of(records: u128, slots: u128, most: u32) -> u32
     requires some { 1 ≤ slots }
     requires records { records < 2 ^ 101 }
     ensures { result ≡ filling_of records slots most }
 {
-    (40 * records / slots).min(u128::from(most)) as u32
+    (u128::from(PAGE_STEP) * records / slots).min(u128::from(most)) as u32
 }
 
 /// What is counted of the whole file.
@@ -56,7 +59,7 @@ pub fn floor_of(longest: usize) -> u32
     ensures value { result ≡ floor_of longest }
     ensures high { result ≤ 1100 }
 {
-    92 + 40 * longest.min(25) as u32
+    HEAD_HEIGHT + PAGE_STEP * longest.min(MOST_PLACES) as u32
 }
 
 /// What is drawn on.
@@ -67,7 +70,7 @@ pub fn canvas_of(listing: &Listing, longest: usize) -> Canvas
     let buckets = listing.buckets();
     Canvas {
         width: 48 + left(buckets, column_count(buckets)).max(600),
-        height: floor_of(longest) + 56,
+        height: u128::from(floor_of(longest)) + 56,
     }
 }
 
@@ -118,7 +121,7 @@ pub fn legend_of(listing: &Listing) -> Legend
 pub fn page_bar(listing: &Listing, bucket: u32, page: u32) -> Bar
     requires few { size listing.now ≤ 128 }
     requires bucket { bucket < size listing.now }
-    requires page { page < min 24 (chain_length listing.now.config.capacity (list_at listing.now.lists bucket)) }
+    requires page { page < min most_drawn (chain_length listing.now.config.capacity (list_at listing.now.lists bucket)) }
     ensures { result ≡ page_bar listing.now bucket page }
 {
     let buckets = listing.buckets();
@@ -128,10 +131,10 @@ pub fn page_bar(listing: &Listing, bucket: u32, page: u32) -> Bar
         .saturating_sub(capacity * page as usize);
     Bar {
         left: left(buckets, bucket),
-        foot: 40 * page,
+        foot: PAGE_STEP * page,
         width: bar_width(buckets),
-        height: 36,
-        used: part_of(36, behind.min(capacity) as u128, capacity as u128),
+        height: PAGE_HEIGHT,
+        used: part_of(PAGE_HEIGHT, behind.min(capacity) as u128, capacity as u128),
         is_next: is_next_level(listing, bucket),
     }
 }
@@ -157,7 +160,7 @@ pub fn group_bar(listing: &Listing, column: u32) -> Bar
     let first = first_bucket(buckets, column);
     let end = end_bucket(buckets, column);
     let tally = counted_between(listing, first, end);
-    let height = 40 * tally.longest.min(24) as u32 - 4;
+    let height = PAGE_STEP * tally.longest.min(MOST_DRAWN) as u32 - PAGE_GAP;
     let slots = u128::from(listing.config().capacity()) * u128::from(end - first);
     Bar {
         left: left(buckets, column),
@@ -179,7 +182,7 @@ pub fn cuts_of(listing: &Listing, longest: usize) -> Cuts
     Cuts {
         middle: width / 2,
         width,
-        height: 40 * longest.min(24) as u32,
+        height: PAGE_STEP * longest.min(MOST_DRAWN) as u32,
     }
 }
 

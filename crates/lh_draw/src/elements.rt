@@ -5,11 +5,12 @@ ghost use Rattle.lh_draw.specs.DrawingTexts.{numbers_text, plot_text, title_text
 
 use std::fmt;
 
-/// What is drawn on. Its title and its description name it to readers who don't see it.
+/// What is drawn on. Its title and its description, the elements `title` and `desc`, name it to readers who don't see
+/// it. What grows downwards with what it shows may be of any height.
 #[derive(Clone, Copy)]
 pub struct Canvas {
     pub width: u32,
-    pub height: u32,
+    pub height: u128,
 }
 
 impl fmt::Display for Canvas {

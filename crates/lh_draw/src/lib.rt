@@ -12,6 +12,7 @@ mod columns;
 mod elements;
 pub mod laws;
 mod measures;
+mod sizes;
 mod tally;
 
 pub use bars::{Bar, Cuts, More};
@@ -21,4 +22,5 @@ pub use columns::{
 };
 pub use elements::{Canvas, Caption, Label, Legend, Mark, Plot, Title};
 pub use measures::{column_count, is_detailed};
+pub use sizes::MOST_DRAWN;
 pub use tally::{Tally, chain_length};

@@ -8,4 +8,3 @@ pub mod Judging
 pub mod Last
 pub mod Closing
 pub mod AtHome
-pub mod Refusals

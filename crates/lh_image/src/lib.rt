@@ -32,4 +32,5 @@ pub use fault::{ImageFault, WriteImageFault};
 pub use image::Image;
 pub use reading::{read_image, read_leading_image};
 pub use version::Version;
+pub use writing::sending::{WriteFailed, send_all};
 pub use writing::{image_len, write_image, write_image_v1};

@@ -11,7 +11,7 @@ ghost use Rattle.lh_image.specs.declared.version.Version.{Version};
 
 mod fitting;
 pub(crate) mod listing_pages;
-mod sending;
+pub(crate) mod sending;
 
 use crate::fault::WriteImageFault;
 use crate::laws::written_images_have_their_pages;
@@ -21,7 +21,7 @@ use crate::writing::fitting::first_too_long;
 use crate::writing::listing_pages::{
     following_after, header_bytes, page_count_in, page_total, put_page,
 };
-use crate::writing::sending::{WriteFailed, write_page};
+use crate::writing::sending::{WriteFailed, send_all};
 use lh_addr::Root;
 use lh_bucket::Listing;
 use lh_page::laws::a_page_is_its_bytes;
@@ -52,8 +52,8 @@ fn write_page_of<W: Write>(
     a_page_is_its_bytes();
     put_page(page, listing, root, bucket, k, following);
     match version {
-        Version::One => write_page(writer, &page_to_bytes(page)),
-        Version::Two => write_page(writer, &page2_to_bytes(page)),
+        Version::One => send_all(writer, &page_to_bytes(page)),
+        Version::Two => send_all(writer, &page2_to_bytes(page)),
     }
 }
 
@@ -142,7 +142,7 @@ fn write_pages<W: Write>(
 {
     let root = listing.root();
     let header = header_bytes(listing, version, pages);
-    write_page(writer, &header[..version.page_bytes()])?;
+    send_all(writer, &header[..version.page_bytes()])?;
     let mut page = Page {
         kind: PageKind::Primary,
         level: 0,

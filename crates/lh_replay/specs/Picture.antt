@@ -6,9 +6,10 @@ use Rattle.lh_core.specs.declared.event.Event.{Event}
 use Rattle.lh_core.specs.declared.event.Event.TheVariants as event
 use Rattle.lh_core.specs.Log.{Entry}
 use Rattle.lh_draw.specs.Drawing.{in_turn}
+use Rattle.lh_draw.specs.DrawingTexts.{canvas_text}
+use Rattle.lh_draw.specs.declared.elements.Canvas.{Canvas}
 use Rattle.lh_replay.specs.Lanes.{lane_count, lane_of, rehashes, rows_until}
-use Rattle.lh_replay.specs.PictureTexts.{end_text, heading_text, picture_canvas_text, picture_caption_text, step_text}
-use Rattle.lh_replay.specs.declared.elements.Canvas.{Canvas}
+use Rattle.lh_replay.specs.PictureTexts.{end_text, heading_text, picture_caption_text, step_text}
 use Rattle.lh_replay.specs.declared.elements.Caption.{Caption}
 use Rattle.lh_replay.specs.declared.elements.Heading.{Heading}
 use Rattle.lh_replay.specs.declared.elements.Step.{Step}
@@ -61,7 +62,7 @@ step_of events entries row =
 -- what stands above the steps
 unfoldable pub top_text : List Event → List ℕ
 top_text events =
-    picture_canvas_text (picture_canvas_of events)
+    canvas_text (picture_canvas_of events)
     ++ picture_caption_text (caption_of events)
     ++ in_turn (λ lane. heading_text (heading_of events lane)) (lane_count events)
 

@@ -8,7 +8,6 @@ use Rattle.lh_core.specs.declared.event.Event.{Event}
 use Rattle.lh_core.specs.declared.event.Event.TheVariants as event
 use Rattle.lh_core.specs.Log.{Entry, if_accepted}
 use Rattle.lh_script.specs.StepTexts.{effect_text, refusal_text}
-use Rattle.lh_replay.specs.declared.elements.Canvas.{Canvas}
 use Rattle.lh_replay.specs.declared.elements.Caption.{Caption}
 use Rattle.lh_replay.specs.declared.elements.Heading.{Heading}
 use Rattle.lh_replay.specs.declared.elements.Step.{Step}
@@ -18,14 +17,7 @@ use Rattle.lh_replay.specs.declared.shapes.Shape.{Shape}
 use Rattle.lh_replay.specs.declared.shapes.Shape.TheVariants as shape
 use Rattle.lh_replay.specs.declared.words.Words.{Words}
 
--- the picture's beginning
-unfoldable pub picture_canvas_text : Canvas → List ℕ
-picture_canvas_text c =
-    codes "<svg xmlns='http://www.w3.org/2000/svg' width='" ++ (decimal c.width ++ (codes "' height='" ++ (
-    decimal c.height ++ (codes "' viewBox='0 0 " ++ (decimal c.width ++ (codes " " ++ (decimal c.height ++
-    codes "' role='img' aria-labelledby='title desc' font-family='sans-serif' font-size='12' fill='#333333'>\n")))))))
-
--- its title and its description, and what its marks are
+-- the picture's title and its description, and what its marks are
 unfoldable pub picture_caption_text : Caption → List ℕ
 picture_caption_text c =
     codes "<title id='title'>Schedule of a linear hash file, steps " ++ (decimal c.steps ++

@@ -1,31 +1,11 @@
 //! The elements of a picture, each as the SVG text that a type displays.
 ghost use Rattle.std.specs.Prelude.{Some};
-ghost use Rattle.lh_replay.specs.PictureTexts.{end_text, heading_text, lane_name, picture_canvas_text};
+ghost use Rattle.lh_replay.specs.PictureTexts.{end_text, heading_text, lane_name};
 ghost use Rattle.lh_replay.specs.PictureTexts.{picture_caption_text, step_text};
 
 use crate::shapes::Shape;
 use crate::words::Words;
 use std::fmt;
-
-/// What is drawn on.
-#[derive(Clone, Copy)]
-pub struct Canvas {
-    pub width: u32,
-    pub height: u128,
-}
-
-impl fmt::Display for Canvas {
-    ghost output = { λ canvas. Some (picture_canvas_text canvas) };
-
-    #[tactic(auto, unfolding(crate::specs::PictureTexts::picture_canvas_text))]
-    fn fmt<W: fmt::Write>(&self, f: &mut fmt::Formatter<W>) -> fmt::Result {
-        let Canvas { width, height } = *self;
-        write!(
-            f,
-            "<svg xmlns='http://www.w3.org/2000/svg' width='{width}' height='{height}' viewBox='0 0 {width} {height}' role='img' aria-labelledby='title desc' font-family='sans-serif' font-size='12' fill='#333333'>\n"
-        )
-    }
-}
 
 /// The picture's title and its description, and two lines of text that say what its marks are, on a white ground.
 #[derive(Clone, Copy)]

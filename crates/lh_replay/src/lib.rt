@@ -15,7 +15,7 @@ mod picture;
 mod shapes;
 mod words;
 
-pub use elements::{Canvas, Caption, End, Heading, Step};
+pub use elements::{Caption, End, Heading, Step};
 pub use lanes::{lane_count, lane_of};
 pub use picture::{canvas_of, caption_of, heading_of, step_of};
 pub use shapes::Shape;

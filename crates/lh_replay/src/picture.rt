@@ -4,11 +4,12 @@ ghost use Rattle.lh_replay.specs.Lanes.{lane_of, rows_until};
 ghost use Rattle.lh_replay.specs.Picture.{caption_of, event_at, heading_of, picture_canvas_of, shape_of, step_of};
 ghost use Rattle.lh_replay.specs.Picture.{told_at};
 
-use crate::elements::{Canvas, Caption, Heading, Step};
+use crate::elements::{Caption, Heading, Step};
 use crate::lanes::{lane_count, lane_of, rehashes, rows_until};
 use crate::shapes::Shape;
 use crate::words::Words;
 use lh_core::{Effect, Event, Refusal};
+use lh_draw::Canvas;
 
 /// What is drawn on.
 #[tactic(auto, unfolding(crate::specs::Picture::picture_canvas_of))]

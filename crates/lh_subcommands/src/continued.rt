@@ -5,8 +5,9 @@ ghost use Rattle.lh_image.specs.Reading.{leading, reading_of};
 ghost use Rattle.lh_subcommands.specs.Continued.{EndsApplying, IsLeft, ReadsContinued, query_due, script_behind};
 ghost use Rattle.lh_subcommands.specs.Run.{Ends};
 
-use crate::answer::{read_script, tell};
-use crate::images::{unreadable, unwritten, write_in};
+use crate::answer::tell;
+use crate::images::{unwritten, write_in};
+use crate::input::{read_script, unreadable};
 use crate::status::Status;
 use lh_bucket::{Call, Listing};
 use lh_core::{Memory, serial_from};

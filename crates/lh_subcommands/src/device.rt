@@ -1,9 +1,10 @@
 //! Reading all of an input up to a limit, and writing all of an output. A read or a write that
 //! fails is never tried again, an interrupted one neither.
-ghost use Rattle.std.specs.Prelude.{◌≡◌, ◌+◌, ◌≤◌, ◌<◌, IfOk, OnOk, OnErr, IfSome, length, take};
-ghost use Rattle.std.specs.Io.KnownBytes.{Appends, Consumes, IsAtEnd, Keeps};
+ghost use Rattle.std.specs.Prelude.{◌≡◌, ◌+◌, ◌≤◌, ◌<◌, IfOk, OnOk, OnErr, IfSome, length};
+ghost use Rattle.std.specs.Io.KnownBytes.{Appends, Consumes, IsAtEnd};
 ghost use Rattle.lh_subcommands.specs.Devices.{ReadsOnto, IsReadOf, TakesBeginning};
 
+use lh_image::{WriteFailed, send_all};
 use std::alloc::{AllocError, Global};
 use std::io::{Read, Write};
 
@@ -15,10 +16,6 @@ pub enum ReadError {
     /// A read failed.
     Failed,
 }
-
-/// A write or a flush failed, or a write took no byte.
-#[derive(Clone, Copy, Debug, PartialEq, Eq)]
-pub struct WriteFailed;
 
 /// The most bytes that one read is asked for.
 const CHUNK: usize = 65_536;
@@ -79,32 +76,13 @@ pub fn read_up_to<R: Read>(alloc: Global, reader: &mut R, most: usize) -> Result
     Ok(bytes)
 }
 
-/// One write, of at least one byte.
-#[tactic(auto, using(crate::proofs::Devices::keeps_none))]
-fn write_some<W: Write>(writer: &mut W, bytes: &[u8]) -> Result<usize, WriteFailed>
-    ensures some { IfOk result (λ n. (0 < n) × (n ≤ length bytes.now)) }
-    ensures ok { IfOk result (λ n. Appends (W.contents writer.old) (W.contents writer.new) (take n bytes.now)) }
-    ensures err { OnErr result (Keeps (W.contents writer.old) (W.contents writer.new)) }
-{
-    let Ok(count) = writer.write(bytes) else {
-        return Err(WriteFailed);
-    };
-    if count == 0 {
-        return Err(WriteFailed);
-    }
-    Ok(count)
-}
-
 /// Writes all bytes, and flushes.
-#[tactic(auto, using(crate::proofs::Devices::writes_more, crate::proofs::Devices::takes_beginning))]
+#[tactic(auto, using(crate::proofs::Devices::takes_whole))]
 pub fn write_all<W: Write>(writer: &mut W, bytes: &[u8]) -> Result<(), WriteFailed>
     ensures ok { OnOk result (Appends (W.contents writer.old) (W.contents writer.new) bytes.now) }
     ensures err { OnErr result (TakesBeginning (W.contents writer.old) (W.contents writer.new) bytes.now) }
 {
-    let mut done = 0;
-    while done < bytes.len() {
-        done += write_some(writer, &bytes[done..])?;
-    }
+    send_all(writer, bytes)?;
     if writer.flush().is_err() {
         return Err(WriteFailed);
     }

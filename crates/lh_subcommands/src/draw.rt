@@ -11,17 +11,17 @@ ghost use Rattle.lh_draw.specs.DrawingTexts.{bar_text};
 ghost use Rattle.lh_subcommands.specs.Images.{draw_due};
 ghost use Rattle.lh_subcommands.specs.Run.{Ends};
 
-use crate::device::{WriteFailed, write_all};
-use crate::images::unreadable;
+use crate::device::write_all;
+use crate::input::unreadable;
 use crate::output::{put, room};
 use crate::status::{DeviceFault, Status};
 use lh_bucket::Listing;
 use lh_draw::{
-    Caption, Plot, canvas_of, chain_length, column_count, cuts_of, floor_of, group_bar,
+    Caption, MOST_DRAWN, Plot, canvas_of, chain_length, column_count, cuts_of, floor_of, group_bar,
     is_detailed, label_count, label_of, legend_of, mark_of, more_of, page_bar, title_of,
     whole_tally,
 };
-use lh_image::read_image;
+use lh_image::{WriteFailed, read_image};
 use std::alloc::Global;
 use std::io::{Read, Write};
 
@@ -61,7 +61,7 @@ fn write_chain<W: Write>(
     ensures err { Breaks result (W.contents writer.old) (W.contents writer.new)
         (string_bytes waiting.old) (chain_text listing.now bucket) }
 {
-    let pages = chain_length(listing, bucket).min(24) as u32;
+    let pages = chain_length(listing, bucket).min(MOST_DRAWN) as u32;
     for page in 0..pages {
         put(writer, waiting, page_bar(listing, bucket, page))?;
     }

@@ -3,22 +3,20 @@
 ghost use Rattle.std.specs.Prelude.{◌≡◌, IfOk, IfSome};
 ghost use Rattle.lh_image.specs.Reading.{IsDueAnswer};
 ghost use Rattle.lh_image.specs.Writing.{IsWritten};
-ghost use Rattle.lh_subcommands.specs.Images.{EndsBuilding, IsLedTo, check_due, dump_due, migrate_due, refused_as};
+ghost use Rattle.lh_subcommands.specs.Images.{EndsBuilding, IsLedTo, check_due, dump_due, migrate_due};
 ghost use Rattle.lh_subcommands.specs.Images.{unwritten_as};
 ghost use Rattle.lh_subcommands.specs.Run.{Ends};
 
-use crate::answer::read_script;
 use crate::device::write_all;
 use crate::image_texts::CensusText;
+use crate::input::{read_script, unreadable};
 use crate::output::{room, write_records};
 use crate::status::{DeviceFault, InputFault, Status};
 use lh_addr::Config;
 use lh_bucket::{Call, Listing, PagedBucket};
 use lh_core::{Memory, serial};
 use lh_image::laws::census_counts_pages;
-use lh_image::{
-    ImageFault, Version, WriteImageFault, check_image, read_image, write_image, write_image_v1,
-};
+use lh_image::{Version, WriteImageFault, check_image, read_image, write_image, write_image_v1};
 use std::alloc::Global;
 use std::io::{Read, Write};
 
@@ -82,18 +80,6 @@ pub fn answer_build<R: Read, W: Write>(
     match write_in(version, &listing, writer) {
         Ok(()) => Status::Done,
         Err(fault) => unwritten(fault),
-    }
-}
-
-/// How a run ends whose input is no image, or could not be read.
-#[tactic(auto, using(crate::proofs::Inspecting::refused_for_bytes))]
-pub fn unreadable(fault: ImageFault) -> Status
-    ensures { result ≡ refused_as fault }
-{
-    match fault {
-        ImageFault::ReadFault => Status::Device(DeviceFault::Read),
-        ImageFault::Memory => Status::Memory,
-        fault => Status::Input(InputFault::Image(fault)),
     }
 }
 

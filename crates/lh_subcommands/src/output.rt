@@ -9,10 +9,11 @@ ghost use Rattle.lh_subcommands.specs.ImageTexts.{bucket_text, dump_text};
 ghost use Rattle.lh_script.specs.StepTexts.{steps_text};
 ghost use Rattle.lh_script.specs.Texts.{commands_text, line, reply_text, size_text};
 
-use crate::device::{WriteFailed, write_all};
+use crate::device::write_all;
 use crate::image_texts::RecordText;
 use lh_bucket::{Listing, Reply};
 use lh_core::{Effect, Refusal};
+use lh_image::WriteFailed;
 use lh_page::limits::{LONGEST_KEY, LONGEST_VALUE};
 use lh_script::{EntryText, ReplyText, SizeText};
 use std::alloc::{AllocError, Global};

@@ -8,12 +8,13 @@ ghost use Rattle.lh_replay.specs.PictureTexts.{step_text};
 ghost use Rattle.lh_subcommands.specs.Devices.{Adds, Breaks, IsReserved, TakesBeginning};
 ghost use Rattle.lh_subcommands.specs.Run.{EndsReplay};
 
-use crate::answer::take_steps;
-use crate::device::{WriteFailed, write_all};
+use crate::device::write_all;
+use crate::input::take_steps;
 use crate::output::{put, room};
 use crate::status::{DeviceFault, Status};
 use lh_addr::Config;
 use lh_core::{Effect, Event, Refusal};
+use lh_image::WriteFailed;
 use lh_replay::{End, canvas_of, caption_of, heading_of, lane_count, step_of};
 use std::alloc::Global;
 use std::io::{Read, Write};

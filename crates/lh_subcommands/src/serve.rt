@@ -10,11 +10,11 @@ ghost use Rattle.lh_serving.specs.Conversations.{IsAt, IsQuiet, pending};
 ghost use Rattle.lh_subcommands.specs.Devices.{TakesBeginning};
 ghost use Rattle.lh_subcommands.specs.Serve.{Breaks, EndsServing, EndsServingFrom, IsCutShort, IsTelling, IsUnopened};
 
-use crate::device::{WriteFailed, write_all};
-use crate::images::unreadable;
+use crate::device::write_all;
+use crate::input::unreadable;
 use crate::status::{DeviceFault, Status};
 use lh_addr::Config;
-use lh_image::{read_leading_image, write_image};
+use lh_image::{WriteFailed, read_leading_image, write_image};
 use lh_serving::Conversation;
 use std::alloc::{AllocError, Global};
 use std::io::{Read, Write};

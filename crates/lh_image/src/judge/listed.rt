@@ -17,7 +17,7 @@ use crate::judge::misplaced::least_misfit;
 use crate::judge::page_checks::PageFaults;
 use crate::reading::first_page::Header;
 use crate::reading::table::Table;
-use lh_bucket::{Listing, ListingFault};
+use lh_bucket::Listing;
 use std::alloc::Global;
 
 /// The chain of each bucket, or the first fault between the pages.
@@ -46,17 +46,6 @@ fn chains_of(alloc: Global, header: &Header, table: &Table) -> Result<Vec<Vec<u3
     }
 }
 
-/// Why the lists of an image were refused. They aren't for what they hold, which is shown where they are made.
-fn refusal_of(fault: ListingFault) -> ImageFault
-    ensures memory { fault ≡ ListingFault.Memory → result ≡ ImageFault.Memory }
-    ensures late { IsLate result }
-{
-    match fault {
-        ListingFault::Memory => ImageFault::Memory,
-        _ => ImageFault::Misfit(0),
-    }
-}
-
 /// The listing of a file of the right size, or its first fault.
 pub(crate) fn listing_of_pages(
     alloc: Global,
@@ -76,14 +65,14 @@ pub(crate) fn listing_of_pages(
     let chains = chains_of(alloc, header, table)?;
     faults.of_slots()?;
     let lists = lists_of(alloc, table, &chains)?;
-    let refused = match Listing::new(alloc, header.config, header.buckets, lists) {
-        Ok(listing) => return Ok(listing),
-        Err(refused) => refused,
-    };
-    // The lists have no fault where the records have none; of those that have one the least page is answered.
+    if let Ok(listing) = Listing::new(alloc, header.config, header.buckets, lists) {
+        return Ok(listing);
+    }
+    // Of the pages with a record at fault the least is answered.
     let root = header.config.root(header.buckets);
     match least_misfit(alloc, &root, table, &chains)? {
         Some(page) => Err(ImageFault::Misfit(page)),
-        None => Err(refusal_of(refused)),
+        // Lists without a fault are refused for want of memory alone.
+        None => Err(ImageFault::Memory),
     }
 }

@@ -14,6 +14,6 @@ returns c =
     ∙ ap (λ (n : ℕ). left n (column_count n)) c.buckets-buckets.ensures.value in
     let width_is : c.max.result ≡ max (left buckets (column_count buckets)) 600 =
     c.max.ensures ∙ ap (λ (n : ℕ). max n 600) left_is in
-    let floor_is : c.floor_of.result ≡ floor_of (whole_tally c.args.listing.now).longest =
-    c.floor_of.ensures.value ∙ ap floor_of c.requires in
+    let floor_is : c.from.result ≡ floor_of (whole_tally c.args.listing.now).longest =
+    c.from.ensures ∙ (c.floor_of.ensures.value ∙ ap floor_of c.requires) in
     λ i. record { width = 48 + width_is i; height = floor_is i + 56 }

@@ -3,6 +3,7 @@ use Rattle.std.specs.Prelude.{min}
 use Rattle.lh_bucket.specs.Listing.{list_at, size}
 use Rattle.lh_draw.specs.Columns.{bar_width, left}
 use Rattle.lh_draw.specs.Drawing.{page_bar, part_of}
+use Rattle.lh_draw.specs.Sizes.{page_height, page_step}
 use Rattle.lh_draw.proofs.ColumnPlaces.{column_each}
 use Rattle.lh_draw.proofs.columns.page_bar.Goals as goal
 
@@ -29,15 +30,16 @@ returns c =
     min (length (list_at l.lists c.args.bucket) - l.config.capacity * c.args.page) l.config.capacity =
     c.min.ensures ∙ (λ i. min (behind_is i) (capacity_is i)) in
     let part_is : c.part_of.result ≡
-    part_of 36 (min (length (list_at l.lists c.args.bucket) - l.config.capacity * c.args.page) l.config.capacity)
+    part_of page_height
+    (min (length (list_at l.lists c.args.bucket) - l.config.capacity * c.args.page) l.config.capacity)
     l.config.capacity =
-    c.part_of.ensures ∙ (λ i. part_of 36 (used_is i) (capacity_is i)) in
+    c.part_of.ensures ∙ (λ i. part_of page_height (used_is i) (capacity_is i)) in
     λ i.
     record {
       left = left_is i;
-      foot = 40 * c.args.page;
+      foot = page_step * c.args.page;
       width = width_is i;
-      height = 36;
+      height = page_height;
       used = part_is i;
       is_next = c.is_next_level.ensures i;
     }

@@ -5,6 +5,7 @@ use Rattle.lh_bucket.specs.Listing.{list_at}
 use Rattle.lh_draw.specs.Columns.{chain_length}
 use Rattle.lh_draw.specs.Drawing.{chain_text}
 use Rattle.lh_draw.specs.DrawingTexts.{bar_text, more_text}
+use Rattle.lh_draw.specs.Sizes.{most_drawn}
 use Rattle.lh_subcommands.proofs.Sending.{on_err, on_err_weaker}
 use Rattle.lh_subcommands.proofs.Turns.{part_sent, part_stopped, stops_longer, turn_begins, turn_ends, turn_goes_on}
 use Rattle.lh_subcommands.proofs.Turns.{turn_stops}
@@ -22,7 +23,7 @@ pub returns-in_err-put-clause-err : goal.returns-in_err-put-clause-err
 unfolding chain_text
 returns-in_err-put-clause-err g c before sent h =
     let l = c.args.listing.now in
-    let shown : c.loop-page.page < min (chain_length l.config.capacity (list_at l.lists c.args.bucket)) 24 =
+    let shown : c.loop-page.page < min (chain_length l.config.capacity (list_at l.lists c.args.bucket)) most_drawn =
     omega (arith, c.loop-page-test.true, c.min-pages.ensures, c.chain_length.ensures.value) in
     on_err c.from_residual.result
     (stops_longer before _ sent _ _
@@ -33,7 +34,7 @@ pub returns-clause-ok : goal.returns-clause-ok
 unfolding chain_text
 returns-clause-ok g c before sent h =
     let l = c.args.listing.now in
-    let all : c.loop-page.page ≡ min (chain_length l.config.capacity (list_at l.lists c.args.bucket)) 24 =
+    let all : c.loop-page.page ≡ min (chain_length l.config.capacity (list_at l.lists c.args.bucket)) most_drawn =
     omega (
       arith,
       c.loop-page-test.false,
@@ -48,7 +49,7 @@ pub returns-clause-err : goal.returns-clause-err
 unfolding chain_text
 returns-clause-err g c before sent h =
     let l = c.args.listing.now in
-    let all : c.loop-page.page ≡ min (chain_length l.config.capacity (list_at l.lists c.args.bucket)) 24 =
+    let all : c.loop-page.page ≡ min (chain_length l.config.capacity (list_at l.lists c.args.bucket)) most_drawn =
     omega (
       arith,
       c.loop-page-test.false,

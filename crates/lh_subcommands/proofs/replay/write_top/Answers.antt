@@ -1,7 +1,8 @@
 use Rattle.std.proofs.Common.{◌≡◌, ◌<◌, refl, ap, arith}
+use Rattle.lh_draw.specs.DrawingTexts.{canvas_text}
 use Rattle.lh_replay.specs.Lanes.{lane_count}
 use Rattle.lh_replay.specs.Picture.{top_text}
-use Rattle.lh_replay.specs.PictureTexts.{heading_text, picture_canvas_text, picture_caption_text}
+use Rattle.lh_replay.specs.PictureTexts.{heading_text, picture_caption_text}
 use Rattle.lh_subcommands.proofs.Sending.{on_err}
 use Rattle.lh_subcommands.proofs.Turns.{part_sent, part_stopped, stops_longer, text_sent, text_stopped, turn_begins}
 use Rattle.lh_subcommands.proofs.Turns.{turn_ends, turn_goes_on, turn_stops}
@@ -13,14 +14,14 @@ returns-in_err-put-clause-err g c before sent h =
     on_err c.from_residual.result
     (stops_longer before _ sent _ _
     (stops_longer before _ sent _ _
-    (text_stopped before _ sent _ _ (ap picture_canvas_text c.canvas_of.ensures)
+    (text_stopped before _ sent _ _ (ap canvas_text c.canvas_of.ensures)
     (c.in_err-put.ensures.err before sent h))))
 
 pub returns-in_err-put-2-clause-err : goal.returns-in_err-put-2-clause-err
 unfolding top_text
 returns-in_err-put-2-clause-err g c before sent h =
     let canvas =
-    text_sent before _ _ sent _ _ (ap picture_canvas_text c.canvas_of.ensures)
+    text_sent before _ _ sent _ _ (ap canvas_text c.canvas_of.ensures)
     (c.in_ok-put.ensures.ok before sent h) in
     on_err c.from_residual-in_err-put-2.result
     (stops_longer before _ sent _ _
@@ -30,7 +31,7 @@ returns-in_err-put-2-clause-err g c before sent h =
 pub loop-lane-init : goal.loop-lane-init
 loop-lane-init g c before sent h =
     let canvas =
-    text_sent before _ _ sent _ _ (ap picture_canvas_text c.canvas_of.ensures)
+    text_sent before _ _ sent _ _ (ap canvas_text c.canvas_of.ensures)
     (c.in_ok-put.ensures.ok before sent h) in
     turn_begins before _ _ _ _
     (part_sent before _ _ sent _ _ _ (ap picture_caption_text c.caption_of.ensures)

@@ -18,7 +18,6 @@ use Rattle.lh_image.proofs.Judging.AtHome.{none_misfit}
 use Rattle.lh_image.proofs.Judging.Closing.{AreChains, misfit_is, misfit_told, read_whole, listing_is}
 use Rattle.lh_image.proofs.Judging.Judging.{heads_told, links_told, slots_told}
 use Rattle.lh_image.proofs.Judging.Last.{AreFine, covered}
-use Rattle.lh_image.proofs.Judging.Refusals.{lists_refused}
 use Rattle.lh_image.proofs.judge.listed.listing_of_pages.Goals as goal
 
 -- the links and the chains of what was kept are those of the View
@@ -123,32 +122,3 @@ returns-in-Some-clause-exact c v same kept =
     misfit_is v entries c.args.table.now.pairs.items c.args.faults.now fine c.root-root.result
     c.in_ok-chains.chains.items c.in_ok-page.field-0 (rw same c.root-root.ensures.value) chains found in
     misfit_told v entries c.args.table.now.pairs.items c.args.faults.now fine c.in-Some.page (misfit ∙ c.in-Some.is)
-
-pub returns-clause-exact : goal.returns-clause-exact
-returns-clause-exact c v same kept =
-    let entries : List Entry = c.args.table.now.entries.items in
-    let linked = links_are v entries c.args.header.now c.args.table.now.pairs.items c.args.faults.now same kept in
-    let fine : AreFine v entries c.args.table.now.pairs.items c.args.faults.now = record {
-      some = rw same (omega (arith, c.requires.in_range.enough));
-      kept = kept;
-      heads = rw same c.in_ok-of_heads.ensures.fault;
-      linked = links_fine linked c.in_ok-chains.ensures.faultless;
-      slots = c.in_ok-of_slots.ensures.fault;
-    } in
-    let found = rw c.deref-2.ensures.value at c.in_ok-page.ensures.least in
-    let filled = rw c.deref.ensures.value at c.in_ok-lists.ensures.ok in
-    let chains =
-    chains_are v (links_in entries c.args.header.now.buckets) c.in_ok-chains.chains.items linked
-    c.in_ok-chains.ensures.chains in
-    let none =
-    misfit_is v entries c.args.table.now.pairs.items c.args.faults.now fine c.root-root.result
-    c.in_ok-chains.chains.items c.in_ok-page.field-0 (rw same c.root-root.ensures.value) chains found
-    ∙ c.in-None.is in
-    let lists : List (List Pair) = map (λ (v : Vec Pair Global). v.items) c.in_ok-lists.lists.items in
-    let made =
-    listing_is v entries c.args.table.now.pairs.items c.args.faults.now fine c.in_ok-chains.chains.items lists
-    chains filled in
-    let memory =
-    lists_refused v lists c.in-Err.refused (covered v entries c.args.table.now.pairs.items c.args.faults.now fine)
-    (rw same c.requires.in_range) none (ap (λ (l : Lists). l.lists) made) (rw same c.in-Err.ensures.err) in
-    rw (c.refusal_of.ensures.memory memory) tt

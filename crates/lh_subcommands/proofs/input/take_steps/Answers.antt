@@ -1,5 +1,5 @@
 use Rattle.std.proofs.Common.{rules}
-use Rattle.lh_subcommands.proofs.answer.take_steps.Goals as goal
+use Rattle.lh_subcommands.proofs.input.take_steps.Goals as goal
 
 pub returns : goal.returns
 returns g c = record {

@@ -1,12 +1,12 @@
 use Rattle.std.proofs.Common.{◌≤◌, length, take, ◌-◌}
 use Rattle.std.specs.Io.KnownBytes.{Appends}
-use Rattle.lh_image.proofs.writing.sending.write_page.Given as goal
+use Rattle.lh_image.proofs.writing.sending.send_all.Given as goal
 
 abbrev pub invariant-loop-done : goal.invariant-loop-done
 invariant-loop-done g l = record {
-  written : Appends (g.W.Write.contents l.fn.writer) (g.W.Write.contents l.writer) (take l.done l.page);
-  bound : l.done ≤ length l.page;
+  written : Appends (g.W.Write.contents l.fn.writer) (g.W.Write.contents l.writer) (take l.done l.bytes);
+  bound : l.done ≤ length l.bytes;
 }
 
 abbrev pub decreases-loop-done : goal.decreases-loop-done
-decreases-loop-done g l = length l.page - l.done
+decreases-loop-done g l = length l.bytes - l.done
