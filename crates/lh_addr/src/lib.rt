@@ -20,5 +20,5 @@ pub use aim::Aim;
 pub use config::{Config, Range};
 pub use fnv::fnv1a;
 pub use hash::hash_at;
-pub use root::Root;
+pub use root::{Root, level_of_size};
 pub use root_word::RootWord;

@@ -1,6 +1,8 @@
 //! The root of a file: how far it has grown, and what follows of addresses and levels.
 ghost use Rattle.std.specs.Prelude.{◌≡◌, ◌+◌, ◌*◌, ◌<◌, ◌≤◌, ◌↔◌, ◌^◌, IsSome, IfSome};
+ghost use Rattle.lh_addr.specs.Extent.{IsExtent};
 ghost use Rattle.lh_addr.specs.Limits.{most_buckets};
+ghost use Rattle.lh_addr.specs.Root.{StoresLevel};
 
 use crate::aim::Aim;
 use crate::config::Config;
@@ -44,6 +46,23 @@ impl Model for Root {
         (sym h.level_is) };
 }
 
+/// The level of a file that began with `initial` buckets and has `buckets` of them: how often all that it began with have
+/// been split. `initial` is 1 to 256, and `buckets` is `initial` to 65,536.
+// The logarithm of a quotient is the difference of the logarithms, or one less: no division is needed, for which each call
+// would wait.
+#[inline]
+pub fn level_of_size(initial: u32, buckets: u32) -> u8
+    requires { IsExtent (record { initial = initial; buckets = buckets }) }
+    ensures { StoresLevel (record { initial = initial; buckets = buckets }) result }
+{
+    let most = buckets.ilog2() - initial.ilog2();
+    if buckets < initial << most {
+        (most - 1) as u8
+    } else {
+        most as u8
+    }
+}
+
 impl Root {
     ghost use Rattle.lh_addr.specs.Extent.{IsExtent};
     ghost use Rattle.lh_addr.specs.Growth.{level, pointer, address, level_of};
@@ -68,11 +87,10 @@ impl Root {
         requires { IsExtent (record { initial = initial; buckets = buckets }) }
         ensures { result ≡ record { initial = initial; buckets = buckets } }
     {
-        let level = (buckets / initial).ilog2() as u8;
         Root {
             initial,
             buckets,
-            level,
+            level: level_of_size(initial, buckets),
         }
     }
 
