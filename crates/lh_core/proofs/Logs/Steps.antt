@@ -1,5 +1,5 @@
 -- Steps that were accepted, and the workers that they leave alone
-use Rattle.std.proofs.Common.{◌≡◌, ℕ, ◌<◌, ◌≢◌, Bool, true, false, cond, List, Option, Some, None, Result, Ok, Err}
+use Rattle.std.proofs.Common.{◌≡◌, ℕ, ◌<◌, ◌≢◌, true, false, cond, List, Some}
 use Rattle.std.proofs.Common.{length, set, nat_eq, sym, ap, subst, ◌∙◌, arith, eq-eqb, refl}
 use Rattle.std.specs.Prelude.{slice_get}
 use Rattle.std.specs.List.{All}
@@ -10,9 +10,6 @@ use Rattle.lh_core.specs.declared.effect.Effect.{Effect}
 use Rattle.lh_core.specs.declared.effect.Effect.TheVariants as effect
 use Rattle.lh_core.specs.declared.event.Event.{Event}
 use Rattle.lh_core.specs.declared.event.Event.TheVariants as event
-use Rattle.lh_core.specs.declared.state.WorkerState.{WorkerState}
-use Rattle.lh_core.specs.State.{State, with_worker}
-use Rattle.lh_core.specs.Rules.{WorkerStep, put, put_at}
 use Rattle.lh_core.specs.History.{outline}
 use Rattle.lh_core.specs.StepLaws.{some_same, told}
 
