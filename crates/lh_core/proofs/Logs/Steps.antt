@@ -11,7 +11,7 @@ use Rattle.lh_core.specs.declared.effect.Effect.TheVariants as effect
 use Rattle.lh_core.specs.declared.event.Event.{Event}
 use Rattle.lh_core.specs.declared.event.Event.TheVariants as event
 use Rattle.lh_core.specs.History.{outline}
-use Rattle.lh_core.specs.StepLaws.{some_same, told}
+use Rattle.lh_core.specs.StepLaws.{some_same}
 
 -- an effect that isn't a reply is the one told
 pub outlined : (f g : Effect) → Some g ≡ outline f → f ≡ g
