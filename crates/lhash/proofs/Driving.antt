@@ -15,7 +15,7 @@ use Rattle.lh_settling.specs.ClosedFile.{ClosedFile}
 use Rattle.lh_settling.specs.Settled.{IsHistory, IsSettled}
 use Rattle.lh_settling.specs.declared.act.ActLine.{ActLine}
 use Rattle.lh_settling.specs.declared.settle_fault.SettleFault.TheVariants as settle
-use Rattle.lh_file.specs.Closing.{NoneLent, HasHistory}
+use Rattle.lh_file.specs.Closing.{NoneOutside, HasHistory}
 use Rattle.lh_file.specs.FileState.{FileState}
 use Rattle.lh_file.specs.History.Log.{lines_of}
 use Rattle.lh_file.specs.Snapshots.Settled.{BeforeLaw, IsSettledFirst, SnapshotLaw}
@@ -203,7 +203,7 @@ snapshot_fault settings closed acts history taken Memory is settled configs know
 pub all_settled : SnapshotLaw →
     (file : FileState) (opening : Lists) (closed : ClosedFile) (acts : List ActLine) (hand : HandState)
     (taken : List ClosedFile) → file.listing ≡ opening →
-    HasHistory file.listing closed acts hand → hand.view.left + length hand.acts ≡ 2 ^ 63 → NoneLent hand.entries →
+    HasHistory file.listing closed acts hand → hand.view.left + length hand.acts ≡ 2 ^ 63 → NoneOutside hand.entries →
     All (HasTakenOne file hand) taken → AreSettled opening closed acts taken
 all_settled law file opening closed acts hand taken from held full none each =
     let own = (held.2 full none).0 in

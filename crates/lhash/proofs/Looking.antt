@@ -4,7 +4,7 @@ use Rattle.std.specs.Prelude.{Contains}
 use Rattle.std.proofs.lemmas.List.Elements.{All-weaker, All-push, Contains-append_left, Contains-append_right}
 use Rattle.std.proofs.lemmas.List.Elements.{Contains-push}
 use Rattle.lh_settling.specs.ClosedFile.{ClosedFile}
-use Rattle.lh_file.specs.Closing.{NoneLent}
+use Rattle.lh_file.specs.Closing.{NoneOutside}
 use Rattle.lh_file.specs.FileState.{FileState, IsOf}
 use Rattle.lh_file.specs.History.Own.{IsOwn, share_of}
 use Rattle.lh_file.specs.Snapshots.Hands.{HasSurveyed}
@@ -32,7 +32,7 @@ looked : (file : FileState) (first old new same : HandState) → new ≡ same �
     share_of same ≡ share_of old → KnowsOf old same → IsOf file new → HasLookedOn file first old →
     HasLookedOn file first new
 looked file first old new same is entries acts share knows of k = record {
-  own = record { of = of; own = subst NoneLent (sym (ap (λ (h : HandState). h.entries) is ∙ entries)) k.own.own };
+  own = record { of = of; own = subst NoneOutside (sym (ap (λ (h : HandState). h.entries) is ∙ entries)) k.own.own };
   acts = ap (λ (h : HandState). h.acts) is ∙ acts ∙ k.acts;
   share = ap share_of is ∙ share ∙ k.share;
   knows = λ log in_first. subst (λ (h : HandState). Contains h.logs log) (sym is) (knows log (k.knows log in_first));
