@@ -5,7 +5,7 @@ use std::sync::atomic::{AtomicU64, Ordering};
 use std::thread;
 
 /// How many turns a wait may take before its test fails.
-const TURNS: u32 = 1_000_000;
+const TURNS: u32 = 10_000_000;
 
 /// How many turns something that may not happen is given to happen.
 const REST: u32 = 10_000;
