@@ -46,10 +46,10 @@ impl Model for Root {
         (sym h.level_is) };
 }
 
-/// The level of a file that began with `initial` buckets and has `buckets` of them: how often all that it began with have
-/// been split. `initial` is 1 to 256, and `buckets` is `initial` to 65,536.
-// The logarithm of a quotient is the difference of the logarithms, or one less: no division is needed, for which each call
-// would wait.
+/// The level of a file that began with `initial` buckets and has `buckets` of them: how often all that it began with
+/// have been split. `initial` is 1 to 256, and `buckets` is `initial` to 65,536.
+// The logarithm of a quotient is the difference of the logarithms, or one less: no division is needed, for which each
+// call would wait.
 #[inline]
 pub fn level_of_size(initial: u32, buckets: u32) -> u8
     requires { IsExtent (record { initial = initial; buckets = buckets }) }

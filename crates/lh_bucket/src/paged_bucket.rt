@@ -217,7 +217,8 @@ fn replace_in(chain: &mut Chain, key: &Key, value: &Value) -> ChangeReply
 #[inline(always)]
 fn change_at(chain: &mut Chain, change: Change<'_>) -> Result<ChangeReply, Memory>
     ensures reply { IfOk result (λ r. reply_of r ≡ reply (map_of chain.old.pairs) (call_of change.entry)) }
-    ensures list { OnOk result (chain.new ≡ record chain.old { pairs = served chain.old.pairs (call_of change.entry) }) }
+    ensures list { OnOk result (chain.new
+        ≡ record chain.old { pairs = served chain.old.pairs (call_of change.entry) }) }
     ensures no_memory { ¬ (IsInsert (call_of change.entry)) → IsOk result }
     ensures new_key { OnErr result (reply (map_of chain.old.pairs) (call_of change.entry) ≡ Inserted) }
     ensures err { OnErr result (chain.new ≡ chain.old) }

@@ -109,7 +109,8 @@ fn change_at(records: &mut BTreeMap<Key, Value>, change: Change<'_>) -> Result<C
         ≡ after (map_of (pairs_of_entries records.old.entries)) (call_of change.entry)) }
     ensures ordered { IsOrdered (slice_cmp nat_cmp) records.new }
     ensures no_memory { ¬ (IsInsert (call_of change.entry)) → IsOk result }
-    ensures new_key { OnErr result (reply (map_of (pairs_of_entries records.old.entries)) (call_of change.entry) ≡ Inserted) }
+    ensures new_key { OnErr result (reply (map_of (pairs_of_entries records.old.entries)) (call_of change.entry)
+        ≡ Inserted) }
     ensures err { OnErr result (records.new.entries ≡ records.old.entries) }
 {
     match change {

@@ -121,7 +121,8 @@ pub fn legend_of(listing: &Listing) -> Legend
 pub fn page_bar(listing: &Listing, bucket: u32, page: u32) -> Bar
     requires few { size listing.now ≤ 128 }
     requires bucket { bucket < size listing.now }
-    requires page { page < min most_drawn (chain_length listing.now.config.capacity (list_at listing.now.lists bucket)) }
+    requires page { page
+        < min most_drawn (chain_length listing.now.config.capacity (list_at listing.now.lists bucket)) }
     ensures { result ≡ page_bar listing.now bucket page }
 {
     let buckets = listing.buckets();

@@ -193,7 +193,8 @@ fn write_version<W: Write>(
 
 /// How many bytes the image of version 2 of a listing has, where it isn't too large for one.
 pub fn image_len(listing: &Listing) -> Result<u64, WriteImageFault>
-    ensures ok { IfOk result (λ n. FitsImage Version.Two listing.now × (n ≡ length (canonical Version.Two listing.now))) }
+    ensures ok { IfOk result (λ n. FitsImage Version.Two listing.now
+        × (n ≡ length (canonical Version.Two listing.now))) }
     ensures err { IfErr result (IsWriteRefusal Version.Two listing.now) }
     ensures not_old { IfErr result IsNotOld }
 {

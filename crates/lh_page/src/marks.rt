@@ -35,7 +35,8 @@ pub fn put_mark(marks: &mut [u8; MARKED], place: usize, key: &Key)
 /// Marks the record that has moved from the last place to this one, where one stands there and its mark has room.
 pub fn move_mark(marks: &mut [u8; MARKED], pairs: &RecordList, place: usize, last: usize)
     requires order { place ≤ last }
-    requires moved { last < MARKED → place < length pairs.now → slice_index marks.old last ≡ mark_of (key_at pairs.now place) }
+    requires moved { last < MARKED → place < length pairs.now →
+        slice_index marks.old last ≡ mark_of (key_at pairs.now place) }
     ensures { IsMarkedAt marks.old marks.new pairs.now place }
 {
     if last < MARKED {

@@ -102,8 +102,8 @@ impl From<Memory> for OpenFault {
     }
 }
 
-/// Why the listings of closed shards are not there: the fault that the closed file of this shard, the first such one, has as
-/// a listing.
+/// Why the listings of closed shards are not there: the fault that the closed file of this shard, the first such one,
+/// has as a listing.
 #[derive(Clone, Copy, Debug, PartialEq, Eq, Error)]
 #[error("shard {shard}: {fault}")]
 pub struct ListingsFault {

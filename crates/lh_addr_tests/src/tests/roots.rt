@@ -1,5 +1,5 @@
 //! Roots, addresses and aims.
-use lh_addr::{Aim, Config, Root, fnv1a, hash_at};
+use lh_addr::{Aim, Config, Root, fnv1a, hash_at, level_of_size};
 use std::test::Fail;
 
 #[test]
@@ -24,6 +24,22 @@ fn root_of_three_buckets(rt: HostRuntime) -> Result<(), Fail> {
     assert_eq!(rt; root.level_of(2), 2);
     assert_eq!(rt; root.next_split(), (1, 3, 2));
     assert_eq!(rt; Root::new(2, 2).ok_or("root")?.next_split(), (0, 2, 1));
+    Ok(())
+}
+
+#[test]
+fn a_level_rises_when_all_buckets_have_doubled(rt: HostRuntime) -> Result<(), Fail> {
+    assert_eq!(rt; level_of_size(1, 1), 0);
+    assert_eq!(rt; level_of_size(1, 3), 1);
+    assert_eq!(rt; level_of_size(1, 4), 2);
+    assert_eq!(rt; level_of_size(3, 5), 0);
+    assert_eq!(rt; level_of_size(3, 6), 1);
+    assert_eq!(rt; level_of_size(3, 11), 1);
+    assert_eq!(rt; level_of_size(3, 12), 2);
+    assert_eq!(rt; level_of_size(255, 65_279), 7);
+    assert_eq!(rt; level_of_size(255, 65_280), 8);
+    assert_eq!(rt; level_of_size(256, 65_536), 8);
+    assert_eq!(rt; level_of_size(1, 65_536), 16);
     Ok(())
 }
 

@@ -155,7 +155,8 @@ impl Scan {
         requires initial { self.old.initial ≡ file.now.state.config.initial }
         requires of { IsOf file.now.state hand.old }
         requires callable { F.IsAlwaysCallable f }
-        ensures called { (copies : List BucketCopyOf) × (last : F) × FoldsTo (λ p copy q. F.step p copy tt q) f copies last
+        ensures called { (copies : List BucketCopyOf) × (last : F)
+            × FoldsTo (λ p copy q. F.step p copy tt q) f copies last
             × HasScanned M.traced file.now.state self.old hand.old copies self.new hand.new }
         ensures initial { self.new.initial ≡ self.old.initial }
         ensures end { OnOk result (self.new.aims ≡ []) }
