@@ -1,6 +1,7 @@
 //! What no contract says: worked examples, hands on threads, calls that are held at a point, and
 //! growth that is refused.
 mod closed_files;
+mod coded;
 mod crew;
 mod crowd;
 mod ended;

@@ -99,6 +99,37 @@ fn answers_tell_all(rt: HostRuntime) -> Result<(), Fail> {
 }
 
 #[test]
+fn answers_take_a_key_with_its_code(rt: HostRuntime) -> Result<(), Fail> {
+    let (shards, mut hands) = shards_of(rt.alloc(), 3)?;
+    let (key, value) = (Key::new(b"key")?, Value::new(b"value")?);
+    let coded = CodedKey::new(key);
+    assert_eq!(rt;
+        shards.insert(&rt, &mut hands, coded, value)?.reply(),
+        Reply::Inserted
+    );
+    assert_eq!(rt;
+        shards.search(&rt, &mut hands, key)?.reply(),
+        Reply::Found(value)
+    );
+    assert_eq!(rt;
+        shards
+            .replace(&rt, &mut hands, coded, Value::empty())?
+            .reply(),
+        Reply::Replaced
+    );
+    assert_eq!(rt;
+        shards.search(&rt, &mut hands, coded)?.reply(),
+        Reply::Found(Value::empty())
+    );
+    assert_eq!(rt;
+        shards.delete(&rt, &mut hands, coded)?.reply(),
+        Reply::Deleted
+    );
+    assert_eq!(rt; shards.search(&rt, &mut hands, key)?.reply(), Reply::Absent);
+    Ok(())
+}
+
+#[test]
 fn a_hand_that_has_too_few_calls_is_named(rt: HostRuntime) -> Result<(), Fail> {
     let (shards, mut hands) = shards_of(rt.alloc(), 4)?;
     let mut few = shards.split_hands(&mut hands, 10)?;
