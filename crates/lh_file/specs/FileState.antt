@@ -7,10 +7,11 @@ use Rattle.lh_bucket.specs.Listing.{Lists}
 use Rattle.lh_file.specs.Words.HandState.{HandState}
 use Rattle.lh_file.specs.Words.Views.{first_view}
 
--- the table of its words, its configuration, whether acts are recorded, how many records it was opened
--- with, and the listing that it was opened from
+-- the table of its words, which shard it is, its configuration, whether acts are recorded, how many records it was
+-- opened with, and the listing that it was opened from
 pub record FileState : Type 0 where
   pub table : TableId
+  pub shard : ℕ
   pub config : Settings
   pub recording : Bool
   pub opening : ℕ

@@ -43,7 +43,7 @@ impl Copies {
         slot: &Slot<J>,
     ) -> Result<(), Memory>
         requires at { seat.old.table_id ≡ words.now.table }
-        requires brand { M.traced ≡ true → words.now.table ≡ J.table }
+        requires brand { M.traced ≡ true → words.now.table ≡ J.tables words.now.shard }
         requires few { length self.old.lists.items < 2 ^ 32 - 1 }
         requires before { AreGathered seat.old.me.0.parts
             (map (λ v. v.items) self.old.lists.items) self.old.whole self.old.clean }
@@ -75,7 +75,7 @@ impl<J: FileBrand> Segments<J> {
         buckets: u32,
     ) -> Result<Copies, Memory>
         requires at { seat.old.table_id ≡ words.now.table }
-        requires brand { M.traced ≡ true → words.now.table ≡ J.table }
+        requires brand { M.traced ≡ true → words.now.table ≡ J.tables words.now.shard }
         requires bucketless { seat.old.me.0.parts ≡ [] }
         ensures few { IfOk result (λ copies. length copies.lists.items ≤ self.now.config.max) }
         ensures at { seat.new.table_id ≡ seat.old.table_id }

@@ -37,13 +37,15 @@ use std::alloc::Global;
 use std::marker::Model;
 
 /// A running file but for its buckets: the words under their rule, the configuration, whether acts are
-/// recorded, and how many records the file was opened with. `M` says whether the file's history is traced.
+/// recorded, how many records the file was opened with, and which shard it is. `M` says whether the file's history is
+/// traced.
 #[derive(Drop)]
 pub struct Words<M: Mode = Untraced> {
     pub(crate) table: Table<(), SeatView, Listing, RunningRule<M>, Global>,
     pub(crate) config: Config,
     pub(crate) recording: bool,
     pub(crate) opening: u64,
+    pub(crate) shard: u32,
     pub(crate) alloc: Global,
 }
 
@@ -109,7 +111,7 @@ impl Words {
     ) -> Result<(Words, Hand), Memory>
         ensures { IfOk result (λ made. IsOpened listing.now.config (size listing.now) recording records made.0 made.1) }
     {
-        let (file, seat) = Words::begun(alloc, listing, recording, records)?;
+        let (file, seat) = Words::begun(alloc, listing, recording, records, 0)?;
         let hand = file.first_hand(seat, listing);
         Ok((file, hand))
     }

@@ -8,25 +8,32 @@ use crate::closed::ClosedShards;
 use crate::closed_shard::ClosedShard;
 use crate::hands::Hands;
 use crate::shards::Shards;
-use lh_file::{Hand, HashFile, Memory, NoGate};
+use lh_file::{FileBrand, Hand, HashFile, Memory, Mode, NoGate};
 use std::sync::Wait;
 
 /// Closes one file by its hand.
-fn close_shard<R: Wait>(rt: &R, file: HashFile<NoGate>, hand: Hand) -> Result<ClosedShard, Memory>
+fn close_shard<M: Mode, J: FileBrand, R: Wait>(
+    rt: &R,
+    file: HashFile<NoGate, M, J>,
+    hand: Hand,
+) -> Result<ClosedShard, Memory>
     requires { IsOf file.state hand }
-    ensures { IfOk result (IsClosedBy file.state hand) }
+    ensures { IfOk result (IsClosedBy M.traced file.state hand) }
 {
     let (closed, acts) = file.close(rt, hand)?;
     Ok(ClosedShard { closed, acts })
 }
 
-impl Shards {
+impl<M: Mode, J: FileBrand> Shards<M, J> {
     /// Closes all files, each by the hand of its shard: how far each has grown, with the records of its buckets, and
     /// the acts of that hand. Hands that were not joined into these are lost with their acts. Without memory for the
     /// records, the files and the hands are gone.
+    ///
+    /// What was done with each file of traced shards is one legal history, as
+    /// [`HashFile::close`](lh_file::HashFile::close) says of it.
     pub fn close<R: Wait>(self, rt: &R, hands: Hands) -> Result<ClosedShards, Memory>
         requires { AreOf self hands }
-        ensures { IfOk result (AreClosedBy self hands) }
+        ensures { IfOk result (AreClosedBy M.traced self hands) }
     {
         let count = self.count() as usize;
         let Shards { files } = self;

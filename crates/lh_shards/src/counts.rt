@@ -5,7 +5,7 @@ ghost use Rattle.lh_shards.specs.Hands.{AreOf};
 
 use crate::hands::Hands;
 use crate::shards::Shards;
-use lh_file::Load;
+use lh_file::{FileBrand, Load, Mode};
 
 /// What two loads say together.
 fn added(first: Load, second: Load) -> Load
@@ -22,7 +22,7 @@ fn added(first: Load, second: Load) -> Load
     }
 }
 
-impl Shards {
+impl<M: Mode, J: FileBrand> Shards<M, J> {
     /// The number of buckets of all shards: what each file answers to its hand, one after another. While other hands
     /// work it may be a number that the shards never had at one time.
     pub fn buckets(&self, hands: &mut Hands) -> u64

@@ -7,17 +7,20 @@ use crate::fault::CreateFault;
 use crate::hands::Hands;
 use crate::number::{MOST_SHARDS, shard_of};
 use lh_addr::Config;
-use lh_file::{HashFile, Memory, NoGate};
+use lh_file::{FileBrand, HashFile, Memory, Mode, NoGate, Unbranded, Untraced};
 use std::alloc::Global;
 use std::marker::Model;
 
 /// Several files as one table. Threads share them, and each takes part with [`Hands`] of its own.
+///
+/// `M` says whether the histories of the files are traced, and `J` names the tables of traced ones, as for a
+/// [`HashFile`]. Shards whose type says neither are untraced.
 #[derive(Drop)]
-pub struct Shards {
-    pub(crate) files: Vec<HashFile<NoGate>>,
+pub struct Shards<M: Mode = Untraced, J: FileBrand = Unbranded> {
+    pub(crate) files: Vec<HashFile<NoGate, M, J>>,
 }
 
-impl Model for Shards {
+impl<M: Mode, J: FileBrand> Model for Shards<M, J> {
     ghost use Rattle.std.specs.Prelude.{List, length, map};
     ghost use Rattle.lh_file.specs.FileState.{FileState};
     ghost use Rattle.lh_shards.specs.Hands.{IsCount};
@@ -67,6 +70,9 @@ impl Shards {
         Ok((Shards { files }, Hands { hands }))
     }
 
+}
+
+impl<M: Mode, J: FileBrand> Shards<M, J> {
     /// The number of shards.
     #[inline]
     pub fn count(&self) -> u32

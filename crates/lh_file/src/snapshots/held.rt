@@ -120,7 +120,7 @@ impl<M: Mode> Words<M> {
         guards: &[RwLockReadGuard<'_, Slot<J>>],
     ) -> usize
         requires at { seat.old.table_id ≡ self.now.table }
-        requires brand { self.now.table ≡ J.table }
+        requires brand { self.now.table ≡ J.tables self.now.shard }
         requires bucketless { seat.old.me.0.parts ≡ [] }
         ensures at { seat.new.table_id ≡ seat.old.table_id }
         ensures within { result ≤ length guards.now }
@@ -146,7 +146,7 @@ impl<M: Mode> Words<M> {
         guards: &[RwLockReadGuard<'_, Slot<J>>],
     )
         requires at { seat.old.table_id ≡ self.now.table }
-        requires brand { self.now.table ≡ J.table }
+        requires brand { self.now.table ≡ J.tables self.now.shard }
         requires parts { seat.old.me.0.parts ≡ map read_guard_value guards.now }
         ensures at { seat.new.table_id ≡ seat.old.table_id }
         ensures left { seat.new.me ≡ (partless seat.old.me.0, seat.old.me.1) }
@@ -165,7 +165,7 @@ impl<M: Mode> Words<M> {
         guards: &[RwLockReadGuard<'_, Slot<J>>],
     ) -> (u64, usize)
         requires at { seat.old.table_id ≡ self.now.table }
-        requires brand { M.traced ≡ true → self.now.table ≡ J.table }
+        requires brand { M.traced ≡ true → self.now.table ≡ J.tables self.now.shard }
         requires live { 0 < seat.old.me.0.view.initial }
         requires bucketless { seat.old.me.0.parts ≡ [] }
         ensures at { seat.new.table_id ≡ seat.old.table_id }

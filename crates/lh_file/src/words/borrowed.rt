@@ -14,7 +14,8 @@ impl<M: Mode> Words<M> {
     ghost use Rattle.lh_file.specs.Words.Dealing.{dealt_seat, first_bucket_of};
     ghost use Rattle.lh_file.specs.Words.Seats.{holder, with_token};
 
-    /// Takes in the seat of a bucket of a traced file, whose lock the caller has: whether the bucket has one.
+    /// Takes in the seat of a bucket of a traced file, whose lock the caller has: whether the bucket has one of this
+    /// file's.
     pub(crate) fn borrow_seat<J: FileBrand, R: Wait>(
         &self,
         rt: &R,
@@ -22,7 +23,7 @@ impl<M: Mode> Words<M> {
         slot: &Slot<J>,
     ) -> bool
         requires at { seat.old.table_id ≡ self.now.table }
-        requires brand { self.now.table ≡ J.table }
+        requires brand { self.now.table ≡ J.tables self.now.shard }
         ensures at { seat.new.table_id ≡ seat.old.table_id }
         ensures taken { result ≡ true → seat.new.me
             ≡ (with_token seat.old.me.0 (holder (slot.now ∷ [])), seat.old.me.1) }
@@ -30,21 +31,22 @@ impl<M: Mode> Words<M> {
     {
         let Slot {
             bucket,
-            perch,
+            seat: bucket_seat,
             brand: _,
         } = slot;
-        let Some(perch) = perch else {
-            return false;
-        };
-        let bucket_seat = taken(rt, perch);
-        self.take_in(seat, bucket_seat, bucket);
-        true
+        match bucket_seat {
+            Some(own) if own.shard == self.shard => {
+                self.take_in(seat, taken(rt, &own.perch), bucket);
+                true
+            }
+            _ => false,
+        }
     }
 
     /// Gives a bucket its seat back, the first of those that lie with this one.
     pub(crate) fn return_seat<J: FileBrand>(&self, seat: &mut Seat<(), SeatView>, slot: &Slot<J>)
         requires at { seat.old.table_id ≡ self.now.table }
-        requires brand { self.now.table ≡ J.table }
+        requires brand { self.now.table ≡ J.tables self.now.shard }
         requires first { first_bucket_of seat.old.me.0.parts ≡ slot.now ∷ [] }
         ensures at { seat.new.table_id ≡ seat.old.table_id }
         ensures left { seat.new.me ≡ (dealt_seat seat.old.me.0, seat.old.me.1) }
@@ -52,11 +54,13 @@ impl<M: Mode> Words<M> {
         let bucket_seat = self.deal_out(seat);
         let Slot {
             bucket: _,
-            perch,
+            seat: place,
             brand: _,
         } = slot;
-        if let Some(perch) = perch {
-            give_back(perch, bucket_seat);
+        match place {
+            Some(own) if own.shard == self.shard => give_back(&own.perch, bucket_seat),
+            // The seat was taken from this bucket.
+            _ => {}
         }
     }
 }

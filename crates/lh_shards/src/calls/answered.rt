@@ -1,18 +1,20 @@
 //! Calls that give an answer, which tells all: the call, its reply, and the bucket that gave it, by its number in the
 //! file of the key's shard.
+ghost use Rattle.std.specs.Prelude.{◌≡◌, true, false, IfOk};
 ghost use Rattle.lh_bucket.specs.declared.call.Call.TheVariants as call;
 ghost use Rattle.lh_file.specs.Calls.Served.{Serves};
+ghost use Rattle.lh_file.specs.History.Told.{HasEntered};
 ghost use Rattle.lh_shards.specs.Hands.{AreOf, AtShardOf};
 
 use crate::hands::Hands;
 use crate::known_key::KnownKey;
 use crate::shards::Shards;
 use lh_bucket::Answer;
-use lh_file::{Coded, FileFault};
+use lh_file::{Coded, FileBrand, FileFault, Mode};
 use lh_page::Value;
 use std::sync::Wait;
 
-impl Shards {
+impl<M: Mode, J: FileBrand> Shards<M, J> {
     /// Searches for a key: the answer's reply is the value, or that the key is absent.
     #[inline(always)]
     pub fn search<K: Coded + Copy, R: Wait>(
@@ -24,6 +26,8 @@ impl Shards {
         requires { AreOf self.now hands.old }
         ensures served { AtShardOf (K.bytes key) self.now hands.old hands.new (λ file before after.
             Serves file before (call.Search (K.bytes key)) result after) }
+        ensures entered { M.traced ≡ true → AtShardOf (K.bytes key) self.now hands.old hands.new (λ file before after.
+            IfOk result (λ a. HasEntered false before a.call a.reply after)) }
         ensures of { AreOf self.now hands.new }
     {
         let known = KnownKey::of(&key);
@@ -44,6 +48,8 @@ impl Shards {
         requires { AreOf self.now hands.old }
         ensures served { AtShardOf (K.bytes key) self.now hands.old hands.new (λ file before after.
             Serves file before (call.Insert (K.bytes key) value) result after) }
+        ensures entered { M.traced ≡ true → AtShardOf (K.bytes key) self.now hands.old hands.new (λ file before after.
+            IfOk result (λ a. HasEntered false before a.call a.reply after)) }
         ensures of { AreOf self.now hands.new }
     {
         let known = KnownKey::of(&key);
@@ -62,6 +68,8 @@ impl Shards {
         requires { AreOf self.now hands.old }
         ensures served { AtShardOf (K.bytes key) self.now hands.old hands.new (λ file before after.
             Serves file before (call.Delete (K.bytes key)) result after) }
+        ensures entered { M.traced ≡ true → AtShardOf (K.bytes key) self.now hands.old hands.new (λ file before after.
+            IfOk result (λ a. HasEntered false before a.call a.reply after)) }
         ensures of { AreOf self.now hands.new }
     {
         let known = KnownKey::of(&key);
@@ -81,6 +89,8 @@ impl Shards {
         requires { AreOf self.now hands.old }
         ensures served { AtShardOf (K.bytes key) self.now hands.old hands.new (λ file before after.
             Serves file before (call.Replace (K.bytes key) value) result after) }
+        ensures entered { M.traced ≡ true → AtShardOf (K.bytes key) self.now hands.old hands.new (λ file before after.
+            IfOk result (λ a. HasEntered false before a.call a.reply after)) }
         ensures of { AreOf self.now hands.new }
     {
         let known = KnownKey::of(&key);

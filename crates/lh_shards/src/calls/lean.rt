@@ -1,6 +1,6 @@
 //! Calls as one makes them of a map: by a key that is lent, with no answer but what they are asked for.
 ghost use denote.Ref.{Bor};
-ghost use Rattle.std.specs.Prelude.{◌≡◌, ◌≢◌, ℕ, List, true, Ok, IfOk};
+ghost use Rattle.std.specs.Prelude.{◌≡◌, ◌≢◌, ℕ, List, true, false, Ok, IfOk};
 ghost use Rattle.std.specs.Fn.{FnOnceReturnsAt};
 ghost use Rattle.lh_bucket.specs.PlainMap.{found};
 ghost use Rattle.lh_bucket.specs.declared.call.Call.TheVariants as call;
@@ -8,16 +8,17 @@ ghost use Rattle.lh_bucket.specs.declared.call.Reply.{Reply};
 ghost use Rattle.lh_page.specs.Limits.{IsValue};
 ghost use Rattle.lh_file.specs.Calls.Lean.{read_reply, put_reply, set_reply, remove_reply, LendsTo};
 ghost use Rattle.lh_file.specs.Calls.Served.{Makes};
+ghost use Rattle.lh_file.specs.History.Told.{HasEntered};
 ghost use Rattle.lh_shards.specs.Hands.{AreOf, AtShardOf};
 
 use crate::hands::Hands;
 use crate::known_key::KnownKey;
 use crate::shards::Shards;
-use lh_file::{Coded, FileFault};
+use lh_file::{Coded, FileBrand, FileFault, Mode};
 use lh_page::Value;
 use std::sync::Wait;
 
-impl Shards {
+impl<M: Mode, J: FileBrand> Shards<M, J> {
     /// The value under a key.
     #[inline(always)]
     pub fn get<K: Coded, R: Wait>(
@@ -29,6 +30,8 @@ impl Shards {
         requires { AreOf self.now hands.old }
         ensures served { AtShardOf (K.bytes key.now) self.now hands.old hands.new (λ file before after.
             Makes file before (call.Search (K.bytes key.now)) result found after) }
+        ensures entered { M.traced ≡ true → AtShardOf (K.bytes key.now) self.now hands.old hands.new (λ file before after.
+            IfOk result (λ value. HasEntered false before (call.Search (K.bytes key.now)) (found value) after)) }
         ensures of { AreOf self.now hands.new }
     {
         let known = KnownKey::of(key);
@@ -49,6 +52,8 @@ impl Shards {
         requires { AreOf self.now hands.old }
         ensures served { AtShardOf (K.bytes key.now) self.now hands.old hands.new (λ file before after.
             Makes file before (call.Search (K.bytes key.now)) result (read_reply value.new) after) }
+        ensures entered { M.traced ≡ true → AtShardOf (K.bytes key.now) self.now hands.old hands.new (λ file before after.
+            IfOk result (λ is_there. HasEntered false before (call.Search (K.bytes key.now)) (read_reply value.new is_there) after)) }
         ensures of { AreOf self.now hands.new }
         ensures same { result ≢ Ok true → value.new ≡ value.old }
     {
@@ -74,7 +79,8 @@ impl Shards {
         requires callable { (bytes : Bor (List ℕ)) → IsValue bytes.now → F.pre then bytes }
         ensures served { AtShardOf (K.bytes key.now) self.now hands.old hands.new (λ file before after. (given : Reply)
             × Makes file before (call.Search (K.bytes key.now)) result (λ _. given) after
-            × IfOk result (LendsTo (FnOnceReturnsAt F.FnOnce then) given)) }
+            × IfOk result (LendsTo (FnOnceReturnsAt F.FnOnce then) given)
+            × (M.traced ≡ true → IfOk result (λ _. HasEntered false before (call.Search (K.bytes key.now)) given after))) }
         ensures of { AreOf self.now hands.new }
     {
         let known = KnownKey::of(key);
@@ -95,6 +101,8 @@ impl Shards {
         requires { AreOf self.now hands.old }
         ensures served { AtShardOf (K.bytes key.now) self.now hands.old hands.new (λ file before after.
             Makes file before (call.Insert (K.bytes key.now) value.now) result put_reply after) }
+        ensures entered { M.traced ≡ true → AtShardOf (K.bytes key.now) self.now hands.old hands.new (λ file before after.
+            IfOk result (λ is_new. HasEntered false before (call.Insert (K.bytes key.now) value.now) (put_reply is_new) after)) }
         ensures of { AreOf self.now hands.new }
     {
         let known = KnownKey::of(key);
@@ -114,6 +122,8 @@ impl Shards {
         requires { AreOf self.now hands.old }
         ensures served { AtShardOf (K.bytes key.now) self.now hands.old hands.new (λ file before after.
             Makes file before (call.Replace (K.bytes key.now) value.now) result set_reply after) }
+        ensures entered { M.traced ≡ true → AtShardOf (K.bytes key.now) self.now hands.old hands.new (λ file before after.
+            IfOk result (λ was_there. HasEntered false before (call.Replace (K.bytes key.now) value.now) (set_reply was_there) after)) }
         ensures of { AreOf self.now hands.new }
     {
         let known = KnownKey::of(key);
@@ -132,6 +142,8 @@ impl Shards {
         requires { AreOf self.now hands.old }
         ensures served { AtShardOf (K.bytes key.now) self.now hands.old hands.new (λ file before after.
             Makes file before (call.Delete (K.bytes key.now)) result remove_reply after) }
+        ensures entered { M.traced ≡ true → AtShardOf (K.bytes key.now) self.now hands.old hands.new (λ file before after.
+            IfOk result (λ was_there. HasEntered false before (call.Delete (K.bytes key.now)) (remove_reply was_there) after)) }
         ensures of { AreOf self.now hands.new }
     {
         let known = KnownKey::of(key);
