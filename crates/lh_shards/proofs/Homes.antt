@@ -10,8 +10,9 @@ use Rattle.lh_bucket.specs.Listing.{Lists, PlaceFact, EachPlace, count_of, list_
 use Rattle.lh_file.specs.FileState.{FileState, IsOpened}
 use Rattle.lh_file.specs.Words.HandState.{HandState}
 use Rattle.lh_file.specs.declared.words.view.View.{View}
-use Rattle.lh_shards.specs.Hands.{AreAtHome, AreOf, EachShard, ShardFact}
+use Rattle.lh_shards.specs.Hands.{AreOf, EachShard, ShardFact}
 use Rattle.lh_shards.specs.Opening.{IsHomeIn}
+use Rattle.lh_shards.proofs.OneShard.{idle_are_of}
 use Rattle.lh_shards.proofs.Places.{there}
 
 last_or_before : (p n : ℕ) → p < n + 1 → (p < n) ⊎ (p ≡ n)
@@ -65,16 +66,11 @@ OpenedFrom listings recording shard file hand =
 pub opened_are_of : (listings : List Lists) (recording : Bool) (files : List FileState) (hands : List HandState) →
     length files ≡ length listings → length hands ≡ length listings →
     EachShard (OpenedFrom listings recording) files hands → AreOf files hands
-opened_are_of listings recording files hands m n each = record {
-  count = n ∙ sym m;
-  each = λ i f h fi hi.
-      let lt : i < length files = slice_get_within files i f fi in
-      let from : (x : Lists) × (slice_get listings i ≡ Some x) = there listings i (omega (arith, lt, m)) in
-      let o : IsOpened from.0.config (size from.0) recording (min (count_of from.0.lists) (2 ^ 64 - 1)) f h =
-      each i f h fi hi from.0 from.1 in
-      record {
-        of = o.is_of;
-        right = ap (λ (v : View). v.has_right) o.view;
-        home = subst (λ l. AreAtHome (length files) i l) (sym o.acts) (λ k d below. absurd (omega arith));
-      };
-}
+opened_are_of listings recording files hands m n each =
+    idle_are_of files hands (n ∙ sym m)
+    (λ i f h fi hi.
+    let lt : i < length files = slice_get_within files i f fi in
+    let from : (x : Lists) × (slice_get listings i ≡ Some x) = there listings i (omega (arith, lt, m)) in
+    let o : IsOpened from.0.config (size from.0) recording (min (count_of from.0.lists) (2 ^ 64 - 1)) f h =
+    each i f h fi hi from.0 from.1 in
+    (o.is_of, ap (λ (v : View). v.has_right) o.view, o.acts))

@@ -1,4 +1,5 @@
 -- Lemmas by subject
+pub mod Beginning
 pub mod Beginnings
 pub mod Counting
 pub mod Giving

@@ -6,6 +6,7 @@ use Rattle.std.proofs.lemmas.List.Elements.{All-append, All-push}
 use Rattle.std.proofs.lemmas.List.{map_push}
 use Rattle.std.proofs.lemmas.Option.{same_Some, slice_get_read, slice_get_within}
 use Rattle.lh_bucket.specs.Answer.{Answered}
+use Rattle.lh_bucket.specs.Listing.{size}
 use Rattle.lh_bucket.specs.PlainMap.{key_of}
 use Rattle.lh_bucket.specs.declared.call.Call.{Call}
 use Rattle.lh_bucket.specs.declared.call.Reply.{Reply}
@@ -18,8 +19,9 @@ use Rattle.lh_file.specs.Words.Recording.{kept_of}
 use Rattle.lh_settling.specs.declared.act.ActLine.{ActLine}
 use Rattle.lh_file.specs.declared.fault.FileFault.{FileFault}
 use Rattle.lh_file.specs.declared.words.view.View.{View}
-use Rattle.lh_shards.specs.Hands.{AreOf, AtShardOf, AreAtHome, IsOfShard, ShardFact, EachShard}
+use Rattle.lh_shards.specs.Hands.{AreOf, AtShard, AtShardOf, AreAtHome, IsOfShard, ShardFact, EachShard}
 use Rattle.lh_shards.specs.Number.{home_of}
+use Rattle.lh_shards.specs.Told.{HasTold}
 use Rattle.lh_shards.proofs.Places.{at_set, at_push, read_at, length_mapped}
 use lib.ListN.{length-set}
 
@@ -120,19 +122,25 @@ of_served {call} {result} {x} {b} {a} states olds items i same h e r m =
           serves_home (length states) i x.state b call result a m (sym e) (h.each i x.state b r.file_at r.hand_at).home;
     }))
 
+pub at_place : {x : Shared} {b a : HandState} (Does : FileState → HandState → HandState → Type 0)
+    (states : List FileState) (olds items : List HandState) (i : ℕ) → items ≡ olds → Ready states olds i x b →
+    Does x.state b a → AtShard i states olds (set items i a) Does
+at_place {x} {b} {a} Does states olds items i same r d = record {
+  file = x.state;
+  before = b;
+  after = a;
+  file_is = r.file_at;
+  before_is = r.hand_at;
+  after_is = ap (λ l. set l i a) same;
+  does = d;
+}
+
 pub at_shard : {x : Shared} {b a : HandState} (Does : FileState → HandState → HandState → Type 0) (key : List ℕ)
     (states : List FileState) (olds items : List HandState) (i : ℕ) → items ≡ olds →
     i ≡ home_of (length states) key → Ready states olds i x b → Does x.state b a →
     AtShardOf key states olds (set items i a) Does
-at_shard {x} {b} {a} Does key states olds items i same e r d = record {
-  file = x.state;
-  before = b;
-  after = a;
-  file_is = subst (λ j. slice_get states j ≡ Some x.state) e r.file_at;
-  before_is = subst (λ j. slice_get olds j ≡ Some b) e r.hand_at;
-  after_is = ap (λ l. set l i a) same ∙ ap (λ j. set olds j a) e;
-  does = d;
-}
+at_shard {x} {b} {a} Does key states olds items i same e r d =
+    subst (λ j. AtShard j states olds (set items i a) Does) e (at_place Does states olds items i same r d)
 
 -- a shard more
 pub grown : (Fact : ShardFact) (ss : List FileState) (hs : List HandState) (s : FileState) (h : HandState) →
@@ -161,17 +169,57 @@ grown_files Fact fs hs x h n each new =
     (grown Fact (map (λ (file : Shared). file.state) fs) hs x.state h
     (length_mapped (λ (file : Shared). file.state) fs ∙ n) each new)
 
+-- hands of some files, none of which has the right to split or an act
+pub idle_are_of : (files : List FileState) (hands : List HandState) → length hands ≡ length files →
+    EachShard (λ shard file hand. IsOf file hand × (hand.view.has_right ≡ false) × (hand.acts ≡ [])) files hands →
+    AreOf files hands
+idle_are_of files hands n each = record {
+  count = n;
+  each = λ i f h fi hi.
+      let idle : IsOf f h × (h.view.has_right ≡ false) × (h.acts ≡ []) = each i f h fi hi in record {
+        of = idle.0;
+        right = idle.1;
+        home = subst (λ l. AreAtHome (length files) i l) (sym idle.2) (λ k d lt. absurd (omega arith));
+      };
+}
+
 -- files that were opened so, with their first hands
 pub opened_of : (files : List FileState) (hands : List HandState) (config : ℕ → Settings) (buckets : ℕ → ℕ)
     (recording : Bool) (records : ℕ → ℕ) → length hands ≡ length files →
     EachShard (λ shard. IsOpened (config shard) (buckets shard) recording (records shard)) files hands →
     AreOf files hands
-opened_of files hands config buckets recording records n each = record {
-  count = n;
-  each = λ i f h fi hi. let o : IsOpened (config i) (buckets i) recording (records i) f h = each i f h fi hi in
-      record {
-        of = o.is_of;
-        right = ap (λ (v : View). v.has_right) o.view;
-        home = subst (λ l. AreAtHome (length files) i l) (sym o.acts) (λ k d lt. absurd (omega arith));
+opened_of files hands config buckets recording records n each =
+    idle_are_of files hands n
+    (λ i f h fi hi. let o : IsOpened (config i) (buckets i) recording (records i) f h = each i f h fi hi in
+    (o.is_of, ap (λ (v : View). v.has_right) o.view, o.acts))
+
+-- a file that is opened with its listing's buckets, and its first hand
+abbrev pub OpenedAs : ShardFact
+OpenedAs shard file hand =
+    IsOpened file.listing.config (size file.listing) file.recording file.opening file hand
+
+pub traced_are_of : (files : List FileState) (hands : List HandState) → length hands ≡ length files →
+    EachShard OpenedAs files hands → AreOf files hands
+traced_are_of files hands n each =
+    idle_are_of files hands n
+    (λ i f h fi hi. let o : OpenedAs i f h = each i f h fi hi in
+    (o.is_of, ap (λ (v : View). v.has_right) o.view, o.acts))
+
+-- the hand was told of its shard's history, and stays a hand of the shard
+pub of_told : {traced : Bool} {x : Shared} {b a : HandState} (states : List FileState) (olds items : List HandState)
+    (i count : ℕ) → items ≡ olds → AreOf states olds → Ready states olds i x b → HasTold traced x.state b count a →
+    AreOf states (set items i a)
+of_told {traced} {x} {b} {a} states olds items i count same h r t =
+    let was : IsOfShard (length states) i x.state b = h.each i x.state b r.file_at r.hand_at in
+    subst (λ l. AreOf states (set l i a)) (sym same)
+    (of_after states olds i x.state a h r.file_at
+    (subst (λ n. IsOfShard (length states) i x.state n) (sym t.after_is) (record {
+      of = record {
+        table = was.of.table;
+        initial = was.of.initial;
+        max = was.of.max;
+        recording = was.of.recording;
       };
-}
+      right = was.right;
+      home = was.home;
+    })))

@@ -37,17 +37,22 @@ pub record AreOf (files : List FileState) (hands : List HandState) : Type 0 wher
   pub count : length hands ≡ length files
   pub each : EachShard (IsOfShard (length files)) files hands
 
--- What a call by a key promises: the file of the key's shard and the hand of it have done this, and the hands of all
--- other shards are as they were.
-pub record AtShardOf (key : List ℕ) (files : List FileState) (old new : List HandState)
+-- What a call on one shard promises: the file of the shard and the hand of it have done this, and the hands of all other
+-- shards are as they were.
+pub record AtShard (shard : ℕ) (files : List FileState) (old new : List HandState)
     (Does : FileState → HandState → HandState → Type 0) : Type 0 where
   pub file : FileState
   pub before : HandState
   pub after : HandState
-  pub file_is : slice_get files (home_of (length files) key) ≡ Some file
-  pub before_is : slice_get old (home_of (length files) key) ≡ Some before
-  pub after_is : new ≡ slice_set old (home_of (length files) key) after
+  pub file_is : slice_get files shard ≡ Some file
+  pub before_is : slice_get old shard ≡ Some before
+  pub after_is : new ≡ slice_set old shard after
   pub does : Does file before after
+
+-- the same of a call by a key, on the key's shard
+abbrev pub AtShardOf : List ℕ → List FileState → List HandState → List HandState →
+    (FileState → HandState → HandState → Type 0) → Type 0
+AtShardOf key files old new Does = AtShard (home_of (length files) key) files old new Does
 
 -- empty files of a configuration, so many, and the first hands of them
 pub record AreCreated (shards : ℕ) (config : Settings) (recording : Bool) (files : List FileState)

@@ -9,4 +9,6 @@ pub mod Number
 pub mod OneMap
 pub mod OpenFault
 pub mod Opening
+pub mod Openings
 pub mod Settling
+pub mod Told

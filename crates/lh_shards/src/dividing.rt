@@ -30,11 +30,7 @@ fn first_short(hands: &[Hand], calls: u64) -> Option<SplitFault>
 }
 
 /// Divides one hand, which may make so many calls.
-fn divide<M: Mode, J: FileBrand>(
-    file: &HashFile<NoGate, M, J>,
-    hand: &mut Hand,
-    calls: u64,
-) -> Hand
+fn divide<M: Mode, J: FileBrand>(file: &HashFile<NoGate, M, J>, hand: &mut Hand, calls: u64) -> Hand
     requires of { IsOf file.now.state hand.old }
     requires enough { calls ≤ hand.old.view.left }
     ensures given { IsBranch calls hand.old result }

@@ -30,11 +30,7 @@ fn make_room(first: &mut Hands, second: &Hands) -> Option<u32>
 }
 
 /// Joins two hands of one file, the first of which has room for the acts of the second.
-fn join<M: Mode, J: FileBrand>(
-    file: &HashFile<NoGate, M, J>,
-    first: Hand,
-    second: Hand,
-) -> Hand
+fn join<M: Mode, J: FileBrand>(file: &HashFile<NoGate, M, J>, first: Hand, second: Hand) -> Hand
     requires first { IsOf file.now.state first }
     requires second { IsOf file.now.state second }
     requires right { second.view.has_right ≡ false }

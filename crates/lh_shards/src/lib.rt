@@ -7,8 +7,7 @@
 //! of the others as they were. The law [`shards_are_one_map`](laws::shards_are_one_map) joins legal histories of the
 //! files to those of one plain map.
 //!
-//! The files are untraced: the type of a traced file names its own table, so no two traced files have one type, and no
-//! list holds several.
+//! The files are untraced, or traced: see [`Openings`].
 //!
 //! ```text
 //! let (shards, mut hands) = Shards::create(alloc, config, 8, false)?;
@@ -32,8 +31,10 @@ pub mod laws;
 mod listings;
 mod number;
 mod opening;
+mod openings;
 mod settling;
 mod shards;
+mod told;
 
 pub use closed::ClosedShards;
 pub use closed_shard::ClosedShard;
@@ -41,4 +42,5 @@ pub use fault::{CreateFault, JoinFault, ListingsFault, OpenFault, ShardFault, Sp
 pub use hands::Hands;
 pub use listings::empty_listings;
 pub use number::{MOST_SHARDS, mixed, shard_of};
+pub use openings::Openings;
 pub use shards::Shards;

@@ -87,6 +87,29 @@ fn first_away(listings: &[Listing]) -> Option<(u32, u32, usize)>
     None
 }
 
+/// Makes sure that shards may be opened from these listings.
+pub(crate) fn check(listings: &[Listing]) -> Result<(), OpenFault>
+    ensures count { OnOk result (IsCount (length listings.now)) }
+    ensures alike { OnOk result (AreAlike listings.now) }
+    ensures home { OnOk result (AreHome listings.now) }
+    ensures err { IfErr result (IsOpenFault listings.now) }
+{
+    if listings.is_empty() || listings.len() > MOST_SHARDS as usize {
+        return Err(OpenFault::Count);
+    }
+    if let Some(shard) = first_other(listings) {
+        return Err(OpenFault::Config { shard });
+    }
+    if let Some((shard, bucket, place)) = first_away(listings) {
+        return Err(OpenFault::Misplaced {
+            shard,
+            bucket,
+            place,
+        });
+    }
+    Ok(())
+}
+
 impl Shards {
     /// Shards with the records of listings, one a shard, each record in the bucket where it stands, and the first hand
     /// of each, which may make 2^63 calls. With `recording` each hand keeps its acts.
@@ -104,19 +127,7 @@ impl Shards {
         ensures parts { OnOk result (AreParts (whole_of listings.now) listings.now) }
         ensures err { IfErr result (IsOpenFault listings.now) }
     {
-        if listings.is_empty() || listings.len() > MOST_SHARDS as usize {
-            return Err(OpenFault::Count);
-        }
-        if let Some(shard) = first_other(listings) {
-            return Err(OpenFault::Config { shard });
-        }
-        if let Some((shard, bucket, place)) = first_away(listings) {
-            return Err(OpenFault::Misplaced {
-                shard,
-                bucket,
-                place,
-            });
-        }
+        check(listings)?;
         Ok(Shards::opened(alloc, listings, recording)?)
     }
 

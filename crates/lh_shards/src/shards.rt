@@ -69,7 +69,6 @@ impl Shards {
         }
         Ok((Shards { files }, Hands { hands }))
     }
-
 }
 
 impl<M: Mode, J: FileBrand> Shards<M, J> {

@@ -8,12 +8,13 @@ use Rattle.lh_shards.proofs.Counting.{so_far_next, all_answered, counted_are_of}
 use Rattle.lh_shards.proofs.Giving.{turn}
 use Rattle.lh_shards.proofs.OneShard.{Ready}
 use Rattle.lh_shards.proofs.Places.{length_mapped}
+use Rattle.lh_shards.proofs.shards.Shards.buckets.Given.{Over}
 use Rattle.lh_shards.proofs.shards.Shards.buckets.Goals as goal
 use Rattle.lh_shards.proofs.shards.Shards.buckets.Goals.{After-index_mut, After-loop-shard}
 
-ready : (c : After-index_mut) →
+ready : (g : Over) (c : After-index_mut g) →
     Ready c.args.self.now c.args.hands.now c.loop-shard.shard c.index.result.now c.index_mut.result.now
-ready c =
+ready g c =
     let long : length c.args.self.now ≡ length c.self.inside.files.items =
     ap length (sym c.self.view_is) ∙ length_mapped (λ (file : Shared). file.state) c.self.inside.files.items in
     turn c.self.inside.files.items c.args.self.now c.args.hands.now c.loop-shard.hands-inside.hands.items
@@ -22,12 +23,12 @@ ready c =
     c.index.ensures c.index_mut.ensures.value
 
 pub buckets-requires : goal.buckets-requires
-buckets-requires c = (lit< tt, (ready (goal.at.buckets-requires c).After-index_mut).of)
+buckets-requires g c = (lit< tt, (ready g (goal.at.buckets-requires g c).After-index_mut).of)
 
 pub loop-shard-preserved : goal.loop-shard-preserved
-loop-shard-preserved c =
+loop-shard-preserved g c =
     let at : Ready c.args.self.now c.args.hands.now c.loop-shard.shard c.index.result.now c.index_mut.result.now =
-    ready (goal.at.loop-shard-preserved c).After-index_mut in
+    ready g (goal.at.loop-shard-preserved g c).After-index_mut in
     let more : c.buckets.result < 2 ^ 32 = c.buckets.type_inv in record {
       terms = c.loop-shard.invariant.terms ++ c.buckets.result ∷ [];
       so_far =
@@ -40,10 +41,10 @@ loop-shard-preserved c =
       few = omega (arith, c.loop-shard.invariant.few, more);
     }
 
-answered : (c : After-loop-shard) →
+answered : (g : Over) (c : After-loop-shard g) →
     AreAnswered IsBuckets c.args.self.now c.args.hands.now c.loop-shard.invariant.terms
     c.loop-shard.hands-inside.hands.items
-answered c =
+answered g c =
     let end : c.loop-shard.shard ≤ c.count-shard-end.result = c.loop-shard.auto.shard-end in
     let all : c.loop-shard.shard ≡ length c.args.self.now =
     omega (arith, c.loop-shard-test.false, c.count-shard-end.ensures.value) in
@@ -51,10 +52,10 @@ answered c =
     c.loop-shard.hands-inside.hands.items all c.loop-shard.invariant.so_far
 
 pub returns-clause-sum : goal.returns-clause-sum
-returns-clause-sum c =
-    record { terms = c.loop-shard.invariant.terms; answered = answered c; total = c.loop-shard.invariant.total }
+returns-clause-sum g c =
+    record { terms = c.loop-shard.invariant.terms; answered = answered g c; total = c.loop-shard.invariant.total }
 
 pub returns-clause-of : goal.returns-clause-of
-returns-clause-of c =
+returns-clause-of g c =
     counted_are_of c.args.self.now c.args.hands.now c.loop-shard.hands-inside.hands.items c.loop-shard.invariant.terms
-    c.requires (answered c)
+    c.requires (answered g c)

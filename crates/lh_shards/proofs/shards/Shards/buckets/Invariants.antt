@@ -6,7 +6,7 @@ use Rattle.lh_shards.proofs.Counting.{SoFar}
 use Rattle.lh_shards.proofs.shards.Shards.buckets.Given as goal
 
 abbrev pub invariant-loop-shard : goal.invariant-loop-shard
-invariant-loop-shard l = record {
+invariant-loop-shard g l = record {
   terms : List ℕ;
   so_far : SoFar IsBuckets l.self l.fn.hands l.shard terms l.hands-inside.hands.items;
   total : l.total ≡ sum terms;

@@ -1,6 +1,6 @@
 -- The next file is closed by the next hand.
 use Rattle.std.proofs.Common.{suc, ◌≡◌, ℕ, ◌+◌, ◌<◌, ◌≤◌, List, drop, length, map, Some, add-one, sym, ap, ◌∙◌, subst}
-use Rattle.std.proofs.Common.{arith}
+use Rattle.std.proofs.Common.{lit<, arith}
 use Rattle.std.specs.List.{slice_get}
 use Rattle.std.specs.Vec.Iter.{into_iter_items, into_iter_len}
 use Rattle.std.proofs.lemmas.List.{length_push}
@@ -34,9 +34,10 @@ hand_next g c =
     (sym c.loop-shard.invariant.hands ∙ c.in-Some-next.ensures.items)
 
 pub close_shard-requires : goal.close_shard-requires
-close_shard-requires g c =
-    (c.requires.each c.loop-shard._shard c.in-Some.file.state c.in-Some-next.hand (file_next g c).0
-    (hand_next g c).0).of
+close_shard-requires g c = (
+  lit< tt,
+  (c.requires.each c.loop-shard._shard c.in-Some.file.state c.in-Some-next.hand (file_next g c).0 (hand_next g c).0).of,
+)
 
 pub loop-shard-preserved : goal.loop-shard-preserved
 loop-shard-preserved g c =
@@ -59,9 +60,9 @@ loop-shard-preserved g c =
           ap length c.in_ok-push.ensures.items ∙ length_push c.loop-shard.shards.items c.in_ok-shard.shard
           ∙ ap (λ n. n + 1) c.loop-shard.invariant.many;
       each =
-          subst (λ (l : List ClosedShard). EachThree IsClosedBy c.args.self c.args.hands l)
+          subst (λ (l : List ClosedShard). EachThree (IsClosedBy g.M.Mode.traced) c.args.self c.args.hands l)
           (sym c.in_ok-push.ensures.items)
-          (three_next IsClosedBy c.args.self c.args.hands c.loop-shard.shards.items i c.in-Some.file.state
+          (three_next (IsClosedBy g.M.Mode.traced) c.args.self c.args.hands c.loop-shard.shards.items i c.in-Some.file.state
           c.in-Some-next.hand c.in_ok-shard.shard c.loop-shard.invariant.many next_file.0 next_hand.0
           c.in_ok-shard.ensures c.loop-shard.invariant.each);
     }
@@ -84,7 +85,7 @@ invariant_of-result g c =
           there c.args.self k (omega (arith, lt, many)) in
           let hand : (x : HandState) × (slice_get c.args.hands k ≡ Some x) =
           there c.args.hands k (omega (arith, lt, many, long)) in
-          let by : IsClosedBy file.0 hand.0 closed =
+          let by : IsClosedBy g.M.Mode.traced file.0 hand.0 closed =
           c.loop-shard.invariant.each k file.0 hand.0 closed file.1 hand.1 at in
           subst (λ n. AreAtHome n k closed.acts) (sym many)
           (subst (λ (l : List ActLine). AreAtHome (length c.args.self) k l) (sym by.acts)

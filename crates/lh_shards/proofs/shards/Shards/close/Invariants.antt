@@ -13,5 +13,5 @@ invariant-loop-shard g l = record {
   files_left : into_iter_len l.files + l._shard ≡ length l.fn.self;
   hands_left : into_iter_len l.hands + l._shard ≡ length l.fn.self;
   many : length l.shards.items ≡ l._shard;
-  each : EachThree IsClosedBy l.fn.self l.fn.hands l.shards.items;
+  each : EachThree (IsClosedBy g.M.Mode.traced) l.fn.self l.fn.hands l.shards.items;
 }

@@ -1,5 +1,5 @@
 -- The hand whose turn it is has given its calls, and those before it have.
-use Rattle.std.proofs.Common.{◌≡◌, ◌+◌, ◌<◌, ℕ, List, length, sym, ap, ◌∙◌, subst, arith}
+use Rattle.std.proofs.Common.{◌≡◌, ◌+◌, ◌<◌, ℕ, List, length, lit<, sym, ap, ◌∙◌, subst, arith}
 use lib.ListN.{length-set}
 use Rattle.std.proofs.lemmas.List.{length_push}
 use Rattle.std.proofs.lemmas.Option.{slice_get_within}
@@ -9,22 +9,16 @@ use Rattle.lh_shards.proofs.Giving.{Given, turn, given_next, kept_next, rest_nex
 use Rattle.lh_shards.proofs.Places.{length_mapped}
 use Rattle.lh_shards.proofs.shards.Shards.divided.Goals as goal
 
-pub divide-hand-requires-clause-of : goal.divide-hand-requires-clause-of
-divide-hand-requires-clause-of c =
-    (turn c.self.inside.files.items c.args.self.now c.args.hands.now c.loop-shard.hands-inside.hands.items
+pub divide-hand-requires : goal.divide-hand-requires
+divide-hand-requires g c =
+    let at : _ =
+    turn c.self.inside.files.items c.args.self.now c.args.hands.now c.loop-shard.hands-inside.hands.items
     c.loop-shard.shard c.index.result.now c.index_mut.result.now c.self.view_is c.requires.of
-    c.loop-shard.invariant.count c.loop-shard.invariant.rest (omega arith) c.index.ensures c.index_mut.ensures.value).of
-
-pub divide-hand-requires-clause-enough : goal.divide-hand-requires-clause-enough
-divide-hand-requires-clause-enough c =
-    c.requires.enough c.loop-shard.shard c.index_mut.result.now
-    (turn c.self.inside.files.items c.args.self.now c.args.hands.now c.loop-shard.hands-inside.hands.items
-    c.loop-shard.shard c.index.result.now c.index_mut.result.now c.self.view_is c.requires.of
-    c.loop-shard.invariant.count c.loop-shard.invariant.rest (omega arith) c.index.ensures
-    c.index_mut.ensures.value).hand_at
+    c.loop-shard.invariant.count c.loop-shard.invariant.rest (omega arith) c.index.ensures c.index_mut.ensures.value in
+    (lit< tt, (at.of, c.requires.enough c.loop-shard.shard c.index_mut.result.now at.hand_at))
 
 pub loop-shard-preserved : goal.loop-shard-preserved
-loop-shard-preserved c =
+loop-shard-preserved g c =
     let i : ℕ = c.loop-shard.shard in
     let at : _ =
     (turn c.self.inside.files.items c.args.self.now c.args.hands.now c.loop-shard.hands-inside.hands.items
@@ -51,7 +45,7 @@ loop-shard-preserved c =
     }
 
 pub returns-clause-kept : goal.returns-clause-kept
-returns-clause-kept c =
+returns-clause-kept g c =
     let long : length c.args.self.now ≡ length c.self.inside.files.items =
     ap length (sym c.self.view_is) ∙ length_mapped (λ (file : Shared). file.state) c.self.inside.files.items in
     let many : length c.args.hands.now ≡ length c.args.self.now = c.requires.of.count in record {

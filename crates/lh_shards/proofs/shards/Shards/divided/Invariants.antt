@@ -7,7 +7,7 @@ use Rattle.lh_shards.specs.Dividing.{HasGiven}
 use Rattle.lh_shards.proofs.shards.Shards.divided.Given as goal
 
 abbrev pub invariant-loop-shard : goal.invariant-loop-shard
-invariant-loop-shard l = record {
+invariant-loop-shard g l = record {
   so_far : length l.given.items ≡ l.shard;
   len : vec_len l.given ≡ l.shard;
   room : length l.fn.hands ≤ vec_capacity l.given;

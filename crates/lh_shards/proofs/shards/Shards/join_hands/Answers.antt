@@ -3,15 +3,15 @@ use Rattle.lh_shards.proofs.Joins.{joined_are_of, joined_from, same_are_of}
 use Rattle.lh_shards.proofs.shards.Shards.join_hands.Goals as goal
 
 pub joined-requires-clause-first : goal.joined-requires-clause-first
-joined-requires-clause-first c =
+joined-requires-clause-first g c =
     same_are_of c.args.self.now c.args.first c.make_room.new.first c.requires.first c.make_room.ensures.same
 
 pub returns-in-Some-clause-first_of : goal.returns-in-Some-clause-first_of
-returns-in-Some-clause-first_of c =
+returns-in-Some-clause-first_of g c =
     same_are_of c.args.self.now c.args.first c.make_room.new.first c.requires.first c.make_room.ensures.same
 
 pub returns-in-None-clause-united : goal.returns-in-None-clause-united
-returns-in-None-clause-united c = record {
+returns-in-None-clause-united g c = record {
   ok =
       joined_from c.args.first c.make_room.new.first c.args.second c.joined.result c.make_room.ensures.same
       c.joined.ensures;
@@ -22,7 +22,7 @@ returns-in-None-clause-united c = record {
 }
 
 pub returns-in-None-clause-of : goal.returns-in-None-clause-of
-returns-in-None-clause-of c =
+returns-in-None-clause-of g c =
     joined_are_of c.args.self.now c.args.first c.args.second c.joined.result c.requires.first c.requires.second
     (joined_from c.args.first c.make_room.new.first c.args.second c.joined.result c.make_room.ensures.same
     c.joined.ensures)

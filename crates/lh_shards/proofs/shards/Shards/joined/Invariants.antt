@@ -6,7 +6,7 @@ use Rattle.lh_shards.proofs.Places.{EachThree}
 use Rattle.lh_shards.proofs.shards.Shards.joined.Given as goal
 
 abbrev pub invariant-loop-shard : goal.invariant-loop-shard
-invariant-loop-shard l = record {
+invariant-loop-shard g l = record {
   done : List HandState;
   many : length done ≡ l.shard;
   hands : l.hands.items ≡ drop l.shard l.fn.first ++ done;

@@ -11,12 +11,13 @@ use Rattle.lh_shards.proofs.Counting.{so_far_next, all_answered, set_self}
 use Rattle.lh_shards.proofs.Giving.{turn}
 use Rattle.lh_shards.proofs.OneShard.{Ready}
 use Rattle.lh_shards.proofs.Places.{length_mapped}
+use Rattle.lh_shards.proofs.shards.Shards.load.Given.{Over}
 use Rattle.lh_shards.proofs.shards.Shards.load.Goals as goal
 use Rattle.lh_shards.proofs.shards.Shards.load.Goals.{After-index_mut}
 
-ready : (c : After-index_mut) →
+ready : (g : Over) (c : After-index_mut g) →
     Ready c.args.self.now c.args.hands.now c.loop-shard.shard c.index.result.now c.index_mut.result.now
-ready c =
+ready g c =
     let size : c.len-shard-end.result ≡ length c.self.inside.files.items =
     c.len-shard-end.ensures ∙ c.self.inside.files.ok.0 in
     turn c.self.inside.files.items c.args.self.now c.args.hands.now c.loop-shard.hands-inside.hands.items
@@ -25,7 +26,7 @@ ready c =
     (omega (arith, size, c.loop-shard-test.true)) c.index.ensures c.index_mut.ensures.value
 
 pub load-requires : goal.load-requires
-load-requires c = (lit< tt, (ready (goal.at.load-requires c).After-index_mut).of)
+load-requires g c = (lit< tt, (ready g (goal.at.load-requires g c).After-index_mut).of)
 
 -- what is capped may be capped before a number is added
 capped_twice : (m n : ℕ) → capped (capped m + n) ≡ capped (m + n)
@@ -38,9 +39,9 @@ one_more f terms term total new was is =
     ∙ ap capped (sym (sum_by_push f terms term))
 
 pub loop-shard-preserved : goal.loop-shard-preserved
-loop-shard-preserved c =
+loop-shard-preserved g c =
     let at : Ready c.args.self.now c.args.hands.now c.loop-shard.shard c.index.result.now c.index_mut.result.now =
-    ready (goal.at.loop-shard-preserved c).After-index_mut in
+    ready g (goal.at.loop-shard-preserved g c).After-index_mut in
     let items : List HandState = c.loop-shard.hands-inside.hands.items in
     let i : ℕ = c.loop-shard.shard in record {
       terms = c.loop-shard.invariant.terms ++ c.load.result ∷ [];
@@ -67,7 +68,7 @@ loop-shard-preserved c =
     }
 
 pub returns-clause-sum : goal.returns-clause-sum
-returns-clause-sum c =
+returns-clause-sum g c =
     let long : length c.args.self.now ≡ length c.self.inside.files.items =
     ap length (sym c.self.view_is) ∙ length_mapped (λ (file : Shared). file.state) c.self.inside.files.items in
     let size : c.len-shard-end.result ≡ length c.self.inside.files.items =

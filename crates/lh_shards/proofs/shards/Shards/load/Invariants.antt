@@ -8,7 +8,7 @@ use Rattle.lh_shards.proofs.Counting.{SoFar}
 use Rattle.lh_shards.proofs.shards.Shards.load.Given as goal
 
 abbrev pub invariant-loop-shard : goal.invariant-loop-shard
-invariant-loop-shard l = record {
+invariant-loop-shard g l = record {
   terms : List Load;
   so_far : SoFar IsLoadOf l.self l.fn.hands l.shard terms l.hands-inside.hands.items;
   same : l.hands-inside.hands.items ≡ l.fn.hands;

@@ -3,7 +3,7 @@ use Rattle.lh_shards.proofs.Giving.{given_are_of, kept_are_of}
 use Rattle.lh_shards.proofs.shards.Shards.split_hands.Goals as goal
 
 pub returns-clause-of : goal.returns-clause-of
-returns-clause-of c = kept_are_of _ _ _ _ c.requires c.in_ok-divided.ensures.kept
+returns-clause-of g c = kept_are_of _ _ _ _ c.requires c.in_ok-divided.ensures.kept
 
 pub returns-clause-given : goal.returns-clause-given
-returns-clause-given c = given_are_of _ _ _ _ c.requires c.in_ok-divided.ensures.given
+returns-clause-given g c = given_are_of _ _ _ _ c.requires c.in_ok-divided.ensures.given

@@ -12,7 +12,7 @@ use Rattle.lh_shards.specs.Hands.{EachShard, ShardFact}
 use Rattle.lh_shards.proofs.Homes.{OpenedFrom, opened_are_of}
 use Rattle.lh_shards.proofs.OneShard.{grown_files}
 use Rattle.lh_shards.proofs.Places.{length_mapped}
-use Rattle.lh_shards.proofs.shards.Shards.opened.Goals as goal
+use Rattle.lh_shards.proofs.opening.Shards.opened.Goals as goal
 
 pub loop-shard-preserved : goal.loop-shard-preserved
 loop-shard-preserved c =

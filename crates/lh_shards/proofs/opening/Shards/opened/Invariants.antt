@@ -3,7 +3,7 @@ use Rattle.std.proofs.Common.{◌≡◌, length, map}
 use Rattle.lh_file.specs.HashFile.{Shared}
 use Rattle.lh_shards.specs.Hands.{EachShard}
 use Rattle.lh_shards.proofs.Homes.{OpenedFrom}
-use Rattle.lh_shards.proofs.shards.Shards.opened.Given as goal
+use Rattle.lh_shards.proofs.opening.Shards.opened.Given as goal
 
 abbrev pub invariant-loop-shard : goal.invariant-loop-shard
 invariant-loop-shard l = record {
