@@ -69,7 +69,7 @@ fn run_opened<J, R>(
 where
     J: FileBrand + Send + Sync,
     R: Threads + Wait + Sync + Clock + CpuClock + Files + AllocGlobal,
-    requires { IsBrandOf true J.named J.table opening.table }
+    requires { IsBrandOf true J.named J.tables opening }
 {
     let (file, hand) = opening.file::<J>()?;
     run_on(rt, OnFile::new(&file, hand), order, before)

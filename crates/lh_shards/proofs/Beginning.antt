@@ -41,7 +41,8 @@ pub brands_of : (listings : List Lists) (recording : Bool) (files : List FileSta
     AreBegun listings recording files → AreBrandsOf true (tables_of files) files
 brands_of listings recording files begun shard file at =
     let lt : shard < length files = slice_get_within files shard file at in
-    let from : (x : Lists) × (slice_get listings shard ≡ Some x) = there listings shard (omega (arith, lt, begun.count)) in
+    let from : (x : Lists) × (slice_get listings shard ≡ Some x) =
+    there listings shard (omega (arith, lt, begun.count)) in
     let own : file.shard ≡ shard = (begun.each shard from.0 file from.1 at).1 in record {
       named_is = refl;
       own_is = λ traced. sym (ap table_of (ap (slice_get files) own ∙ at));

@@ -37,8 +37,8 @@ pub record AreOf (files : List FileState) (hands : List HandState) : Type 0 wher
   pub count : length hands ≡ length files
   pub each : EachShard (IsOfShard (length files)) files hands
 
--- What a call on one shard promises: the file of the shard and the hand of it have done this, and the hands of all other
--- shards are as they were.
+-- What a call on one shard promises: the file of the shard and the hand of it have done this, and the hands of all
+-- other shards are as they were.
 pub record AtShard (shard : ℕ) (files : List FileState) (old new : List HandState)
     (Does : FileState → HandState → HandState → Type 0) : Type 0 where
   pub file : FileState

@@ -1,7 +1,7 @@
 -- How many acts hands of all shards keep, and how many calls each may make, when one makes a call, and when they are
 -- divided, joined and closed
-use Rattle.std.proofs.Common.{zero, suc, ◌≡◌, ℕ, ◌+◌, ◌-◌, ◌^◌, ◌<◌, ◌≤◌, ◌⊎◌, true, List, [], ◌∷◌, ◌++◌, All, length}
-use Rattle.std.proofs.Common.{length-append, set, get_or, Result, Some, Ok, Err, refl, sym, ap, ◌∙◌, subst, inl, inr}
+use Rattle.std.proofs.Common.{zero, suc, ◌≡◌, ℕ, ◌+◌, ◌-◌, ◌^◌, ◌<◌, ◌≤◌, ◌⊎◌, true, false, List, [], ◌∷◌, ◌++◌, All}
+use Rattle.std.proofs.Common.{length, length-append, set, get_or, Result, Some, Ok, Err, refl, sym, ap, ◌∙◌, subst, inl, inr}
 use Rattle.std.proofs.Common.{⊎_elim, arith}
 use Rattle.std.specs.Prelude.{IfErr, OnOk, sum_by, slice_get}
 use Rattle.std.proofs.lemmas.List.{length_push}
@@ -212,7 +212,7 @@ created_have shards config files hands calls c few k hand at =
 
 pub closed_of : (shards : ℕ) (config : Settings) (files : List FileState) (hands all : List HandState)
     (closed : List ClosedShard) → AreCreated shards config true files hands → AreOf files all →
-    AreClosedBy files all closed → AreShardsOf config shards closed
+    AreClosedBy false files all closed → AreShardsOf config shards closed
 closed_of shards config files hands all closed c of by = record {
   count = by.count ∙ c.count;
   configs = all_at (λ (shard : ClosedShard). shard.closed.config ≡ config) closed
@@ -226,7 +226,7 @@ closed_of shards config files hands all closed c of by = record {
 }
 
 acts_closed : (files : List FileState) (hands : List HandState) (closed : List ClosedShard) → AreOf files hands →
-    AreClosedBy files hands closed → acts_in closed ≡ acts_of hands
+    AreClosedBy false files hands closed → acts_in closed ≡ acts_of hands
 acts_closed files hands closed of by =
     sums_agree kept (λ (shard : ClosedShard). length shard.acts) hands closed (by.count ∙ sym of.count)
     (λ k hand shard kh kc.
@@ -236,6 +236,6 @@ acts_closed files hands closed of by =
 -- shards that were created have, once they are closed, an act for each call that was made since
 pub all_closed : (shards : ℕ) (config : Settings) (files : List FileState) (hands all : List HandState)
     (closed : List ClosedShard) (calls : ℕ) → AreCreated shards config true files hands → AreOf files all →
-    AreClosedBy files all closed → acts_of all ≡ acts_of hands + calls → acts_in closed ≡ calls
+    AreClosedBy false files all closed → acts_of all ≡ acts_of hands + calls → acts_in closed ≡ calls
 all_closed shards config files hands all closed calls created of by made =
     omega (arith, acts_closed files all closed of by, made, created_idle shards config files hands created)

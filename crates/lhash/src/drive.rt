@@ -121,7 +121,7 @@ fn driven_in<G: Gate + Sync, J: FileBrand + Send + Sync, R: Threads + Wait + Syn
     threads: u32,
     snapshots: u32,
 ) -> Result<Driven, DriveFault>
-    requires room { IsBrandOf true J.named J.table opening.table }
+    requires room { IsBrandOf true J.named J.tables opening }
     requires records { opening.recording ≡ true }
     requires from { opening.listing ≡ empty.now }
     requires empty { empty.now ≡ empty_file empty.now.config }

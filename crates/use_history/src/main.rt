@@ -170,7 +170,7 @@ fn take_bookings<J: FileBrand + Send + Sync, R: Threads + Wait + Sync>(
     rt: &R,
     opening: Opening<'_, NoGate>,
 ) -> anyhow::Result<Bookings>
-    requires { IsBrandOf true J.named J.table opening.table }
+    requires { IsBrandOf true J.named J.tables opening }
     ensures { IfOk result (λ made. Settled opening.entry.listing made.closed made.acts) }
 {
     let (file, hand) = opening.file::<J>()?;

@@ -69,7 +69,7 @@ fn told<G: Gate, M: Mode, J: FileBrand, R: Wait>(
 
 /// The same in a file that is being opened.
 fn told_of<J: FileBrand, R: Wait>(rt: &R, opening: Opening<'_, Stage<'_>>) -> Option<Told>
-    requires { IsBrandOf true J.named J.table opening.table }
+    requires { IsBrandOf true J.named J.tables opening }
 {
     let (file, hand) = opening.file::<J>().ok()?;
     told(rt, &file, hand)

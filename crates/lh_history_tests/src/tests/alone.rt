@@ -38,7 +38,7 @@ fn hundred_of<J: FileBrand, R: Wait>(
     listing: &Listing,
     opening: Opening<'_, NoGate>,
 ) -> Option<Ended>
-    requires { IsBrandOf true J.named J.table opening.table }
+    requires { IsBrandOf true J.named J.tables opening }
 {
     let (file, hand) = opening.file::<J>().ok()?;
     let hand = hundred(rt, &file, hand)?;
@@ -112,7 +112,7 @@ fn loss_of<J: FileBrand, R: Wait>(
     listing: &Listing,
     opening: Opening<'_, NoGate>,
 ) -> Option<Ended>
-    requires { IsBrandOf true J.named J.table opening.table }
+    requires { IsBrandOf true J.named J.tables opening }
 {
     let (file, mut hand) = opening.file::<J>().ok()?;
     let lost = part_of(&file, &mut hand)?;

@@ -193,7 +193,7 @@ fn crowded<J: FileBrand + Send + Sync, R: Threads + Wait + Sync>(
     listing: &Listing,
     opening: Opening<'_, GiveWay>,
 ) -> Option<Ended>
-    requires { IsBrandOf true J.named J.table opening.table }
+    requires { IsBrandOf true J.named J.tables opening }
 {
     let (file, hand) = opening.file::<J>().ok()?;
     let all = shares(rt, alloc, &file, hand)?;

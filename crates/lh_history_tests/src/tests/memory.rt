@@ -70,7 +70,7 @@ fn ten<J: FileBrand, R: Wait>(
     listing: &Listing,
     opening: Opening<'_, NoGate>,
 ) -> Outcome
-    requires { IsBrandOf true J.named J.table opening.table }
+    requires { IsBrandOf true J.named J.tables opening }
 {
     let Ok((file, hand)) = opening.file::<J>() else {
         return Outcome::Gone;

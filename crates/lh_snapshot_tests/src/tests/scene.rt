@@ -126,7 +126,7 @@ fn play_traced<J: FileBrand + Send + Sync, R: Threads + Wait + Sync>(
     progress: &Progress,
     scene: &Scene,
 ) -> Option<Outcome>
-    requires { IsBrandOf true J.named J.table opening.table }
+    requires { IsBrandOf true J.named J.tables opening }
 {
     let (file, hand) = opening.file::<J>().ok()?;
     play(rt, alloc, listing, file, hand, progress, scene)

@@ -2,4 +2,4 @@ use Rattle.std.specs.Prelude.{true}
 use Rattle.lh_history_tests.proofs.tests.alone.a_traced_file_need_not_record.Given as goal
 
 abbrev pub ghosts-hundred_of : goal.ghosts-hundred_of
-ghosts-hundred_of g a = record { named = true; table = a.opening.table }
+ghosts-hundred_of g a = record { named = true; tables = λ shard. a.opening.table }

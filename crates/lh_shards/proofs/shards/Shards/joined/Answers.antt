@@ -40,12 +40,14 @@ file_at g c =
 
 own_of : (g : Over) (c : After-index g) →
     IsOfShard (length c.args.self.now) c.loop-shard.shard c.index.result.now.state c.in-Some.own
-own_of g c = c.requires.first.each c.loop-shard.shard c.index.result.now.state c.in-Some.own (file_at g c) (own_next g c).0
+own_of g c =
+    c.requires.first.each c.loop-shard.shard c.index.result.now.state c.in-Some.own (file_at g c) (own_next g c).0
 
 other_of : (g : Over) (c : After-index g) →
     IsOfShard (length c.args.self.now) c.loop-shard.shard c.index.result.now.state c.in-Some-next.other
 other_of g c =
-    c.requires.second.each c.loop-shard.shard c.index.result.now.state c.in-Some-next.other (file_at g c) (other_next g c).0
+    c.requires.second.each c.loop-shard.shard c.index.result.now.state c.in-Some-next.other (file_at g c)
+    (other_next g c).0
 
 pub loop-shard-init : goal.loop-shard-init
 loop-shard-init g c = record {

@@ -32,5 +32,6 @@ returns-clause-entered g c traced =
     (subst
     (λ (key : List ℕ).
     IfOk c.read_into.result
-    (λ is_there. HasEntered false c.index_mut.result.now (Search key) (read_reply c.read_into.new.value is_there) c.read_into.new.hand))
+    (λ is_there. HasEntered false c.index_mut.result.now (Search key) (read_reply c.read_into.new.value is_there)
+    c.read_into.new.hand))
     c.of-known.ensures (c.read_into.ensures.entered traced))

@@ -32,5 +32,6 @@ returns-clause-entered g c traced =
     (subst
     (λ (key : List ℕ).
     IfOk c.set.result
-    (λ was_there. HasEntered false c.index_mut.result.now (Replace key c.args.value.now) (set_reply was_there) c.set.new.hand))
+    (λ was_there. HasEntered false c.index_mut.result.now (Replace key c.args.value.now) (set_reply was_there)
+    c.set.new.hand))
     c.of-known.ensures (c.set.ensures.entered traced))
