@@ -12,4 +12,5 @@ pub mod Parts
 pub mod Passing
 pub mod Places
 pub mod Settled
+pub mod TracedShards
 pub mod Wholes

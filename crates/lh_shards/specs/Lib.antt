@@ -12,3 +12,4 @@ pub mod Opening
 pub mod Openings
 pub mod Settling
 pub mod Told
+pub mod Traced

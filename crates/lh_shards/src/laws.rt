@@ -1,6 +1,7 @@
 //! Laws of shards, each the contract of a function that does nothing.
 ghost use Rattle.lh_shards.specs.Listings.{ListedLaw};
 ghost use Rattle.lh_shards.specs.OneMap.{OneMapLaw};
+ghost use Rattle.lh_shards.specs.Traced.{TracedLaw};
 
 /// Where each shard's history is legal, as settling answers it, every merge of these histories that keeps the order of
 /// each is a legal history of one plain map, with the same replies, and what the shards hold at last are the parts of
@@ -13,4 +14,10 @@ pub fn shards_are_one_map()
 /// So [`Shards::open_from`](crate::Shards::open_from) refuses no record of them.
 pub fn settled_shards_list_their_own()
     ensures { ListedLaw }
+{}
+
+/// Traced shards need no settling to be one map: where all their buckets were met, no split was under way, and all calls
+/// came home to the hands that closed them, each shard has one legal history, and every merge of these is legal.
+pub fn traced_shards_are_settled()
+    ensures { TracedLaw }
 {}

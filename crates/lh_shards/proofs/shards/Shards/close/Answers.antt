@@ -63,8 +63,8 @@ loop-shard-preserved g c =
           subst (λ (l : List ClosedShard). EachThree (IsClosedBy g.M.Mode.traced) c.args.self c.args.hands l)
           (sym c.in_ok-push.ensures.items)
           (three_next (IsClosedBy g.M.Mode.traced) c.args.self c.args.hands c.loop-shard.shards.items i
-          c.in-Some.file.state c.in-Some-next.hand c.in_ok-shard.shard c.loop-shard.invariant.many next_file.0 next_hand.0
-          c.in_ok-shard.ensures c.loop-shard.invariant.each);
+          c.in-Some.file.state c.in-Some-next.hand c.in_ok-shard.shard c.loop-shard.invariant.many next_file.0
+          next_hand.0 c.in_ok-shard.ensures c.loop-shard.invariant.each);
     }
 
 pub invariant_of-result : goal.invariant_of-result
