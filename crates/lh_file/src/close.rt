@@ -1,8 +1,10 @@
 //! How a file is closed.
-ghost use Rattle.std.specs.Prelude.{◌≡◌, ℕ, ◌+◌, ◌-◌, ◌%◌, ◌^◌, ◌<◌, ◌≤◌, true, [], length, map, IfOk, OnOk};
+ghost use Rattle.std.specs.Prelude.{◌≡◌, ℕ, ◌+◌, ◌-◌, ◌%◌, ◌^◌, ◌<◌, ◌≤◌, true, false, [], ◌∷◌, length, map, IfOk};
+ghost use Rattle.std.specs.Prelude.{OnOk};
 ghost use Rattle.lh_file.specs.Closing.{NoneIsLost, AreGathered, HasHistory};
 ghost use Rattle.lh_file.specs.FileState.{IsOf};
 ghost use Rattle.lh_file.specs.HashFile.{IsClosing};
+ghost use Rattle.lh_file.specs.Words.Seats.{holder, with_token};
 
 use crate::buckets::brand::FileBrand;
 use crate::buckets::segments::Segments;
@@ -34,6 +36,28 @@ struct Copies {
 }
 
 impl Copies {
+    /// Takes in the seat of the next bucket, where the seats of all buckets before it came in: whether it did.
+    fn gather<M: Mode, J: FileBrand>(
+        &self,
+        words: &Words<M>,
+        seat: &mut Seat<(), SeatView>,
+        slot: &Slot<J>,
+    ) -> bool
+        requires at { seat.old.table_id ≡ words.now.table }
+        requires brand { M.traced ≡ true → words.now.table ≡ J.tables words.now.shard }
+        ensures at { seat.new.table_id ≡ seat.old.table_id }
+        ensures all { result ≡ true → self.now.whole ≡ length self.now.lists.items }
+        ensures number { result ≡ true → slot.now.head.number ≡ self.now.whole }
+        ensures taken { result ≡ true → seat.new.me
+            ≡ (with_token seat.old.me.0 (holder (slot.now ∷ [])), seat.old.me.1) }
+        ensures same { result ≡ false → seat.new.me ≡ seat.old.me }
+    {
+        if self.whole as usize != self.lists.len() {
+            return false;
+        }
+        words.gather(seat, slot, self.whole)
+    }
+
     /// Copies the next bucket. In a traced file its seat is taken in, if those of all buckets before it were.
     fn add<M: Mode, J: FileBrand>(
         &mut self,
@@ -54,7 +78,7 @@ impl Copies {
             (map (λ v. v.items) self.new.lists.items) self.new.whole self.new.clean) }
     {
         let pairs = copied_pairs(alloc, slot.bucket())?;
-        if self.whole as usize == self.lists.len() && words.gather(seat, slot, self.whole) {
+        if self.gather(words, seat, slot) {
             self.whole += 1;
         } else if !pairs.is_empty() {
             self.clean = false;
