@@ -6,7 +6,7 @@ use Rattle.lh_page.specs.declared.format.Format.{Format}
 use Rattle.lh_page.specs.PageFields.{next_of, pair_of, used_of}
 use Rattle.lh_page.specs.PageTable.{slot}
 use Rattle.lh_image.specs.declared.checked.index.PageIndex.{PageIndex}
-use Rattle.lh_image.specs.declared.reading.first_page.Header.{Header}
+use Rattle.lh_image.specs.declared.header.Header.{Header}
 use Rattle.lh_image.specs.Image.{IsImage, listing_of}
 use Rattle.lh_image.specs.Layout.{page, view_of}
 use Rattle.lh_image.specs.LookUp.{IsOpened}

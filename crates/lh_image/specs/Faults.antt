@@ -14,7 +14,7 @@ use Rattle.lh_image.specs.declared.fault.ImageFault.{ImageFault}
 use Rattle.lh_image.specs.declared.fault.ImageFault.TheVariants.{Magic, HeaderField, Counts, Short, Trailing, Kind}
 use Rattle.lh_image.specs.declared.fault.ImageFault.TheVariants.{BucketNumber, Level, Used, Next, Twice, Never, Slot}
 use Rattle.lh_image.specs.declared.fault.ImageFault.TheVariants.{Misfit}
-use Rattle.lh_image.specs.declared.reading.first_page.Header.{Header}
+use Rattle.lh_image.specs.declared.header.Header.{Header}
 use Rattle.lh_image.specs.Chains.{Links, chain, stands_in}
 use Rattle.lh_image.specs.Layout.{most_pages, initial_offset, capacity_offset, load_offset, buckets_offset, max_offset}
 use Rattle.lh_image.specs.Layout.{fields_end, header_of, ends_in_zeros, image_bytes, view_of}

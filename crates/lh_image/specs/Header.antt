@@ -9,7 +9,7 @@ use Rattle.lh_bucket.specs.Listing.{Lists}
 use Rattle.lh_image.specs.declared.fault.ImageFault.{ImageFault}
 use Rattle.lh_image.specs.declared.fault.ImageFault.TheVariants.{Trailing}
 use Rattle.lh_image.specs.declared.reading.first_page.Fields.{Fields}
-use Rattle.lh_image.specs.declared.reading.first_page.Header.{Header}
+use Rattle.lh_image.specs.declared.header.Header.{Header}
 use Rattle.lh_image.specs.declared.version.Version.{Version}
 use Rattle.lh_image.specs.Faults.{header_rows, first_fault_of, no_magic}
 use Rattle.lh_image.specs.Filling.{FillsWhole}

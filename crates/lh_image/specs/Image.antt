@@ -8,7 +8,7 @@ use Rattle.lh_page.specs.PageTable.{IsPage, IsWritable}
 use Rattle.lh_bucket.specs.Listing.{Lists, IsListing, size, list_at, count_of}
 use Rattle.lh_image.specs.Chains.{IsCovered}
 use Rattle.lh_image.specs.Faults.{image_fault}
-use Rattle.lh_image.specs.declared.reading.first_page.Header.{Header}
+use Rattle.lh_image.specs.declared.header.Header.{Header}
 use Rattle.lh_image.specs.declared.version.Version.{Version}
 use Rattle.lh_image.specs.Layout.{most_pages, header_of, header_text, page, page_at, view_of}
 use Rattle.lh_image.specs.Version.{format_of, page_bytes, slots, version_of}

@@ -16,7 +16,7 @@ use Rattle.lh_bucket.specs.Records.{map_of}
 use Rattle.lh_image.specs.declared.fault.ImageFault.{ImageFault}
 use Rattle.lh_image.specs.declared.fault.ImageFault.TheVariants.{Kind, BucketNumber, Level, Used, Next, Twice, Slot}
 use Rattle.lh_image.specs.declared.fault.ImageFault.TheVariants.{Misfit}
-use Rattle.lh_image.specs.declared.reading.first_page.Header.{Header}
+use Rattle.lh_image.specs.declared.header.Header.{Header}
 use Rattle.lh_image.specs.Chains.{pages_from, stands_in}
 use Rattle.lh_image.specs.Faults.{at_head, bad_bucket, bad_kind, bad_level, bad_next, bad_used, first_fault_of}
 use Rattle.lh_image.specs.Faults.{has_bad_slot, header_rows, is_at_home, size_rows, where_so}

@@ -5,7 +5,7 @@ use Rattle.std.specs.List.{range_with_len, sum_by, find}
 use Rattle.lh_page.specs.declared.head.PageHead.{PageHead}
 use Rattle.lh_image.specs.declared.fault.ImageFault.{ImageFault}
 use Rattle.lh_image.specs.declared.fault.ImageFault.TheVariants.{Kind, BucketNumber, Level, Used}
-use Rattle.lh_image.specs.declared.reading.first_page.Header.{Header}
+use Rattle.lh_image.specs.declared.header.Header.{Header}
 use Rattle.lh_image.specs.declared.judge.page_checks.PageFaults.{PageFaults}
 use Rattle.lh_image.specs.Faults.{at_head, bad_kind, bad_bucket, bad_level, bad_used, has_bad_slot, where_so}
 use Rattle.lh_image.specs.Table.{has_plain_head}

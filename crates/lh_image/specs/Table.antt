@@ -5,7 +5,7 @@ use Rattle.lh_page.specs.declared.pair.Pair.{Pair}
 use Rattle.lh_page.specs.declared.fault.PageFault.{PageFault}
 use Rattle.lh_page.specs.declared.fault.PageFault.TheVariants.{Kind, Used, Slot}
 use Rattle.lh_page.specs.PageFields.{fault_of, pairs_of}
-use Rattle.lh_image.specs.declared.reading.table.Entry.{Entry}
+use Rattle.lh_image.specs.declared.table.Entry.{Entry}
 use Rattle.lh_image.specs.Chains.{Links}
 use Rattle.lh_image.specs.declared.version.Version.{Version}
 use Rattle.lh_image.specs.Version.{format_of}

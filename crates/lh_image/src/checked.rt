@@ -17,12 +17,12 @@ use crate::checked::finding::place_of;
 use crate::checked::index::{PageIndex, index_in};
 use crate::checked::pages::pages_in;
 use crate::fault::ImageFault;
+use crate::header::Header;
 use crate::image::walk::value_at;
 use crate::judge::listed::listing_of_pages;
 use crate::laws::{
     faultless_bytes_are_an_image, image_is_of_only_listing, what_is_found_stands_there,
 };
-use crate::reading::first_page::Header;
 use lh_addr::{Config, Root};
 use lh_page::{Key, Value};
 use std::alloc::Global;

@@ -19,10 +19,10 @@ pub(crate) mod walk;
 
 use crate::checked::CheckedImage;
 use crate::fault::ImageFault;
+use crate::header::Header;
 use crate::image::opening::{check_size, header_in};
 use crate::image::walk::{place_of, value_at};
 use crate::laws::what_is_found_stands_there;
-use crate::reading::first_page::Header;
 use crate::version::Version;
 use lh_addr::{Config, Root};
 use lh_page::{Key, Value};

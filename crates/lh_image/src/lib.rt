@@ -17,12 +17,14 @@
 mod census;
 mod checked;
 mod fault;
+mod header;
 mod image;
 mod judge;
 pub mod laws;
 mod layout;
 mod limits;
 mod reading;
+mod table;
 mod version;
 mod writing;
 

@@ -9,7 +9,6 @@ mod leading;
 pub(crate) mod memory;
 pub(crate) mod page;
 pub(crate) mod pages;
-pub(crate) mod table;
 
 use crate::fault::ImageFault;
 use crate::judge::listed::listing_of_pages;

@@ -8,7 +8,7 @@ use Rattle.byteorder.specs.Numbers.{little_from-take}
 use Rattle.byteorder.specs.Endian.{little_from}
 use Rattle.lh_addr.specs.Limits.{IsInitial, IsCapacity, IsLoad, IsSize}
 use Rattle.lh_image.specs.declared.fault.ImageFault.TheVariants.{HeaderField, Counts}
-use Rattle.lh_image.specs.declared.reading.first_page.Header.{Header}
+use Rattle.lh_image.specs.declared.header.Header.{Header}
 use Rattle.lh_image.specs.Faults.{is_bad_field, is_bad_max, bad_field, bad_counts, field_rows, first_fault_of, where_so}
 use Rattle.lh_image.specs.Faults.{out_of}
 use Rattle.lh_image.specs.Header.{AreInRange, HasRoom}

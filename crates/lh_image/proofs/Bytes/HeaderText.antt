@@ -7,7 +7,7 @@ use borrow.Rule.Slice.PartMut.{put_mid}
 use Rattle.lh_image.specs.declared.version.Version.{Version}
 use Rattle.byteorder.specs.Numbers.{little_number-reads_back}
 use Rattle.byteorder.specs.Endian.{little_from, little_bytes}
-use Rattle.lh_image.specs.declared.reading.first_page.Header.{Header}
+use Rattle.lh_image.specs.declared.header.Header.{Header}
 use Rattle.lh_image.specs.Layout.{initial_offset, capacity_offset, load_offset, buckets_offset, max_offset}
 use Rattle.lh_image.specs.Layout.{pages_offset, records_offset, header_of, header_text, number_text, padding}
 use Rattle.lh_image.specs.Version.{magic, page_bytes, version_of}

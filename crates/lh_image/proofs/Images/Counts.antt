@@ -11,7 +11,7 @@ use Rattle.lh_page.specs.PackedList.{PackingLaw, joined}
 use Rattle.lh_bucket.specs.Listing.{Lists, size, list_at, count_of}
 use Rattle.lh_image.specs.Canonical.{overflow_before, page_count_in, page_total, pages_in}
 use Rattle.lh_image.specs.Census.{census_of, longest_before}
-use Rattle.lh_image.specs.declared.reading.first_page.Header.{Header}
+use Rattle.lh_image.specs.declared.header.Header.{Header}
 use Rattle.lh_image.specs.Chains.{IsPath}
 use Rattle.lh_image.specs.Counted.{CensusLaw, counted, longest_chain}
 use Rattle.lh_image.specs.Image.{Shows}

@@ -13,7 +13,7 @@ use Rattle.lh_addr.specs.Settings.{Settings}
 use Rattle.lh_page.specs.declared.pair.Pair.{Pair}
 use Rattle.lh_page.specs.Records.{IsRecord, keys_of}
 use Rattle.lh_bucket.specs.Listing.{Lists, IsHome, EachPlace, size, list_at, count_of}
-use Rattle.lh_image.specs.declared.reading.first_page.Header.{Header}
+use Rattle.lh_image.specs.declared.header.Header.{Header}
 use Rattle.lh_image.specs.Chains.{stands_in, IsCovered}
 use Rattle.lh_image.specs.Image.{Shows, listing_of}
 use Rattle.lh_image.specs.View.{View, IsView, buckets, page_count, numbers, used, bucket, next, chain_of}

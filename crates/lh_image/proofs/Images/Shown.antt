@@ -9,7 +9,7 @@ use Rattle.lh_addr.specs.Fnv.{code_of}
 use Rattle.lh_addr.specs.Growth.{address}
 use Rattle.lh_page.specs.Records.{IsRecord, keys_of}
 use Rattle.lh_bucket.specs.Listing.{IsShape, IsHome, EachPlace, size, list_at, count_of}
-use Rattle.lh_image.specs.declared.reading.first_page.Header.{Header}
+use Rattle.lh_image.specs.declared.header.Header.{Header}
 use Rattle.lh_image.specs.Chains.{stands_in, IsCovered}
 use Rattle.lh_image.specs.Faults.{bad_kind, bad_level, bad_used, bad_total, has_bad_slot, has_misfit, misfits}
 use Rattle.lh_image.specs.Faults.{is_at_home, keys_before}

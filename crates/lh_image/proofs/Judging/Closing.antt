@@ -13,7 +13,7 @@ use Rattle.lh_page.specs.declared.pair.Pair.{Pair}
 use Rattle.lh_page.specs.Records.{keys_of}
 use Rattle.lh_image.specs.declared.fault.ImageFault.TheVariants.{Misfit}
 use Rattle.lh_image.specs.declared.judge.page_checks.PageFaults.{PageFaults}
-use Rattle.lh_image.specs.declared.reading.table.Entry.{Entry}
+use Rattle.lh_image.specs.declared.table.Entry.{Entry}
 use Rattle.lh_image.specs.Chains.{stands_in, IsPath}
 use Rattle.lh_image.specs.Faults.{has_misfit, least, misfits, is_at_home, keys_before, page_fault}
 use Rattle.lh_image.specs.Image.{listing_of}

@@ -11,7 +11,7 @@ use Rattle.lh_image.specs.declared.fault.ImageFault.{ImageFault}
 use Rattle.lh_image.specs.declared.fault.ImageFault.TheVariants.{Kind, BucketNumber, Level, Used, Slot, Misfit}
 use Rattle.lh_image.specs.declared.fault.ImageFault.TheVariants.{ReadFault, Memory}
 use Rattle.lh_image.specs.declared.judge.page_checks.PageFaults.{PageFaults}
-use Rattle.lh_image.specs.declared.reading.table.Entry.{Entry}
+use Rattle.lh_image.specs.declared.table.Entry.{Entry}
 use Rattle.lh_image.specs.Faults.{at_head, bad_kind, bad_bucket, bad_level, bad_used, bad_total, bad_used_at}
 use Rattle.lh_image.specs.Faults.{has_bad_slot, has_misfit, least, where_so, head_rows, link_rows, record_rows}
 use Rattle.lh_image.specs.Faults.{page_fault, first_fault_of}

@@ -19,9 +19,9 @@ use Rattle.lh_bucket.specs.Listing.{Lists, all_of}
 use Rattle.lh_bucket.specs.Records.{map_of}
 use Rattle.lh_image.specs.declared.fault.ImageFault.{ImageFault}
 use Rattle.lh_image.specs.declared.fault.ImageFault.TheVariants.{ReadFault, Memory, Twice}
-use Rattle.lh_image.specs.declared.reading.first_page.Header.{Header}
+use Rattle.lh_image.specs.declared.header.Header.{Header}
 use Rattle.lh_image.specs.declared.judge.page_checks.PageFaults.{PageFaults}
-use Rattle.lh_image.specs.declared.reading.table.Entry.{Entry}
+use Rattle.lh_image.specs.declared.table.Entry.{Entry}
 use Rattle.lh_image.specs.declared.checked.index.PageIndex.{PageIndex}
 use Rattle.lh_image.specs.Checked.{AreIndexed, IsIndexed, mark_of, no_index}
 use Rattle.lh_image.specs.Faults.{bad_used, first_fault_of, has_bad_slot, image_fault}

@@ -18,7 +18,7 @@ use Rattle.lh_bucket.specs.PlainMap.{Records}
 use Rattle.lh_bucket.specs.Records.{map_of}
 use Rattle.lh_image.specs.declared.fault.ImageFault.{ImageFault}
 use Rattle.lh_image.specs.declared.fault.ImageFault.TheVariants.{Twice}
-use Rattle.lh_image.specs.declared.reading.first_page.Header.{Header}
+use Rattle.lh_image.specs.declared.header.Header.{Header}
 use Rattle.lh_image.specs.Chains.{IsPath, pages_from, stands_in}
 use Rattle.lh_image.specs.Faults.{bad_bucket, has_misfit, is_at_home, misfits}
 use Rattle.lh_image.specs.Faults.{first_fault_of}

@@ -6,7 +6,7 @@ use Rattle.std.specs.Result.{result_err}
 use Rattle.std.proofs.lemmas.Bool.Decides.{nat_tests}
 use Rattle.lh_image.specs.declared.fault.ImageFault.{ImageFault}
 use Rattle.lh_image.specs.declared.fault.ImageFault.TheVariants.{Magic, Short, Trailing}
-use Rattle.lh_image.specs.declared.reading.first_page.Header.{Header}
+use Rattle.lh_image.specs.declared.header.Header.{Header}
 use Rattle.lh_image.specs.Faults.{first_fault_of, has_trailing, header_rows, is_short, no_magic, size_rows}
 use Rattle.lh_image.specs.Header.{AreInRange}
 use Rattle.lh_image.specs.Layout.{header_of, image_bytes}

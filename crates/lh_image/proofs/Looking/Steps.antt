@@ -17,7 +17,7 @@ use Rattle.lh_page.specs.Format.{page_size}
 use Rattle.lh_page.specs.PageFields.{bad_slot, head_of, pairs_of}
 use Rattle.lh_image.specs.declared.fault.ImageFault.{ImageFault}
 use Rattle.lh_image.specs.declared.fault.ImageFault.TheVariants.{Slot, Misfit, Next, Twice}
-use Rattle.lh_image.specs.declared.reading.first_page.Header.{Header}
+use Rattle.lh_image.specs.declared.header.Header.{Header}
 use Rattle.lh_image.specs.declared.version.Version.{Version}
 use Rattle.lh_image.specs.Faults.{at_head, bad_bucket, bad_kind, bad_level, bad_next, bad_used, first_fault_of}
 use Rattle.lh_image.specs.Faults.{has_bad_slot, where_so}

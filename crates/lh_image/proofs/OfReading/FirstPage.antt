@@ -17,7 +17,7 @@ use Rattle.lh_bucket.specs.Listing.{Lists}
 use Rattle.lh_image.specs.declared.fault.ImageFault.{ImageFault}
 use Rattle.lh_image.specs.declared.fault.ImageFault.TheVariants.{Magic, HeaderField, Counts, Short, Trailing, ReadFault}
 use Rattle.lh_image.specs.declared.fault.ImageFault.TheVariants.{Memory}
-use Rattle.lh_image.specs.declared.reading.first_page.Header.{Header}
+use Rattle.lh_image.specs.declared.header.Header.{Header}
 use Rattle.lh_image.specs.Faults.{bad_field, bad_counts, no_magic, is_short, where_so, field_rows, header_rows}
 use Rattle.lh_image.specs.Faults.{size_rows, page_rows, first_fault_of, image_fault}
 use Rattle.lh_image.specs.Filling.{FillsWhole, IsCut, IsFilled}

@@ -1,9 +1,9 @@
 -- What is kept and noted of the header alone
 use Rattle.std.proofs.Common.{◌≡◌, ℕ, zero, suc, List, [], ◌∷◌, Option, None, refl, arith}
 use Rattle.lh_page.specs.declared.pair.Pair.{Pair}
-use Rattle.lh_image.specs.declared.reading.first_page.Header.{Header}
+use Rattle.lh_image.specs.declared.header.Header.{Header}
 use Rattle.lh_image.specs.declared.judge.page_checks.PageFaults.{PageFaults}
-use Rattle.lh_image.specs.declared.reading.table.Entry.{Entry}
+use Rattle.lh_image.specs.declared.table.Entry.{Entry}
 use Rattle.lh_image.specs.Header.{HasHeader}
 use Rattle.lh_image.specs.Layout.{view_of}
 use Rattle.lh_image.specs.Pages.{HaveCome}

@@ -15,9 +15,9 @@ use Rattle.lh_bucket.specs.Listing.{Lists}
 use Rattle.lh_image.specs.declared.fault.ImageFault.{ImageFault}
 use Rattle.lh_image.specs.declared.fault.ImageFault.TheVariants.{Magic, HeaderField, Counts, Short, Trailing, ReadFault}
 use Rattle.lh_image.specs.declared.fault.ImageFault.TheVariants.{Memory}
-use Rattle.lh_image.specs.declared.reading.first_page.Header.{Header}
+use Rattle.lh_image.specs.declared.header.Header.{Header}
 use Rattle.lh_image.specs.declared.judge.page_checks.PageFaults.{PageFaults}
-use Rattle.lh_image.specs.declared.reading.table.Entry.{Entry}
+use Rattle.lh_image.specs.declared.table.Entry.{Entry}
 use Rattle.lh_image.specs.Faults.{at_head, bad_kind, bad_bucket, bad_used, field_rows, first_fault_of, has_header}
 use Rattle.lh_image.specs.Faults.{has_trailing, header_rows, image_fault, is_short, no_magic, page_rows, size_rows}
 use Rattle.lh_image.specs.Faults.{where_so}

@@ -14,9 +14,9 @@ use Rattle.lh_bucket.specs.Listing.{Lists}
 use Rattle.lh_page.specs.declared.pair.Pair.{Pair}
 use Rattle.lh_image.specs.declared.fault.ImageFault.{ImageFault}
 use Rattle.lh_image.specs.declared.fault.ImageFault.TheVariants.{Short, Trailing, ReadFault, Memory}
-use Rattle.lh_image.specs.declared.reading.first_page.Header.{Header}
+use Rattle.lh_image.specs.declared.header.Header.{Header}
 use Rattle.lh_image.specs.declared.judge.page_checks.PageFaults.{PageFaults}
-use Rattle.lh_image.specs.declared.reading.table.Entry.{Entry}
+use Rattle.lh_image.specs.declared.table.Entry.{Entry}
 use Rattle.lh_image.specs.Faults.{header_rows, size_rows, page_rows, first_fault_of, page_fault, image_fault, is_short}
 use Rattle.lh_image.specs.Faults.{has_trailing}
 use Rattle.lh_image.specs.Header.{HasHeader}

@@ -11,10 +11,10 @@ ghost use Rattle.lh_image.specs.LookUp.{IsLookedAt, IsOpened, IsPlace, IsSlotOf,
 ghost use Rattle.lh_image.specs.Version.{format_of, version_of};
 
 use crate::checked::index::{PageIndex, mark_of};
+use crate::header::Header;
 use crate::image::slots::slot_at;
 use crate::image::walk::page_at;
 use crate::laws::what_is_found_stands_there;
-use crate::reading::first_page::Header;
 use lh_addr::{Root, fnv1a};
 use lh_page::Key;
 use lh_page::format::{Format, LENGTHS};

@@ -10,10 +10,10 @@ ghost use Rattle.lh_image.specs.Layout.{view_of};
 ghost use Rattle.lh_image.specs.LookUp.{IsOpened};
 
 use crate::fault::ImageFault;
+use crate::header::Header;
 use crate::image::slots::{key_in, slot_at};
 use crate::image::walk::page_at;
 use crate::laws::image_is_of_only_listing;
-use crate::reading::first_page::Header;
 use crate::reading::page::{next_of, used_of};
 use lh_addr::{Root, fnv1a};
 use lh_page::format::{Format, VERSION_2};

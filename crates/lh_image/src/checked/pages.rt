@@ -5,11 +5,11 @@ ghost use Rattle.lh_image.specs.Pages.{HaveCome};
 ghost use Rattle.lh_image.specs.Table.{AreWithin};
 
 use crate::fault::ImageFault;
+use crate::header::Header;
 use crate::image::walk::page_at;
 use crate::judge::page_checks::PageFaults;
-use crate::reading::first_page::Header;
 use crate::reading::pages::take_page;
-use crate::reading::table::Table;
+use crate::table::Table;
 use lh_addr::Root;
 use std::alloc::Global;
 

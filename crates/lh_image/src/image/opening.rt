@@ -8,7 +8,8 @@ ghost use Rattle.lh_image.specs.LookUp.{OpensHeader};
 ghost use Rattle.lh_image.specs.Version.{page_bytes, version_of};
 
 use crate::fault::ImageFault;
-use crate::reading::first_page::{Header, header_of};
+use crate::header::Header;
+use crate::reading::first_page::header_of;
 use crate::version::Version;
 
 /// The header that bytes begin with.

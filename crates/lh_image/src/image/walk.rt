@@ -9,9 +9,9 @@ ghost use Rattle.lh_image.specs.Version.{format_of, page_bytes, version_of};
 ghost use Rattle.lh_image.specs.View.{bucket, links};
 
 use crate::fault::ImageFault;
+use crate::header::Header;
 use crate::image::slots::{place_in, slot_at, value_in};
 use crate::judge::page_checks::{has_bad_bucket, has_bad_kind, has_bad_level, has_bad_used};
-use crate::reading::first_page::Header;
 use crate::reading::page::head_of;
 use lh_addr::{Root, fnv1a};
 use lh_page::{Key, PageHead};

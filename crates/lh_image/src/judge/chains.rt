@@ -10,7 +10,7 @@ ghost use Rattle.lh_image.specs.Layout.{most_pages};
 
 use crate::fault::ImageFault;
 use crate::judge::links::next_of;
-use crate::reading::table::Entry;
+use crate::table::Entry;
 use std::alloc::Global;
 
 /// The pages that come from a page by following `next`.

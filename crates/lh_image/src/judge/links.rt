@@ -6,7 +6,7 @@ ghost use Rattle.lh_image.specs.Table.{links_in, next_in};
 ghost use Rattle.lh_image.specs.Layout.{most_pages};
 
 use crate::fault::ImageFault;
-use crate::reading::table::Entry;
+use crate::table::Entry;
 use std::alloc::Global;
 
 /// Whether a page's next one is no overflow page of its bucket.

@@ -10,13 +10,13 @@ ghost use Rattle.lh_image.specs.Table.{AreWithin, links_in, next_in};
 ghost use Rattle.lh_image.specs.View.{View};
 
 use crate::fault::ImageFault;
+use crate::header::Header;
 use crate::judge::chains::{all_chains, least_on_no_chain};
 use crate::judge::links::{least_bad_next, least_named_twice};
 use crate::judge::lists::lists_of;
 use crate::judge::misplaced::least_misfit;
 use crate::judge::page_checks::PageFaults;
-use crate::reading::first_page::Header;
-use crate::reading::table::Table;
+use crate::table::Table;
 use lh_bucket::Listing;
 use std::alloc::Global;
 

@@ -5,7 +5,7 @@ ghost use Rattle.std.specs.Io.Iter.{u64_saturate};
 ghost use Rattle.lh_image.specs.Table.{AreWithin, page_records};
 
 use crate::fault::ImageFault;
-use crate::reading::table::Table;
+use crate::table::Table;
 use lh_page::Pair;
 use std::alloc::Global;
 

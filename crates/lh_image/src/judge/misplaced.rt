@@ -13,7 +13,7 @@ ghost use Rattle.lh_image.specs.Misplaced.{IsLeastAmong, IsSetOf, IsTestOf, is_h
 ghost use Rattle.lh_image.specs.Table.{AreWithin, page_records};
 
 use crate::fault::ImageFault;
-use crate::reading::table::Table;
+use crate::table::Table;
 use lh_addr::{Root, fnv1a};
 use lh_page::{Key, Pair};
 use std::alloc::Global;

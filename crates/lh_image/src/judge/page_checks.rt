@@ -5,7 +5,7 @@ ghost use Rattle.lh_image.specs.Faults.{bad_bucket, bad_kind, bad_used, first_fa
 ghost use Rattle.lh_image.specs.PageChecks.{known_bad_level, noted, noted_rows, seen};
 
 use crate::fault::ImageFault;
-use crate::reading::first_page::Header;
+use crate::header::Header;
 use lh_addr::Root;
 use lh_page::PageHead;
 

@@ -10,6 +10,7 @@ ghost use Rattle.lh_image.specs.Version.{page_bytes, slots, version_of};
 ghost use Rattle.lh_image.specs.declared.version.Version.{Version};
 
 use crate::fault::ImageFault;
+use crate::header::Header;
 use crate::layout;
 use crate::limits::MAX_PAGES;
 use crate::reading::filling::{read_into, read_whole};
@@ -29,17 +30,6 @@ pub(crate) struct Fields {
     pub load: u32,
     pub buckets: u32,
     pub max: u32,
-    pub pages: u32,
-    pub records: u64,
-}
-
-/// A header whose fields are in their ranges.
-#[derive(Clone, Copy)]
-pub(crate) struct Header {
-    pub version: Version,
-    pub config: Config,
-    pub buckets: u32,
-    /// The number of pages, this one among them.
     pub pages: u32,
     pub records: u64,
 }

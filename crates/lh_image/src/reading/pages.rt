@@ -7,11 +7,11 @@ ghost use Rattle.lh_image.specs.Table.{AreWithin};
 ghost use Rattle.lh_image.specs.Version.{page_bytes, slots, version_of};
 
 use crate::fault::ImageFault;
+use crate::header::Header;
 use crate::judge::page_checks::PageFaults;
 use crate::reading::filling::{read_into, read_whole};
-use crate::reading::first_page::Header;
 use crate::reading::page::head_of;
-use crate::reading::table::Table;
+use crate::table::Table;
 use lh_addr::Root;
 use lh_page::format::PAGE_2;
 use std::alloc::Global;

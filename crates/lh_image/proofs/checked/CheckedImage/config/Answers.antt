@@ -1,6 +1,6 @@
 use Rattle.std.proofs.Common.{ap, ◌∙◌}
 use Rattle.lh_bucket.specs.Listing.{Lists}
-use Rattle.lh_image.specs.declared.reading.first_page.Header.{Header}
+use Rattle.lh_image.specs.declared.header.Header.{Header}
 use Rattle.lh_image.specs.Image.{listing_of}
 use Rattle.lh_image.specs.Layout.{view_of}
 use Rattle.lh_image.proofs.Looking.Maps.{listed}

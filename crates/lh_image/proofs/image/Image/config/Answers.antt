@@ -1,4 +1,4 @@
-use Rattle.lh_image.specs.declared.reading.first_page.Header.{Header}
+use Rattle.lh_image.specs.declared.header.Header.{Header}
 use Rattle.lh_image.proofs.Looking.Maps.{listed}
 use Rattle.lh_image.proofs.image.Image.config.Goals as goal
 

@@ -1,5 +1,5 @@
 use Rattle.std.proofs.Common.{◌*◌, ap, ◌∙◌, arith}
-use Rattle.lh_image.specs.declared.reading.first_page.Header.{Header}
+use Rattle.lh_image.specs.declared.header.Header.{Header}
 use Rattle.lh_image.specs.Version.{page_bytes}
 use Rattle.lh_image.proofs.Bytes.Header.{version_shown}
 use Rattle.lh_image.proofs.Looking.Openings.{size_short, size_trailing, size_whole}

@@ -5,7 +5,7 @@ ghost use Rattle.lh_image.specs.Table.{AreWithin, IsPushed, is_of_slot, no_entry
 ghost use Rattle.lh_image.specs.Version.{format_of, page_bytes, slots};
 
 use crate::fault::ImageFault;
-use crate::reading::first_page::Header;
+use crate::header::Header;
 use lh_page::{PageFault, PageHead, Pair, Pairs, pairs_behind_head};
 use std::alloc::Global;
 
