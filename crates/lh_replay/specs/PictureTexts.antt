@@ -15,7 +15,7 @@ use Rattle.lh_replay.specs.declared.shapes.HeldBox.{HeldBox}
 use Rattle.lh_replay.specs.declared.shapes.Rectangle.{Rectangle}
 use Rattle.lh_replay.specs.declared.shapes.Shape.{Shape}
 use Rattle.lh_replay.specs.declared.shapes.Shape.TheVariants as shape
-use Rattle.lh_replay.specs.declared.words.Words.{Words}
+use Rattle.lh_replay.specs.declared.label.Label.{Label}
 
 -- the picture's title and its description, and what its marks are
 unfoldable pub picture_caption_text : Caption → List ℕ
@@ -59,8 +59,8 @@ told_text (Ok effect) = effect_text effect
 told_text (Err refusal) = refusal_text refusal
 
 -- an event and what was told of it, a refusal in a colour of its own
-unfoldable pub words_text : Words → List ℕ
-words_text w =
+unfoldable pub label_text : Label → List ℕ
+label_text w =
     codes "<text x='8' y='16' fill='" ++ (if_accepted w.entry (codes "#333333") (codes "#b85000") ++ (codes "'>" ++ (
     event_word w.event ++ (codes ": " ++ (told_text w.entry ++ codes "</text>")))))
 
@@ -97,13 +97,13 @@ shape_text (shape.Way down) =
 shape_text shape.Moved = codes "<path d='M188 12h32m-6 -5l6 5l-6 5' fill='none' stroke='#333333' stroke-width='2'/>"
 shape_text shape.Pointed = codes "<path d='M204 4l8 14h-16z'/>"
 
--- a step: its number at the left of its row, and in its lane its words on what is drawn of it
+-- a step: its number at the left of its row, and in its lane its label on what is drawn of it
 unfoldable pub step_text : Step → List ℕ
 step_text s =
     codes "<g transform='translate(0 " ++ (decimal s.top ++ (
     codes ")'><text x='36' y='16' text-anchor='end' fill='#757575'>" ++ (decimal s.number ++ (
     codes "</text><g transform='translate(" ++ (decimal s.left ++ (codes " 0)'>" ++ (
-    shape_text s.shape ++ (words_text s.words ++ codes "</g></g>\n"))))))))
+    shape_text s.shape ++ (label_text s.label ++ codes "</g></g>\n"))))))))
 
 -- the picture's end
 abbrev pub end_text : List ℕ

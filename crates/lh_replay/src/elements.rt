@@ -3,8 +3,8 @@ ghost use Rattle.std.specs.Prelude.{Some};
 ghost use Rattle.lh_replay.specs.PictureTexts.{end_text, heading_text, lane_name};
 ghost use Rattle.lh_replay.specs.PictureTexts.{picture_caption_text, step_text};
 
+use crate::label::Label;
 use crate::shapes::Shape;
-use crate::words::Words;
 use std::fmt;
 
 /// The picture's title and its description, and two lines of text that say what its marks are, on a white ground.
@@ -67,13 +67,13 @@ impl fmt::Display for Heading {
     }
 }
 
-/// A step: its number, from 1 on, at the left of its row, and in its lane its words and what is drawn of it.
+/// A step: its number, from 1 on, at the left of its row, and in its lane its label and what is drawn of it.
 #[derive(Clone, Copy)]
 pub struct Step {
     pub number: u128,
     pub top: u128,
     pub left: u32,
-    pub words: Words,
+    pub label: Label,
     pub shape: Shape,
 }
 
@@ -86,12 +86,12 @@ impl fmt::Display for Step {
             number,
             top,
             left,
-            words,
+            label,
             shape,
         } = *self;
         write!(
             f,
-            "<g transform='translate(0 {top})'><text x='36' y='16' text-anchor='end' fill='#757575'>{number}</text><g transform='translate({left} 0)'>{shape}{words}</g></g>\n"
+            "<g transform='translate(0 {top})'><text x='36' y='16' text-anchor='end' fill='#757575'>{number}</text><g transform='translate({left} 0)'>{shape}{label}</g></g>\n"
         )
     }
 }

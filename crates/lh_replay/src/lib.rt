@@ -9,14 +9,15 @@
 #![tactic(auto)]
 
 mod elements;
+mod label;
 mod lanes;
 pub mod laws;
 mod picture;
 mod shapes;
-mod words;
+mod sizes;
 
 pub use elements::{Caption, End, Heading, Step};
+pub use label::Label;
 pub use lanes::{lane_count, lane_of};
 pub use picture::{canvas_of, caption_of, heading_of, step_of};
 pub use shapes::Shape;
-pub use words::Words;

@@ -3,11 +3,13 @@ ghost use Rattle.std.specs.Prelude.{◌≡◌, ◌+◌, ◌*◌, ◌<◌, ◌≤
 ghost use Rattle.lh_replay.specs.Lanes.{lane_of, rows_until};
 ghost use Rattle.lh_replay.specs.Picture.{caption_of, event_at, heading_of, picture_canvas_of, shape_of, step_of};
 ghost use Rattle.lh_replay.specs.Picture.{told_at};
+ghost use Rattle.lh_replay.specs.Sizes.{box_height, row_height};
 
 use crate::elements::{Caption, Heading, Step};
+use crate::label::Label;
 use crate::lanes::{lane_count, lane_of, rehashes, rows_until};
 use crate::shapes::Shape;
-use crate::words::Words;
+use crate::sizes::{BOX_HEIGHT, HEAD_HEIGHT, LANE_WIDTH, LANES_LEFT, ROW_HEIGHT, ROWS_TOP};
 use lh_core::{Effect, Event, Refusal};
 use lh_draw::Canvas;
 
@@ -17,8 +19,8 @@ pub fn canvas_of(events: &[Event]) -> Canvas
     ensures { result ≡ picture_canvas_of events.now }
 {
     Canvas {
-        width: 48 + 288 * lane_count(events).max(2),
-        height: 84 + 24 * events.len() as u128,
+        width: LANES_LEFT + LANE_WIDTH * lane_count(events).max(2),
+        height: HEAD_HEIGHT + ROW_HEIGHT * events.len() as u128,
     }
 }
 
@@ -40,8 +42,8 @@ pub fn heading_of(events: &[Event], lane: u32) -> Heading
 {
     Heading {
         lane,
-        left: 48 + 288 * lane,
-        height: 20 + 24 * events.len() as u128,
+        left: LANES_LEFT + LANE_WIDTH * lane,
+        height: BOX_HEIGHT + ROW_HEIGHT * events.len() as u128,
     }
 }
 
@@ -49,12 +51,12 @@ pub fn heading_of(events: &[Event], lane: u32) -> Heading
 fn box_height(lane: u32, events: &[Event], entries: &[Result<Effect, Refusal>], row: usize) -> u128
     requires same { length entries.now ≡ length events.now }
     requires row { row < length events.now }
-    ensures { result ≡ 20 + 24 * rows_until false lane (drop (row + 1) events.now) (drop (row + 1) entries.now) }
+    ensures { result ≡ box_height + row_height * rows_until false lane (drop (row + 1) events.now) (drop (row + 1) entries.now) }
 {
-    20 + 24 * rows_until(false, lane, events, entries, row + 1) as u128
+    BOX_HEIGHT + ROW_HEIGHT * rows_until(false, lane, events, entries, row + 1) as u128
 }
 
-/// What is drawn of a step beside its words. The rows below are looked through only for a box or an arrow, down to its
+/// What is drawn of a step beside its label. The rows below are looked through only for a box or an arrow, down to its
 /// end; a lane has one box and one arrow at a time.
 fn shape_at(events: &[Event], entries: &[Result<Effect, Refusal>], row: usize) -> Shape
     requires same { length entries.now ≡ length events.now }
@@ -76,7 +78,7 @@ fn shape_at(events: &[Event], entries: &[Result<Effect, Refusal>], row: usize) -
             height: box_height(lane, events, entries, row),
         },
         Ok(Effect::Aim { .. }) if rehashes(&event) => Shape::Way {
-            down: 24 * rows_until(true, lane, events, entries, row + 1) as u128,
+            down: ROW_HEIGHT * rows_until(true, lane, events, entries, row + 1) as u128,
         },
         Ok(Effect::Moved { .. }) => Shape::Moved,
         Ok(Effect::Point { .. }) => Shape::Pointed,
@@ -93,9 +95,9 @@ pub fn step_of(events: &[Event], entries: &[Result<Effect, Refusal>], row: usize
     let event = events[row];
     Step {
         number: row as u128 + 1,
-        top: 72 + 24 * row as u128,
-        left: 48 + 288 * lane_of(&event),
-        words: Words {
+        top: ROWS_TOP + ROW_HEIGHT * row as u128,
+        left: LANES_LEFT + LANE_WIDTH * lane_of(&event),
+        label: Label {
             event,
             entry: entries[row],
         },

@@ -1,4 +1,4 @@
-//! What is drawn of a step beside its words.
+//! What is drawn of a step beside its label.
 ghost use Rattle.std.specs.Prelude.{◌≡◌, Some};
 ghost use Rattle.lh_replay.specs.PictureTexts.{held_colour, held_text, rectangle_text, shape_text};
 
@@ -7,7 +7,7 @@ use std::fmt;
 /// What is drawn of a step in its lane; heights are in pixels, from the step's row down.
 #[derive(Clone, Copy, Debug, PartialEq, Eq)]
 pub enum Shape {
-    /// Nothing but its words.
+    /// Nothing but its label.
     Plain,
     /// A box for the bucket that a worker holds from here on.
     Held { bucket: u32, height: u128 },

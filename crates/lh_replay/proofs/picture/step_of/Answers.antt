@@ -2,6 +2,7 @@ use Rattle.std.proofs.Common.{◌≡◌, ◌∙◌, ◌+◌, ◌*◌, Ok, length
 use Rattle.std.proofs.lemmas.List.{get_or_read_under}
 use Rattle.lh_core.specs.declared.effect.Effect.TheVariants as effect
 use Rattle.lh_core.specs.declared.event.Event.TheVariants as event
+use Rattle.lh_replay.specs.Sizes.{lanes_left, lane_width, rows_top, row_height}
 use Rattle.lh_replay.specs.Lanes.{lane_of}
 use Rattle.lh_replay.specs.Picture.{event_at, step_of, told_at}
 use Rattle.lh_replay.proofs.picture.step_of.Goals as goal
@@ -21,8 +22,8 @@ returns c =
     let lane_is : c.lane_of.result ≡ lane_of (event_at events row) = c.lane_of.ensures.value ∙ ap lane_of event_is in
     λ i. record {
       number = row + 1;
-      top = 72 + 24 * row;
-      left = 48 + 288 * lane_is i;
-      words = record { event = event_is i; entry = told_is i };
+      top = rows_top + row_height * row;
+      left = lanes_left + lane_width * lane_is i;
+      label = record { event = event_is i; entry = told_is i };
       shape = c.shape_at.ensures i;
     }

@@ -1,6 +1,6 @@
 //! What a picture says of a step.
 ghost use Rattle.std.specs.Prelude.{Some};
-ghost use Rattle.lh_replay.specs.PictureTexts.{event_word, told_text, words_text};
+ghost use Rattle.lh_replay.specs.PictureTexts.{event_word, told_text, label_text};
 
 use lh_bucket::{Call, Reply};
 use lh_core::{Effect, Event, Refusal};
@@ -57,17 +57,17 @@ impl fmt::Display for Told {
 
 /// An event and what was told of it, a refusal in a colour of its own.
 #[derive(Clone, Copy)]
-pub struct Words {
+pub struct Label {
     pub event: Event,
     pub entry: Result<Effect, Refusal>,
 }
 
-impl fmt::Display for Words {
-    ghost output = { λ words. Some (words_text words) };
+impl fmt::Display for Label {
+    ghost output = { λ label. Some (label_text label) };
 
-    #[tactic(auto, unfolding(crate::specs::PictureTexts::words_text))]
+    #[tactic(auto, unfolding(crate::specs::PictureTexts::label_text))]
     fn fmt<W: fmt::Write>(&self, f: &mut fmt::Formatter<W>) -> fmt::Result {
-        let Words { event, entry } = *self;
+        let Label { event, entry } = *self;
         let word = EventWord { event };
         let told = Told { entry };
         let ink = if entry.is_ok() { "#333333" } else { "#b85000" };
