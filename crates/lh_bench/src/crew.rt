@@ -2,7 +2,7 @@
 
 use crate::caller::{Caller, play, play_to_end};
 use crate::looks::{Looks, read_clock, take_looks};
-use crate::meter::{Spent, Stopwatch};
+use crate::meter::{Stopwatch, TimeSpent};
 use crate::order::{Order, Workload};
 use crate::starter::Starter;
 use crate::streams::{Misses, Mixed, MostlySearches, OneKey, Part, Skewed};
@@ -21,7 +21,7 @@ pub struct Shift<T> {
     pub table: T,
     pub tally: Tally,
     pub calls: u64,
-    pub spent: Spent,
+    pub spent: TimeSpent,
     pub looks: Looks,
 }
 

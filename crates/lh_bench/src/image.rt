@@ -5,7 +5,7 @@ ghost use Rattle.lh_shards.specs.Hands.{AreOf};
 
 use crate::caller::{Caller, play};
 use crate::listed::{Listed, list_file, list_shards};
-use crate::meter::{Spent, Stopwatch};
+use crate::meter::{Stopwatch, TimeSpent};
 use crate::on_file::OnFile;
 use crate::on_shards::OnShards;
 use crate::order::Order;
@@ -50,7 +50,7 @@ fn write_listed<R>(
     order: &Order,
     listed: &Listed,
     watch: Stopwatch,
-) -> Result<(Spent, bool)>
+) -> Result<(TimeSpent, bool)>
 where
     R: Files + Clock + CpuClock + AllocGlobal,
 {
@@ -69,7 +69,7 @@ where
 /// Inserts the records into an empty table, and writes images of it. Answers how long that took, and whether all were
 /// inserted.
 // The table is made, and the listings are let go, off the clock; so is a file, but shards are closed on it.
-fn write<R>(rt: &R, order: &Order) -> Result<(Spent, bool)>
+fn write<R>(rt: &R, order: &Order) -> Result<(TimeSpent, bool)>
 where
     R: Wait + Files + Clock + CpuClock + AllocGlobal,
 {
@@ -121,7 +121,7 @@ fn search_all<T: Table, R: Wait + Clock + CpuClock>(
     table: T,
     order: &Order,
     watch: Stopwatch,
-) -> Result<(Spent, Tally)> {
+) -> Result<(TimeSpent, Tally)> {
     let stream = Searches {
         record: 0,
         are_there: true,
@@ -131,7 +131,7 @@ fn search_all<T: Table, R: Wait + Clock + CpuClock>(
 }
 
 /// Reads the images, and searches. Answers how long that took, and the replies.
-fn read<R>(rt: &R, order: &Order) -> Result<(Spent, Tally)>
+fn read<R>(rt: &R, order: &Order) -> Result<(TimeSpent, Tally)>
 where
     R: Wait + Files + Clock + CpuClock + AllocGlobal,
 {

@@ -5,7 +5,7 @@ ghost use Rattle.lh_shards.specs.Hands.{IsCount};
 use crate::contents::Contents;
 use crate::image::write_listing;
 use crate::listed::list_table;
-use crate::meter::{Spent, Stopwatch};
+use crate::meter::{Stopwatch, TimeSpent};
 use crate::numbers::Numbers;
 use crate::order::Order;
 use crate::report::Outcome;
@@ -103,7 +103,7 @@ fn look_up_picked<R: Clock + CpuClock>(
     numbers: &mut Numbers,
     first: u64,
     tally: &mut Tally,
-) -> Result<Spent>
+) -> Result<TimeSpent>
     requires { IsCount (length images.now) }
 {
     let contents = order.contents();

@@ -6,19 +6,19 @@ use std::{fs, io};
 
 /// Nanoseconds that passed, and that all threads together ran.
 #[derive(Clone, Copy)]
-pub struct Spent {
+pub struct TimeSpent {
     pub wall: u64,
     pub processor: u64,
 }
 
-impl Spent {
-    pub const NONE: Spent = Spent {
+impl TimeSpent {
+    pub const NONE: TimeSpent = TimeSpent {
         wall: 0,
         processor: 0,
     };
 
-    pub fn with(self, other: Spent) -> Spent {
-        Spent {
+    pub fn with(self, other: TimeSpent) -> TimeSpent {
+        TimeSpent {
             wall: self.wall.saturating_add(other.wall),
             processor: self.processor.saturating_add(other.processor),
         }
@@ -44,10 +44,10 @@ impl Stopwatch {
         })
     }
 
-    pub fn stop(self, rt: &(impl Clock + CpuClock)) -> io::Result<Spent> {
+    pub fn stop(self, rt: &(impl Clock + CpuClock)) -> io::Result<TimeSpent> {
         let wall = self.began.elapsed(rt)?;
         let processor = rt.process_cpu_time()?;
-        Ok(Spent {
+        Ok(TimeSpent {
             wall: nanoseconds(wall),
             processor: nanoseconds(processor).saturating_sub(nanoseconds(self.processor)),
         })

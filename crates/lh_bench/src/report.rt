@@ -2,7 +2,7 @@
 
 use crate::lengths::Lengths;
 use crate::looks::Looks;
-use crate::meter::Spent;
+use crate::meter::TimeSpent;
 use crate::order::{Order, Workload};
 use crate::tally::Tally;
 use crate::units::Seconds;
@@ -21,14 +21,14 @@ pub enum Form {
 #[derive(Clone, Copy)]
 pub struct Outcome {
     pub calls: u64,
-    pub spent: Spent,
+    pub spent: TimeSpent,
     pub tally: Tally,
     /// Nanoseconds that it took to write the file, and to read and search it.
     pub write: u64,
     pub read: u64,
     /// What look-ups in an image took, of records that are there and of others.
-    pub found: Spent,
-    pub absent: Spent,
+    pub found: TimeSpent,
+    pub absent: TimeSpent,
     pub resident_bytes: u64,
     pub file_bytes: u64,
     /// The buckets of the file at the end, where they are told.
@@ -39,15 +39,15 @@ pub struct Outcome {
 }
 
 impl Outcome {
-    pub fn new(calls: u64, spent: Spent, tally: Tally, is_due: bool) -> Outcome {
+    pub fn new(calls: u64, spent: TimeSpent, tally: Tally, is_due: bool) -> Outcome {
         Outcome {
             calls,
             spent,
             tally,
             write: 0,
             read: 0,
-            found: Spent::NONE,
-            absent: Spent::NONE,
+            found: TimeSpent::NONE,
+            absent: TimeSpent::NONE,
             resident_bytes: 0,
             file_bytes: 0,
             buckets: 0,
