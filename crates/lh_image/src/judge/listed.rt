@@ -72,7 +72,7 @@ pub(crate) fn listing_of_pages(
     let root = header.config.root(header.buckets);
     match least_misfit(alloc, &root, table, &chains)? {
         Some(page) => Err(ImageFault::Misfit(page)),
-        // Lists without a fault are refused for want of memory alone.
+        // Lists without a fault are refused only when memory runs out.
         None => Err(ImageFault::Memory),
     }
 }
