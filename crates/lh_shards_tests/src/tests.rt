@@ -4,4 +4,5 @@ mod memory;
 mod opened;
 mod spread;
 mod threads;
+mod traced;
 mod whole;

@@ -2,16 +2,19 @@
 //! where it was refused, and nothing is lost then.
 ghost use Rattle.std.specs.Prelude.{◌≡◌, length, IfOk, IfSome};
 ghost use Rattle.lh_shards.specs.Hands.{AreOf};
+ghost use Rattle.lh_shards.specs.Openings.{AreBrandsOf};
 
 use super::whole::{acts_in, records_in};
 use lh_addr::Config;
 use lh_bucket::Listing;
-use lh_file::{FileFault, History, Memory, SettleFault};
+use lh_file::{FileBrand, FileFault, History, Memory, SettleFault};
 use lh_page::{Key, Value};
 use lh_shards::{
-    ClosedShards, CreateFault, Hands, JoinFault, ShardFault, Shards, SplitFault, empty_listings,
+    ClosedShards, CreateFault, Hands, JoinFault, OpenFault, Openings, ShardFault, Shards,
+    SplitFault, empty_listings,
 };
 use std::alloc::Global;
+use std::marker::Brand;
 use std::sync::Wait;
 use std::test::Fail;
 
@@ -170,5 +173,38 @@ fn refused_growth_loses_nothing(rt: HostRuntime) -> Result<(), Fail> {
     let openings = openings_again(rt.alloc(), config, &closed)?;
     let histories = settled_again(rt.alloc(), &openings, &closed)?;
     assert!(rt; acts_in(&histories) == 24 || acts_in(&histories) == 25);
+    Ok(())
+}
+
+/// How many shards there are once traced ones are open.
+fn count_of<J: FileBrand>(openings: Openings<'_>) -> Result<u32, Memory>
+    requires { AreBrandsOf J.named J.tables openings }
+{
+    let (shards, _) = openings.shards::<J>()?;
+    Ok(shards.count())
+}
+
+/// The same of traced shards that are opened from listings.
+fn opened_count(alloc: Global, listings: &[Listing]) -> Result<u32, OpenFault> {
+    let openings = Openings::of(alloc, listings, true)?;
+    Ok(count_of::<Brand>(openings)?)
+}
+
+/// A refused opening is told as such, and the listings are opened as well after it.
+#[test]
+fn memory_refused_while_traced_shards_open(rt: HostRuntime) -> Result<(), Fail> {
+    let config = Config::new(1, 2, 100, 16)?;
+    let listings = match empty_listings(rt.alloc(), config, 4) {
+        Ok(listings) => listings,
+        Err(Memory) => empty_listings(rt.alloc(), config, 4)?,
+    };
+    let count = match opened_count(rt.alloc(), &listings) {
+        Ok(count) => count,
+        Err(fault) => {
+            assert_eq!(rt; fault, OpenFault::Memory);
+            opened_count(rt.alloc(), &listings)?
+        }
+    };
+    assert_eq!(rt; count, 4);
     Ok(())
 }

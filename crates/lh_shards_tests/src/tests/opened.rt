@@ -83,21 +83,22 @@ fn listed(alloc: Global, keys: &[&[u8]]) -> Result<Listing, Fail> {
     Ok(Listing::new(alloc, Config::new(1, 2, 100, 16)?, 1, lists)?)
 }
 
-/// Two listings whose first one has a record of the second shard behind those of its own.
-#[test]
-fn a_record_of_another_shard_is_named(rt: HostRuntime) -> Result<(), Fail> {
-    let alloc = rt.alloc();
-    let (mut first, mut second) = (Vec::new(alloc), Vec::new(alloc));
+/// Those of eight letters that belong to one of two shards.
+fn letters_of<'a>(alloc: Global, shard: u32) -> Result<Vec<&'a [u8]>, Fail> {
     let letters: [&[u8]; 8] = [b"a", b"b", b"c", b"d", b"e", b"f", b"g", b"h"];
+    let mut own = Vec::new(alloc);
     for letter in letters {
-        if shard_of(fnv1a(letter), 2) == 0 {
-            first.push(letter)?;
-        } else {
-            second.push(letter)?;
+        if shard_of(fnv1a(letter), 2) == shard {
+            own.push(letter)?;
         }
     }
+    Ok(own)
+}
+
+/// Two listings whose first one has a record of the second shard behind those of its own, and the place of that.
+pub(crate) fn listings_astray(alloc: Global) -> Result<(Vec<Listing>, usize), Fail> {
+    let (mut first, mut second) = (letters_of(alloc, 0)?, letters_of(alloc, 1)?);
     let own = first.len();
-    assert!(rt; own > 0);
     let Some(stray) = second.pop() else {
         return Err(Fail::new("no key of the second shard"));
     };
@@ -105,12 +106,19 @@ fn a_record_of_another_shard_is_named(rt: HostRuntime) -> Result<(), Fail> {
     let mut listings = Vec::new(alloc);
     listings.push(listed(alloc, &first)?)?;
     listings.push(listed(alloc, &second)?)?;
+    Ok((listings, own))
+}
+
+#[test]
+fn a_record_of_another_shard_is_named(rt: HostRuntime) -> Result<(), Fail> {
+    let (listings, place) = listings_astray(rt.alloc())?;
+    assert!(rt; place > 0);
     assert_eq!(rt;
-        fault_of(alloc, &listings)?,
+        fault_of(rt.alloc(), &listings)?,
         OpenFault::Misplaced {
             shard: 0,
             bucket: 0,
-            place: own
+            place
         }
     );
     Ok(())

@@ -137,7 +137,7 @@ fn work_in_threads<R: Threads + Wait + Sync>(
 }
 
 /// What a plain map answers to a call.
-fn reply_of(map: &mut BTreeMap<Key, Value>, call: &Call) -> Result<Reply, AllocError> {
+pub(crate) fn reply_of(map: &mut BTreeMap<Key, Value>, call: &Call) -> Result<Reply, AllocError> {
     Ok(match call {
         Call::Search(key) => match map.get(key) {
             Some(value) => Reply::Found(*value),

@@ -1,0 +1,9 @@
+use Rattle.std.specs.Prelude.{◌+◌}
+use Rattle.std.proofs.Common.{rules}
+use Rattle.lh_shards_tests.proofs.tests.traced.fn.exchange_in_threads.scope.Goals as goal
+
+pub loop-worker-preserved : goal.loop-worker-preserved
+loop-worker-preserved g c = record {
+  first = search rules;
+  each = λ k d below. let h = c.loop-worker.invariant.each (k + 1) d in grind rules;
+}
