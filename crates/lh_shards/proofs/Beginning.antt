@@ -1,10 +1,9 @@
 -- Traced shards that are being opened, one listing after another
-use Rattle.std.proofs.Common.{◌≡◌, ℕ, ◌+◌, ◌-◌, ◌^◌, ◌<◌, ◌≤◌, Bool, true, List, [], ◌∷◌, ◌++◌, length, map, min, Some}
+use Rattle.std.proofs.Common.{◌≡◌, ℕ, ◌-◌, ◌^◌, ◌<◌, Bool, true, List, [], ◌∷◌, ◌++◌, length, min, Some}
 use Rattle.std.proofs.Common.{refl, sym, ap, ◌∙◌, subst, ⊎_elim, arith}
 use Rattle.std.specs.List.{slice_get}
 use Rattle.std.proofs.lemmas.Option.{same_Some, slice_get_within}
 use Rattle.lh_bucket.specs.Listing.{Lists, count_of}
-use Rattle.lh_file.specs.Buckets.Brands.{IsBrandOf}
 use Rattle.lh_file.specs.FileState.{FileState}
 use Rattle.lh_file.specs.Words.Dealing.{IsBegun}
 use Rattle.lh_shards.specs.Openings.{AreBegun, AreBrandsOf, table_of, tables_of}

@@ -1,5 +1,5 @@
 -- A file more, and its first hand, of the opening whose turn it is
-use Rattle.std.proofs.Common.{suc, ◌≡◌, ℕ, ◌+◌, ◌<◌, ◌≤◌, ◌∷◌, ◌++◌, [], List, drop, length, map, Some, sym, ap}
+use Rattle.std.proofs.Common.{suc, ◌≡◌, ℕ, ◌+◌, ◌≤◌, ◌∷◌, ◌++◌, [], List, drop, length, map, Some, sym, ap}
 use Rattle.std.proofs.Common.{◌∙◌, subst, add-one, append_assoc, append-nil, lit<, arith}
 use Rattle.std.specs.List.{slice_get}
 use Rattle.std.specs.Vec.Iter.{into_iter_items, into_iter_len}
