@@ -51,7 +51,8 @@ pub fn heading_of(events: &[Event], lane: u32) -> Heading
 fn box_height(lane: u32, events: &[Event], entries: &[Result<Effect, Refusal>], row: usize) -> u128
     requires same { length entries.now ≡ length events.now }
     requires row { row < length events.now }
-    ensures { result ≡ box_height + row_height * rows_until false lane (drop (row + 1) events.now) (drop (row + 1) entries.now) }
+    ensures { result ≡ box_height
+        + row_height * rows_until false lane (drop (row + 1) events.now) (drop (row + 1) entries.now) }
 {
     BOX_HEIGHT + ROW_HEIGHT * rows_until(false, lane, events, entries, row + 1) as u128
 }

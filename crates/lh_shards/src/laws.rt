@@ -16,8 +16,8 @@ pub fn settled_shards_list_their_own()
     ensures { ListedLaw }
 {}
 
-/// Traced shards need no settling to be one map: where all their buckets were met, no split was under way, and all calls
-/// came home to the hands that closed them, each shard has one legal history, and every merge of these is legal.
+/// Traced shards need no settling to be one map: where all their buckets were met, no split was under way, and all
+/// calls came home to the hands that closed them, each shard has one legal history, and every merge of these is legal.
 pub fn traced_shards_are_settled()
     ensures { TracedLaw }
 {}

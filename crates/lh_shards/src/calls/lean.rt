@@ -30,8 +30,10 @@ impl<M: Mode, J: FileBrand> Shards<M, J> {
         requires { AreOf self.now hands.old }
         ensures served { AtShardOf (K.bytes key.now) self.now hands.old hands.new (λ file before after.
             Makes file before (call.Search (K.bytes key.now)) result found after) }
-        ensures entered { M.traced ≡ true → AtShardOf (K.bytes key.now) self.now hands.old hands.new (λ file before after.
-            IfOk result (λ value. HasEntered false before (call.Search (K.bytes key.now)) (found value) after)) }
+        ensures entered { M.traced ≡ true →
+            AtShardOf (K.bytes key.now) self.now hands.old hands.new (λ file before after.
+            IfOk result (λ value.
+            HasEntered false before (call.Search (K.bytes key.now)) (found value) after)) }
         ensures of { AreOf self.now hands.new }
     {
         let known = KnownKey::of(key);
@@ -52,8 +54,10 @@ impl<M: Mode, J: FileBrand> Shards<M, J> {
         requires { AreOf self.now hands.old }
         ensures served { AtShardOf (K.bytes key.now) self.now hands.old hands.new (λ file before after.
             Makes file before (call.Search (K.bytes key.now)) result (read_reply value.new) after) }
-        ensures entered { M.traced ≡ true → AtShardOf (K.bytes key.now) self.now hands.old hands.new (λ file before after.
-            IfOk result (λ is_there. HasEntered false before (call.Search (K.bytes key.now)) (read_reply value.new is_there) after)) }
+        ensures entered { M.traced ≡ true →
+            AtShardOf (K.bytes key.now) self.now hands.old hands.new (λ file before after.
+            IfOk result (λ is_there.
+            HasEntered false before (call.Search (K.bytes key.now)) (read_reply value.new is_there) after)) }
         ensures of { AreOf self.now hands.new }
         ensures same { result ≢ Ok true → value.new ≡ value.old }
     {
@@ -80,7 +84,8 @@ impl<M: Mode, J: FileBrand> Shards<M, J> {
         ensures served { AtShardOf (K.bytes key.now) self.now hands.old hands.new (λ file before after. (given : Reply)
             × Makes file before (call.Search (K.bytes key.now)) result (λ _. given) after
             × IfOk result (LendsTo (FnOnceReturnsAt F.FnOnce then) given)
-            × (M.traced ≡ true → IfOk result (λ _. HasEntered false before (call.Search (K.bytes key.now)) given after))) }
+            × (M.traced ≡ true → IfOk result (λ _.
+            HasEntered false before (call.Search (K.bytes key.now)) given after))) }
         ensures of { AreOf self.now hands.new }
     {
         let known = KnownKey::of(key);
@@ -101,8 +106,10 @@ impl<M: Mode, J: FileBrand> Shards<M, J> {
         requires { AreOf self.now hands.old }
         ensures served { AtShardOf (K.bytes key.now) self.now hands.old hands.new (λ file before after.
             Makes file before (call.Insert (K.bytes key.now) value.now) result put_reply after) }
-        ensures entered { M.traced ≡ true → AtShardOf (K.bytes key.now) self.now hands.old hands.new (λ file before after.
-            IfOk result (λ is_new. HasEntered false before (call.Insert (K.bytes key.now) value.now) (put_reply is_new) after)) }
+        ensures entered { M.traced ≡ true →
+            AtShardOf (K.bytes key.now) self.now hands.old hands.new (λ file before after.
+            IfOk result (λ is_new.
+            HasEntered false before (call.Insert (K.bytes key.now) value.now) (put_reply is_new) after)) }
         ensures of { AreOf self.now hands.new }
     {
         let known = KnownKey::of(key);
@@ -122,8 +129,10 @@ impl<M: Mode, J: FileBrand> Shards<M, J> {
         requires { AreOf self.now hands.old }
         ensures served { AtShardOf (K.bytes key.now) self.now hands.old hands.new (λ file before after.
             Makes file before (call.Replace (K.bytes key.now) value.now) result set_reply after) }
-        ensures entered { M.traced ≡ true → AtShardOf (K.bytes key.now) self.now hands.old hands.new (λ file before after.
-            IfOk result (λ was_there. HasEntered false before (call.Replace (K.bytes key.now) value.now) (set_reply was_there) after)) }
+        ensures entered { M.traced ≡ true →
+            AtShardOf (K.bytes key.now) self.now hands.old hands.new (λ file before after.
+            IfOk result (λ was_there.
+            HasEntered false before (call.Replace (K.bytes key.now) value.now) (set_reply was_there) after)) }
         ensures of { AreOf self.now hands.new }
     {
         let known = KnownKey::of(key);
@@ -142,8 +151,10 @@ impl<M: Mode, J: FileBrand> Shards<M, J> {
         requires { AreOf self.now hands.old }
         ensures served { AtShardOf (K.bytes key.now) self.now hands.old hands.new (λ file before after.
             Makes file before (call.Delete (K.bytes key.now)) result remove_reply after) }
-        ensures entered { M.traced ≡ true → AtShardOf (K.bytes key.now) self.now hands.old hands.new (λ file before after.
-            IfOk result (λ was_there. HasEntered false before (call.Delete (K.bytes key.now)) (remove_reply was_there) after)) }
+        ensures entered { M.traced ≡ true →
+            AtShardOf (K.bytes key.now) self.now hands.old hands.new (λ file before after.
+            IfOk result (λ was_there.
+            HasEntered false before (call.Delete (K.bytes key.now)) (remove_reply was_there) after)) }
         ensures of { AreOf self.now hands.new }
     {
         let known = KnownKey::of(key);
