@@ -4,7 +4,7 @@ ghost use Rattle.lh_file.specs.FileState.{IsOf};
 ghost use Rattle.lh_shards.specs.Hands.{AreOf};
 
 use crate::caller::{Caller, play};
-use crate::listed::{Listed, list_file, list_shards};
+use crate::listed::{Listed, list};
 use crate::meter::{Stopwatch, TimeSpent};
 use crate::on_file::OnFile;
 use crate::on_shards::OnShards;
@@ -68,7 +68,7 @@ where
 
 /// Inserts the records into an empty table, and writes images of it. Answers how long that took, and whether all were
 /// inserted.
-// The table is made, and the listings are let go, off the clock; so is a file, but shards are closed on it.
+// The table is made, and it and the listings are let go, off the clock.
 fn write<R>(rt: &R, order: &Order) -> Result<(TimeSpent, bool)>
 where
     R: Wait + Files + Clock + CpuClock + AllocGlobal,
@@ -77,13 +77,13 @@ where
         None => {
             let (file, hand) = empty_file(rt.alloc(), false)?;
             let watch = Stopwatch::start(rt)?;
-            let listed = list_file(rt, &file, hand, order)?;
+            let listed = list(rt, OnFile::new(&file, hand), order)?;
             write_listed(rt, order, &listed, watch)
         }
         Some(shards) => {
             let (shards, hands) = empty_shards(rt.alloc(), shards)?;
             let watch = Stopwatch::start(rt)?;
-            let listed = list_shards(rt, shards, hands, order)?;
+            let listed = list(rt, OnShards::new(&shards, hands), order)?;
             write_listed(rt, order, &listed, watch)
         }
     }

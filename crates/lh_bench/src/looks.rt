@@ -87,12 +87,14 @@ impl Looks {
     }
 }
 
-/// What a snapshot has.
-fn read_snapshot<T: Table, R: Wait>(rt: &R, table: &mut T) -> Result<Met> {
-    let listing = table.snapshot(rt)?.into_listing()?;
+/// What snapshots of all files have.
+fn read_snapshots<T: Table, R: Wait + AllocGlobal>(rt: &R, table: &mut T) -> Result<Met> {
     let mut met = Met::NONE;
-    for bucket in 0..listing.buckets() {
-        met.note_all(listing.pairs_of(bucket));
+    for snapshot in table.snapshots(rt)? {
+        let listing = snapshot.into_listing()?;
+        for bucket in 0..listing.buckets() {
+            met.note_all(listing.pairs_of(bucket));
+        }
     }
     Ok(met)
 }
@@ -117,13 +119,13 @@ pub fn sees_all<T: Table, R: Wait + AllocGlobal>(
     order: &Order,
 ) -> Result<bool> {
     let met = match order.workload {
-        Workload::Snapshots => read_snapshot(rt, table)?,
+        Workload::Snapshots => read_snapshots(rt, table)?,
         _ => table.scan(rt)?,
     };
     Ok(met == found(rt, table, order))
 }
 
-/// Looks once: what was met, and in how many nanoseconds. A snapshot's records are counted, and not read.
+/// Looks once: what was met, and in how many nanoseconds. The records of snapshots are counted, and not read.
 fn look<T: Table, R: Wait + Clock + AllocGlobal>(
     rt: &R,
     table: &mut T,
@@ -131,9 +133,12 @@ fn look<T: Table, R: Wait + Clock + AllocGlobal>(
 ) -> Result<(Met, u64)> {
     let mut laps = Laps::start(rt)?;
     if let Workload::Snapshots = workload {
-        let copy = table.snapshot(rt)?;
+        let snapshots = table.snapshots(rt)?;
         let time = laps.next(rt)?;
-        let records = copy.records();
+        let mut records = 0_u64;
+        for snapshot in &snapshots {
+            records = records.saturating_add(snapshot.records());
+        }
         return Ok((Met { records, sum: 0 }, time));
     }
     let met = table.scan(rt)?;

@@ -5,11 +5,11 @@
 //! lh_bench --workload W3 --threads 4 --records 1000000 --seed 1
 //! ```
 //!
-//! With `--shards 16` the table is 16 files as one, and the line says so; W11 and W12 are refused then, since shards
-//! have neither snapshots nor scans. With `--traced` the file is traced, and the line says so. `--workload all` runs on
-//! a file first, and then on what of both is asked for. With `--lent` the calls are those without an answer, and a
-//! value is compared where it is lent. With `--image 1` the image of W5 and W10 is one of version 1, which has room for
-//! its records too. With `--longest` each insert of W1 is timed, and the line tells the longest.
+//! With `--shards 16` the table is 16 files as one, and the line says so. With `--traced` the file is traced, and the
+//! line says so. `--workload all` runs on a file first, and then on what of both is asked for. With `--lent` the calls
+//! are those without an answer, and a value is compared where it is lent. With `--image 1` the image of W5 and W10 is
+//! one of version 1, which has room for its records too. With `--longest` each insert of W1 is timed, and the line
+//! tells the longest.
 #![tactic(auto)]
 
 mod caller;

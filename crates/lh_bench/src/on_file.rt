@@ -112,12 +112,15 @@ impl<'a, M: Mode, J: FileBrand> Table for OnFile<'a, M, J> {
         Ok(OnFile::new(self.file, hand))
     }
 
-    fn buckets(&mut self) -> u32 {
-        self.file.buckets(&mut self.hand)
+    fn buckets(&mut self) -> u64 {
+        u64::from(self.file.buckets(&mut self.hand))
     }
 
-    fn snapshot<R: Wait>(&mut self, rt: &R) -> Result<Closed> {
-        Ok(self.file.snapshot(rt, &mut self.hand)?)
+    fn snapshots<R: Wait + AllocGlobal>(&mut self, rt: &R) -> Result<Vec<Closed>> {
+        let snapshot = self.file.snapshot(rt, &mut self.hand)?;
+        let mut taken = Vec::new(rt.alloc());
+        taken.push(snapshot)?;
+        Ok(taken)
     }
 
     fn scan<R: Wait + AllocGlobal>(&mut self, rt: &R) -> Result<Met> {

@@ -1,15 +1,16 @@
 //! The workloads' calls on several files as one.
-ghost use Rattle.std.specs.Prelude.{◌≡◌};
-ghost use Rattle.lh_shards.specs.Hands.{AreOf};
+ghost use Rattle.std.specs.Prelude.{◌≡◌, ◌<◌, All, IfOk, length};
+ghost use Rattle.lh_settling.specs.ClosedFile.{IsWhole};
+ghost use Rattle.lh_shards.specs.Hands.{AreOf, IsCount};
 
 use crate::contents::Contents;
 use crate::looks::Met;
 use crate::table::{CALLS, Table};
-use anyhow::{Result, bail};
+use anyhow::Result;
 use lh_bucket::Answer;
 use lh_file::{Closed, FileFault};
 use lh_page::{Key, Value};
-use lh_shards::{Hands, Shards};
+use lh_shards::{Hands, ShardScan, Shards};
 use std::marker::Model;
 use std::sync::Wait;
 
@@ -39,6 +40,59 @@ impl<'a> OnShards<'a> {
     {
         OnShards { shards, hands }
     }
+}
+
+/// A snapshot of each shard, one after another.
+fn snapshots_of<R: Wait + AllocGlobal>(
+    rt: &R,
+    shards: &Shards,
+    hands: &mut Hands,
+) -> Result<Vec<Closed>>
+    requires { AreOf shards.now hands.old }
+    ensures count { IfOk result (λ taken. IsCount (length taken.items)) }
+    ensures whole { IfOk result (λ taken. All IsWhole taken.items) }
+    ensures of { AreOf shards.now hands.new }
+{
+    let mut taken = Vec::new(rt.alloc());
+    for shard in 0..shards.count() {
+        let snapshot = shards.snapshot(rt, hands, shard)?;
+        taken.push(snapshot)?;
+    }
+    Ok(taken)
+}
+
+/// Adds what a scan of a shard meets.
+fn meet<R: Wait + AllocGlobal>(
+    rt: &R,
+    shards: &Shards,
+    hands: &mut Hands,
+    shard: u32,
+    met: &mut Met,
+) -> Result<()>
+    requires of { AreOf shards.now hands.old }
+    requires within { shard < length shards.now }
+    ensures { AreOf shards.now hands.new }
+{
+    let mut scan = ShardScan::new(rt.alloc(), shards, shard)?;
+    for _ in rt.forever() {
+        let Some(copy) = scan.next(rt, shards, hands)? else {
+            break;
+        };
+        met.note_all(&copy.pairs);
+    }
+    Ok(())
+}
+
+/// What scans of all shards meet.
+fn met_by_scans<R: Wait + AllocGlobal>(rt: &R, shards: &Shards, hands: &mut Hands) -> Result<Met>
+    requires { AreOf shards.now hands.old }
+    ensures { AreOf shards.now hands.new }
+{
+    let mut met = Met::NONE;
+    for shard in 0..shards.count() {
+        meet(rt, shards, hands, shard, &mut met)?;
+    }
+    Ok(met)
 }
 
 impl<'a> Table for OnShards<'a> {
@@ -94,16 +148,15 @@ impl<'a> Table for OnShards<'a> {
         Ok(OnShards::new(self.shards, hands))
     }
 
-    // Shards tell neither their size nor their records at one moment, and have no scan.
-    fn buckets(&mut self) -> u32 {
-        0
+    fn buckets(&mut self) -> u64 {
+        self.shards.buckets(&mut self.hands)
     }
 
-    fn snapshot<R: Wait>(&mut self, _rt: &R) -> Result<Closed> {
-        bail!("shards have no snapshot")
+    fn snapshots<R: Wait + AllocGlobal>(&mut self, rt: &R) -> Result<Vec<Closed>> {
+        snapshots_of(rt, self.shards, &mut self.hands)
     }
 
-    fn scan<R: Wait + AllocGlobal>(&mut self, _rt: &R) -> Result<Met> {
-        bail!("shards have no scan")
+    fn scan<R: Wait + AllocGlobal>(&mut self, rt: &R) -> Result<Met> {
+        met_by_scans(rt, self.shards, &mut self.hands)
     }
 }

@@ -166,10 +166,9 @@ impl Workload {
         )
     }
 
-    /// Whether it may run on several files as one: it does where nobody looks at all records while others call, since
-    /// shards have neither snapshots nor scans.
+    /// Whether it may run on several files as one.
     pub fn may_shard(self) -> bool {
-        !self.has_looks() && !matches!(self, Workload::Steps | Workload::Settling | Workload::All)
+        !matches!(self, Workload::Steps | Workload::Settling | Workload::All)
     }
 }
 
@@ -234,8 +233,6 @@ impl Order {
             Some("it runs in one thread")
         } else if self.traced && !self.may_trace() {
             Some("its files are untraced")
-        } else if is_sharded && self.workload.has_looks() {
-            Some("shards have neither snapshots nor scans")
         } else if is_sharded && !self.workload.may_shard() {
             Some("it has one file")
         } else if self.longest && self.workload != Workload::Inserts {
@@ -322,9 +319,7 @@ fn command<'a>(alloc: Global) -> Result<Command<'a>, Error> {
     let seed = ValueParser::Unsigned(0, u64::MAX);
     let shards = Arg::new(alloc, "shards")
         .long("shards")
-        .help(
-            "Run on this many files as one, and not on a file; not W11 and W12: shards have neither snapshots nor scans",
-        )
+        .help("Run on this many files as one, and not on a file")
         .action(ArgAction::Set)
         .value_parser(ValueParser::Unsigned(1, MOST_SHARDS as u64));
     let image = ValueParser::Unsigned(1, 2);

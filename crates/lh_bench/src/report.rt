@@ -31,8 +31,8 @@ pub struct Outcome {
     pub absent: TimeSpent,
     pub resident_bytes: u64,
     pub file_bytes: u64,
-    /// The buckets of the file at the end, where they are told.
-    pub buckets: u32,
+    /// The buckets of the table at the end, where they are told.
+    pub buckets: u64,
     pub looks: Looks,
     /// Whether there were as many replies of each kind as are due.
     pub is_due: bool,

@@ -1,6 +1,7 @@
 //! What the workloads call.
-ghost use Rattle.std.specs.Prelude.{IfOk};
+ghost use Rattle.std.specs.Prelude.{All, IfOk, length};
 ghost use Rattle.lh_settling.specs.ClosedFile.{IsWhole};
+ghost use Rattle.lh_shards.specs.Hands.{IsCount};
 
 use crate::contents::Contents;
 use crate::looks::Met;
@@ -37,12 +38,13 @@ pub trait Table: Drop {
     /// The same table, for another thread.
     fn divide(&mut self) -> Result<Self>;
 
-    /// How many buckets it has, or 0 where it doesn't tell.
-    fn buckets(&mut self) -> u32;
+    /// How many buckets it has.
+    fn buckets(&mut self) -> u64;
 
-    /// All records at one moment.
-    fn snapshot<R: Wait>(&mut self, rt: &R) -> Result<Closed>
-        ensures { IfOk result IsWhole };
+    /// All records, those of each file at one moment.
+    fn snapshots<R: Wait + AllocGlobal>(&mut self, rt: &R) -> Result<Vec<Closed>>
+        ensures count { IfOk result (λ taken. IsCount (length taken.items)) }
+        ensures whole { IfOk result (λ taken. All IsWhole taken.items) };
 
     /// What a scan meets.
     fn scan<R: Wait + AllocGlobal>(&mut self, rt: &R) -> Result<Met>;

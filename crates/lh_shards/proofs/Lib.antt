@@ -6,8 +6,10 @@ pub mod Giving
 pub mod Homes
 pub mod Joins
 pub mod Listed
+pub mod Looks
 pub mod Merging
 pub mod OneShard
+pub mod Owning
 pub mod Parts
 pub mod Passing
 pub mod Places

@@ -135,12 +135,19 @@ at_place {x} {b} {a} Does states olds items i same r d = record {
   does = d;
 }
 
+-- the same, of a shard whose number stands for another one's
+pub at_same : {x : Shared} {b a : HandState} (Does : FileState → HandState → HandState → Type 0)
+    (states : List FileState) (olds items : List HandState) (i j : ℕ) → items ≡ olds → i ≡ j →
+    Ready states olds i x b → Does x.state b a → AtShard j states olds (set items i a) Does
+at_same {x} {b} {a} Does states olds items i j same e r d =
+    subst (λ k. AtShard k states olds (set items i a) Does) e (at_place Does states olds items i same r d)
+
 pub at_shard : {x : Shared} {b a : HandState} (Does : FileState → HandState → HandState → Type 0) (key : List ℕ)
     (states : List FileState) (olds items : List HandState) (i : ℕ) → items ≡ olds →
     i ≡ home_of (length states) key → Ready states olds i x b → Does x.state b a →
     AtShardOf key states olds (set items i a) Does
-at_shard {x} {b} {a} Does key states olds items i same e r d =
-    subst (λ j. AtShard j states olds (set items i a) Does) e (at_place Does states olds items i same r d)
+at_shard Does key states olds items i same e r d =
+    at_same Does states olds items i (home_of (length states) key) same e r d
 
 -- a shard more
 pub grown : (Fact : ShardFact) (ss : List FileState) (hs : List HandState) (s : FileState) (h : HandState) →
@@ -205,21 +212,30 @@ traced_are_of files hands n each =
     (λ i f h fi hi. let o : OpenedAs i f h = each i f h fi hi in
     (o.is_of, ap (λ (v : View). v.has_right) o.view, o.acts))
 
+-- a hand that keeps its right to split and its acts, and is one of its file, stays a hand of the shard
+pub of_kept : {x : Shared} {b a : HandState} (states : List FileState) (olds items : List HandState) (i : ℕ) →
+    items ≡ olds → AreOf states olds → Ready states olds i x b → IsOf x.state a →
+    a.view.has_right ≡ b.view.has_right → a.acts ≡ b.acts → AreOf states (set items i a)
+of_kept {x} {b} {a} states olds items i same h r of right acts =
+    let was : IsOfShard (length states) i x.state b = h.each i x.state b r.file_at r.hand_at in
+    subst (λ l. AreOf states (set l i a)) (sym same)
+    (of_after states olds i x.state a h r.file_at (record {
+      of = of;
+      right = right ∙ was.right;
+      home = subst (λ l. AreAtHome (length states) i l) (sym acts) was.home;
+    }))
+
 -- the hand was told of its shard's history, and stays a hand of the shard
 pub of_told : {traced : Bool} {x : Shared} {b a : HandState} (states : List FileState) (olds items : List HandState)
     (i count : ℕ) → items ≡ olds → AreOf states olds → Ready states olds i x b → HasTold traced x.state b count a →
     AreOf states (set items i a)
 of_told {traced} {x} {b} {a} states olds items i count same h r t =
-    let was : IsOfShard (length states) i x.state b = h.each i x.state b r.file_at r.hand_at in
-    subst (λ l. AreOf states (set l i a)) (sym same)
-    (of_after states olds i x.state a h r.file_at
-    (subst (λ n. IsOfShard (length states) i x.state n) (sym t.after_is) (record {
-      of = record {
-        table = was.of.table;
-        initial = was.of.initial;
-        max = was.of.max;
-        recording = was.of.recording;
-      };
-      right = was.right;
-      home = was.home;
-    })))
+    of_kept states olds items i same h r
+    (subst (λ n. IsOf x.state n) (sym t.after_is) (record {
+      table = r.of.table;
+      initial = r.of.initial;
+      max = r.of.max;
+      recording = r.of.recording;
+    }))
+    (ap (λ (n : HandState). n.view.has_right) t.after_is)
+    (ap (λ (n : HandState). n.acts) t.after_is)

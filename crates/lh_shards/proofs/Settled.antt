@@ -1,5 +1,5 @@
 -- Settled shards are one map.
-use Rattle.std.proofs.Common.{◌≡◌, ℕ, ◌<◌, List, length, map, Some, sym, ap, ◌∙◌, subst, arith}
+use Rattle.std.proofs.Common.{◌≡◌, ◌≢◌, ℕ, ◌<◌, List, length, map, Some, sym, ap, ◌∙◌, subst, arith}
 use Rattle.std.specs.List.{slice_get}
 use Rattle.std.specs.Option.{option_map}
 use Rattle.std.proofs.lemmas.List.Sorted.{All-permutation}
@@ -8,8 +8,9 @@ use Rattle.lh_bucket.specs.Listing.{Lists}
 use Rattle.lh_bucket.specs.PlainMap.{Records, key_of, outcome}
 use Rattle.lh_settling.specs.Acts.{calls_of}
 use Rattle.lh_settling.specs.SettleFault.{IsDue}
-use Rattle.lh_settling.specs.Settled.{map_in, IsSettled}
+use Rattle.lh_settling.specs.Settled.{map_in, IsSettled, Settled}
 use Rattle.lh_settling.specs.declared.act.ActLine.{ActLine}
+use Rattle.lh_settling.specs.declared.settle_fault.SettleFault.TheVariants.{Memory}
 use Rattle.lh_shards.specs.Closing.{AreShards}
 use Rattle.lh_shards.specs.Hands.{AreAtHome}
 use Rattle.lh_shards.specs.Number.{home_of}
@@ -77,13 +78,15 @@ settled_are_one_map openings shards histories n are settled whole merged parts m
 pub first_due : (openings : List Lists) (shards : List ClosedShard) (histories : List (List ActLine)) (i : ℕ)
     (opening : Lists) (closed : ClosedShard) (at : ShardFault) → slice_get openings i ≡ Some opening →
     slice_get shards i ≡ Some closed → length histories ≡ i → EachThree SettledAs openings shards histories →
-    at.shard ≡ i → IsDue opening closed.closed closed.acts at.fault → IsFirstDue openings shards at
-first_due openings shards histories i opening closed at o s many each is due = record {
+    at.shard ≡ i → IsDue opening closed.closed closed.acts at.fault →
+    (at.fault ≢ Memory → Settled opening closed.closed closed.acts → ⊥) → IsFirstDue openings shards at
+first_due openings shards histories i opening closed at o s many each is due unsettled = record {
   opening = opening;
   closed = closed;
   opening_is = subst (λ k. slice_get openings k ≡ Some opening) (sym is) o;
   closed_is = subst (λ k. slice_get shards k ≡ Some closed) (sym is) s;
   due = due;
+  unsettled = unsettled;
   before = λ e p d lt ep ed.
       let lower : e < length histories = omega (arith, is, many, lt) in
       let h : (x : List ActLine) × (slice_get histories e ≡ Some x) = there histories e lower in

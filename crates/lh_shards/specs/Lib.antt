@@ -10,6 +10,8 @@ pub mod OneMap
 pub mod OpenFault
 pub mod Opening
 pub mod Openings
+pub mod Own
 pub mod Settling
+pub mod Snapshots
 pub mod Told
 pub mod Traced

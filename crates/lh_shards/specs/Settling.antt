@@ -1,11 +1,12 @@
 -- Closed shards settled: one history a shard, and one plain map of all
-use Rattle.std.specs.Prelude.{◌≡◌, ℕ, ◌<◌, List, length, Some, slice_get}
+use Rattle.std.specs.Prelude.{◌≡◌, ◌≢◌, ℕ, ◌<◌, List, length, Some, slice_get}
 use Rattle.lh_bucket.specs.Listing.{Lists}
 use Rattle.lh_bucket.specs.PlainMap.{Records, outcome}
 use Rattle.lh_settling.specs.Acts.{calls_of}
 use Rattle.lh_settling.specs.SettleFault.{IsDue}
 use Rattle.lh_settling.specs.Settled.{map_in, HoldsMap, IsSettled, Settled}
 use Rattle.lh_settling.specs.declared.act.ActLine.{ActLine}
+use Rattle.lh_settling.specs.declared.settle_fault.SettleFault.TheVariants.{Memory}
 use Rattle.lh_shards.specs.OneMap.{IsLegalFrom, IsMerge, IsPart}
 use Rattle.lh_shards.specs.declared.closed_shard.ClosedShard.{ClosedShard}
 use Rattle.lh_shards.specs.declared.fault.ShardFault.{ShardFault}
@@ -18,13 +19,14 @@ pub record AreSettled (openings : List Lists) (shards : List ClosedShard) (histo
       slice_get openings shard ≡ Some opening → slice_get shards shard ≡ Some closed →
       slice_get histories shard ≡ Some history → IsSettled opening closed.closed closed.acts history
 
--- the fault is due in its shard, and all shards before that are settled
+-- the fault is due in its shard, which is not settled unless memory ran out, and all shards before that are settled
 pub record IsFirstDue (openings : List Lists) (shards : List ClosedShard) (at : ShardFault) : Type 0 where
   pub opening : Lists
   pub closed : ClosedShard
   pub opening_is : slice_get openings at.shard ≡ Some opening
   pub closed_is : slice_get shards at.shard ≡ Some closed
   pub due : IsDue opening closed.closed closed.acts at.fault
+  pub unsettled : at.fault ≢ Memory → Settled opening closed.closed closed.acts → ⊥
   pub before : (earlier : ℕ) (opening : Lists) (closed : ClosedShard) → earlier < at.shard →
       slice_get openings earlier ≡ Some opening → slice_get shards earlier ≡ Some closed →
       Settled opening closed.closed closed.acts

@@ -1,7 +1,10 @@
 //! Laws of shards, each the contract of a function that does nothing.
 ghost use Rattle.lh_shards.specs.Listings.{ListedLaw};
 ghost use Rattle.lh_shards.specs.OneMap.{OneMapLaw};
+ghost use Rattle.lh_shards.specs.Own.{CalledLaw, DividedLaw, JoinedLaw, SameLaw};
 ghost use Rattle.lh_shards.specs.Traced.{TracedLaw};
+
+use lh_file::laws::hands_keep_their_shares as hands_of_a_file_keep_their_shares;
 
 /// Where each shard's history is legal, as settling answers it, every merge of these histories that keeps the order of
 /// each is a legal history of one plain map, with the same replies, and what the shards hold at last are the parts of
@@ -21,3 +24,16 @@ pub fn settled_shards_list_their_own()
 pub fn traced_shards_are_settled()
     ensures { TracedLaw }
 {}
+
+/// What keeps the hand of one shard its file's own, with its share, as the public calls of a traced file do by [their
+/// law](lh_file::laws::hands_keep_their_shares), keeps the hands of all shards so, and so do dividing and joining them.
+/// Hands into which all others were joined have then, at [`Shards::close`](crate::Shards::close), what
+/// [`traced_shards_are_settled`] asks for.
+pub fn hands_keep_their_shares()
+    ensures called { CalledLaw }
+    ensures same { SameLaw }
+    ensures divided { DividedLaw }
+    ensures joined { JoinedLaw }
+{
+    hands_of_a_file_keep_their_shares();
+}

@@ -32,8 +32,10 @@ mod listings;
 mod number;
 mod opening;
 mod openings;
+mod scan;
 mod settling;
 mod shards;
+mod snapshot;
 mod told;
 
 pub use closed::ClosedShards;
@@ -43,4 +45,5 @@ pub use hands::Hands;
 pub use listings::empty_listings;
 pub use number::{MOST_SHARDS, mixed, shard_of};
 pub use openings::Openings;
+pub use scan::ShardScan;
 pub use shards::Shards;

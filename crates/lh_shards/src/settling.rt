@@ -1,7 +1,8 @@
 //! Settling of closed shards: one history a shard, and one plain map of all.
-ghost use Rattle.std.specs.Prelude.{◌≡◌, length, IfOk, IfErr};
+ghost use Rattle.std.specs.Prelude.{◌≡◌, ◌≢◌, length, IfOk, IfErr};
 ghost use Rattle.lh_settling.specs.SettleFault.{IsDue};
-ghost use Rattle.lh_settling.specs.Settled.{IsSettled};
+ghost use Rattle.lh_settling.specs.Settled.{IsSettled, Settled};
+ghost use Rattle.lh_settling.specs.declared.settle_fault.SettleFault.TheVariants.{Memory};
 ghost use Rattle.lh_shards.specs.Settling.{AreSettled, IsFirstDue, MakeOneMap};
 
 use crate::closed::ClosedShards;
@@ -21,6 +22,8 @@ fn settle_shard(
     ensures ok { IfOk result (IsSettled opening.now closed.now.closed closed.now.acts) }
     ensures shard { IfErr result (λ at. at.shard ≡ shard) }
     ensures err { IfErr result (λ at. IsDue opening.now closed.now.closed closed.now.acts at.fault) }
+    ensures unsettled { IfErr result (λ at.
+        at.fault ≢ Memory → Settled opening.now closed.now.closed closed.now.acts → ⊥) }
 {
     match settle(alloc, opening, &closed.closed, &closed.acts) {
         Ok(history) => Ok(history),

@@ -1,5 +1,6 @@
 //! What no contract says: how evenly keys are spread, that each call works, and which counts are refused.
 mod calls;
+mod looks;
 mod memory;
 mod opened;
 mod spread;

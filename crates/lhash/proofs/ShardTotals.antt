@@ -1,17 +1,18 @@
 -- The totals of closed shards that are settled
 use Rattle.std.proofs.Common.{◌≡◌, ◌∙◌, ℕ, ◌+◌, ◌-◌, ◌^◌, ◌<◌, zero, suc, min, take, List, [], ◌∷◌, length, Some, refl}
-use Rattle.std.proofs.Common.{sym, ap, subst, arith}
+use Rattle.std.proofs.Common.{◌≢◌, All, sym, ap, subst, arith}
 use Rattle.std.specs.FinMap.{empty}
 use Rattle.std.specs.Prelude.{flat_map, slice_get, sum_by}
 use Rattle.std.proofs.lemmas.List.{length-map}
 use Rattle.std.proofs.lemmas.List.Concat.{length-flat_map}
 use Rattle.std.proofs.lemmas.List.Sorted.{length_permutation}
 use Rattle.std.proofs.lemmas.List.Sums.{sum_by_more}
-use Rattle.std.proofs.lemmas.Option.{get_or_from_slice_get, slice_get_within}
+use Rattle.std.proofs.lemmas.Option.{get_or_from_slice_get, same_Some, slice_get_within}
 use Rattle.lh_addr.specs.Settings.{Settings}
 use Rattle.lh_bucket.specs.Listing.{Lists, count_of}
 use Rattle.lh_bucket.specs.declared.call.Call.{Call as CallOf}
 use Rattle.lh_settling.specs.Acts.{replies_of}
+use Rattle.lh_settling.specs.Settled.{Settled}
 use Rattle.lh_settling.specs.declared.act.ActLine.{ActLine}
 use Rattle.lh_settling.specs.declared.settle_fault.SettleFault.{SettleFault}
 use Rattle.lh_settling.specs.declared.settle_fault.SettleFault.TheVariants as settle
@@ -19,13 +20,15 @@ use Rattle.lh_shards.specs.Settling.{AreParts, AreSettled, IsFirstDue, MakeOneMa
 use Rattle.lh_shards.specs.declared.closed_shard.ClosedShard.{ClosedShard}
 use Rattle.lhash.specs.Driven.{Counts}
 use Rattle.lhash.specs.Driving.{empty_file, settle_fault_of}
-use Rattle.lhash.specs.DrivingShards.{AreShardsOf, IsDrivenShards, IsDriveShardsFault, acts_in, empty_files}
+use Rattle.lhash.specs.DrivingShards.{AreShardsOf, IsDrivenShards, IsDriveShardsFault, IsPartial, IsSettledWhole}
+use Rattle.lhash.specs.DrivingShards.{acts_in, empty_files}
+use Rattle.lhash.specs.declared.drive.DriveFault.TheVariants.{Settle}
 use Rattle.lhash.specs.declared.driven.Driven.{Driven}
 use Rattle.lhash.proofs.Merges.{joined, joined_is_merge, replies_joined}
-use Rattle.lhash.proofs.ShardHands.{sums_agree, there}
+use Rattle.lhash.proofs.ShardHands.{at_place, at_repeat, sums_agree, there}
 
 -- listings that are all that of an empty file are those of so many empty files
-pub all_empty : (settings : Settings) (shards : ℕ) (listings : List Lists) → length listings ≡ shards →
+all_empty : (settings : Settings) (shards : ℕ) (listings : List Lists) → length listings ≡ shards →
     ((k : ℕ) (listing : Lists) → slice_get listings k ≡ Some listing → listing ≡ empty_file settings) →
     listings ≡ empty_files settings shards
 all_empty settings zero [] many each = refl
@@ -35,6 +38,18 @@ all_empty settings (suc n) (l ∷ ls) many each =
     ap (λ (first : Lists). first ∷ ls) (each 0 l refl)
     ∙ ap (λ (rest : List Lists). empty_file settings ∷ rest)
     (all_empty settings n ls (omega (arith, many)) (λ k. each (suc k)))
+
+pub listed_empty : (settings : Settings) (shards : ℕ) (listings items : List Lists) → listings ≡ items →
+    length items ≡ shards → All (λ (l : Lists). l ≡ empty_file settings) items →
+    listings ≡ empty_files settings shards
+listed_empty settings shards listings items is many each =
+    is
+    ∙ all_empty settings shards items many
+    (λ k listing at. at_place (λ (l : Lists). l ≡ empty_file settings) items k listing each at)
+
+pub empty_count : (settings : Settings) (shards : ℕ) → length (empty_files settings shards) ≡ shards
+empty_count settings zero = refl
+empty_count settings (suc n) = ap suc (empty_count settings n)
 
 -- as many replies are in the histories as acts in the shards
 pub replies_made : (openings : List Lists) (closed : List ClosedShard) (histories : List (List ActLine)) →
@@ -90,17 +105,42 @@ records_more closed k shard total term new at so_far here is =
       ap count (get_or_from_slice_get closed k shard shard at),
     )
 
+-- a shard that has a fault of settling was not met whole
+partial : (settings : Settings) (shards : ℕ) (closed : List ClosedShard) (shard : ℕ) (fault : SettleFault) →
+    All (IsSettledWhole settings) closed →
+    IsFirstDue (empty_files settings shards) closed (record { shard = shard; fault = fault }) → shard < shards →
+    fault ≢ settle.Memory → (here : ClosedShard) → slice_get closed shard ≡ Some here → IsPartial here
+partial settings shards closed shard fault known due within ne here at gathered still =
+    let same : due.closed ≡ here = same_Some due.closed here (sym due.closed_is ∙ at) in
+    let opening : due.opening ≡ empty_file settings =
+    same_Some due.opening (empty_file settings)
+    (sym due.opening_is ∙ at_repeat (empty_file settings) shards shard within) in
+    due.unsettled ne
+    (subst (λ (c : ClosedShard). Settled due.opening c.closed c.acts) (sym same)
+    (subst (λ (l : Lists). Settled l here.closed here.acts) (sym opening)
+    (at_place (IsSettledWhole settings) closed shard here known at gathered still)))
+
 -- a fault of settling is one of a run, or memory ran out
+faulted : (settings : Settings) (shards : ℕ) (closed : List ClosedShard) (shard : ℕ) (fault : SettleFault) →
+    AreShardsOf settings shards closed → All (IsSettledWhole settings) closed →
+    IsFirstDue (empty_files settings shards) closed (record { shard = shard; fault = fault }) →
+    fault ≢ settle.Memory → IsDriveShardsFault settings shards (Settle fault)
+faulted settings shards closed shard fault of known due ne =
+    let within = subst (λ n. shard < n) of.count (slice_get_within closed shard due.closed due.closed_is) in
+    (closed, shard, of, due, ne, partial settings shards closed shard fault known due within ne)
+
 pub settle_faulted : (settings : Settings) (shards : ℕ) (closed : List ClosedShard) (shard : ℕ) (fault : SettleFault) →
-    AreShardsOf settings shards closed →
+    AreShardsOf settings shards closed → All (IsSettledWhole settings) closed →
     IsFirstDue (empty_files settings shards) closed (record { shard = shard; fault = fault }) →
     IsDriveShardsFault settings shards (settle_fault_of fault)
-settle_faulted settings shards closed shard settle.SplitUnderWay of due = (closed, shard, of, due, λ e. absurd (cc))
-settle_faulted settings shards closed shard (settle.MissingStamp stamp) of due =
-    (closed, shard, of, due, λ e. absurd (cc))
-settle_faulted settings shards closed shard (settle.Reply stamp given wanted) of due =
-    (closed, shard, of, due, λ e. absurd (cc))
-settle_faulted settings shards closed shard (settle.Content key) of due = (closed, shard, of, due, λ e. absurd (cc))
-settle_faulted settings shards closed shard (settle.Placed bucket key) of due =
-    (closed, shard, of, due, λ e. absurd (cc))
-settle_faulted settings shards closed shard settle.Memory of due = tt
+settle_faulted settings shards closed shard settle.SplitUnderWay of known due =
+    faulted settings shards closed shard settle.SplitUnderWay of known due (λ e. absurd cc)
+settle_faulted settings shards closed shard (settle.MissingStamp stamp) of known due =
+    faulted settings shards closed shard (settle.MissingStamp stamp) of known due (λ e. absurd cc)
+settle_faulted settings shards closed shard (settle.Reply stamp given wanted) of known due =
+    faulted settings shards closed shard (settle.Reply stamp given wanted) of known due (λ e. absurd cc)
+settle_faulted settings shards closed shard (settle.Content key) of known due =
+    faulted settings shards closed shard (settle.Content key) of known due (λ e. absurd cc)
+settle_faulted settings shards closed shard (settle.Placed bucket key) of known due =
+    faulted settings shards closed shard (settle.Placed bucket key) of known due (λ e. absurd cc)
+settle_faulted settings shards closed shard settle.Memory of known due = tt

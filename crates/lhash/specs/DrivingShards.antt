@@ -1,5 +1,6 @@
 -- What a run of calls in threads on several shards may tell: the totals of a settled history, or why there are none
-use Rattle.std.specs.Prelude.{◌≡◌, ◌≢◌, ℕ, ◌-◌, ◌^◌, min, List, All, Option, Ok, length, replicate, sum_by}
+use Rattle.std.specs.Prelude.{◌≡◌, ◌≢◌, ℕ, ◌-◌, ◌%◌, ◌^◌, true, min, List, All, Option, Some, Ok, length, replicate}
+use Rattle.std.specs.Prelude.{slice_get, sum_by}
 use Rattle.std.specs.FinMap.{empty}
 use Rattle.std.specs.Io.KnownBytes.{Keeps}
 use Rattle.lh_addr.specs.Settings.{Settings}
@@ -7,6 +8,7 @@ use Rattle.lh_bucket.specs.declared.call.Call.{Call as CallOf}
 use Rattle.lh_bucket.specs.Listing.{Lists, count_of}
 use Rattle.lh_bucket.specs.PlainMap.{outcome}
 use Rattle.lh_settling.specs.Acts.{calls_of, replies_of}
+use Rattle.lh_settling.specs.Settled.{Settled}
 use Rattle.lh_settling.specs.declared.act.ActLine.{ActLine}
 use Rattle.lh_settling.specs.declared.settle_fault.SettleFault.TheVariants as settle
 use Rattle.lh_shards.specs.OneMap.{IsLegalFrom, IsMerge}
@@ -54,13 +56,25 @@ pub record IsDrivenShards (settings : Settings) (shards : ℕ) (calls : List Cal
   pub made : d.calls ≡ length calls
   pub records : d.records ≡ min (sum_by (λ shard. count_of shard.closed.lists) closed) (2 ^ 64 - 1)
 
+-- the closed shard is settled, from an empty file on, where all its buckets were gathered and no split was under way
+abbrev pub IsSettledWhole : Settings → ClosedShard → Type 0
+IsSettledWhole settings shard =
+    shard.closed.gathered ≡ true → shard.closed.root % 2 ≡ 0 →
+    Settled (empty_file settings) shard.closed shard.acts
+
+-- a bucket of the closed shard was not gathered, or a split was under way
+abbrev pub IsPartial : ClosedShard → Type 0
+IsPartial shard = shard.closed.gathered ≡ true → shard.closed.root % 2 ≡ 0 → ⊥
+
 -- why there are no totals: a fault of settling, other than out of memory, that is due for one of so many closed shards
--- of the settings, from an empty file on, and all shards before it are settled; or the threads' work failed
+-- of the settings, from an empty file on, where a bucket of it was not gathered or a split was under way, and all
+-- shards before it are settled; or the threads' work failed
 abbrev pub IsDriveShardsFault : Settings → ℕ → DriveFault → Type 0
 IsDriveShardsFault settings shards (Settle fault) =
     (closed : List ClosedShard) × (shard : ℕ) × AreShardsOf settings shards closed
     × IsFirstDue (empty_files settings shards) closed (record { shard = shard; fault = fault })
     × (fault ≢ settle.Memory)
+    × ((partial : ClosedShard) → slice_get closed shard ≡ Some partial → IsPartial partial)
 IsDriveShardsFault settings shards fault = IsWorkersFault fault
 
 -- what `drive` may write for the calls of a script on so many shards: the totals of a legal history

@@ -5,6 +5,7 @@ use Rattle.lh_file.specs.FileState.{FileState}
 use Rattle.lh_file.specs.Words.HandState.{HandState}
 use Rattle.lh_shards.specs.Dividing.{AllHave}
 use Rattle.lh_shards.specs.Hands.{AreOf}
+use Rattle.lh_shards.specs.Own.{AllShare, AreOwn}
 use Rattle.lhash.specs.declared.shard_workers.Worked.{Worked}
 
 -- how many acts all these hands keep
@@ -15,15 +16,24 @@ acts_of hands = sum_by (λ hand. length hand.acts) hands
 abbrev pub AreRecording : List FileState → Type 0
 AreRecording files = All (λ file. file.recording ≡ true) files
 
--- a thread's hands of these calls: they are hands of the shards, keep no act, and each may make all of the calls
+-- a thread's hands of these calls: they are hands of the shards and their files' own, keep no act, and each may make
+-- all of the calls
 pub record ArePartOf (files : List FileState) (calls : ℕ) (hands : List HandState) : Type 0 where
   pub of : AreOf files hands
+  pub own : AreOwn files hands
+  pub share : AllShare calls hands
   pub idle : acts_of hands ≡ 0
   pub enough : AllHave calls hands
+
+-- a call leaves hands their files' own, with their shares
+pub record AreKept (files : List FileState) (old new : List HandState) : Type 0 where
+  pub own : AreOwn files old → AreOwn files new
+  pub share : (calls : ℕ) → AllShare calls old → AllShare calls new
 
 -- the hands keep the same acts, and each may make no more than so many calls fewer
 pub record AreLessened (calls : ℕ) (old new : List HandState) : Type 0 where
   pub acts : acts_of new ≡ acts_of old
+  pub share : (others : ℕ) → AllShare (others + calls) old → AllShare others new
   pub left : (others : ℕ) → AllHave (others + calls) old → AllHave others new
 
 -- they keep one act more, and each may make no more than one call fewer
@@ -31,9 +41,11 @@ pub record HaveMadeOne (old new : List HandState) : Type 0 where
   pub acts : acts_of new ≡ acts_of old + 1
   pub left : (others : ℕ) → AllHave (others + 1) old → AllHave others new
 
--- what a thread that was to make these calls comes back with: hands of the shards, which have made all of them unless
--- there is a fault, and a fault that is none for want of calls
+-- what a thread that was to make these calls comes back with: hands of the shards and their files' own, which have
+-- made all of them unless there is a fault, and a fault that is none for want of calls
 pub record IsWorked (files : List FileState) (calls : ℕ) (worked : Worked) : Type 0 where
   pub of : AreOf files worked.hands
+  pub own : AreOwn files worked.hands
+  pub share : AllShare calls worked.hands
   pub done : worked.fault ≡ None → acts_of worked.hands ≡ calls
   pub fault : IfSome worked.fault IsNotSpent

@@ -1,20 +1,27 @@
 //! The subcommand `drive` on several shards: a command script in threads, on several files as one table, settled, from
 //! its bytes to its totals.
-ghost use Rattle.std.specs.Prelude.{◌≡◌, ◌≤◌, ◌-◌, ◌^◌, ◌<◌, All, IfErr, IfOk, IfSome, List, length, min, sum_by};
+ghost use Rattle.std.specs.FinMap.{empty as empty_map};
+ghost use Rattle.std.specs.Prelude.{◌≡◌, ◌≤◌, ◌-◌, ◌^◌, ◌<◌, true, All, IfErr, IfOk, IfSome, List, length, min};
+ghost use Rattle.std.specs.Prelude.{sum_by};
 ghost use Rattle.lh_bucket.specs.declared.call.Call.{Call as CallOf};
 ghost use Rattle.lh_bucket.specs.Listing.{count_of};
 ghost use Rattle.lh_shards.specs.Hands.{IsCount};
-ghost use Rattle.lhash.specs.DrivingShards.{EndsDrivingShards, IsDrivenShards, IsDriveShardsFault, acts_in};
+ghost use Rattle.lh_shards.specs.Openings.{AreBegun, AreBrandsOf};
+ghost use Rattle.lh_shards.specs.Settling.{AreParts};
+ghost use Rattle.lhash.specs.DrivingShards.{EndsDrivingShards, IsDrivenShards, IsDriveShardsFault, IsSettledWhole};
+ghost use Rattle.lhash.specs.DrivingShards.{acts_in, empty_files};
 
 use crate::drive::{DriveFault, undriven};
 use crate::driven::Driven;
 use crate::shard_workers::work_in_threads;
 use lh_addr::Config;
-use lh_bucket::Call;
-use lh_shards::{ClosedShards, CreateFault, Shards, empty_listings};
+use lh_bucket::{Call, Listing};
+use lh_file::FileBrand;
+use lh_shards::{ClosedShards, OpenFault, Openings, empty_listings};
 use lh_subcommands::{DeviceFault, Status, read_script, write_all};
 use std::alloc::Global;
 use std::io::{Read, Write};
+use std::marker::Brand;
 use std::sync::Wait;
 use std::thread::Threads;
 
@@ -29,19 +36,51 @@ fn records_in(closed: &ClosedShards) -> u64
     records
 }
 
-/// Settles closed shards that were created empty, and counts what was done with all of them.
-fn totals(alloc: Global, config: Config, closed: &ClosedShards) -> Result<Driven, DriveFault>
+/// Counts what was done with shards that were opened from empty listings. That all of them are settled is known;
+/// settling says so again, on its own.
+fn totals(
+    alloc: Global,
+    config: Config,
+    openings: &[Listing],
+    closed: &ClosedShards,
+) -> Result<Driven, DriveFault>
+    requires empty { openings.now ≡ empty_files config (length closed.now) }
+    requires parts { AreParts empty_map openings.now }
     requires configs { All (λ shard. shard.closed.config ≡ config) closed.now }
+    requires known { All (IsSettledWhole config) closed.now }
     requires few { acts_in closed.now < 2 ^ 64 }
     ensures ok { IfOk result (λ d. (calls : List CallOf) → length calls ≡ acts_in closed.now →
         IsDrivenShards config (length closed.now) calls d) }
     ensures err { IfErr result (IsDriveShardsFault config (length closed.now)) }
 {
-    let openings = empty_listings(alloc, config, closed.count())?;
-    match closed.settle(alloc, &openings) {
+    match closed.settle(alloc, openings) {
         Ok(histories) => Ok(Driven::of_all(&histories, records_in(closed))),
         Err(at) => Err(DriveFault::from(at.fault)),
     }
+}
+
+/// Runs calls in threads on shards that are opened empty, and settles what they did.
+fn driven_in<J: FileBrand + Send + Sync, R: Threads + Wait + Sync>(
+    rt: &R,
+    alloc: Global,
+    config: Config,
+    openings: Openings<'_>,
+    empty: &[Listing],
+    calls: &[Call],
+    threads: u32,
+) -> Result<Driven, DriveFault>
+    requires brands { AreBrandsOf J.named J.tables openings }
+    requires begun { AreBegun empty.now true openings }
+    requires empty { empty.now ≡ empty_files config (length openings) }
+    requires parts { AreParts empty_map empty.now }
+    requires threads { 1 ≤ threads }
+    ensures ok { IfOk result (IsDrivenShards config (length openings.entry) calls.now) }
+    ensures err { IfErr result (IsDriveShardsFault config (length openings.entry)) }
+{
+    let (shards, hands) = openings.shards::<J>()?;
+    let hands = work_in_threads(rt, alloc, &shards, hands, calls, threads as usize)?;
+    let closed = shards.close(rt, hands)?;
+    totals(alloc, config, empty, &closed)
 }
 
 /// Runs calls in threads on so many empty shards of this configuration, and settles what they did. The call at place
@@ -52,8 +91,12 @@ fn totals(alloc: Global, config: Config, closed: &ClosedShards) -> Result<Driven
 /// [`shards_are_one_map`](lh_shards::laws::shards_are_one_map)). Which histories they are depends on how the threads'
 /// calls fall together; where all calls on each key go to one thread, the replies don't.
 ///
+/// The shards are traced, so closing them says that they are settled; `settle` finds the same out again, by itself. It
+/// answers a fault only where a bucket of a shard was not met when that was closed or a split was under way, or where
+/// memory ran out; the fault is that of the first shard that has one.
+///
 /// If a thread can't be started, or a call isn't answered, all threads that run are waited for, and the fault is
-/// answered. A fault of settling is that of the first shard that has one.
+/// answered.
 pub fn drive_shards_with<R: Threads + Wait + Sync>(
     rt: &R,
     alloc: Global,
@@ -67,14 +110,16 @@ pub fn drive_shards_with<R: Threads + Wait + Sync>(
     ensures ok { IfOk result (IsDrivenShards config shards calls.now) }
     ensures err { IfErr result (IsDriveShardsFault config shards) }
 {
-    let (shards, hands) = match Shards::create(alloc, config, shards, true) {
-        Ok(created) => created,
-        Err(CreateFault::Memory) => return Err(DriveFault::Memory),
-        Err(CreateFault::Count) => unreachable!(),
+    let empty = empty_listings(alloc, config, shards)?;
+    let openings = match Openings::of(alloc, &empty, true) {
+        Ok(openings) => openings,
+        Err(OpenFault::Memory) => return Err(DriveFault::Memory),
+        // Empty listings have one configuration, and no record.
+        Err(OpenFault::Count) => unreachable!(),
+        Err(OpenFault::Config { .. }) => unreachable!(),
+        Err(OpenFault::Misplaced { .. }) => unreachable!(),
     };
-    let hands = work_in_threads(rt, alloc, &shards, hands, calls, threads as usize)?;
-    let closed = shards.close(rt, hands)?;
-    totals(alloc, config, &closed)
+    driven_in::<Brand, R>(rt, alloc, config, openings, &empty, calls, threads)
 }
 
 /// Reads a command script whole, makes its calls in threads on so many shards, and writes the totals of what is

@@ -1,16 +1,20 @@
-//! Threads that share some shards, and do a script's calls between them.
-ghost use Rattle.std.specs.Prelude.{◌≡◌, ◌+◌, ◌<◌, ◌≤◌, true, All, IfErr, IfOk, OnOk, length, sum_by};
+//! Threads that share traced shards, and do a script's calls between them.
+ghost use Rattle.std.specs.Prelude.{◌≡◌, ℕ, ◌+◌, ◌<◌, true, All, IfErr, IfOk, OnOk, length, sum_by};
 ghost use Rattle.lh_file.specs.Calls.Served.{IsNotSpent};
 ghost use Rattle.lh_shards.specs.Dividing.{AllHave};
 ghost use Rattle.lh_shards.specs.Hands.{AreOf};
+ghost use Rattle.lh_shards.specs.Own.{AllShare, AreOwn};
 ghost use Rattle.lhash.specs.Driving.{IsWorkersFault};
-ghost use Rattle.lhash.specs.ShardWorkers.{AreLessened, ArePartOf, AreRecording, HaveMadeOne, IsWorked, acts_of};
+ghost use Rattle.lhash.specs.ShardWorkers.{AreKept, AreLessened, ArePartOf, AreRecording, HaveMadeOne, IsWorked};
+ghost use Rattle.lhash.specs.ShardWorkers.{acts_of};
 ghost use Rattle.lhash.specs.Workers.{places_from};
 
 use crate::drive::DriveFault;
 use crate::workers::calls_of_thread;
 use lh_bucket::{Answer, Call};
-use lh_file::FileFault;
+use lh_file::laws::hands_keep_their_shares as hands_of_a_file_keep_their_shares;
+use lh_file::{FileBrand, FileFault, Traced};
+use lh_shards::laws::hands_keep_their_shares;
 use lh_shards::{Hands, Shards, SplitFault};
 use std::alloc::Global;
 use std::sync::Wait;
@@ -27,19 +31,19 @@ struct Worked {
 /// The hands that come back are those of these shards, and have made this number of calls, unless there is a fault,
 /// which is none for want of calls.
 #[derive(Clone, Copy)]
-struct Part<'a> {
-    shards: &'a Shards,
+struct Part<'a, J: FileBrand> {
+    shards: &'a Shards<Traced, J>,
     calls: u64,
 }
 
-impl<'a> Promise<Worked> for Part<'a> {
+impl<'a, J: FileBrand> Promise<Worked> for Part<'a, J> {
     ghost kept_by = { λ part worked. IsWorked part.shards.now part.calls worked };
 }
 
 /// Makes a call, which takes one of those that the hand of its shard may make.
-fn make<R: Wait>(
+fn make<J: FileBrand, R: Wait>(
     rt: &R,
-    shards: &Shards,
+    shards: &Shards<Traced, J>,
     hands: &mut Hands,
     call: &Call,
 ) -> Result<Answer, FileFault>
@@ -48,9 +52,13 @@ fn make<R: Wait>(
     requires enough { AllHave 1 hands.old }
     ensures call { IfOk result (λ answer. answer.call ≡ call.now) }
     ensures of { AreOf shards.now hands.new }
+    ensures kept { AreKept shards.now hands.old hands.new }
     ensures made { OnOk result (HaveMadeOne hands.old hands.new) }
     ensures err { IfErr result IsNotSpent }
 {
+    // A served call leaves the hand of its shard the file's own, with its share, and so all hands.
+    hands_of_a_file_keep_their_shares();
+    hands_keep_their_shares();
     match *call {
         Call::Search(key) => shards.search(rt, hands, key),
         Call::Insert(key, value) => shards.insert(rt, hands, key, value),
@@ -61,9 +69,9 @@ fn make<R: Wait>(
 
 /// Makes every call of a script whose place is `first` plus a multiple of `threads`, in turn, up to
 /// the first that isn't answered. Each hand may make as many.
-fn work<R: Wait>(
+fn work<J: FileBrand, R: Wait>(
     rt: &R,
-    shards: &Shards,
+    shards: &Shards<Traced, J>,
     mut hands: Hands,
     calls: &[Call],
     first: usize,
@@ -86,10 +94,10 @@ fn work<R: Wait>(
 }
 
 /// Keeps a worker beside the others, or answers that there is no memory for it.
-fn keep<'a>(
-    shards: &'a Shards,
-    workers: &mut Vec<PromisedHandle<Worked, Part<'a>>>,
-    worker: PromisedHandle<Worked, Part<'a>>,
+fn keep<'a, J: FileBrand>(
+    shards: &'a Shards<Traced, J>,
+    workers: &mut Vec<PromisedHandle<Worked, Part<'a, J>>>,
+    worker: PromisedHandle<Worked, Part<'a, J>>,
 ) -> bool
     requires others { All (λ worker. worker.promise.shards.now ≡ shards.now) workers.old.items }
     requires new { worker.promise.shards.now ≡ shards.now }
@@ -102,14 +110,22 @@ fn keep<'a>(
 }
 
 /// Hands that may make this many of the calls in each shard that other ones may make.
-fn divide(shards: &Shards, hands: &mut Hands, calls: u64) -> Result<Hands, DriveFault>
+fn divide<J: FileBrand>(
+    shards: &Shards<Traced, J>,
+    hands: &mut Hands,
+    calls: u64,
+) -> Result<Hands, DriveFault>
     requires of { AreOf shards.now hands.old }
+    requires own { AreOwn shards.now hands.old }
     requires enough { AllHave calls hands.old }
     ensures of { AreOf shards.now hands.new }
+    ensures own { OnOk result (AreOwn shards.now hands.new) }
     ensures part { IfOk result (ArePartOf shards.now calls) }
     ensures kept { OnOk result (AreLessened calls hands.old hands.new) }
     ensures err { IfErr result IsWorkersFault }
 {
+    // Both parts of the hands are their files' own, and have their shares between them.
+    hands_keep_their_shares();
     match shards.split_hands(hands, calls) {
         Ok(part) => Ok(part),
         Err(SplitFault::Memory) => Err(DriveFault::Memory),
@@ -119,18 +135,24 @@ fn divide(shards: &Shards, hands: &mut Hands, calls: u64) -> Result<Hands, Drive
 }
 
 /// Waits for a worker, and joins its hands into others.
-fn join<R: Threads + Wait>(
+fn join<J: FileBrand, R: Threads + Wait>(
     rt: &R,
-    shards: &Shards,
+    shards: &Shards<Traced, J>,
     hands: Hands,
-    worker: PromisedHandle<Worked, Part<'_>>,
+    worker: PromisedHandle<Worked, Part<'_, J>>,
 ) -> Result<Hands, DriveFault>
     requires hands { AreOf shards.now hands }
+    requires own { AreOwn shards.now hands }
     requires worker { worker.promise.shards.now ≡ shards.now }
     ensures of { IfOk result (AreOf shards.now) }
+    ensures own { IfOk result (AreOwn shards.now) }
+    ensures share { IfOk result (λ all. (calls : ℕ) →
+        AllShare calls hands → AllShare (calls + worker.entry.promise.calls) all) }
     ensures made { IfOk result (λ all. acts_of all ≡ acts_of hands + worker.entry.promise.calls) }
     ensures err { IfErr result IsWorkersFault }
 {
+    // Hands that are joined are their files' own, and have both shares.
+    hands_keep_their_shares();
     let Worked { hands: part, fault } = worker.join(rt);
     if let Some(fault) = fault {
         return Err(DriveFault::from(fault));
@@ -142,15 +164,19 @@ fn join<R: Threads + Wait>(
 }
 
 /// Waits for all workers, and joins their hands into others.
-fn join_all<R: Threads + Wait>(
+fn join_all<J: FileBrand, R: Threads + Wait>(
     rt: &R,
-    shards: &Shards,
+    shards: &Shards<Traced, J>,
     mut hands: Hands,
-    workers: Vec<PromisedHandle<Worked, Part<'_>>>,
+    workers: Vec<PromisedHandle<Worked, Part<'_, J>>>,
 ) -> Result<Hands, DriveFault>
     requires hands { AreOf shards.now hands }
+    requires own { AreOwn shards.now hands }
     requires workers { All (λ worker. worker.promise.shards.now ≡ shards.now) workers.items }
     ensures of { IfOk result (AreOf shards.now) }
+    ensures own { IfOk result (AreOwn shards.now) }
+    ensures share { IfOk result (λ all. (calls : ℕ) → AllShare calls hands →
+        AllShare (calls + sum_by (λ worker. worker.promise.calls) workers.entry.items) all) }
     ensures made { IfOk result (λ all.
         acts_of all ≡ acts_of hands + sum_by (λ worker. worker.promise.calls) workers.entry.items) }
     ensures err { IfErr result IsWorkersFault }
@@ -163,19 +189,23 @@ fn join_all<R: Threads + Wait>(
 
 /// Makes all calls in this number of threads, and joins the hands of all of them into one for each shard. Of several
 /// faults it is the one of the first thread that has one. All threads that were started are waited for.
-pub fn work_in_threads<R: Threads + Wait + Sync>(
+pub fn work_in_threads<J: FileBrand + Send + Sync, R: Threads + Wait + Sync>(
     rt: &R,
     alloc: Global,
-    shards: &Shards,
+    shards: &Shards<Traced, J>,
     hands: Hands,
     calls: &[Call],
     threads: usize,
 ) -> Result<Hands, DriveFault>
     requires hands { AreOf shards.now hands }
+    requires own { AreOwn shards.now hands }
     requires records { AreRecording shards.now }
     requires threads { 0 < threads }
     requires enough { AllHave (length calls.now) hands }
     ensures of { IfOk result (AreOf shards.now) }
+    ensures own { IfOk result (AreOwn shards.now) }
+    ensures share { IfOk result (λ all. (others : ℕ) →
+        AllShare (others + length calls.now) hands → AllShare (others + length calls.now) all) }
     ensures made { IfOk result (λ all. acts_of all ≡ acts_of hands + length calls.now) }
     ensures err { IfErr result IsWorkersFault }
 {
@@ -184,10 +214,14 @@ pub fn work_in_threads<R: Threads + Wait + Sync>(
         rt,
         |scope| -> Result<Hands, DriveFault>
             requires hands { AreOf shards.now hands }
+            requires own { AreOwn shards.now hands }
             requires records { AreRecording shards.now }
             requires threads { 0 < threads }
             requires enough { AllHave (length calls.now) hands }
             ensures of { IfOk result (AreOf shards.entry.now) }
+            ensures own { IfOk result (AreOwn shards.entry.now) }
+            ensures share { IfOk result (λ all. (others : ℕ) → AllShare (others + length calls.entry.now) hands →
+                AllShare (others + length calls.entry.now) all) }
             ensures made { IfOk result (λ all. acts_of all ≡ acts_of hands + length calls.entry.now) }
             ensures err { IfErr result IsWorkersFault }
         {

@@ -1,17 +1,18 @@
 //! Memory that is refused: run with each request for it refused in turn, one in each run. Each call is made once more
 //! where it was refused, and nothing is lost then.
-ghost use Rattle.std.specs.Prelude.{◌≡◌, length, IfOk, IfSome};
+ghost use Rattle.std.specs.Prelude.{◌≡◌, ◌<◌, length, IfOk, IfSome};
 ghost use Rattle.lh_shards.specs.Hands.{AreOf};
 ghost use Rattle.lh_shards.specs.Openings.{AreBrandsOf};
+ghost use Rattle.lh_shards.specs.Snapshots.{IsScanOf};
 
 use super::whole::{acts_in, records_in};
 use lh_addr::Config;
 use lh_bucket::Listing;
-use lh_file::{FileBrand, FileFault, History, Memory, SettleFault};
+use lh_file::{BucketCopy, FileBrand, FileFault, History, Memory, SettleFault};
 use lh_page::{Key, Value};
 use lh_shards::{
-    ClosedShards, CreateFault, Hands, JoinFault, OpenFault, Openings, ShardFault, Shards,
-    SplitFault, empty_listings,
+    ClosedShards, CreateFault, Hands, JoinFault, OpenFault, Openings, ShardFault, ShardScan,
+    Shards, SplitFault, empty_listings,
 };
 use std::alloc::Global;
 use std::marker::Brand;
@@ -173,6 +174,108 @@ fn refused_growth_loses_nothing(rt: HostRuntime) -> Result<(), Fail> {
     let openings = openings_again(rt.alloc(), config, &closed)?;
     let histories = settled_again(rt.alloc(), &openings, &closed)?;
     assert!(rt; acts_in(&histories) == 24 || acts_in(&histories) == 25);
+    Ok(())
+}
+
+/// How many records a snapshot of a shard has.
+fn taken_again<R: Wait>(
+    rt: &R,
+    shards: &Shards,
+    hands: &mut Hands,
+    shard: u32,
+) -> Result<u64, FileFault>
+    requires of { AreOf shards.now hands.old }
+    requires within { shard < length shards.now }
+    ensures { AreOf shards.now hands.new }
+{
+    let snapshot = match shards.snapshot(rt, hands, shard) {
+        Err(FileFault::Memory) => shards.snapshot(rt, hands, shard),
+        taken => taken,
+    };
+    Ok(snapshot?.records())
+}
+
+/// A scan of a shard.
+fn begun_again(alloc: Global, shards: &Shards, shard: u32) -> Result<ShardScan, Memory>
+    requires { shard < length shards.now }
+    ensures { IfOk result (IsScanOf shards.now) }
+{
+    match ShardScan::new(alloc, shards, shard) {
+        Err(Memory) => ShardScan::new(alloc, shards, shard),
+        scan => scan,
+    }
+}
+
+/// A copy of the next bucket of a scan.
+fn next_again<R: Wait>(
+    rt: &R,
+    shards: &Shards,
+    hands: &mut Hands,
+    scan: &mut ShardScan,
+) -> Result<Option<BucketCopy>, FileFault>
+    requires scan { IsScanOf shards.now scan.old }
+    requires of { AreOf shards.now hands.old }
+    ensures scan { IsScanOf shards.now scan.new }
+    ensures of { AreOf shards.now hands.new }
+{
+    match scan.next(rt, shards, hands) {
+        Err(FileFault::Memory) => scan.next(rt, shards, hands),
+        next => next,
+    }
+}
+
+/// How many records a scan of a shard meets.
+fn scanned_again<R: Wait>(
+    rt: &R,
+    alloc: Global,
+    shards: &Shards,
+    hands: &mut Hands,
+    shard: u32,
+) -> Result<u64, FileFault>
+    requires of { AreOf shards.now hands.old }
+    requires within { shard < length shards.now }
+    ensures { AreOf shards.now hands.new }
+{
+    let mut scan = begun_again(alloc, shards, shard)?;
+    let mut met = 0_u64;
+    for _ in rt.forever() {
+        let Some(copy) = next_again(rt, shards, hands, &mut scan)? else {
+            break;
+        };
+        met = met.saturating_add(copy.pairs.len() as u64);
+    }
+    Ok(met)
+}
+
+/// How many records snapshots of all shards have, and how many scans of them meet.
+fn looked_again<R: Wait>(
+    rt: &R,
+    alloc: Global,
+    shards: &Shards,
+    hands: &mut Hands,
+) -> Result<(u64, u64), FileFault>
+    requires { AreOf shards.now hands.old }
+    ensures { AreOf shards.now hands.new }
+{
+    let (mut taken, mut met) = (0_u64, 0_u64);
+    for shard in 0..shards.count() {
+        taken = taken.saturating_add(taken_again(rt, shards, hands, shard)?);
+        met = met.saturating_add(scanned_again(rt, alloc, shards, hands, shard)?);
+    }
+    Ok((taken, met))
+}
+
+/// A refused look is told as such, and the same look is taken as well after it.
+#[test]
+fn memory_refused_in_a_look_loses_nothing(rt: HostRuntime) -> Result<(), Fail> {
+    let config = Config::new(1, 2, 100, 16)?;
+    let (shards, mut first) = made_again(rt.alloc(), config)?;
+    let mut second = divided_again(&shards, &mut first)?;
+    assert!(rt; fill_again(&rt, &shards, &mut first, &mut second));
+    assert_eq!(rt;
+        looked_again(&rt, rt.alloc(), &shards, &mut first)?,
+        (24, 24)
+    );
     Ok(())
 }
 

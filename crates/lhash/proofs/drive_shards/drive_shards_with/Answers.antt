@@ -1,42 +1,26 @@
-use Rattle.std.proofs.Common.{length, sym, subst, arith}
-use Rattle.std.proofs.lemmas.Result.{IfOk-weaker}
-use Rattle.lhash.specs.DrivingShards.{IsDrivenShards}
-use Rattle.lhash.proofs.ShardHands.{all_closed, closed_of, created_have, created_record}
+-- The listings are those of empty files, so that none is refused.
+use Rattle.std.proofs.Common.{◌∙◌, length, ap, subst, sym}
+use Rattle.lh_shards.specs.Hands.{IsCount}
+use Rattle.lh_shards.specs.OpenFault.{IsOpenFault}
+use Rattle.lh_shards.specs.declared.fault.OpenFault.TheVariants as open_fault
+use Rattle.lhash.proofs.ShardHands.{none_refused}
+use Rattle.lhash.proofs.ShardTotals.{listed_empty}
 use Rattle.lhash.proofs.drive_shards.drive_shards_with.Goals as goal
 
-pub work_in_threads-requires-clause-records : goal.work_in_threads-requires-clause-records
-work_in_threads-requires-clause-records g c lives outlive =
-    created_record c.args.shards c.args.config c.in-Ok.created.0 c.in-Ok.created.1 c.in-Ok.ensures.created
+pub unreachable-requires-in-Err-Misplaced : goal.unreachable-requires-in-Err-Misplaced
+unreachable-requires-in-Err-Misplaced g c =
+    let listings = c.deref.result.now in
+    let many = ap length c.deref.ensures.value ∙ c.in_ok-empty.ensures.count in
+    let empty =
+    listed_empty c.args.config (length listings) listings c.in_ok-empty.empty.items c.deref.ensures.value
+    (c.in_ok-empty.ensures.count ∙ sym many) c.in_ok-empty.ensures.each in
+    none_refused c.args.config listings
+    (open_fault.Misplaced c.in-Err-Misplaced.field-0-0 c.in-Err-Misplaced.field-0-1 c.in-Err-Misplaced.field-0-2)
+    (subst IsCount (sym many) c.requires.shards) empty
+    (subst (IsOpenFault listings) c.in-Err-Misplaced.field-0-is c.in-Err-Misplaced.ensures.err) (λ e. absurd cc)
 
-pub work_in_threads-requires-clause-enough : goal.work_in_threads-requires-clause-enough
-work_in_threads-requires-clause-enough g c lives outlive =
-    created_have c.args.shards c.args.config c.in-Ok.created.0 c.in-Ok.created.1 (length c.args.calls.now)
-    c.in-Ok.ensures.created (omega arith)
-
-pub totals-requires-clause-configs : goal.totals-requires-clause-configs
-totals-requires-clause-configs g c =
-    (closed_of c.args.shards c.args.config c.in-Ok.created.0 c.in-Ok.created.1 c.in_ok-hands.hands c.in_ok-closed.closed
-    c.in-Ok.ensures.created c.in_ok-hands.ensures.of c.in_ok-closed.ensures).configs
-
-pub totals-requires-clause-few : goal.totals-requires-clause-few
-totals-requires-clause-few g c =
-    omega (
-      arith,
-      all_closed c.args.shards c.args.config c.in-Ok.created.0 c.in-Ok.created.1 c.in_ok-hands.hands
-          c.in_ok-closed.closed (length c.args.calls.now) c.in-Ok.ensures.created c.in_ok-hands.ensures.of
-          c.in_ok-closed.ensures c.in_ok-hands.ensures.made,
-    )
-
-pub returns-clause-ok : goal.returns-clause-ok
-returns-clause-ok g c =
-    let of =
-    closed_of c.args.shards c.args.config c.in-Ok.created.0 c.in-Ok.created.1 c.in_ok-hands.hands
-    c.in_ok-closed.closed c.in-Ok.ensures.created c.in_ok-hands.ensures.of c.in_ok-closed.ensures in
-    IfOk-weaker c.totals.result _ _
-    (λ d driven. subst (λ n. IsDrivenShards c.args.config n c.args.calls.now d) of.count
-    (driven c.args.calls.now
-    (sym
-    (all_closed c.args.shards c.args.config c.in-Ok.created.0 c.in-Ok.created.1 c.in_ok-hands.hands
-    c.in_ok-closed.closed (length c.args.calls.now) c.in-Ok.ensures.created c.in_ok-hands.ensures.of
-    c.in_ok-closed.ensures c.in_ok-hands.ensures.made))))
-    c.totals.ensures.ok
+pub driven_in-requires-clause-empty : goal.driven_in-requires-clause-empty
+driven_in-requires-clause-empty g c lives outlive =
+    listed_empty c.args.config (length c.in-Ok.openings) c.deref-2.result.now c.in_ok-empty.empty.items
+    c.deref-2.ensures.value
+    (sym (c.in-Ok.ensures.begun.count ∙ ap length c.deref.ensures.value)) c.in_ok-empty.ensures.each

@@ -1,4 +1,5 @@
-use Rattle.lhash.proofs.ShardHands.{call_made, call_refused}
+use Rattle.std.proofs.Common.{refl}
+use Rattle.lhash.proofs.ShardHands.{call_kept, call_made, call_refused}
 use Rattle.lhash.proofs.shard_workers.make.Goals as goal
 
 pub returns-in-Search-clause-made : goal.returns-in-Search-clause-made
@@ -28,3 +29,27 @@ returns-in-Delete-clause-err g c = call_refused _ _ _ _ _ c.delete.result c.requ
 
 pub returns-in-Replace-clause-err : goal.returns-in-Replace-clause-err
 returns-in-Replace-clause-err g c = call_refused _ _ _ _ _ c.replace.result c.requires.enough c.replace.ensures.served
+
+pub returns-in-Search-clause-kept : goal.returns-in-Search-clause-kept
+returns-in-Search-clause-kept g c =
+    call_kept c.hands_keep_their_shares.ensures.served c.hands_keep_their_shares-2.ensures.called
+    c.hands_keep_their_shares-2.ensures.same _ _ _ _ _ c.search.result c.requires.of c.requires.records
+    c.search.ensures.served (c.search.ensures.entered refl)
+
+pub returns-in-Insert-clause-kept : goal.returns-in-Insert-clause-kept
+returns-in-Insert-clause-kept g c =
+    call_kept c.hands_keep_their_shares.ensures.served c.hands_keep_their_shares-2.ensures.called
+    c.hands_keep_their_shares-2.ensures.same _ _ _ _ _ c.insert.result c.requires.of c.requires.records
+    c.insert.ensures.served (c.insert.ensures.entered refl)
+
+pub returns-in-Delete-clause-kept : goal.returns-in-Delete-clause-kept
+returns-in-Delete-clause-kept g c =
+    call_kept c.hands_keep_their_shares.ensures.served c.hands_keep_their_shares-2.ensures.called
+    c.hands_keep_their_shares-2.ensures.same _ _ _ _ _ c.delete.result c.requires.of c.requires.records
+    c.delete.ensures.served (c.delete.ensures.entered refl)
+
+pub returns-in-Replace-clause-kept : goal.returns-in-Replace-clause-kept
+returns-in-Replace-clause-kept g c =
+    call_kept c.hands_keep_their_shares.ensures.served c.hands_keep_their_shares-2.ensures.called
+    c.hands_keep_their_shares-2.ensures.same _ _ _ _ _ c.replace.result c.requires.of c.requires.records
+    c.replace.ensures.served (c.replace.ensures.entered refl)

@@ -25,6 +25,7 @@ returns-in_default-clause-err c =
       opening_is = opening.1;
       closed_is = closed.1;
       due = tt;
+      unsettled = λ ne. absurd (ne refl);
       before = λ e o s lt. absurd (omega arith);
     }
 
@@ -49,7 +50,8 @@ returns-in_err-history-clause-err c =
     c.index-openings-shard.result c.index.result.now c.in_err-history.field-0.0
     (opening_at (goal.at.returns-in_err-history-clause-err c).After-settle_shard)
     (closed_at (goal.at.returns-in_err-history-clause-err c).After-settle_shard) c.loop-shard.invariant.many
-    c.loop-shard.invariant.each c.in_err-history.ensures.shard c.in_err-history.ensures.err)
+    c.loop-shard.invariant.each c.in_err-history.ensures.shard c.in_err-history.ensures.err
+    c.in_err-history.ensures.unsettled)
 
 pub loop-shard-preserved : goal.loop-shard-preserved
 loop-shard-preserved c = record {
