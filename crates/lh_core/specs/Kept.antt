@@ -16,7 +16,7 @@ head_at config size i = record {
 }
 
 -- each bucket of a row has its number and its level, and its keys once
-pub record IsRow (config : Settings) (size : ℕ) (buckets : List Seen) : Type 0 where
+pub record IsBucketRow (config : Settings) (size : ℕ) (buckets : List Seen) : Type 0 where
   pub all : length buckets ≡ size
   pub heads : (i : ℕ) → i < size → (bucket_at buckets i).head ≡ head_at config size i
   pub once : HaveKeysOnce size buckets
@@ -25,7 +25,7 @@ pub record IsRow (config : Settings) (size : ℕ) (buckets : List Seen) : Type 0
 pub record IsWorld (world : WorldSeen) : Type 0 where
   pub range : IsInRange world.config
   pub sound : IsSound world.config world.state
-  pub row : IsRow world.config world.state.filled world.buckets
+  pub row : IsBucketRow world.config world.state.filled world.buckets
 
 -- bucket i of a file that begins
 abbrev pub empty_at : Settings → ℕ → Seen

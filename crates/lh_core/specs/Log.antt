@@ -60,9 +60,9 @@ acts [] = []
 acts (step ∷ log) = if_accepted step.1 (acts_after step.0 log (acts log)) (acts log)
 
 -- the reply that an effect tells, if it is one
-abbrev pub reply_of : Effect → Option Reply
-reply_of (effect.Answered reply) = Some reply
-reply_of _ = None
+abbrev pub effect_reply : Effect → Option Reply
+effect_reply (effect.Answered reply) = Some reply
+effect_reply _ = None
 
 -- replies, and one more if there is one
 abbrev pub and_reply : List Reply → Option Reply → List Reply
@@ -71,7 +71,7 @@ and_reply replies (Some reply) = replies ++ reply ∷ []
 
 -- the replies that were given, after one more entry
 abbrev pub given_by : Entry → List Reply → List Reply
-given_by (Ok effect) replies = and_reply replies (reply_of effect)
+given_by (Ok effect) replies = and_reply replies (effect_reply effect)
 given_by (Err refusal) replies = replies
 
 -- the replies that were given, the oldest first

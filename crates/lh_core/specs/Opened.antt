@@ -27,7 +27,7 @@ lists_in buckets = map (λ b. b.pairs) buckets
 
 -- A world is the file of a listing, with nobody at work: it stands for the plain map of the listing, and each bucket
 -- has its records in the listing's order.
-pub record IsOpened (listing : Lists) (world : WorldSeen) : Type 0 where
+pub record IsOpenedWorld (listing : Lists) (world : WorldSeen) : Type 0 where
   pub config : world.config ≡ listing.config
   pub state : world.state ≡ resting (size listing)
   pub stands : StandsFor world (records_of listing)

@@ -13,7 +13,7 @@ use Rattle.lh_bucket.specs.Bucket.{Seen, content}
 use Rattle.lh_bucket.specs.PlainMap.{Records, reply, after}
 use Rattle.lh_core.specs.declared.event.Event.{Event}
 use Rattle.lh_core.specs.State.{State}
-use Rattle.lh_core.specs.Log.{Entry, reply_of}
+use Rattle.lh_core.specs.Log.{Entry, effect_reply}
 use Rattle.lh_core.specs.History.{IsEntry, served_by}
 
 -- the configuration of a file, its state, and its filled buckets in the order of their numbers
@@ -67,7 +67,7 @@ map_after map (Some call) = after map call
 -- after that call; a refusal leaves buckets that stand for the map
 abbrev pub FollowsMap : WorldSeen → Records → Event → Entry → WorldSeen → Type 0
 FollowsMap world map event (Ok effect) next =
-    (reply_of effect ≡ reply_to map (served_by world.state event))
+    (effect_reply effect ≡ reply_to map (served_by world.state event))
     × StandsFor next (map_after map (served_by world.state event))
 FollowsMap world map event (Err refusal) next = StandsFor next map
 

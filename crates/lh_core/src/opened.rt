@@ -2,7 +2,7 @@
 ghost use Rattle.std.specs.Prelude.{◌≡◌, ◌+◌, ◌^◌, ◌<◌, [], IfOk};
 ghost use Rattle.std.specs.FinMap.{len};
 ghost use Rattle.lh_bucket.specs.Listing.{size};
-ghost use Rattle.lh_core.specs.Opened.{IsListedRow, IsOpened, listed_at, lists_in, records_of};
+ghost use Rattle.lh_core.specs.Opened.{IsListedRow, IsOpenedWorld, listed_at, lists_in, records_of};
 ghost use Rattle.lh_core.specs.Serial.{IsSerialFrom};
 
 use crate::control::Control;
@@ -53,7 +53,7 @@ fn listed_row(alloc: Global, listing: &Listing) -> Result<Vec<PagedBucket>, Memo
 impl World<PagedBucket> {
     /// The file of a listing, with each record in its place. Nobody is at work.
     pub fn open_from(alloc: Global, listing: &Listing) -> Result<World<PagedBucket>, Memory>
-        ensures { IfOk result (IsOpened listing.now) }
+        ensures { IfOk result (IsOpenedWorld listing.now) }
     {
         // Its law: the list of a bucket has just the records of its address.
         listing_is_placed();

@@ -5,7 +5,7 @@ ghost use Rattle.lh_bucket.specs.Bucket.{CanSplit};
 ghost use Rattle.lh_bucket.specs.Call.{IsInsert};
 ghost use Rattle.lh_bucket.specs.PlainMap.{Records, reply, after};
 ghost use Rattle.lh_core.specs.Control.{IsControl, IsAimed, world_of};
-ghost use Rattle.lh_core.specs.Kept.{IsRow, IsWorld, IsEmptyRow};
+ghost use Rattle.lh_core.specs.Kept.{IsBucketRow, IsWorld, IsEmptyRow};
 ghost use Rattle.lh_core.specs.Splits.{IsSplit, unfilled};
 ghost use Rattle.lh_core.specs.World.{IsPlaced, StandsFor, bucket_at};
 
@@ -35,7 +35,7 @@ pub(crate) fn serve<B: Bucket>(
 ) -> Result<Reply, Memory>
     requires act { IsAimed control.now act.now }
     requires world { IsWorld (world_of control.now (map B.seen buckets.old.items)) }
-    ensures row { IsRow control.now.config control.now.filled.buckets (map B.seen buckets.new.items) }
+    ensures row { IsBucketRow control.now.config control.now.filled.buckets (map B.seen buckets.new.items) }
     ensures reply { (m : Records) → StandsFor (world_of control.now (map B.seen buckets.old.items)) m →
         IfOk result (λ r. r ≡ reply m act.now.call.now) }
     ensures stands { (m : Records) → StandsFor (world_of control.now (map B.seen buckets.old.items)) m →
@@ -99,7 +99,7 @@ pub(crate) fn divide<B: Bucket>(
     requires room { control.now.root.buckets < control.now.config.max }
     requires before { control.now.filled.buckets ≡ control.now.root.buckets }
     requires world { IsWorld (world_of control.now (map B.seen buckets.old.items)) }
-    ensures row { OnOk result (IsRow control.now.config (control.now.root.buckets + 1) (map B.seen buckets.new.items)) }
+    ensures row { OnOk result (IsBucketRow control.now.config (control.now.root.buckets + 1) (map B.seen buckets.new.items)) }
     ensures stands { (m : Records) → StandsFor (world_of control.now (map B.seen buckets.old.items)) m →
         OnOk result (IsPlaced control.now.config.initial (control.now.root.buckets + 1) m
         (map B.seen buckets.new.items)) }

@@ -33,7 +33,7 @@ unfoldable pub opening_fault : List ℕ → Option ImageFault
 opening_fault bytes = first_fault_of (header_rows bytes ++ size_rows bytes)
 
 -- the bytes have a header without a fault, whose numbers are in their ranges, and are as many pages as it says
-pub record IsOpened (bytes : List ℕ) (header : Header) (root : Extent) : Type 0 where
+pub record IsOpenedImage (bytes : List ℕ) (header : Header) (root : Extent) : Type 0 where
   pub fields : header ≡ header_of bytes
   pub faultless : first_fault_of (header_rows bytes) ≡ None
   pub in_range : AreInRange header
@@ -170,8 +170,8 @@ abbrev pub slot_of : List ℕ → ℕ → ℕ → List ℕ
 slot_of bytes p k = slot (format_of (version_of bytes)) (page bytes p) k
 
 -- the value in slot k of page p
-abbrev pub value_of : List ℕ → ℕ → ℕ → List ℕ
-value_of bytes p k = (pair_of (format_of (version_of bytes)) (slot_of bytes p k)).value
+abbrev pub slot_value : List ℕ → ℕ → ℕ → List ℕ
+slot_value bytes p k = (pair_of (format_of (version_of bytes)) (slot_of bytes p k)).value
 
 -- the page and the slot of the value that is found
 pub record IsPlaceOf (bytes key : List ℕ) (p k : ℕ) : Type 0 where
@@ -179,7 +179,7 @@ pub record IsPlaceOf (bytes key : List ℕ) (p k : ℕ) : Type 0 where
   pub below : p < (header_of bytes).pages
   pub slot : k < (format_of (version_of bytes)).slots
   pub short : value_length (slot_of bytes p k) ≤ (format_of (version_of bytes)).value
-  pub found : look_up (view_of bytes) key ≡ Ok (Some (value_of bytes p k))
+  pub found : look_up (view_of bytes) key ≡ Ok (Some (slot_value bytes p k))
 
 -- where the value stands that is found, if one is, or the fault
 abbrev pub IsPlace : List ℕ → List ℕ → Result (Option (ℕ × ℕ)) ImageFault → Type 0

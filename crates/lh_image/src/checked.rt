@@ -7,7 +7,7 @@ ghost use Rattle.lh_page.specs.Limits.{IsValue};
 ghost use Rattle.lh_image.specs.Faults.{image_fault};
 ghost use Rattle.lh_image.specs.Image.{IsImage};
 ghost use Rattle.lh_image.specs.Listed.{IsMemoryOr};
-ghost use Rattle.lh_image.specs.LookUp.{IsOpened};
+ghost use Rattle.lh_image.specs.LookUp.{IsOpenedImage};
 
 mod finding;
 mod index;
@@ -67,7 +67,7 @@ impl<'a> CheckedImage<'a> {
         header: &Header,
         root: &Root,
     ) -> Result<CheckedImage<'a>, ImageFault>
-        requires { IsOpened bytes.now header.now root.now }
+        requires { IsOpenedImage bytes.now header.now root.now }
         ensures image { IfOk result (λ checked. IsImage bytes.now checked) }
         ensures fault { IfErr result (λ fault. IsMemoryOr fault (image_fault bytes.now)) }
     {

@@ -45,13 +45,13 @@ pub struct Image<'a> {
 
 impl<'a> Model for Image<'a> {
     ghost use Rattle.std.specs.Prelude.{ℕ, List};
-    ghost use Rattle.lh_image.specs.LookUp.{IsOpened};
+    ghost use Rattle.lh_image.specs.LookUp.{IsOpenedImage};
 
     ghost Value = { List ℕ };
 
     ghost view = { λ i. i.bytes.now };
 
-    ghost invariant = { λ i. IsOpened i.bytes.now i.header i.root };
+    ghost invariant = { λ i. IsOpenedImage i.bytes.now i.header i.root };
 }
 
 impl<'a> Image<'a> {

@@ -126,8 +126,8 @@ shards_over_limit = codes "lhash" ∷ codes "drive" ∷ codes "--shards" ∷ cod
 abbrev pub shards_with_plus : List Text
 shards_with_plus = codes "lhash" ∷ codes "drive" ∷ codes "--shards=+2" ∷ []
 
-abbrev pub snapshots_of_shards : List Text
-snapshots_of_shards = codes "lhash" ∷ codes "drive" ∷ codes "--snapshots=1" ∷ codes "--shards=2" ∷ []
+abbrev pub snapshots_of_two_shards : List Text
+snapshots_of_two_shards = codes "lhash" ∷ codes "drive" ∷ codes "--snapshots=1" ∷ codes "--shards=2" ∷ []
 
 abbrev pub snapshots_given : List Text
 snapshots_given = codes "lhash" ∷ codes "drive" ∷ codes "--snapshots" ∷ codes "1000" ∷ []

@@ -45,7 +45,7 @@ ghost use Rattle.lh_options.specs.OptionLaws.{
   shards_with_plus,
   shards_zero,
   snapshots_given,
-  snapshots_of_shards,
+  snapshots_of_two_shards,
   snapshots_over_limit,
   snapshots_with_minus,
   steps_given,
@@ -78,7 +78,7 @@ pub fn words_give_options()
         (record { initial = 1; capacity = 14; load = 100; max = 65536 }) 2 64 0 }
     ensures snapshots { GivesDrive snapshots_given
         (record { initial = 1; capacity = 14; load = 100; max = 65536 }) 4 1 1000 }
-    ensures of_shards { GivesDrive snapshots_of_shards
+    ensures of_shards { GivesDrive snapshots_of_two_shards
         (record { initial = 1; capacity = 14; load = 100; max = 65536 }) 4 2 1 }
     ensures check { Asks check_alone (codes "check") }
     ensures dump { Asks dump_alone (codes "dump") }

@@ -22,5 +22,5 @@ abbrev pub IsValue : List ℕ → Type 0
 IsValue value = length value ≤ longest_value
 
 -- a page has room for at least one record, and for at most as many as the largest
-abbrev pub IsCapacity : ℕ → Type 0
-IsCapacity b = (1 ≤ b) × (b ≤ largest_page)
+abbrev pub IsPageCapacity : ℕ → Type 0
+IsPageCapacity b = (1 ≤ b) × (b ≤ largest_page)

@@ -4,7 +4,7 @@ use Rattle.std.specs.Prelude.{slice_index_or, nat_le, if◌then◌else◌}
 use Rattle.std.specs.List.{IsDistinct, flat_map}
 use Rattle.std.specs.Str.{bytes_eq}
 use Rattle.lh_page.specs.declared.pair.Pair.{Pair}
-use Rattle.lh_page.specs.Limits.{IsCapacity}
+use Rattle.lh_page.specs.Limits.{IsPageCapacity}
 use Rattle.lh_page.specs.Records.{keys_of}
 
 -- records in their order, and how many of them a page holds
@@ -14,7 +14,7 @@ pub record PackedList : Type 0 where
 
 -- a capacity that pages have, and no key twice
 pub record IsPackedList (list : PackedList) : Type 0 where
-  pub capacity : IsCapacity list.capacity
+  pub capacity : IsPageCapacity list.capacity
   pub distinct : IsDistinct bytes_eq (keys_of list.pairs)
 
 -- Packed pages: every page but the last is full, and only the first may be empty.

@@ -3,7 +3,7 @@ ghost use Rattle.std.specs.Prelude.{not, ◌≡◌, ◌+◌, ◌%◌, ◌<◌, [
 ghost use Rattle.std.specs.Prelude.{None, IsOk, IfOk, IfSome, IfNone, OnOk, OnErr};
 ghost use Rattle.std.specs.List.{IsDistinct, filter, swap_remove};
 ghost use Rattle.std.specs.Str.{bytes_eq};
-ghost use Rattle.lh_page.specs.Limits.{IsCapacity, IsValue};
+ghost use Rattle.lh_page.specs.Limits.{IsPageCapacity, IsValue};
 ghost use Rattle.lh_page.specs.Lines.{unit_size};
 ghost use Rattle.lh_page.specs.PackedList.{IsPackedList, pages_of};
 ghost use Rattle.lh_page.specs.Records.{keys_of, no_pair, place_of, value_at, with_value, AbsentBelow, StandsFirst};
@@ -46,7 +46,7 @@ impl Model for Chain {
 impl Chain {
     /// An empty chain, with pages of 1 to 24 records.
     pub fn new(alloc: Global, capacity: u32) -> Result<Self, Memory>
-        requires { IsCapacity capacity }
+        requires { IsPageCapacity capacity }
         ensures succeeds { IsOk result }
         ensures empty { IfOk result (λ chain. chain ≡ record { capacity = capacity; pairs = [] }) }
     {
@@ -60,7 +60,7 @@ impl Chain {
     /// A chain with pages of 1 to 24 records that has these records in their order. No key stands twice
     /// among them, so none is looked for.
     pub fn from_pairs(alloc: Global, capacity: u32, pairs: &[Pair]) -> Result<Self, Memory>
-        requires capacity { IsCapacity capacity }
+        requires capacity { IsPageCapacity capacity }
         requires distinct { IsDistinct bytes_eq (keys_of pairs.now) }
         ensures chain { IfOk result (λ chain. chain ≡ record { capacity = capacity; pairs = pairs.now }) }
         ensures none { length pairs.now ≡ 0 → IsOk result }

@@ -2,7 +2,7 @@
 ghost use Rattle.std.specs.Prelude.{◌≡◌, ◌<◌, ◌≤◌, [], IfOk, OnOk, IfSome, IfNone, option_map, length};
 ghost use Rattle.std.specs.Result.{result_err};
 ghost use Rattle.lh_page.specs.Format.{version_1, version_2, slot_size, page_size, IsWithinLimits};
-ghost use Rattle.lh_page.specs.Limits.{IsCapacity};
+ghost use Rattle.lh_page.specs.Limits.{IsPageCapacity};
 ghost use Rattle.lh_page.specs.PageFields.{head_of, page_of, pairs_of, used_of, bad_slot, fault_of, FirstFilled};
 ghost use Rattle.lh_page.specs.PageFields.{UnusedAreZero};
 ghost use Rattle.lh_page.specs.PageTable.{slot};
@@ -31,7 +31,7 @@ pub fn page_from_bytes(bytes: &[u8; PAGE_1], capacity: u32) -> Result<Page, Page
 ///
 /// All 24 slots are looked at, whatever the capacity is.
 pub fn page2_from_bytes(bytes: &[u8; PAGE_2], capacity: u32) -> Result<Page, PageFault>
-    requires { IsCapacity capacity }
+    requires { IsPageCapacity capacity }
     ensures page { IfOk result (λ page. page ≡ page_of version_2 bytes.now) }
     ensures fault { result_err result ≡ fault_of version_2 bytes.now capacity }
 {

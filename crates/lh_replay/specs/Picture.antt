@@ -10,7 +10,7 @@ use Rattle.lh_draw.specs.DrawingTexts.{canvas_text}
 use Rattle.lh_draw.specs.declared.elements.Canvas.{Canvas}
 use Rattle.lh_replay.specs.Lanes.{lane_count, lane_of, rehashes, rows_until}
 use Rattle.lh_replay.specs.PictureTexts.{end_text, heading_text, picture_caption_text, step_text}
-use Rattle.lh_replay.specs.Sizes.{box_height, head_height, lanes_left, lane_width, rows_top, row_height}
+use Rattle.lh_replay.specs.Sizes.{box_height, empty_height, lanes_left, lane_width, rows_top, row_height}
 use Rattle.lh_replay.specs.declared.elements.Caption.{Caption}
 use Rattle.lh_replay.specs.declared.elements.Heading.{Heading}
 use Rattle.lh_replay.specs.declared.elements.Step.{Step}
@@ -22,7 +22,7 @@ use Rattle.lh_replay.specs.declared.shapes.Shape.TheVariants as shape
 unfoldable pub picture_canvas_of : List Event → Canvas
 picture_canvas_of events = record {
   width = lanes_left + lane_width * max (lane_count events) 2;
-  height = head_height + row_height * length events;
+  height = empty_height + row_height * length events;
 }
 
 unfoldable pub caption_of : List Event → Caption

@@ -15,8 +15,8 @@ row_height = 24
 abbrev pub rows_top : ℕ
 rows_top = 72
 
-abbrev pub head_height : ℕ
-head_height = 84
+abbrev pub empty_height : ℕ
+empty_height = 84
 
 -- how high a box is that ends in the row where it begins
 abbrev pub box_height : ℕ

@@ -9,7 +9,7 @@ use crate::elements::{Caption, Heading, Step};
 use crate::label::Label;
 use crate::lanes::{lane_count, lane_of, rehashes, rows_until};
 use crate::shapes::Shape;
-use crate::sizes::{BOX_HEIGHT, HEAD_HEIGHT, LANE_WIDTH, LANES_LEFT, ROW_HEIGHT, ROWS_TOP};
+use crate::sizes::{BOX_HEIGHT, EMPTY_HEIGHT, LANE_WIDTH, LANES_LEFT, ROW_HEIGHT, ROWS_TOP};
 use lh_core::{Effect, Event, Refusal};
 use lh_draw::Canvas;
 
@@ -20,7 +20,7 @@ pub fn canvas_of(events: &[Event]) -> Canvas
 {
     Canvas {
         width: LANES_LEFT + LANE_WIDTH * lane_count(events).max(2),
-        height: HEAD_HEIGHT + ROW_HEIGHT * events.len() as u128,
+        height: EMPTY_HEIGHT + ROW_HEIGHT * events.len() as u128,
     }
 }
 

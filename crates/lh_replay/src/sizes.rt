@@ -14,7 +14,7 @@ pub(crate) const ROW_HEIGHT: u128 = 24;
 pub(crate) const ROWS_TOP: u128 = 72;
 
 /// How high a picture without a row would be.
-pub(crate) const HEAD_HEIGHT: u128 = 84;
+pub(crate) const EMPTY_HEIGHT: u128 = 84;
 
 /// How high a box is that ends in the row where it begins.
 pub(crate) const BOX_HEIGHT: u128 = 20;

@@ -10,11 +10,11 @@ use Rattle.lh_bucket.specs.declared.call.Reply.{Reply}
 use Rattle.lh_bucket.specs.Listing.{Lists}
 use Rattle.lh_bucket.specs.PlainMap.{IsInsert, Records, after, reply}
 use Rattle.lh_core.specs.Listed.{IsListed}
-use Rattle.lh_core.specs.Opened.{IsOpened, records_of}
+use Rattle.lh_core.specs.Opened.{IsOpenedWorld, records_of}
 use Rattle.lh_core.specs.State.{State, first}
 use Rattle.lh_core.specs.Serial.{IsAtRest, IsGivenUp, IsServedOn, size_after}
 use Rattle.lh_core.specs.World.{StandsFor, WorldSeen}
-use Rattle.lh_serving.specs.Answers.{AnswersCall, FileSeen, Shows, file_of, first_file}
+use Rattle.lh_serving.specs.Answers.{AnswersCall, FileSeen, HoldsFile, file_of, first_file}
 use Rattle.lh_serving.specs.declared.answer.Answer.TheVariants as answer
 use Rattle.lh_serving.specs.declared.answer.Fault.TheVariants as fault
 
@@ -28,17 +28,17 @@ sized v file c n same size (inl e) =
     ∙ ap (λ k. size_after file.settings (after file.map c) k (reply file.map c)) size)
 sized v file c n same size (inr e) = inr (e ∙ size)
 
-pub called : (v w : WorldSeen) (n m : ℕ) (c : Call) (y : Reply) (file : FileSeen) → Shows v n file →
+pub called : (v w : WorldSeen) (n m : ℕ) (c : Call) (y : Reply) (file : FileSeen) → HoldsFile v n file →
     IsServedOn v file.map c y m w →
-    (next : FileSeen) × AnswersCall file c (answer.Reply y) next × Shows w m next
+    (next : FileSeen) × AnswersCall file c (answer.Reply y) next × HoldsFile w m next
 called v w n m c y file h d = (
   record { settings = file.settings; map = after file.map c; size = w.state.buckets },
   (d.replied, record { settings = refl; map = refl; size = sized v file c w.state.buckets h.same h.size d.size }),
   record { same = d.same ∙ h.same; rest = d.rest; stands = d.stands; count = d.count; size = refl },
 )
 
-pub refused : (v w : WorldSeen) (n : ℕ) (c : Call) (file : FileSeen) → Shows v n file → IsGivenUp v w → IsInsert c →
-    (next : FileSeen) × AnswersCall file c (answer.Fault fault.Memory) next × Shows w n next
+pub refused : (v w : WorldSeen) (n : ℕ) (c : Call) (file : FileSeen) → HoldsFile v n file → IsGivenUp v w → IsInsert c →
+    (next : FileSeen) × AnswersCall file c (answer.Fault fault.Memory) next × HoldsFile w n next
 refused v w n c file h g i = (
   file,
   (refl, inl i),
@@ -51,13 +51,13 @@ refused v w n c file h g i = (
   },
 )
 
-pub uncounted : (v : WorldSeen) (n : ℕ) (c : Call) (file : FileSeen) → Shows v n file → 2 ^ 64 - 1 ≤ n →
-    (next : FileSeen) × AnswersCall file c (answer.Fault fault.Memory) next × Shows v n next
+pub uncounted : (v : WorldSeen) (n : ℕ) (c : Call) (file : FileSeen) → HoldsFile v n file → 2 ^ 64 - 1 ≤ n →
+    (next : FileSeen) × AnswersCall file c (answer.Fault fault.Memory) next × HoldsFile v n next
 uncounted v n c file h le = (file, (refl, inr (let e = h.count in omega (arith, e, le))), h)
 
 -- an empty file shows none
 pub shows_first : (s : Settings) (v : WorldSeen) → v.config ≡ s → v.state ≡ first s → StandsFor v empty →
-    Shows v 0 (first_file s)
+    HoldsFile v 0 (first_file s)
 shows_first s v e f p = record {
   same = e;
   rest = record { workers = ap (λ (a : State). a.workers) f; splitter = ap (λ (a : State). a.splitter) f };
@@ -67,7 +67,8 @@ shows_first s v e f p = record {
 }
 
 -- an opened one its listing
-pub shows_opened : (l : Lists) (v : WorldSeen) (n : ℕ) → IsOpened l v → n ≡ len (records_of l) → Shows v n (file_of l)
+pub shows_opened : (l : Lists) (v : WorldSeen) (n : ℕ) → IsOpenedWorld l v → n ≡ len (records_of l) →
+    HoldsFile v n (file_of l)
 shows_opened l v n o e = record {
   same = o.config;
   rest = record { workers = ap (λ (a : State). a.workers) o.state; splitter = ap (λ (a : State). a.splitter) o.state };
@@ -77,7 +78,7 @@ shows_opened l v n o e = record {
 }
 
 -- a listing of a world is one of the file that it shows
-pub copied : (v : WorldSeen) (n : ℕ) (file : FileSeen) (l : Lists) → Shows v n file →
+pub copied : (v : WorldSeen) (n : ℕ) (file : FileSeen) (l : Lists) → HoldsFile v n file →
     ((m : Records) → StandsFor v m → IsListed v.config m v.state.buckets l) →
     IsListed file.settings file.map file.size l
 copied v n file l h f =

@@ -9,10 +9,10 @@ use Rattle.lh_bucket.specs.Listing.{Lists}
 use Rattle.lh_core.specs.World.{WorldSeen}
 use Rattle.lh_script.specs.Lines.{is_lf}
 use Rattle.lh_script.specs.Texts.{line}
-use Rattle.lh_serving.specs.Answers.{Answers, FileSeen, Shows, asked_by}
-use Rattle.lh_serving.specs.Conversations.{ConversationSeen, IsAt, answers_of, file_after, lines_of}
+use Rattle.lh_serving.specs.Answers.{AnswersLine, FileSeen, HoldsFile, asked_by}
+use Rattle.lh_serving.specs.Conversations.{ConversationSeen, IsAt, answers_of, file_after, turn_lines}
 use Rattle.lh_serving.specs.Parts.{kept}
-use Rattle.lh_serving.specs.Texts.{image_text, told}
+use Rattle.lh_serving.specs.Texts.{image_text, answer_line}
 use Rattle.lh_script.specs.declared.requests.Request.{Request}
 use Rattle.lh_serving.specs.declared.answer.Answer.{Answer}
 use Rattle.lh_serving.specs.declared.answer.Fault.{Fault}
@@ -26,7 +26,7 @@ none_of_two b c e f = rw (e, f) refl
 no_lf : (xs ys : List ℕ) → list_any is_lf xs ≡ false → list_any is_lf ys ≡ false → list_any is_lf (xs ++ ys) ≡ false
 no_lf xs ys e f = list_any-append is_lf xs ys ∙ none_of_two (list_any is_lf xs) (list_any is_lf ys) e f
 
-pub begun : (start : FileSeen) (w : WorldSeen) (n : ℕ) (p : Option (List ℕ)) (waiting : List ℕ) → Shows w n start →
+pub begun : (start : FileSeen) (w : WorldSeen) (n : ℕ) (p : Option (List ℕ)) (waiting : List ℕ) → HoldsFile w n start →
     p ≡ kept [] → waiting ≡ [] →
     IsAt start (talk_of w n p waiting None) [] []
 begun start w n p waiting h e f =
@@ -51,7 +51,7 @@ came start w n p q waiting image heard answers more h f e = record {
   turns = h.turns;
   rest = h.rest ++ more;
   each = h.each;
-  whole = ap (λ x. x ++ more) h.whole ∙ append_assoc (lines_of h.turns) h.rest more;
+  whole = ap (λ x. x ++ more) h.whole ∙ append_assoc (turn_lines h.turns) h.rest more;
   incomplete = no_lf h.rest more h.incomplete e;
   same = h.same;
   part = f h.rest h.part;
@@ -77,29 +77,30 @@ pub answered : (start : FileSeen) (w x : WorldSeen) (n m : ℕ) (p q r : Option 
     IsAt start (talk_of w n p waiting old) heard answers →
     ((l : List ℕ) → p ≡ kept l → q ≡ kept (l ++ said)) → list_any is_lf said ≡ false →
     o ≡ asked_by q →
-    ((file : FileSeen) → Shows w n file →
-    (next : FileSeen) × Answers file o (told a ++ image_text image) next × Shows x m next) →
-    r ≡ kept [] → new ≡ waiting ++ told a → IsAt start (talk_of x m r new image) (heard ++ line said) answers
+    ((file : FileSeen) → HoldsFile w n file →
+    (next : FileSeen) × AnswersLine file o (answer_line a ++ image_text image) next × HoldsFile x m next) →
+    r ≡ kept [] → new ≡ waiting ++ answer_line a → IsAt start (talk_of x m r new image) (heard ++ line said) answers
 answered start w x n m p q r waiting new heard answers said old image o a none h f e eo serve er en =
-    let served : (next : FileSeen) × Answers (file_after start h.turns) o (told a ++ image_text image) next
-    × Shows x m next =
+    let served : (next : FileSeen) × AnswersLine (file_after start h.turns) o (answer_line a ++ image_text image) next
+    × HoldsFile x m next =
     serve (file_after start h.turns) h.file in
     let whole : o ≡ asked_by (kept (h.rest ++ said)) = eo ∙ ap asked_by (f h.rest h.part) in
     let was : answers ++ (waiting ++ []) ≡ answers_of h.turns =
     subst (λ (i : Option Lists). answers ++ (waiting ++ image_text i) ≡ answers_of h.turns) none h.same in
     record {
-      turns = record { said = h.rest ++ said; answer = told a ++ image_text image; file = served.0 } ∷ h.turns;
+      turns = record { said = h.rest ++ said; answer = answer_line a ++ image_text image; file = served.0 } ∷ h.turns;
       rest = [];
       each = (
         h.each,
         no_lf h.rest said h.incomplete e,
-        subst (λ z. Answers (file_after start h.turns) z (told a ++ image_text image) served.0) whole served.1,
+        subst (λ z. AnswersLine (file_after start h.turns) z (answer_line a ++ image_text image) served.0)
+            whole served.1,
       );
-      whole = ap (λ y. y ++ line said) h.whole ∙ ended (lines_of h.turns) h.rest said;
+      whole = ap (λ y. y ++ line said) h.whole ∙ ended (turn_lines h.turns) h.rest said;
       incomplete = refl;
       same =
-          ap (λ y. answers ++ (y ++ image_text image)) en ∙ behind answers waiting (told a) (image_text image)
-          ∙ ap (λ y. y ++ (told a ++ image_text image)) was;
+          ap (λ y. answers ++ (y ++ image_text image)) en ∙ behind answers waiting (answer_line a) (image_text image)
+          ∙ ap (λ y. y ++ (answer_line a ++ image_text image)) was;
       part = er;
       file = served.2;
     }

@@ -17,7 +17,7 @@ use Rattle.lh_script.specs.Requests.{request}
 use Rattle.lh_script.specs.declared.fault.LineFault.{LineFault}
 use Rattle.lh_script.specs.declared.requests.Request.{Request}
 use Rattle.lh_script.specs.declared.requests.Request.TheVariants as ask
-use Rattle.lh_serving.specs.Texts.{told}
+use Rattle.lh_serving.specs.Texts.{answer_line}
 use Rattle.lh_serving.specs.declared.answer.Answer.{Answer}
 use Rattle.lh_serving.specs.declared.answer.Answer.TheVariants as answer
 use Rattle.lh_serving.specs.declared.answer.Fault.{Fault}
@@ -70,7 +70,7 @@ pub record IsImaged (file : FileSeen) (said : List ℕ) : Type 0 where
   pub listing : Lists
   pub listed : IsListed file.settings file.map file.size listing
   pub fits : FitsImage Two listing
-  pub text : said ≡ told (Some (answer.Image (length (canonical Two listing)))) ++ canonical Two listing
+  pub text : said ≡ answer_line (Some (answer.Image (length (canonical Two listing)))) ++ canonical Two listing
 
 -- why none is: memory ran out, or the file is too large for one
 abbrev pub IsUnimaged : FileSeen → Fault → Type 0
@@ -81,18 +81,21 @@ IsUnimaged file _ = ⊥
 
 -- the bytes that answer what a line asks for: nothing is answered by none, a fault by its name, and neither changes
 -- anything
-abbrev pub Answers : FileSeen → Result (Option Request) Fault → List ℕ → FileSeen → Type 0
-Answers file (Ok None) said next = (said ≡ []) × (next ≡ file)
-Answers file (Ok (Some (ask.Call call))) said next =
-    (a : Answer) × (said ≡ told (Some a)) × AnswersCall file call a next
-Answers file (Ok (Some ask.Buckets)) said next = (said ≡ told (Some (answer.Buckets file.size))) × (next ≡ file)
-Answers file (Ok (Some ask.Records)) said next = (said ≡ told (Some (answer.Records (len file.map)))) × (next ≡ file)
-Answers file (Ok (Some ask.Image)) said next =
-    (IsImaged file said ⊎ ((f : Fault) × (said ≡ told (Some (answer.Fault f))) × IsUnimaged file f)) × (next ≡ file)
-Answers file (Err f) said next = (said ≡ told (Some (answer.Fault f))) × (next ≡ file)
+abbrev pub AnswersLine : FileSeen → Result (Option Request) Fault → List ℕ → FileSeen → Type 0
+AnswersLine file (Ok None) said next = (said ≡ []) × (next ≡ file)
+AnswersLine file (Ok (Some (ask.Call call))) said next =
+    (a : Answer) × (said ≡ answer_line (Some a)) × AnswersCall file call a next
+AnswersLine file (Ok (Some ask.Buckets)) said next =
+    (said ≡ answer_line (Some (answer.Buckets file.size))) × (next ≡ file)
+AnswersLine file (Ok (Some ask.Records)) said next =
+    (said ≡ answer_line (Some (answer.Records (len file.map)))) × (next ≡ file)
+AnswersLine file (Ok (Some ask.Image)) said next =
+    (IsImaged file said ⊎ ((f : Fault) × (said ≡ answer_line (Some (answer.Fault f))) × IsUnimaged file f))
+    × (next ≡ file)
+AnswersLine file (Err f) said next = (said ≡ answer_line (Some (answer.Fault f))) × (next ≡ file)
 
 -- a world at rest, with the number of its records, is this file
-pub record Shows (world : WorldSeen) (records : ℕ) (file : FileSeen) : Type 0 where
+pub record HoldsFile (world : WorldSeen) (records : ℕ) (file : FileSeen) : Type 0 where
   pub same : world.config ≡ file.settings
   pub rest : IsAtRest world.state
   pub stands : StandsFor world file.map

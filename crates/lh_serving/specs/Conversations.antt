@@ -5,7 +5,7 @@ use Rattle.lh_bucket.specs.Listing.{Lists}
 use Rattle.lh_core.specs.World.{WorldSeen}
 use Rattle.lh_script.specs.Lines.{is_lf}
 use Rattle.lh_script.specs.Texts.{line}
-use Rattle.lh_serving.specs.Answers.{Answers, FileSeen, Shows, asked_by}
+use Rattle.lh_serving.specs.Answers.{AnswersLine, FileSeen, HoldsFile, asked_by}
 use Rattle.lh_serving.specs.Parts.{kept}
 use Rattle.lh_serving.specs.Texts.{image_text}
 
@@ -21,9 +21,9 @@ file_after start [] = start
 file_after start (turn ∷ turns) = turn.file
 
 -- the bytes of their lines
-abbrev pub lines_of : List Turn → List ℕ
-lines_of [] = []
-lines_of (turn ∷ turns) = lines_of turns ++ line turn.said
+abbrev pub turn_lines : List Turn → List ℕ
+turn_lines [] = []
+turn_lines (turn ∷ turns) = turn_lines turns ++ line turn.said
 
 -- the bytes of their answers
 abbrev pub answers_of : List Turn → List ℕ
@@ -35,14 +35,14 @@ abbrev pub AreTurns : FileSeen → List Turn → Type 0
 AreTurns start [] = Unit {0}
 AreTurns start (turn ∷ turns) =
     AreTurns start turns × (list_any is_lf turn.said ≡ false)
-    × Answers (file_after start turns) (asked_by (kept turn.said)) turn.answer turn.file
+    × AnswersLine (file_after start turns) (asked_by (kept turn.said)) turn.answer turn.file
 
 -- What a client of this file was told is just the answers to the complete lines of what was heard of it.
 pub record IsAnswered (start : FileSeen) (heard answers : List ℕ) : Type 0 where
   pub turns : List Turn
   pub rest : List ℕ
   pub each : AreTurns start turns
-  pub whole : heard ≡ lines_of turns ++ rest
+  pub whole : heard ≡ turn_lines turns ++ rest
   pub incomplete : list_any is_lf rest ≡ false
   pub same : answers ≡ answers_of turns
 
@@ -60,7 +60,7 @@ abbrev pub pending : ConversationSeen → List ℕ
 pending talk = talk.waiting ++ image_text talk.image
 
 -- nothing waits to be told
-pub record IsQuiet (talk : ConversationSeen) : Type 0 where
+pub record HasToldAll (talk : ConversationSeen) : Type 0 where
   pub waiting : talk.waiting ≡ []
   pub image : talk.image ≡ None
 
@@ -70,8 +70,8 @@ pub record IsAt (start : FileSeen) (talk : ConversationSeen) (heard answers : Li
   pub turns : List Turn
   pub rest : List ℕ
   pub each : AreTurns start turns
-  pub whole : heard ≡ lines_of turns ++ rest
+  pub whole : heard ≡ turn_lines turns ++ rest
   pub incomplete : list_any is_lf rest ≡ false
   pub same : answers ++ pending talk ≡ answers_of turns
   pub part : talk.part ≡ kept rest
-  pub file : Shows talk.world talk.records (file_after start turns)
+  pub file : HoldsFile talk.world talk.records (file_after start turns)

@@ -8,5 +8,5 @@ abbrev pub part_seen : Inside → Option (List ℕ)
 part_seen part = if part.is_too_long then None else Some part.bytes.items
 
 -- there is room for the longest line
-abbrev pub HasRoom : Inside → Type 0
-HasRoom part = (longest_line ≤ vec_capacity part.bytes) × (vec_len part.bytes ≤ longest_line)
+abbrev pub HasLineRoom : Inside → Type 0
+HasLineRoom part = (longest_line ≤ vec_capacity part.bytes) × (vec_len part.bytes ≤ longest_line)

@@ -28,9 +28,9 @@ answer_text (answer.Image bytes) = codes "image " ++ decimal bytes
 answer_text (answer.Fault f) = codes "fault " ++ fault_text f
 
 -- an answer as a line, where there is one
-abbrev pub told : Option Answer → List ℕ
-told None = []
-told (Some a) = line (answer_text a)
+abbrev pub answer_line : Option Answer → List ℕ
+answer_line None = []
+answer_line (Some a) = line (answer_text a)
 
 -- an image that is written, where one is
 abbrev pub image_text : Option Lists → List ℕ

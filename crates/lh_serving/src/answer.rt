@@ -1,7 +1,7 @@
 //! The answers to a client's lines, and how they read.
 ghost use Rattle.std.specs.Prelude.{◌≡◌, ◌++◌, OnOk, Some};
 ghost use Rattle.std.specs.String.{string_bytes};
-ghost use Rattle.lh_serving.specs.Texts.{answer_text, fault_text, told};
+ghost use Rattle.lh_serving.specs.Texts.{answer_text, fault_text, answer_line};
 
 use lh_bucket::{Memory, Reply};
 use lh_image::WriteImageFault;
@@ -69,7 +69,7 @@ impl fmt::Display for AnswerText<'_> {
 
 /// Adds an answer, if there is one, to those that wait.
 pub fn put(waiting: &mut String, answer: Option<Answer>) -> Result<(), Memory>
-    ensures { OnOk result (string_bytes waiting.new ≡ string_bytes waiting.old ++ told answer) }
+    ensures { OnOk result (string_bytes waiting.new ≡ string_bytes waiting.old ++ answer_line answer) }
 {
     let Some(answer) = answer else {
         return Ok(());

@@ -2,8 +2,8 @@
 ghost use Rattle.std.specs.Prelude.{◌≡◌, ◌<◌, ◌++◌, ℕ, List, None, [], IfOk, length, option_map};
 ghost use Rattle.std.specs.Bool.{OnFalse, OnTrue};
 ghost use Rattle.lh_core.specs.Serial.{IsAtRest};
-ghost use Rattle.lh_serving.specs.Answers.{FileSeen, Shows, asked_by, file_of, first_file};
-ghost use Rattle.lh_serving.specs.Conversations.{IsAt, IsQuiet, pending};
+ghost use Rattle.lh_serving.specs.Answers.{FileSeen, HoldsFile, asked_by, file_of, first_file};
+ghost use Rattle.lh_serving.specs.Conversations.{IsAt, HasToldAll, pending};
 
 use crate::answer::{Fault, put};
 use crate::part::Part;
@@ -58,8 +58,8 @@ impl Conversation {
     /// A conversation over a file with so many records, before anything was said.
     fn over(alloc: Global, world: World<PagedBucket>, records: u64) -> Result<Conversation, Memory>
         requires { IsAtRest world.state }
-        ensures begun { (start : FileSeen) → Shows world records start → IfOk result (λ talk. IsAt start talk [] []) }
-        ensures quiet { IfOk result IsQuiet }
+        ensures begun { (start : FileSeen) → HoldsFile world records start → IfOk result (λ talk. IsAt start talk [] []) }
+        ensures quiet { IfOk result HasToldAll }
     {
         let part = Part::new(alloc)?;
         let waiting = String::with_capacity(alloc, ROOM)?;
@@ -75,7 +75,7 @@ impl Conversation {
     /// A conversation over an empty file, before anything was said.
     pub fn new(alloc: Global, config: Config) -> Result<Conversation, Memory>
         ensures begun { IfOk result (λ talk. IsAt (first_file config) talk [] []) }
-        ensures quiet { IfOk result IsQuiet }
+        ensures quiet { IfOk result HasToldAll }
     {
         Conversation::over(alloc, World::new(alloc, config)?, 0)
     }
@@ -83,7 +83,7 @@ impl Conversation {
     /// A conversation over the file of a listing, before anything was said.
     pub fn open_from(alloc: Global, listing: &Listing) -> Result<Conversation, Memory>
         ensures begun { IfOk result (λ talk. IsAt (file_of listing.now) talk [] []) }
-        ensures quiet { IfOk result IsQuiet }
+        ensures quiet { IfOk result HasToldAll }
     {
         let records = count_before(listing, 0)?;
         Conversation::over(alloc, World::open_from(alloc, listing)?, records)
@@ -134,8 +134,8 @@ impl Conversation {
 
     /// Whether nothing waits to be told.
     pub fn is_quiet(&self) -> bool
-        ensures quiet { OnTrue result (IsQuiet self.now) }
-        ensures not { OnFalse result (¬ (IsQuiet self.now)) }
+        ensures quiet { OnTrue result (HasToldAll self.now) }
+        ensures not { OnFalse result (¬ (HasToldAll self.now)) }
     {
         self.waiting.is_empty() && self.image.is_none()
     }
@@ -144,7 +144,7 @@ impl Conversation {
     pub fn note_told(&mut self)
         ensures told { (start : FileSeen) (heard answers : List ℕ) → IsAt start self.old heard answers →
             IsAt start self.new heard (answers ++ pending self.old) }
-        ensures quiet { IsQuiet self.new }
+        ensures quiet { HasToldAll self.new }
     {
         self.waiting.clear();
         self.image = None;

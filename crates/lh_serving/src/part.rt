@@ -20,11 +20,11 @@ impl Model for Part {
 
     ghost Value = { Option (List ℕ) };
 
-    ghost use Rattle.lh_serving.specs.PartSeen.{HasRoom, part_seen};
+    ghost use Rattle.lh_serving.specs.PartSeen.{HasLineRoom, part_seen};
 
     ghost view = { part_seen };
 
-    ghost invariant = { HasRoom };
+    ghost invariant = { HasLineRoom };
 }
 
 impl Part {

@@ -1,8 +1,8 @@
 //! What a client asks for, served by a world.
 ghost use Rattle.std.specs.Prelude.{◌≡◌, ◌++◌, ℕ, IfErr, IfOk, None, Some};
 ghost use Rattle.lh_core.specs.Serial.{IsAtRest};
-ghost use Rattle.lh_serving.specs.Answers.{Answers, AnswersCall, FileSeen, IsImaged, IsUnimaged, Shows};
-ghost use Rattle.lh_serving.specs.Texts.{image_text, told};
+ghost use Rattle.lh_serving.specs.Answers.{AnswersLine, AnswersCall, FileSeen, IsImaged, IsUnimaged, HoldsFile};
+ghost use Rattle.lh_serving.specs.Texts.{image_text, answer_line};
 ghost use Rattle.lh_serving.specs.declared.answer.Answer.TheVariants as answer;
 
 use crate::answer::{Answer, Fault};
@@ -32,8 +32,8 @@ fn only(answer: Answer) -> Said
 fn serve_call(world: &mut World<PagedBucket>, records: &mut u64, call: Call) -> Answer
     requires { IsAtRest world.old.state }
     ensures rest { IsAtRest world.new.state }
-    ensures answered { (file : FileSeen) → Shows world.old records.old file →
-        (next : FileSeen) × AnswersCall file call result next × Shows world.new records.new next }
+    ensures answered { (file : FileSeen) → HoldsFile world.old records.old file →
+        (next : FileSeen) × AnswersCall file call result next × HoldsFile world.new records.new next }
 {
     let count = *records;
     if count == u64::MAX {
@@ -51,9 +51,9 @@ fn serve_call(world: &mut World<PagedBucket>, records: &mut u64, call: Call) -> 
 /// A copy of the file, and how many bytes its image has.
 fn imaged(world: &World<PagedBucket>) -> Result<(Listing, u64), Fault>
     requires { IsAtRest world.now.state }
-    ensures ok { (records : ℕ) (file : FileSeen) → Shows world.now records file →
-        IfOk result (λ it. IsImaged file (told (Some (answer.Image it.1)) ++ image_text (Some it.0))) }
-    ensures err { (records : ℕ) (file : FileSeen) → Shows world.now records file → IfErr result (IsUnimaged file) }
+    ensures ok { (records : ℕ) (file : FileSeen) → HoldsFile world.now records file →
+        IfOk result (λ it. IsImaged file (answer_line (Some (answer.Image it.1)) ++ image_text (Some it.0))) }
+    ensures err { (records : ℕ) (file : FileSeen) → HoldsFile world.now records file → IfErr result (IsUnimaged file) }
 {
     let Ok(listing) = world.listing() else {
         return Err(Fault::Memory);
@@ -72,9 +72,9 @@ pub fn answer_to(
 ) -> Said
     requires { IsAtRest world.old.state }
     ensures rest { IsAtRest world.new.state }
-    ensures answered { (file : FileSeen) → Shows world.old records.old file →
-        (next : FileSeen) × Answers file asked (told result.answer ++ image_text result.image) next
-        × Shows world.new records.new next }
+    ensures answered { (file : FileSeen) → HoldsFile world.old records.old file →
+        (next : FileSeen) × AnswersLine file asked (answer_line result.answer ++ image_text result.image) next
+        × HoldsFile world.new records.new next }
 {
     match asked {
         Ok(None) => Said {

@@ -16,7 +16,7 @@ use Rattle.lh_settling.specs.Acts.{stamps_of, calls_of, replies_of, FirstDiffer}
 use Rattle.lh_addr.specs.RootWord.{buckets_of}
 use Rattle.lh_settling.specs.ClosedFile.{ClosedFile, IsClosed}
 use Rattle.lh_settling.specs.Contents.{StandsAs, IsFirstStray}
-use Rattle.lh_settling.specs.Settled.{map_in, left_by, IsHistory, IsLegal, Settled}
+use Rattle.lh_settling.specs.Settled.{map_in, left_by, IsStamped, IsLegal, Settled}
 use Rattle.lh_settling.specs.SettleFault.{IsDue}
 use Rattle.lh_settling.specs.Laws.{AnswerLaw}
 use Rattle.lh_settling.proofs.FaultLaws.{within_size}
@@ -39,7 +39,7 @@ module _ (law : AddressLaw) (opening : Lists) (closed : ClosedFile) (acts : List
   abbrev Said : Type 0
   Said = (Settled opening closed acts) ⊎ ((fault : SettleFault) × (fault ≢ Memory) × IsDue opening closed acts fault)
 
-  with_contents : (history : List ActLine) → IsHistory closed acts history → IsLegal opening history
+  with_contents : (history : List ActLine) → IsStamped closed acts history → IsLegal opening history
       → ((q : List ℕ) → StandsAs (left_by opening history) closed.lists q) → Said
   with_contents history h l stands = ⊎_elim
       (λ (home : EachPlace (IsHome closed.config.initial (buckets_of closed.root)) closed.lists).
@@ -59,7 +59,7 @@ module _ (law : AddressLaw) (opening : Lists) (closed : ClosedFile) (acts : List
       real : (b : ℕ) (k : List ℕ) → Placed b k ≢ Memory
       real b k e = cc
 
-  with_replies : (history : List ActLine) → IsHistory closed acts history → IsLegal opening history → Said
+  with_replies : (history : List ActLine) → IsStamped closed acts history → IsLegal opening history → Said
   with_replies history h l = ⊎_elim
       (λ (stands : (q : List ℕ) → StandsAs (left_by opening history) closed.lists q). with_contents history h l stands)
       (λ (s : (k : List ℕ) × IsFirstStray (left_by opening history) closed.lists k). inr
@@ -69,7 +69,7 @@ module _ (law : AddressLaw) (opening : Lists) (closed : ClosedFile) (acts : List
       real : (k : List ℕ) → Content k ≢ Memory
       real k e = cc
 
-  with_stamps : (history : List ActLine) → IsHistory closed acts history → Said
+  with_stamps : (history : List ActLine) → IsStamped closed acts history → Said
   with_stamps history h = ⊎_elim
       (λ (l : IsLegal opening history). with_replies history h l)
       (λ (d : (t : ℕ) × FirstDiffer (replies_of history) (replies (map_in opening) (calls_of history)) t).

@@ -9,7 +9,7 @@ use Rattle.lh_settling.specs.declared.settle_fault.SettleFault.TheVariants.{Memo
 use Rattle.lh_settling.specs.ClosedFile.{ClosedFile, IsClosed}
 use Rattle.lh_settling.specs.Settled.{IsSettled, Settled}
 use Rattle.lh_settling.specs.SettleFault.{IsDue}
-use Rattle.lh_settling.specs.Laws.{SettledLaw, FaultLaw}
+use Rattle.lh_settling.specs.Laws.{SettledLaw, OneFaultLaw}
 
 ok_err : {G : Type 0} (history : List ActLine) (fault : SettleFault)
     → ◌≡◌ {A = Result (List ActLine) SettleFault} (Ok history) (Err fault) → G
@@ -27,7 +27,7 @@ module _ (opening : Lists) (closed : ClosedFile) (acts : List ActLine) (kept : I
   settled_exactly (Err fault) ok err other =
       (λ e. absurd (false≢true e), λ s. absurd (other (ap Err (settled opening closed acts fault kept s err))))
 
-  pub due_exactly : FaultLaw → (answer : Result (List ActLine) SettleFault)
+  pub due_exactly : OneFaultLaw → (answer : Result (List ActLine) SettleFault)
       → IfOk answer (IsSettled opening closed acts) → IfErr answer (IsDue opening closed acts) → (fault : SettleFault)
       → fault ≢ Memory → answer ≢ Err Memory → (answer ≡ Err fault) ↔ IsDue opening closed acts fault
   due_exactly law (Ok history) ok err fault real other =

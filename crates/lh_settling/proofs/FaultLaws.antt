@@ -21,9 +21,9 @@ use Rattle.lh_settling.specs.Acts.{stamps_of, calls_of, replies_of}
 use Rattle.lh_addr.specs.RootWord.{buckets_of}
 use Rattle.lh_settling.specs.ClosedFile.{ClosedFile, IsClosed}
 use Rattle.lh_settling.specs.Contents.{IsBefore, StandsAs, IsFirstStray, IsFirstAway}
-use Rattle.lh_settling.specs.Settled.{map_in, left_by, IsHistory, IsLegal, HoldsMap}
+use Rattle.lh_settling.specs.Settled.{map_in, left_by, IsStamped, IsLegal, HoldsMap}
 use Rattle.lh_settling.specs.SettleFault.{IsMissing, IsFirstWrong, IsDue}
-use Rattle.lh_settling.specs.Laws.{SettledLaw, FaultLaw}
+use Rattle.lh_settling.specs.Laws.{SettledLaw, OneFaultLaw}
 use Rattle.lh_settling.proofs.Placed.{placed_stands, placed_home}
 use Rattle.lh_settling.proofs.Values.{exact}
 use Rattle.lh_settling.proofs.Verdicts.{same_stamps, history_law, first_differ_one, differ_not_same}
@@ -32,7 +32,7 @@ not_both : (root : ℕ) → root % 2 ≡ 0 → root % 2 ≡ 1 → ⊥
 not_both root e o = omega arith
 
 missing_not_history : (closed : ClosedFile) (acts history : List ActLine) (t : ℕ) → IsMissing closed acts t
-    → IsHistory closed acts history → ⊥
+    → IsStamped closed acts history → ⊥
 missing_not_history closed acts history t m h =
     differ_not_same (stamps_of m.history) (range_with_len 0 closed.stamps) (stamps_of history) t
     (same_stamps acts m.history history m.order h.order) h.stamps m.differ
@@ -159,7 +159,7 @@ module _ (opening : Lists) (closed : ClosedFile) (acts : List ActLine) where
       away_one closed.config.initial (buckets_of closed.root) closed.lists b c k l r.4 d.4
   with_placed b k Memory m n r d = absurd (n refl)
 
-pub fault_law : FaultLaw
+pub fault_law : OneFaultLaw
 fault_law opening closed acts SplitUnderWay g m n f d = with_split opening closed acts g n f d
 fault_law opening closed acts (MissingStamp s) g m n f d = with_missing opening closed acts s g m n f d
 fault_law opening closed acts (Reply s h e) g m n f d = with_reply opening closed acts s h e g m n f d

@@ -17,7 +17,7 @@ use Rattle.lh_page.specs.Records.{keys_of, key_at}
 use Rattle.lh_bucket.specs.Listing.{IsHome, EachPlace, all_of, list_at}
 use Rattle.lh_bucket.specs.PlainMap.{Records}
 use Rattle.lh_bucket.specs.Records.{map_of}
-use Rattle.lh_settling.specs.Contents.{values_under, IsPlaced, StandsAs}
+use Rattle.lh_settling.specs.Contents.{values_under, ArePlaced, StandsAs}
 use Rattle.lh_settling.proofs.Values.{apart, equals, itself, same_records, get_first, get-map_of-cons, get-retained}
 use Rattle.lh_settling.proofs.Values.{values_under-append}
 
@@ -165,7 +165,7 @@ module _ (initial size : ℕ) (m : Records) (lists : List (List Pair))
 
   -- where each key stands as in the map, and at home, the records are placed
   pub placed : ((q : List ℕ) → StandsAs m lists q) → EachPlace (IsHome initial size) lists
-      → IsPlaced initial size m lists
+      → ArePlaced initial size m lists
   placed stands home = record {
     each = λ b below. same_records _ _ (λ q.
         get_first (list_at lists b) q
@@ -211,12 +211,12 @@ module _ (initial size : ℕ) (m : Records) (lists : List (List Pair))
       tested true o some = refl
       tested false o some = absurd (false≢true some)
 
-  pub placed_home : IsPlaced initial size m lists → EachPlace (IsHome initial size) lists
+  pub placed_home : ArePlaced initial size m lists → EachPlace (IsHome initial size) lists
   placed_home h = filled_home h.each h.beyond
 
   -- so no key stands twice, where none does in one bucket
   pub filled_placed : Filled → Shut → ((b : ℕ) → IsDistinct bytes_eq (keys_of (list_at lists b)))
-      → IsPlaced initial size m lists
+      → ArePlaced initial size m lists
   filled_placed each beyond own = record {
     each = each;
     beyond = beyond;
@@ -226,7 +226,7 @@ module _ (initial size : ℕ) (m : Records) (lists : List (List Pair))
         (few_distinct (list_at lists (Home q)) q (own (Home q))));
   }
 
-  pub placed_stands : IsPlaced initial size m lists → (q : List ℕ) → StandsAs m lists q
+  pub placed_stands : ArePlaced initial size m lists → (q : List ℕ) → StandsAs m lists q
   placed_stands h q =
       one_of (values_under q (all_of lists)) (get m q) (few_distinct (all_of lists) q h.distinct)
       (ap (λ (xs : List (List ℕ)). slice_get xs 0)

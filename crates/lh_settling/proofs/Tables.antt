@@ -13,7 +13,7 @@ use Rattle.std.proofs.lemmas.List.Folds.{list_any-append}
 use Rattle.std.proofs.lemmas.Map.Made.{is_some-lookup}
 use Rattle.lh_settling.specs.declared.plain_map.Name.{Name}
 use Rattle.lh_settling.specs.Contents.{IsBefore}
-use Rattle.lh_settling.specs.PlainMap.{records_of}
+use Rattle.lh_settling.specs.PlainMap.{map_of_entries}
 use Rattle.lh_settling.proofs.Values.{itself, before-apart, same_records}
 
 abbrev pub Entries : Type 0
@@ -31,8 +31,8 @@ find_lookup q (e ∷ es) =
     ∙ ap (cond (is_named q e.0) (Some e.1)) (find_lookup q es)
 
 -- what a table has at a key
-pub get-records_of : (es : Entries) (q : List ℕ) → get (records_of es) q ≡ lookup (is_named q) es
-get-records_of es q = get-from_entries nat_list_cmp_total (map (λ e. (e.0.0, e.1)) es) q ∙ find_lookup q es
+pub get-map_of_entries : (es : Entries) (q : List ℕ) → get (map_of_entries es) q ≡ lookup (is_named q) es
+get-map_of_entries es q = get-from_entries nat_list_cmp_total (map (λ e. (e.0.0, e.1)) es) q ∙ find_lookup q es
 
 flipped : (q k : List ℕ) → bytes_eq k q ≡ eq_by_cmp (slice_cmp nat_cmp) q k
 flipped q k = nat_list_eq_equiv.symm k q ∙ texts_ties q k
@@ -40,28 +40,28 @@ flipped q k = nat_list_eq_equiv.symm k q ∙ texts_ties q k
 -- one entry more, or another value under its key
 pub inserted : (es fs : Entries) (k v : List ℕ)
     → ((q : Name) → lookup (is_named q.0) fs ≡ cond (bytes_eq k q.0) (Some v) (lookup (is_named q.0) es))
-    → records_of fs ≡ insert (records_of es) k v
+    → map_of_entries fs ≡ insert (map_of_entries es) k v
 inserted es fs k v h = same_records _ _ (λ q.
-    get-records_of fs q ∙ h (record { 0 = q })
+    get-map_of_entries fs q ∙ h (record { 0 = q })
     ∙ ap (λ b. cond b (Some v) (lookup (is_named q) es)) (flipped q k)
-    ∙ sym (get-insert nat_list_cmp_total (records_of es) k v q
-    ∙ ap (cond (eq_by_cmp (slice_cmp nat_cmp) q k) (Some v)) (get-records_of es q)))
+    ∙ sym (get-insert nat_list_cmp_total (map_of_entries es) k v q
+    ∙ ap (cond (eq_by_cmp (slice_cmp nat_cmp) q k) (Some v)) (get-map_of_entries es q)))
 
 removed : (es fs : Entries) (k : List ℕ)
     → ((q : Name) → lookup (is_named q.0) fs ≡ cond (bytes_eq k q.0) None (lookup (is_named q.0) es))
-    → records_of fs ≡ remove (records_of es) k
+    → map_of_entries fs ≡ remove (map_of_entries es) k
 removed es fs k h = same_records _ _ (λ q.
-    get-records_of fs q ∙ h (record { 0 = q })
+    get-map_of_entries fs q ∙ h (record { 0 = q })
     ∙ ap (λ b. cond b None (lookup (is_named q) es)) (flipped q k)
-    ∙ sym (get-remove nat_list_cmp_total (records_of es) k q
-    ∙ ap (cond (eq_by_cmp (slice_cmp nat_cmp) q k) None) (get-records_of es q)))
+    ∙ sym (get-remove nat_list_cmp_total (map_of_entries es) k q
+    ∙ ap (cond (eq_by_cmp (slice_cmp nat_cmp) q k) None) (get-map_of_entries es q)))
 
 -- an entry less, or none
 pub taken : (es fs : Entries) (k : List ℕ) (o : Option (List ℕ))
     → ((q : Name) → lookup (is_named q.0) fs ≡ cond (bytes_eq k q.0) None (lookup (is_named q.0) es))
-    → IfNone o (fs ≡ es) → records_of fs ≡ cond (is_some o) (remove (records_of es) k) (records_of es)
+    → IfNone o (fs ≡ es) → map_of_entries fs ≡ cond (is_some o) (remove (map_of_entries es) k) (map_of_entries es)
 taken es fs k (Some v) h same = removed es fs k h
-taken es fs k None h same = ap records_of same
+taken es fs k None h same = ap map_of_entries same
 
 -- the least of some names, where there are any
 abbrev pub IsLeast : List Name → Option (List ℕ) → Type 0
@@ -101,8 +101,8 @@ least_more ns o n k least either second first = (
     others None none under q b = ap (list_any (is_named q)) none
     others (Some f) least under q b = least.1 q (under q b)
 
-is_some-get : (es : Entries) (q : List ℕ) → is_some (get (records_of es) q) ≡ list_any (is_named q) (entry_keys es)
-is_some-get es q = ap is_some (get-records_of es q) ∙ is_some-lookup (is_named q) es
+is_some-get : (es : Entries) (q : List ℕ) → is_some (get (map_of_entries es) q) ≡ list_any (is_named q) (entry_keys es)
+is_some-get es q = ap is_some (get-map_of_entries es q) ∙ is_some-lookup (is_named q) es
 
 missing : (o : Option (List ℕ)) → is_some o ≡ false → o ≡ None
 missing None e = refl
@@ -110,18 +110,18 @@ missing (Some v) e = absurd (false≢true (sym e))
 
 -- the least of all keys of a table
 pub least_none : (es : Entries) (ns : List Name) (o : Option (List ℕ)) → ns ≡ entry_keys es → IsLeast ns o
-    → IfNone o ((q : List ℕ) → get (records_of es) q ≡ None)
+    → IfNone o ((q : List ℕ) → get (map_of_entries es) q ≡ None)
 least_none es ns None all least =
-    λ q. missing (get (records_of es) q) (is_some-get es q ∙ ap (list_any (is_named q)) (sym all ∙ least))
+    λ q. missing (get (map_of_entries es) q) (is_some-get es q ∙ ap (list_any (is_named q)) (sym all ∙ least))
 least_none es ns (Some k) all least = tt
 
 pub least_there : (es : Entries) (ns : List Name) (o : Option (List ℕ)) → ns ≡ entry_keys es → IsLeast ns o
-    → IfSome o (λ k. IsSome (get (records_of es) k))
+    → IfSome o (λ k. IsSome (get (map_of_entries es) k))
 least_there es ns None all least = tt
 least_there es ns (Some k) all least = is_some-get es k ∙ ap (list_any (is_named k)) (sym all) ∙ least.0
 
 pub least_first : (es : Entries) (ns : List Name) (o : Option (List ℕ)) → ns ≡ entry_keys es → IsLeast ns o
-    → IfSome o (λ k. (q : List ℕ) → IsBefore q k → get (records_of es) q ≡ None)
+    → IfSome o (λ k. (q : List ℕ) → IsBefore q k → get (map_of_entries es) q ≡ None)
 least_first es ns None all least = tt
 least_first es ns (Some k) all least =
-    λ q b. missing (get (records_of es) q) (is_some-get es q ∙ ap (list_any (is_named q)) (sym all) ∙ least.1 q b)
+    λ q b. missing (get (map_of_entries es) q) (is_some-get es q ∙ ap (list_any (is_named q)) (sym all) ∙ least.1 q b)

@@ -15,15 +15,15 @@ use Rattle.lh_settling.specs.declared.settle_fault.SettleFault.{SettleFault}
 use Rattle.lh_settling.specs.declared.settle_fault.SettleFault.TheVariants.{Memory}
 use Rattle.lh_settling.specs.Acts.{IsInOrder}
 use Rattle.lh_settling.specs.ClosedFile.{ClosedFile, IsClosed}
-use Rattle.lh_settling.specs.Contents.{IsPlaced}
+use Rattle.lh_settling.specs.Contents.{ArePlaced}
 use Rattle.lh_settling.specs.SettleFault.{IsDue}
-use Rattle.lh_settling.specs.Settled.{IsHistory, Settled}
+use Rattle.lh_settling.specs.Settled.{IsStamped, Settled}
 
 -- Acts have one history at most.
 abbrev pub HistoryLaw : Type 0
 HistoryLaw =
     (closed : ClosedFile) (acts history other : List ActLine) →
-    IsHistory closed acts history → IsHistory closed acts other → history ≡ other
+    IsStamped closed acts history → IsStamped closed acts other → history ≡ other
 
 -- Where a file is settled no fault is due besides out of memory.
 abbrev pub SettledLaw : Type 0
@@ -32,8 +32,8 @@ SettledLaw =
     Settled opening closed acts → IsDue opening closed acts fault → fault ≡ Memory
 
 -- One fault at most is due besides out of memory.
-abbrev pub FaultLaw : Type 0
-FaultLaw =
+abbrev pub OneFaultLaw : Type 0
+OneFaultLaw =
     (opening : Lists) (closed : ClosedFile) (acts : List ActLine) (fault other : SettleFault) →
     fault ≢ Memory → other ≢ Memory →
     IsDue opening closed acts fault → IsDue opening closed acts other → fault ≡ other
@@ -57,4 +57,4 @@ FilledLaw =
     ((bucket : ℕ) → bucket < size →
     map_of (list_at lists bucket) ≡ retain_keys records (λ key. address initial size (code_of key) == bucket)) →
     ((bucket : ℕ) → size ≤ bucket → list_at lists bucket ≡ []) →
-    ((bucket : ℕ) → IsDistinct bytes_eq (keys_of (list_at lists bucket))) → IsPlaced initial size records lists
+    ((bucket : ℕ) → IsDistinct bytes_eq (keys_of (list_at lists bucket))) → ArePlaced initial size records lists

@@ -5,5 +5,5 @@ use Rattle.lh_bucket.specs.PlainMap.{Records}
 use Rattle.lh_settling.specs.declared.plain_map.Name.{Name}
 
 -- the finite map that has the values of a table's entries under their keys
-abbrev pub records_of : List (Name × List ℕ) → Records
-records_of entries = from_entries (map (λ e. (e.0.0, e.1)) entries)
+abbrev pub map_of_entries : List (Name × List ℕ) → Records
+map_of_entries entries = from_entries (map (λ e. (e.0.0, e.1)) entries)

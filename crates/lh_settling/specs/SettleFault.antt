@@ -12,7 +12,7 @@ use Rattle.lh_settling.specs.Acts.{stamps_of, calls_of, replies_of, IsInOrder, F
 use Rattle.lh_addr.specs.RootWord.{buckets_of}
 use Rattle.lh_settling.specs.ClosedFile.{ClosedFile}
 use Rattle.lh_settling.specs.Contents.{StandsAs, IsFirstStray, IsFirstAway}
-use Rattle.lh_settling.specs.Settled.{map_in, left_by, IsHistory, IsLegal}
+use Rattle.lh_settling.specs.Settled.{map_in, left_by, IsStamped, IsLegal}
 
 -- no split is under way, and the sorted stamps and the numbers below the stamp word differ first at a place
 pub record IsMissing (closed : ClosedFile) (acts : List ActLine) (stamp : ℕ) : Type 0 where
@@ -32,12 +32,12 @@ abbrev pub IsDue : Lists → ClosedFile → List ActLine → SettleFault → Typ
 IsDue opening closed acts SplitUnderWay = closed.root % 2 ≡ 1
 IsDue opening closed acts (MissingStamp stamp) = IsMissing closed acts stamp
 IsDue opening closed acts (Reply stamp given due) =
-    (history : List ActLine) × IsHistory closed acts history × IsFirstWrong opening history stamp given due
+    (history : List ActLine) × IsStamped closed acts history × IsFirstWrong opening history stamp given due
 IsDue opening closed acts (Content key) =
-    (history : List ActLine) × IsHistory closed acts history × IsLegal opening history
+    (history : List ActLine) × IsStamped closed acts history × IsLegal opening history
     × IsFirstStray (left_by opening history) closed.lists key
 IsDue opening closed acts (Placed bucket key) =
-    (history : List ActLine) × IsHistory closed acts history × IsLegal opening history
+    (history : List ActLine) × IsStamped closed acts history × IsLegal opening history
     × ((other : List ℕ) → StandsAs (left_by opening history) closed.lists other)
     × IsFirstAway closed.config.initial (buckets_of closed.root) closed.lists bucket key
 IsDue opening closed acts Memory = Unit {0}

@@ -8,7 +8,7 @@ use Rattle.lh_settling.specs.declared.act.ActLine.{ActLine}
 use Rattle.lh_settling.specs.Acts.{stamps_of, calls_of, replies_of, IsInOrder}
 use Rattle.lh_addr.specs.RootWord.{buckets_of}
 use Rattle.lh_settling.specs.ClosedFile.{ClosedFile}
-use Rattle.lh_settling.specs.Contents.{IsPlaced}
+use Rattle.lh_settling.specs.Contents.{ArePlaced}
 
 -- the map that a listing stands for
 abbrev pub map_in : Lists → Records
@@ -20,7 +20,7 @@ left_by opening history = outcome (map_in opening) (calls_of history)
 
 -- no split is under way, and the history is the acts in the order of their stamps, which are 0, 1,
 -- and so on, each number below the stamp word once
-pub record IsHistory (closed : ClosedFile) (acts history : List ActLine) : Type 0 where
+pub record IsStamped (closed : ClosedFile) (acts history : List ActLine) : Type 0 where
   pub whole : closed.root % 2 ≡ 0
   pub order : IsInOrder acts history
   pub stamps : stamps_of history ≡ range_with_len 0 closed.stamps
@@ -31,11 +31,11 @@ IsLegal opening history = replies_of history ≡ replies (map_in opening) (calls
 
 -- the records of a closed file are those of a map, each in the bucket of its address
 abbrev pub HoldsMap : ClosedFile → Records → Type 0
-HoldsMap closed records = IsPlaced closed.config.initial (buckets_of closed.root) records closed.lists
+HoldsMap closed records = ArePlaced closed.config.initial (buckets_of closed.root) records closed.lists
 
 -- The file is settled, with this history.
 pub record IsSettled (opening : Lists) (closed : ClosedFile) (acts history : List ActLine) : Type 0 where
-  pub stamped : IsHistory closed acts history
+  pub stamped : IsStamped closed acts history
   pub legal : IsLegal opening history
   pub placed : HoldsMap closed (left_by opening history)
 

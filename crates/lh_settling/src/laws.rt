@@ -1,7 +1,7 @@
 //! Laws over the definitions of settling, each the contract of a function that does nothing: a
 //! caller whose proof needs a law calls it.
 
-ghost use Rattle.lh_settling.specs.Laws.{HistoryLaw, SettledLaw, FaultLaw, AnswerLaw, OrderLaw, FilledLaw};
+ghost use Rattle.lh_settling.specs.Laws.{HistoryLaw, SettledLaw, OneFaultLaw, AnswerLaw, OrderLaw, FilledLaw};
 
 use lh_addr::laws::address_is_only_bucket;
 
@@ -9,7 +9,7 @@ use lh_addr::laws::address_is_only_bucket;
 pub fn settling_has_one_answer()
     ensures history { HistoryLaw }
     ensures settled { SettledLaw }
-    ensures fault { FaultLaw }
+    ensures fault { OneFaultLaw }
     ensures answer { AnswerLaw }
 {
     address_is_only_bucket();

@@ -5,7 +5,7 @@ ghost use Rattle.std.specs.FinMap.{get, empty, insert, remove, contains_key};
 ghost use Rattle.lh_bucket.specs.declared.call.Call.TheVariants as call;
 ghost use Rattle.lh_bucket.specs.PlainMap.{reply, after, IsInsert};
 ghost use Rattle.lh_settling.specs.Contents.{IsBefore};
-ghost use Rattle.lh_settling.specs.PlainMap.{records_of};
+ghost use Rattle.lh_settling.specs.PlainMap.{map_of_entries};
 
 use crate::contents::lesser;
 use lh_bucket::{Call, Memory, Reply};
@@ -43,25 +43,25 @@ impl Model for PlainMap {
     ghost use Rattle.std.specs.Coded.{coded_ℕ, coded_list};
     ghost use Rattle.std.specs.FinMap.{code};
     ghost use Rattle.lh_bucket.specs.PlainMap.{Records};
-    ghost use Rattle.lh_settling.specs.PlainMap.{records_of};
+    ghost use Rattle.lh_settling.specs.PlainMap.{map_of_entries};
 
     ghost Value = { Records };
 
     ghost coded = { code (coded_list coded_ℕ) (coded_list coded_ℕ) };
 
-    ghost view = { λ m. records_of m.records.entries };
+    ghost view = { λ m. map_of_entries m.records.entries };
 }
 
 /// The value that a table has at a key.
 fn value_at(records: &HashMap<Name, Value>, key: &Key) -> Option<Value>
-    ensures { result ≡ get (records_of records.now.entries) key.now }
+    ensures { result ≡ get (map_of_entries records.now.entries) key.now }
 {
     records.get(&Name(*key)).copied()
 }
 
 /// Adds a record whose key is not there yet.
 fn add(records: &mut HashMap<Name, Value>, key: Key, value: Value) -> Result<(), Memory>
-    ensures { OnOk result (records_of records.new.entries ≡ insert (records_of records.old.entries) key value) }
+    ensures { OnOk result (map_of_entries records.new.entries ≡ insert (map_of_entries records.old.entries) key value) }
 {
     records.insert(Name(key), value)?;
     Ok(())
@@ -69,18 +69,18 @@ fn add(records: &mut HashMap<Name, Value>, key: Key, value: Value) -> Result<(),
 
 /// Takes a key out, and says what value it had.
 fn take(records: &mut HashMap<Name, Value>, key: &Key) -> Option<Value>
-    ensures value { result ≡ get (records_of records.old.entries) key.now }
-    ensures left { records_of records.new.entries ≡
-        (if is_some result then remove (records_of records.old.entries) key.now else records_of records.old.entries) }
+    ensures value { result ≡ get (map_of_entries records.old.entries) key.now }
+    ensures left { map_of_entries records.new.entries ≡
+        (if is_some result then remove (map_of_entries records.old.entries) key.now else map_of_entries records.old.entries) }
 {
     records.remove(&Name(*key))
 }
 
 /// Gives a key another value, and says whether it was there.
 fn change(records: &mut HashMap<Name, Value>, key: &Key, value: Value) -> bool
-    ensures found { result ≡ contains_key (records_of records.old.entries) key.now }
-    ensures changed { records_of records.new.entries ≡
-        (if result then insert (records_of records.old.entries) key.now value else records_of records.old.entries) }
+    ensures found { result ≡ contains_key (map_of_entries records.old.entries) key.now }
+    ensures changed { map_of_entries records.new.entries ≡
+        (if result then insert (map_of_entries records.old.entries) key.now value else map_of_entries records.old.entries) }
 {
     match records.get_mut(&Name(*key)) {
         Some(old) => {
@@ -93,10 +93,10 @@ fn change(records: &mut HashMap<Name, Value>, key: &Key, value: Value) -> bool
 
 /// The least key of a table.
 fn least_of(records: &HashMap<Name, Value>) -> Option<Key>
-    ensures none { IfNone result ((key : List ℕ) → get (records_of records.now.entries) key ≡ None) }
-    ensures there { IfSome result (λ key. IsSome (get (records_of records.now.entries) key)) }
+    ensures none { IfNone result ((key : List ℕ) → get (map_of_entries records.now.entries) key ≡ None) }
+    ensures there { IfSome result (λ key. IsSome (get (map_of_entries records.now.entries) key)) }
     ensures least { IfSome result (λ key. (other : List ℕ) → IsBefore other key →
-        get (records_of records.now.entries) other ≡ None) }
+        get (map_of_entries records.now.entries) other ≡ None) }
 {
     let mut least: Option<Key> = None;
     for name in records.keys() {

@@ -11,7 +11,7 @@ use Rattle.lh_file.specs.declared.words.seat_view.Entry.{Entry}
 use Rattle.lh_file.specs.declared.words.view.View.{View}
 use Rattle.lh_settling.specs.declared.act.ActLine.{ActLine}
 use Rattle.lh_shards.specs.Hands.{AreAtHome, AreOf, IsOfShard}
-use Rattle.lh_shards.specs.Joining.{AreJoined, AreSame}
+use Rattle.lh_shards.specs.Joining.{AreJoinedByShard, AreSame}
 use Rattle.lh_shards.specs.Number.{home_of}
 use Rattle.lh_shards.proofs.Passing.{HandFact, Passed}
 use Rattle.lh_shards.proofs.Places.{there}
@@ -59,7 +59,7 @@ joined_of n i f one other new o p j = record {
 }
 
 pub joined_are_of : (files : List FileState) (first second news : List HandState) → AreOf files first →
-    AreOf files second → AreJoined first second news → AreOf files news
+    AreOf files second → AreJoinedByShard first second news → AreOf files news
 joined_are_of files first second news o p j = record {
   count = j.count ∙ o.count;
   each = λ i f h fi hi.
@@ -83,8 +83,8 @@ joined_from_same one mid other new s j = record {
 }
 
 -- hands that were given room and joined then are the first ones joined
-pub joined_from : (first mids second news : List HandState) → AreSame first mids → AreJoined mids second news →
-    AreJoined first second news
+pub joined_from : (first mids second news : List HandState) → AreSame first mids → AreJoinedByShard mids second news →
+    AreJoinedByShard first second news
 joined_from first mids second news s j = record {
   count = j.count ∙ s.count;
   each = λ k one other new ko kp kn.

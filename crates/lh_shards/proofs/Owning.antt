@@ -3,11 +3,11 @@ use Rattle.std.proofs.Common.{◌≡◌, ℕ, ◌+◌, ◌<◌, length, Some, Ok
 use Rattle.std.specs.List.{slice_get}
 use Rattle.std.proofs.lemmas.Option.{same_Some, slice_get_within}
 use Rattle.lh_file.specs.FileState.{FileState}
-use Rattle.lh_file.specs.History.Own.{IsOwn, share_of, DividedLaw as DividedHandLaw, JoinedLaw as JoinedHandLaw}
+use Rattle.lh_file.specs.History.Own.{IsOwn, share_of, DividedLaw, JoinedLaw}
 use Rattle.lh_file.specs.Words.Calls.{IsDivided}
 use Rattle.lh_file.specs.Words.HandState.{HandState, IsBranch}
 use Rattle.lh_shards.specs.Dividing.{HasGiven}
-use Rattle.lh_shards.specs.Own.{CalledLaw, SameLaw, DividedLaw, JoinedLaw}
+use Rattle.lh_shards.specs.Own.{CalledLaw, SameLaw, HandsDividedLaw, HandsJoinedLaw}
 use Rattle.lh_shards.proofs.Places.{at_set, set_same, there}
 
 pub called_law : CalledLaw
@@ -43,7 +43,7 @@ given_away calls old given new branch gives = record {
   unchanged = tt;
 }
 
-pub divided_law : DividedHandLaw → DividedLaw
+pub divided_law : DividedLaw → HandsDividedLaw
 divided_law law calls others files old given new of branch gives own = (
   λ k f h fk hk.
       let lt : k < length old = subst (λ n. k < n) gives.count (slice_get_within new k h hk) in
@@ -74,7 +74,7 @@ divided_law law calls others files old given new of branch gives own = (
       (arith, less.enough, ap (λ x. x.view.left) less.kept, ap (λ x. length x.acts) less.kept, all k was.0 was.1),
 )
 
-pub joined_law : JoinedHandLaw → JoinedLaw
+pub joined_law : JoinedLaw → HandsJoinedLaw
 joined_law law calls others files first second new of other_of joined = (
   λ own other_own k f h fk hk.
       let lt : k < length first = subst (λ n. k < n) joined.count (slice_get_within new k h hk) in

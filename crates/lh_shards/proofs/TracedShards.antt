@@ -12,7 +12,7 @@ use Rattle.lh_file.specs.History.Log.{lines_of}
 use Rattle.lh_file.specs.Words.HandState.{HandState}
 use Rattle.lh_shards.specs.Closing.{IsClosedBy}
 use Rattle.lh_shards.specs.Settling.{AreSettled}
-use Rattle.lh_shards.specs.Traced.{IsWhole, TracedLaw}
+use Rattle.lh_shards.specs.Traced.{IsClosedWhole, TracedLaw}
 use Rattle.lh_shards.specs.declared.closed_shard.ClosedShard.{ClosedShard}
 use Rattle.lh_shards.proofs.Places.{at_push, there}
 use Rattle.lh_shards.proofs.Settled.{settled_are_one_map}
@@ -43,7 +43,7 @@ traced_law openings files hands shards n opened of are by whole =
     let hand : (x : HandState) × (slice_get hands k ≡ Some x) = there hands k (omega (arith, lt, by.count, of.count)) in
     let closed : (x : ClosedShard) × (slice_get shards k ≡ Some x) = there shards k lt in
     let is : IsClosedBy true file.0 hand.0 closed.0 = by.each k file.0 hand.0 closed.0 file.1 hand.1 closed.1 in
-    let home : IsWhole hand.0 closed.0 = whole k hand.0 closed.0 hand.1 closed.1 in
+    let home : IsClosedWhole hand.0 closed.0 = whole k hand.0 closed.0 hand.1 closed.1 in
     let history = is.history refl home.gathered home.still in (
       lines_of history.0,
       λ opening other ok ck.

@@ -15,7 +15,7 @@ use Rattle.lh_bucket.specs.Listing.{Lists, EachPlace, all_of}
 use Rattle.lh_bucket.specs.Records.{map_of}
 use Rattle.lh_settling.specs.Settled.{map_in}
 use Rattle.lh_shards.specs.Number.{home_of}
-use Rattle.lh_shards.specs.Opening.{AreHome, IsHomeIn, records_of, whole_of}
+use Rattle.lh_shards.specs.Opening.{AreHome, IsHomeIn, all_records, whole_of}
 use Rattle.lh_shards.specs.Settling.{AreParts}
 
 true_false : ◌≡◌ {A = Bool} true false → ⊥
@@ -107,12 +107,12 @@ home_later n first listing listings h i other at =
     subst (λ (k : ℕ). EachPlace (IsHomeIn n k) other.lists) e (h (suc i) other at)
 
 none_later : (n first : ℕ) (listings : List Lists) (q : List ℕ) → HomeFrom n first listings → home_of n q < first →
-    get (map_of (records_of listings)) q ≡ None
+    get (map_of (all_records listings)) q ≡ None
 unfolding or_else
 none_later n first [] q h lt = get_none q
 none_later n first (listing ∷ listings) q h lt =
-    get_both (all_of listing.lists) (records_of listings) q
-    ∙ ap (λ (o : Option (List ℕ)). or_else o (get (map_of (records_of listings)) q))
+    get_both (all_of listing.lists) (all_records listings) q
+    ∙ ap (λ (o : Option (List ℕ)). or_else o (get (map_of (all_records listings)) q))
     (none_elsewhere n (first + 0) (all_of listing.lists) q (all_in n (first + 0) listing.lists (h 0 listing refl))
     (λ e. omega (arith, lt, e)))
     ∙ none_later n (suc first) listings q (home_later n first listing listings h) (omega arith)
@@ -125,19 +125,19 @@ or_none None = refl
 -- a key stands in the map of all listings as in that of its own
 found_in : (n first : ℕ) (listings : List Lists) (q : List ℕ) (i : ℕ) (listing : Lists) → HomeFrom n first listings →
     slice_get listings i ≡ Some listing → home_of n q ≡ first + i →
-    get (map_of (records_of listings)) q ≡ get (map_in listing) q
+    get (map_of (all_records listings)) q ≡ get (map_in listing) q
 unfolding or_else
 found_in n first [] q i listing h at is = absurd (none-some listing at)
 found_in n first (other ∷ listings) q zero listing h at is =
     let same : other ≡ listing = same_Some other listing at in
-    get_both (all_of other.lists) (records_of listings) q
+    get_both (all_of other.lists) (all_records listings) q
     ∙ ap (λ (o : Option (List ℕ)). or_else (get (map_of (all_of other.lists)) q) o)
     (none_later n (suc first) listings q (home_later n first other listings h) (omega (arith, is)))
     ∙ or_none (get (map_of (all_of other.lists)) q)
     ∙ ap (λ (l : Lists). get (map_in l) q) same
 found_in n first (other ∷ listings) q (suc i) listing h at is =
-    get_both (all_of other.lists) (records_of listings) q
-    ∙ ap (λ (o : Option (List ℕ)). or_else o (get (map_of (records_of listings)) q))
+    get_both (all_of other.lists) (all_records listings) q
+    ∙ ap (λ (o : Option (List ℕ)). or_else o (get (map_of (all_records listings)) q))
     (none_elsewhere n (first + 0) (all_of other.lists) q (all_in n (first + 0) other.lists (h 0 other refl))
     (λ e. omega (arith, is, e)))
     ∙ found_in n (suc first) listings q i listing (home_later n first other listings h) at (omega (arith, is))

@@ -15,7 +15,7 @@ pub record AreAnswered {X : Type 0} (Answers : FileState → HandState → X →
       slice_get new shard ≡ Some after → Answers file before term after
 
 -- the number of buckets is the sum of what the files have answered
-pub record AreBuckets (files : List FileState) (old : List HandState) (buckets : ℕ) (new : List HandState)
+pub record IsBucketSum (files : List FileState) (old : List HandState) (buckets : ℕ) (new : List HandState)
     : Type 0 where
   pub terms : List ℕ
   pub answered : AreAnswered IsBuckets files old terms new

@@ -4,7 +4,7 @@ use Rattle.lh_file.specs.Words.HandState.{HandState, IsJoined, IsSame}
 use Rattle.lh_shards.specs.declared.fault.JoinFault.{JoinFault}
 
 -- a first hand and a second one of each shard are one
-pub record AreJoined (first second new : List HandState) : Type 0 where
+pub record AreJoinedByShard (first second new : List HandState) : Type 0 where
   pub count : length new ≡ length first
   pub each : (shard : ℕ) (one other joined : HandState) → slice_get first shard ≡ Some one →
       slice_get second shard ≡ Some other → slice_get new shard ≡ Some joined → IsJoined one other joined
@@ -38,7 +38,7 @@ pub record IsShort (first second : List HandState) (shard : ℕ) : Type 0 where
 -- Hands that were to be joined
 pub record AreUnited (first second : List HandState) (result : Result (List HandState) JoinFault) : Type 0 where
   -- Each is one of two,
-  pub ok : IfOk result (AreJoined first second)
+  pub ok : IfOk result (AreJoinedByShard first second)
   -- or all come back as they were, but that some first ones have more room.
   pub first_back : IfErr result (λ fault. AreSame first fault.first)
   pub second_back : IfErr result (λ fault. fault.second ≡ second)

@@ -25,7 +25,7 @@ AreHome listings =
     EachPlace (IsHomeIn (length listings) shard) listing.lists
 
 -- the first record that stands in another shard than its own: by the shard, the bucket and the place
-pub record IsFirstAway (listings : List Lists) (shard bucket place : ℕ) : Type 0 where
+pub record IsFirstOfOtherShard (listings : List Lists) (shard bucket place : ℕ) : Type 0 where
   pub listing : Lists
   pub at : slice_get listings shard ≡ Some listing
   pub here : IsFirst (IsHomeIn (length listings) shard) (IsAwayIn (length listings) shard) listing.lists bucket place
@@ -49,12 +49,12 @@ pub record IsFirstOther (listings : List Lists) (shard : ℕ) : Type 0 where
       alike.config ≡ first.config
 
 -- the records of all listings, one listing after another, and the map that they stand for
-abbrev pub records_of : List Lists → List Pair
-records_of [] = []
-records_of (listing ∷ listings) = all_of listing.lists ++ records_of listings
+abbrev pub all_records : List Lists → List Pair
+all_records [] = []
+all_records (listing ∷ listings) = all_of listing.lists ++ all_records listings
 
 abbrev pub whole_of : List Lists → Records
-whole_of listings = map_of (records_of listings)
+whole_of listings = map_of (all_records listings)
 
 -- each file is opened from the listing of its shard, with its first hand
 pub record AreOpened (listings : List Lists) (recording : Bool) (files : List FileState) (hands : List HandState)

@@ -5,7 +5,7 @@ use Rattle.lh_file.specs.History.Own.{IsOwn, share_of}
 use Rattle.lh_file.specs.Words.HandState.{HandState, IsBranch}
 use Rattle.lh_shards.specs.Dividing.{EachPair, HasGiven}
 use Rattle.lh_shards.specs.Hands.{AreOf, EachShard}
-use Rattle.lh_shards.specs.Joining.{AreJoined}
+use Rattle.lh_shards.specs.Joining.{AreJoinedByShard}
 
 -- no hand has made an act on a bucket that isn't its file's
 abbrev pub AreOwn : List FileState → List HandState → Type 0
@@ -33,17 +33,17 @@ SameLaw =
     slice_set old shard after ≡ slice_set old shard also → after ≡ also
 
 -- Hands that are divided leave both parts their files' own, and the shares of both are what they had.
-abbrev pub DividedLaw : Type 0
-DividedLaw =
+abbrev pub HandsDividedLaw : Type 0
+HandsDividedLaw =
     (calls others : ℕ) (files : List FileState) (old given new : List HandState) → AreOf files old →
     EachPair (IsBranch calls) old given → EachPair (HasGiven calls) old new → AreOwn files old →
     AreOwn files new × AreOwn files given × AllShare calls given
     × (AllShare (others + calls) old → AllShare others new)
 
 -- Hands that are made of two for each shard are their files' own where all were, and their shares are those of both.
-abbrev pub JoinedLaw : Type 0
-JoinedLaw =
+abbrev pub HandsJoinedLaw : Type 0
+HandsJoinedLaw =
     (calls others : ℕ) (files : List FileState) (first second new : List HandState) → AreOf files first →
-    AreOf files second → AreJoined first second new →
+    AreOf files second → AreJoinedByShard first second new →
     (AreOwn files first → AreOwn files second → AreOwn files new)
     × (AllShare calls first → AllShare others second → AllShare (calls + others) new)

@@ -12,7 +12,7 @@ use Rattle.lh_shards.specs.declared.closed_shard.ClosedShard.{ClosedShard}
 
 -- All buckets of the closed shard were met, and no split was under way. All calls came home to the hand that closed it,
 -- and none of its acts was on a bucket that isn't the file's.
-pub record IsWhole (hand : HandState) (shard : ClosedShard) : Type 0 where
+pub record IsClosedWhole (hand : HandState) (shard : ClosedShard) : Type 0 where
   pub gathered : shard.closed.gathered ≡ true
   pub still : shard.closed.root % 2 ≡ 0
   pub came_home : hand.view.left + length hand.acts ≡ 2 ^ 63
@@ -28,5 +28,5 @@ TracedLaw =
     slice_get files shard ≡ Some file → file.listing ≡ opening) →
     AreOf files hands → AreShards shards → AreClosedBy true files hands shards →
     ((shard : ℕ) (hand : HandState) (closed : ClosedShard) → slice_get hands shard ≡ Some hand →
-    slice_get shards shard ≡ Some closed → IsWhole hand closed) →
+    slice_get shards shard ≡ Some closed → IsClosedWhole hand closed) →
     (histories : List (List ActLine)) × AreSettled openings shards histories × MakeOneMap openings shards histories

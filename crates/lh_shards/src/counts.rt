@@ -1,6 +1,6 @@
 //! How many buckets and records all shards have.
 ghost use Rattle.std.specs.Prelude.{◌≡◌, ◌+◌};
-ghost use Rattle.lh_shards.specs.Counts.{AreBuckets, AreLoads, capped};
+ghost use Rattle.lh_shards.specs.Counts.{IsBucketSum, AreLoads, capped};
 ghost use Rattle.lh_shards.specs.Hands.{AreOf};
 
 use crate::hands::Hands;
@@ -27,7 +27,7 @@ impl<M: Mode, J: FileBrand> Shards<M, J> {
     /// work it may be a number that the shards never had at one time.
     pub fn buckets(&self, hands: &mut Hands) -> u64
         requires { AreOf self.now hands.old }
-        ensures sum { AreBuckets self.now hands.old result hands.new }
+        ensures sum { IsBucketSum self.now hands.old result hands.new }
         ensures of { AreOf self.now hands.new }
     {
         let mut total = 0;

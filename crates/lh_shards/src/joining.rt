@@ -3,7 +3,7 @@ ghost use Rattle.std.specs.Prelude.{◌≡◌, ◌≤◌, false, length, IfOk, I
 ghost use Rattle.lh_file.specs.FileState.{IsOf};
 ghost use Rattle.lh_file.specs.Words.HandState.{IsJoined};
 ghost use Rattle.lh_shards.specs.Hands.{AreOf};
-ghost use Rattle.lh_shards.specs.Joining.{AllHaveRoom, AreJoined, AreSame, AreUnited, HaveRoomBefore, IsShort};
+ghost use Rattle.lh_shards.specs.Joining.{AllHaveRoom, AreJoinedByShard, AreSame, AreUnited, HaveRoomBefore, IsShort};
 
 use crate::fault::JoinFault;
 use crate::hands::Hands;
@@ -74,7 +74,7 @@ impl<M: Mode, J: FileBrand> Shards<M, J> {
         requires first { AreOf self.now first }
         requires second { AreOf self.now second }
         requires room { AllHaveRoom first second }
-        ensures { AreJoined first second result }
+        ensures { AreJoinedByShard first second result }
     {
         let mut hands = VecDeque::from_vec(first.hands);
         let mut others = second.hands.into_iter();

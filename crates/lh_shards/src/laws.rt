@@ -1,7 +1,7 @@
 //! Laws of shards, each the contract of a function that does nothing.
 ghost use Rattle.lh_shards.specs.Listings.{ListedLaw};
 ghost use Rattle.lh_shards.specs.OneMap.{OneMapLaw};
-ghost use Rattle.lh_shards.specs.Own.{CalledLaw, DividedLaw, JoinedLaw, SameLaw};
+ghost use Rattle.lh_shards.specs.Own.{CalledLaw, HandsDividedLaw, HandsJoinedLaw, SameLaw};
 ghost use Rattle.lh_shards.specs.Traced.{TracedLaw};
 
 use lh_file::laws::hands_keep_their_shares as hands_of_a_file_keep_their_shares;
@@ -32,8 +32,8 @@ pub fn traced_shards_are_settled()
 pub fn hands_keep_their_shares()
     ensures called { CalledLaw }
     ensures same { SameLaw }
-    ensures divided { DividedLaw }
-    ensures joined { JoinedLaw }
+    ensures divided { HandsDividedLaw }
+    ensures joined { HandsJoinedLaw }
 {
     hands_of_a_file_keep_their_shares();
 }

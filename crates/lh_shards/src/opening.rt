@@ -3,7 +3,7 @@ ghost use Rattle.std.specs.Prelude.{◌≡◌, ◌≢◌, ℕ, ◌<◌, length, 
 ghost use Rattle.std.specs.Bool.{OnTrue, OnFalse};
 ghost use Rattle.lh_bucket.specs.Listing.{EachPlace, IsFirst};
 ghost use Rattle.lh_shards.specs.Hands.{IsCount};
-ghost use Rattle.lh_shards.specs.Opening.{AreAlike, AreHome, AreOpened, IsAwayIn, IsFirstAway, IsFirstOther, IsHomeIn};
+ghost use Rattle.lh_shards.specs.Opening.{AreAlike, AreHome, AreOpened, IsAwayIn, IsFirstOfOtherShard, IsFirstOther, IsHomeIn};
 ghost use Rattle.lh_shards.specs.Opening.{whole_of};
 ghost use Rattle.lh_shards.specs.OpenFault.{IsOpenFault};
 ghost use Rattle.lh_shards.specs.Settling.{AreParts};
@@ -76,7 +76,7 @@ fn first_other(listings: &[Listing]) -> Option<u32>
 fn first_away(listings: &[Listing]) -> Option<(u32, u32, usize)>
     requires { IsCount (length listings.now) }
     ensures none { IfNone result (AreHome listings.now) }
-    ensures some { IfSome result (λ at. IsFirstAway listings.now at.0 at.1 at.2) }
+    ensures some { IfSome result (λ at. IsFirstOfOtherShard listings.now at.0 at.1 at.2) }
 {
     let shards = listings.len() as u32;
     for shard in 0..listings.len() {

@@ -1,7 +1,7 @@
 //! Scans of single shards.
 ghost use Rattle.std.specs.Prelude.{◌≡◌, ◌<◌, ℕ, [], None, length, IfOk, IfErr, IfSome, OnErr};
 ghost use Rattle.lh_file.specs.Calls.Served.{IsNotSpent};
-ghost use Rattle.lh_file.specs.Snapshots.Scans.{HasMet, HasVisited, ahead, aimed};
+ghost use Rattle.lh_file.specs.Snapshots.Scans.{HasMet, HasVisited, ahead, times_aimed};
 ghost use Rattle.lh_shards.specs.Hands.{AreOf, AtShard};
 ghost use Rattle.lh_shards.specs.Snapshots.{IsScanOf};
 
@@ -46,7 +46,7 @@ impl ShardScan {
         requires { shard < length shards.now }
         ensures shard { IfOk result (λ scan. scan.shard ≡ shard) }
         ensures of { IfOk result (IsScanOf shards.now) }
-        ensures all { IfOk result (λ scan. (code : ℕ) → aimed scan.scan.initial code scan.scan.aims ≡ 1) }
+        ensures all { IfOk result (λ scan. (code : ℕ) → times_aimed scan.scan.initial code scan.scan.aims ≡ 1) }
     {
         let scan = Scan::new(alloc, &shards.files[shard as usize])?;
         Ok(ShardScan { shard, scan })

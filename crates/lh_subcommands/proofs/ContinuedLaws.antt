@@ -22,7 +22,7 @@ use Rattle.lh_script.specs.declared.fault.ScriptFault.{ScriptFault}
 use Rattle.lh_subcommands.specs.Continued.{EndsApplying, EndsLeaving, IsLeft, query_due, replies_due}
 use Rattle.lh_subcommands.specs.ContinuedLaws.{ApplyLaw, MigrateLaw, QueryLaw}
 use Rattle.lh_subcommands.specs.Devices.{TakesBeginning}
-use Rattle.lh_subcommands.specs.Images.{EndsInImage, migrate_due, told_of}
+use Rattle.lh_subcommands.specs.Images.{EndsInImage, migrate_due, text_or_fault}
 use Rattle.lh_subcommands.specs.Run.{Ends}
 use Rattle.lh_subcommands.specs.declared.status.DeviceFault.TheVariants.{Read, Write}
 use Rattle.lh_subcommands.specs.declared.status.InputFault.TheVariants.{Script, Image, Unwritten}
@@ -102,6 +102,6 @@ without_calls census image l h due (NotSettled fault) given before now none ends
 pub migrate_law : LeadingLaw → OneListingLaw → CensusLaw → MigrateLaw
 unfolding migrate_due
 migrate_law leads one census image text l status before now h none ends =
-    without_calls census image l h (ap (told_of (canonical Two)) (image_read one image l h)) status
+    without_calls census image l h (ap (text_or_fault (canonical Two)) (image_read one image l h)) status
     (script command text) before now none
     (apply_law leads one Two image text l status before now h ends)

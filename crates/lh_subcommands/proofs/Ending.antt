@@ -13,7 +13,7 @@ use Rattle.lh_core.specs.Log.{Entry}
 use Rattle.lh_core.specs.Serial.{size_from}
 use Rattle.lh_core.specs.declared.event.Event.{Event}
 use Rattle.lh_subcommands.specs.Devices.{IsReadOf, TakesBeginning}
-use Rattle.lh_subcommands.specs.Run.{Ends, EndsReplay, EndsSteps, EndsTelling, HaveEntries, IsPictured, IsTold}
+use Rattle.lh_subcommands.specs.Run.{Ends, EndsReplay, EndsSteps, EndsTelling, HaveEntries, IsPictured, TellsSteps}
 use Rattle.lh_subcommands.specs.Run.{ReadsScript, commands_due, due, replies_text}
 use Rattle.lh_replay.specs.Picture.{picture_of}
 use Rattle.lh_script.specs.Commands.{command}
@@ -78,7 +78,7 @@ untold IsOutput (NotSettled fault) given a h = absurd h
 pub no_steps : (settings : Settings) (status : Status) (input : List ℕ) (a : Option (List ℕ)) →
     ReadsScript {A = Event} (Err status) (script step input) → EndsSteps settings input status a a
 unfolding EndsSteps
-no_steps settings status input a h = untold (IsTold settings) status (script step input) a h
+no_steps settings status input a h = untold (TellsSteps settings) status (script step input) a h
 
 pub no_schedule : (settings : Settings) (status : Status) (input : List ℕ) (a : Option (List ℕ)) →
     ReadsScript {A = Event} (Err status) (script step input) → EndsReplay settings input status a a

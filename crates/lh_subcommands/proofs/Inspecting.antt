@@ -22,7 +22,8 @@ use Rattle.lh_image.specs.Writing.{IsNotOld, IsWritten}
 use Rattle.lh_subcommands.specs.Devices.{TakesBeginning}
 use Rattle.lh_draw.specs.Drawing.{drawing_of}
 use Rattle.lh_subcommands.specs.ImageTexts.{check_text, dump_text}
-use Rattle.lh_subcommands.specs.Images.{check_due, draw_due, dump_due, migrate_due, refused_as, told_of, unwritten_as}
+use Rattle.lh_subcommands.specs.Images.{check_due, draw_due, dump_due, migrate_due, refused_as, text_or_fault}
+use Rattle.lh_subcommands.specs.Images.{unwritten_as}
 use Rattle.lh_subcommands.specs.Run.{Ends}
 use Rattle.lh_subcommands.specs.declared.status.DeviceFault.TheVariants.{Write}
 use Rattle.lh_subcommands.specs.declared.status.InputFault.TheVariants.{Image}
@@ -38,10 +39,10 @@ refused_for_bytes fault a b = refl
 
 -- a run that read no image ends without a write
 unread : (text : Lists → List ℕ) (fault : ImageFault) (due : Result Lists ImageFault) (a : Option (List ℕ)) →
-    IsDueFault fault due → Ends (refused_as fault) (told_of text due) a a
+    IsDueFault fault due → Ends (refused_as fault) (text_or_fault text due) a a
 unread text ReadFault due a h = Keeps-refl a
 unread text Memory due a h = Keeps-refl a
-unread text fault due a h = (ap (told_of text) h, Keeps-refl a)
+unread text fault due a h = (ap (text_or_fault text) h, Keeps-refl a)
 
 pub unchecked : (fault : ImageFault) (status : Status) (left a : Option (List ℕ)) → status ≡ refused_as fault →
     IfSome left (λ input. IsDueFault fault (reading_of input)) →
@@ -68,7 +69,7 @@ census_due : (census : Census) (l : Lists) (input : List ℕ) → reading_of inp
     check_due input ≡ Ok (check_text census)
 unfolding check_due
 census_due census l input e is =
-    ap (told_of (λ l. check_text (census_of l))) e ∙ ap (λ (c : Census). Ok (check_text c)) (sym is)
+    ap (text_or_fault (λ l. check_text (census_of l))) e ∙ ap (λ (c : Census). Ok (check_text c)) (sym is)
 
 pub checked : (census : Census) (text : List ℕ) (left before now : Option (List ℕ)) →
     Shows left (λ l. census ≡ census_of l) → text ≡ check_text census →
@@ -92,7 +93,7 @@ check_unwritten (Some input) a = Keeps-refl a
 records_due : (listing l : Lists) (input : List ℕ) → reading_of input ≡ Ok l → listing ≡ l →
     dump_due input ≡ Ok (dump_text listing)
 unfolding dump_due
-records_due listing l input e is = ap (told_of dump_text) e ∙ ap (λ (x : Lists). Ok (dump_text x)) (sym is)
+records_due listing l input e is = ap (text_or_fault dump_text) e ∙ ap (λ (x : Lists). Ok (dump_text x)) (sym is)
 
 pub dumped : (listing : Lists) (left before now : Option (List ℕ)) → Shows left (λ l. listing ≡ l) →
     Appends before now (dump_text listing) → IfSome left (λ input. Ends Done (dump_due input) before now)
@@ -111,7 +112,7 @@ dump_begun listing (Some input) before now shows h =
 drawing_due : (listing l : Lists) (input : List ℕ) → reading_of input ≡ Ok l → listing ≡ l →
     draw_due input ≡ Ok (drawing_of listing)
 unfolding draw_due
-drawing_due listing l input e is = ap (told_of drawing_of) e ∙ ap (λ (x : Lists). Ok (drawing_of x)) (sym is)
+drawing_due listing l input e is = ap (text_or_fault drawing_of) e ∙ ap (λ (x : Lists). Ok (drawing_of x)) (sym is)
 
 pub undrawn : (fault : ImageFault) (status : Status) (left a : Option (List ℕ)) → status ≡ refused_as fault →
     IfSome left (λ input. IsDueFault fault (reading_of input)) → IfSome left (λ input. Ends status (draw_due input) a a)
@@ -137,7 +138,8 @@ draw_begun listing (Some input) before now shows h =
 image_due : (listing l : Lists) (input : List ℕ) → reading_of input ≡ Ok l → listing ≡ l →
     migrate_due input ≡ Ok (canonical Two listing)
 unfolding migrate_due
-image_due listing l input e is = ap (told_of (canonical Two)) e ∙ ap (λ (x : Lists). Ok (canonical Two x)) (sym is)
+image_due listing l input e is =
+    ap (text_or_fault (canonical Two)) e ∙ ap (λ (x : Lists). Ok (canonical Two x)) (sym is)
 
 pub unmigrated : (fault : ImageFault) (status : Status) (left a : Option (List ℕ)) → status ≡ refused_as fault →
     IfSome left (λ input. IsDueFault fault (reading_of input)) →

@@ -14,7 +14,7 @@ use Rattle.lh_page.specs.Limits.{longest_key, longest_value}
 use Rattle.lh_page.specs.declared.pair.Pair.{Pair}
 use Rattle.lh_script.specs.StepTexts.{effect_text, entry_text, two_numbers}
 use Rattle.lh_script.specs.Texts.{hexadecimal_text, line, reply_text, size_text}
-use Rattle.lh_subcommands.specs.Devices.{longest_line}
+use Rattle.lh_subcommands.specs.Devices.{longest_output_line}
 use Rattle.lh_subcommands.specs.ImageTexts.{record_text}
 use Rattle.lh_subcommands.specs.LongestLine.{IsEffectInLimits, IsEntryInLimits, IsRecordInLimits, IsReplyInLimits}
 
@@ -24,7 +24,7 @@ pub digits_fit : (most : ℕ) (bytes : List ℕ) → 1 ≤ most → length bytes
 digits_fit most [] one few = omega arith
 digits_fit most (byte ∷ bytes) one few = omega (arith, length-encode_with lower_digits (byte ∷ bytes))
 
-pub size_fits : (buckets : ℕ) → buckets < 2 ^ 32 → length (line (size_text buckets)) ≤ longest_line
+pub size_fits : (buckets : ℕ) → buckets < 2 ^ 32 → length (line (size_text buckets)) ≤ longest_output_line
 size_fits buckets few =
     let digits = length-decimal-le 10 buckets (omega arith) (omega arith) (omega arith) in
     omega (
@@ -34,7 +34,7 @@ size_fits buckets few =
       length-append (size_text buckets) (10 ∷ []),
     )
 
-pub reply_fits : (reply : Reply) → IsReplyInLimits reply → length (line (reply_text reply)) ≤ longest_line
+pub reply_fits : (reply : Reply) → IsReplyInLimits reply → length (line (reply_text reply)) ≤ longest_output_line
 reply_fits (Found value) few =
     let digits = digits_fit longest_value value (omega arith) few in
     omega (
@@ -53,7 +53,7 @@ number_fits : (n : ℕ) → n < 2 ^ 32 → length (decimal n) ≤ 10
 number_fits n few = length-decimal-le 10 n (omega arith) (omega arith) (omega arith)
 
 pub record_fits : (bucket : ℕ) (pair : Pair) → bucket < 2 ^ 32 → IsRecordInLimits pair →
-    length (line (record_text bucket pair)) ≤ longest_line
+    length (line (record_text bucket pair)) ≤ longest_output_line
 record_fits bucket pair few limits =
     let keys = digits_fit longest_key pair.key (omega arith) limits.0.1 in
     let values = digits_fit longest_value pair.value (omega arith) limits.1 in
@@ -71,7 +71,7 @@ record_fits bucket pair few limits =
     )
 
 two_fit : (word : List ℕ) (first second : ℕ) → length word ≤ 16 → first < 2 ^ 32 → second < 2 ^ 32 →
-    length (line (two_numbers word first second)) ≤ longest_line
+    length (line (two_numbers word first second)) ≤ longest_output_line
 two_fit word first second short few also =
     omega (
       arith,
@@ -84,7 +84,7 @@ two_fit word first second short few also =
       length-append (two_numbers word first second) (10 ∷ []),
     )
 
-effect_fits : (done : Effect) → IsEffectInLimits done → length (line (effect_text done)) ≤ longest_line
+effect_fits : (done : Effect) → IsEffectInLimits done → length (line (effect_text done)) ≤ longest_output_line
 effect_fits effect.Called few = omega arith
 effect_fits (effect.Aim level bucket) few = two_fit (codes "aim ") level bucket (omega arith) few.0 few.1
 effect_fits (effect.Locked bucket level) few = two_fit (codes "locked ") bucket level (omega arith) few.0 few.1
@@ -104,7 +104,7 @@ effect_fits (effect.Point buckets) few =
     )
 effect_fits effect.Dropped few = omega arith
 
-pub entry_fits : (entry : Entry) → IsEntryInLimits entry → length (line (entry_text entry)) ≤ longest_line
+pub entry_fits : (entry : Entry) → IsEntryInLimits entry → length (line (entry_text entry)) ≤ longest_output_line
 entry_fits (Ok done) few = effect_fits done few
 entry_fits (Err refusal.WrongState) few = omega arith
 entry_fits (Err refusal.Held) few = omega arith

@@ -19,10 +19,10 @@ use Rattle.lh_script.specs.Texts.{commands_text, line, reply_text, size_text}
 use Rattle.lh_script.specs.declared.fault.LineFault.{LineFault}
 use Rattle.lh_script.specs.declared.requests.Request.{Request}
 use Rattle.lh_script.specs.declared.requests.Request.TheVariants as ask
-use Rattle.lh_serving.specs.Answers.{Answers, AnswersCall, FileSeen, asked_by, in_line}
-use Rattle.lh_serving.specs.Conversations.{AreTurns, Turn, answers_of, file_after, lines_of}
+use Rattle.lh_serving.specs.Answers.{AnswersLine, AnswersCall, FileSeen, asked_by, in_line}
+use Rattle.lh_serving.specs.Conversations.{AreTurns, Turn, answers_of, file_after, turn_lines}
 use Rattle.lh_serving.specs.Parts.{kept, longest_line}
-use Rattle.lh_serving.specs.Texts.{told}
+use Rattle.lh_serving.specs.Texts.{answer_line}
 use Rattle.lh_serving.specs.declared.answer.Answer.{Answer}
 use Rattle.lh_serving.specs.declared.answer.Answer.TheVariants as answer
 use Rattle.lh_serving.specs.declared.answer.Fault.{Fault}
@@ -110,11 +110,11 @@ calls_onto (turn ∷ turns) calls = calls_onto turns (option_to_list (called (as
 calls_read : (start : FileSeen) (turns : List Turn) (rest : List ℕ) (calls : List Call) → AreTurns start turns →
     AreCalled turns →
     ((n : ℕ) → from_line command n (lines rest) ≡ Ok calls) → (n : ℕ) →
-    from_line command n (lines (lines_of turns ++ rest)) ≡ Ok (calls_onto turns calls)
+    from_line command n (lines (turn_lines turns ++ rest)) ≡ Ok (calls_onto turns calls)
 unfolding from_line
 calls_read start [] rest calls h are behind n = behind n
 calls_read start (turn ∷ turns) rest calls h are behind n =
-    ap (λ text. from_line command n (lines text)) (append_assoc (lines_of turns) (line turn.said) rest)
+    ap (λ text. from_line command n (lines text)) (append_assoc (turn_lines turns) (line turn.said) rest)
     ∙ calls_read start turns (line turn.said ++ rest) (option_to_list (called (asked_by (kept turn.said))) ++ calls) h.0
     are.0
     (λ m. ap (from_line command m) (line_first turn.said rest h.1)
@@ -126,14 +126,14 @@ reply_lines given = flat_map (λ reply. line (reply_text reply)) given
 
 -- the answer to a line is the reply to its call, if it has one, before those to the calls that follow
 answer_first : (file next : FileSeen) (asked : Result (Option Request) Fault) (said : List ℕ) (calls : List Call) →
-    IsCalled asked said → Answers file asked said next →
+    IsCalled asked said → AnswersLine file asked said next →
     said ++ reply_lines (replies next.map calls) ≡
     reply_lines (replies file.map (option_to_list (called asked) ++ calls))
 answer_first file next (Ok None) said calls is h =
     ap₂ (λ (x : List ℕ) (f : FileSeen). x ++ reply_lines (replies f.map calls)) h.0 h.1
 answer_first file next (Ok (Some (ask.Call call))) said calls is (a, text, h) = of_call a is text h
   where
-    of_call : (a : Answer) → IsCalled (Ok (Some (ask.Call call))) said → said ≡ told (Some a) →
+    of_call : (a : Answer) → IsCalled (Ok (Some (ask.Call call))) said → said ≡ answer_line (Some a) →
         AnswersCall file call a next →
         said ++ reply_lines (replies next.map calls) ≡ reply_lines (replies file.map (call ∷ calls))
     of_call (answer.Reply given) is text h =

@@ -9,12 +9,12 @@ use Rattle.lh_image.specs.declared.fault.ImageFault.{ImageFault}
 use Rattle.lh_image.specs.declared.fault.ImageFault.TheVariants.{ReadFault, Memory as MemoryToRead}
 use Rattle.lh_bucket.specs.Listing.{Lists}
 use Rattle.lh_serving.specs.Answers.{FileSeen, file_of}
-use Rattle.lh_serving.specs.Conversations.{ConversationSeen, IsAnswered, IsAt, IsQuiet, pending}
+use Rattle.lh_serving.specs.Conversations.{ConversationSeen, IsAnswered, IsAt, HasToldAll, pending}
 use Rattle.lh_serving.specs.Texts.{image_text}
 use Rattle.lh_subcommands.specs.Devices.{TakesBeginning}
 use Rattle.lh_subcommands.specs.Images.{refused_as}
 use Rattle.lh_subcommands.specs.Run.{Ends}
-use Rattle.lh_subcommands.specs.Serve.{Breaks, EndsGoingOn, EndsServing, EndsServingFrom, HasTold, IsCutShort}
+use Rattle.lh_subcommands.specs.Serve.{EndsAtFault, EndsGoingOn, EndsServing, EndsServingFrom, TellsAnswers, IsCutShort}
 use Rattle.lh_subcommands.specs.Serve.{IsTelling, IsUnopened}
 use Rattle.lh_subcommands.specs.declared.status.DeviceFault.{DeviceFault}
 use Rattle.lh_subcommands.specs.declared.status.DeviceFault.TheVariants.{Read, Write}
@@ -29,7 +29,7 @@ image_of (Ok l) = Ok []
 image_of (Err fault) = Err (Image fault)
 
 -- nothing waits
-quiet : (t : ConversationSeen) → IsQuiet t → pending t ≡ []
+quiet : (t : ConversationSeen) → HasToldAll t → pending t ≡ []
 quiet t h = ap (λ w. w ++ image_text t.image) h.waiting ∙ ap image_text h.image
 
 -- with what waits, a conversation has the answers to what was heard
@@ -55,7 +55,7 @@ telling_now s t u before now after heard h f k = record {
 
 -- all that waits is told
 pub told_by_now : (s : FileSeen) (t : ConversationSeen) (before now : Option (List ℕ)) (heard : List ℕ) →
-    IsTelling s t before now heard → IsQuiet t → HasTold s before now heard
+    IsTelling s t before now heard → HasToldAll t → TellsAnswers s before now heard
 told_by_now s t before now heard h e = record {
   answers = h.answers;
   answered =
@@ -112,15 +112,15 @@ at_end input heard None c e = absurd c
 at_end input heard (Some left) c e = c ∙ ap (λ x. heard ++ x) e ∙ append-nil heard
 
 pub ends_done : (s : FileSeen) (left rest before now : Option (List ℕ)) (heard : List ℕ) → Consumes left rest heard →
-    IsAtEnd rest → HasTold s before now heard →
+    IsAtEnd rest → TellsAnswers s before now heard →
     IfSome left (λ input. EndsServing s input Done rest before now)
 ends_done s None rest before now heard c e h = tt
 ends_done s (Some input) rest before now heard c e h =
-    subst (HasTold s before now) (sym (at_end input heard rest c e)) h
+    subst (TellsAnswers s before now) (sym (at_end input heard rest c e)) h
 
 pub ends_broken : (s : FileSeen) (fault : DeviceFault) (left mid rest before now : Option (List ℕ))
     (heard bytes : List ℕ) → Consumes left mid heard → Consumes mid rest bytes →
-    Breaks s fault before now heard bytes →
+    EndsAtFault s fault before now heard bytes →
     IfSome left (λ input. EndsServing s input (Device fault) rest before now)
 ends_broken s fault None mid rest before now heard bytes c d h = tt
 ends_broken s Read (Some input) mid rest before now heard bytes c d h = (
@@ -133,7 +133,7 @@ ends_broken s Write (Some input) mid rest before now heard bytes c d h =
     (heard ++ bytes, Consumes-trans (Some input) mid rest heard bytes c d, h)
 
 pub ends_read : (s : FileSeen) (left rest before now : Option (List ℕ)) (heard : List ℕ) → Consumes left rest heard →
-    HasTold s before now heard →
+    TellsAnswers s before now heard →
     IfSome left (λ input. EndsServing s input (Device Read) rest before now)
 ends_read s None rest before now heard c h = tt
 ends_read s (Some input) rest before now heard c h = (heard, c, h)

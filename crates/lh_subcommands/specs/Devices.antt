@@ -19,12 +19,12 @@ written_at_once = 65536
 
 -- no line has more bytes: key and value, of 56 and 112 bytes at most, take two digits a byte, and all else less than
 -- 256
-abbrev pub longest_line : ℕ
-longest_line = 592
+abbrev pub longest_output_line : ℕ
+longest_output_line = 592
 
 -- what waits has room for as many bytes as are written at once, and a line more
 abbrev pub IsReserved : {Z : Type 0} → String Z → Type 0
-IsReserved waiting = written_at_once + longest_line ≤ string_capacity waiting
+IsReserved waiting = written_at_once + longest_output_line ≤ string_capacity waiting
 
 -- the writer took all of a text but its end, which waits
 pub record Sends (before now : Option (List ℕ)) (waiting text : List ℕ) : Type 0 where

@@ -69,25 +69,25 @@ EndsBuilding version settings input status before now =
     EndsInImage (IsLedTo settings) version status (script command input) before now
 
 -- what is to be written of an image, or the first fault of bytes that are none
-abbrev pub told_of : (Lists → List ℕ) → Result Lists ImageFault → Result (List ℕ) InputFault
-told_of text (Ok l) = Ok (text l)
-told_of text (Err fault) = Err (Image fault)
+abbrev pub text_or_fault : (Lists → List ℕ) → Result Lists ImageFault → Result (List ℕ) InputFault
+text_or_fault text (Ok l) = Ok (text l)
+text_or_fault text (Err fault) = Err (Image fault)
 
 -- what `check` is to write for an input: the census of the listing that it is an image of
 unfoldable pub check_due : List ℕ → Result (List ℕ) InputFault
-check_due input = told_of (λ l. check_text (census_of l)) (reading_of input)
+check_due input = text_or_fault (λ l. check_text (census_of l)) (reading_of input)
 
 -- what `dump` is to write for an input: the records of the listing that it is an image of
 unfoldable pub dump_due : List ℕ → Result (List ℕ) InputFault
-dump_due input = told_of dump_text (reading_of input)
+dump_due input = text_or_fault dump_text (reading_of input)
 
 -- what `draw` is to write for an input: a drawing of the listing that it is an image of
 unfoldable pub draw_due : List ℕ → Result (List ℕ) InputFault
-draw_due input = told_of drawing_of (reading_of input)
+draw_due input = text_or_fault drawing_of (reading_of input)
 
 -- what `migrate` is to write for an input: the canonical image of version 2 of the listing that it is an image of
 unfoldable pub migrate_due : List ℕ → Result (List ℕ) InputFault
-migrate_due input = told_of (canonical Two) (reading_of input)
+migrate_due input = text_or_fault (canonical Two) (reading_of input)
 
 -- how a run ends whose file was not written as an image
 abbrev pub unwritten_as : WriteImageFault → Status

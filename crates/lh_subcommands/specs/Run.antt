@@ -75,7 +75,7 @@ pub record HaveEntries (settings : Settings) (events : List Event) (entries : Li
   pub memory : list_any is_want entries ≡ false
 
 -- What `steps` may write for events: a line for each of the entries that they have.
-pub record IsTold (settings : Settings) (events : List Event) (output : List ℕ) : Type 0 where
+pub record TellsSteps (settings : Settings) (events : List Event) (output : List ℕ) : Type 0 where
   pub entries : List Entry
   pub had : HaveEntries settings events entries
   pub lines : output ≡ steps_text entries
@@ -105,7 +105,7 @@ EndsTelling IsOutput _ given before now = ⊥
 
 -- how `steps` ends on an input: with what the headline tells of the events of its script
 unfoldable pub EndsSteps : Settings → List ℕ → Status → Option (List ℕ) → Option (List ℕ) → Type 0
-EndsSteps settings input status before now = EndsTelling (IsTold settings) status (script step input) before now
+EndsSteps settings input status before now = EndsTelling (TellsSteps settings) status (script step input) before now
 
 -- how `replay` ends on an input: with the picture of the events of its script, and of what the headline tells of them
 unfoldable pub EndsReplay : Settings → List ℕ → Status → Option (List ℕ) → Option (List ℕ) → Type 0

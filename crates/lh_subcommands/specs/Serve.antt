@@ -22,7 +22,7 @@ pub record IsTelling (start : FileSeen) (talk : ConversationSeen) (before now : 
   pub appended : Appends before now answers
 
 -- The writer took just the answers to the complete lines of what was heard.
-pub record HasTold (start : FileSeen) (before now : Option (List ℕ)) (heard : List ℕ) : Type 0 where
+pub record TellsAnswers (start : FileSeen) (before now : Option (List ℕ)) (heard : List ℕ) : Type 0 where
   pub answers : List ℕ
   pub answered : IsAnswered start heard answers
   pub appended : Appends before now answers
@@ -37,17 +37,17 @@ pub record IsCutShort (start : FileSeen) (before now : Option (List ℕ)) (heard
   pub taken : TakesBeginning before now answers
 
 -- a device failed: at a read nothing more was heard, and all of what was heard before has been told
-abbrev pub Breaks : FileSeen → DeviceFault → Option (List ℕ) → Option (List ℕ) → List ℕ → List ℕ → Type 0
-Breaks start Read before now heard bytes = (bytes ≡ []) × HasTold start before now heard
-Breaks start Write before now heard bytes = IsCutShort start before now (heard ++ bytes)
+abbrev pub EndsAtFault : FileSeen → DeviceFault → Option (List ℕ) → Option (List ℕ) → List ℕ → List ℕ → Type 0
+EndsAtFault start Read before now heard bytes = (bytes ≡ []) × TellsAnswers start before now heard
+EndsAtFault start Write before now heard bytes = IsCutShort start before now (heard ++ bytes)
 
 -- How `serve` of a file ends on an input, with what the reader has left: done, and it told the answers to all lines of
 -- the input; a failed read, and it told just the answers to the lines that had come by then; a failed write, and it
 -- told a beginning of such answers; out of memory at once, and it heard and told nothing.
 abbrev pub EndsServing : FileSeen → List ℕ → Status → Option (List ℕ) → Option (List ℕ) → Option (List ℕ) → Type 0
-EndsServing start input Done rest before now = HasTold start before now input
+EndsServing start input Done rest before now = TellsAnswers start before now input
 EndsServing start input (Device Read) rest before now =
-    (heard : List ℕ) × Consumes (Some input) rest heard × HasTold start before now heard
+    (heard : List ℕ) × Consumes (Some input) rest heard × TellsAnswers start before now heard
 EndsServing start input (Device Write) rest before now =
     (heard : List ℕ) × Consumes (Some input) rest heard × IsCutShort start before now heard
 EndsServing start input Memory rest before now = Keeps (Some input) rest × Keeps before now

@@ -12,7 +12,7 @@ use Rattle.lh_script.specs.declared.requests.Request.TheVariants as ask
 use Rattle.lh_serving.specs.Answers.{asked_by, first_file}
 use Rattle.lh_serving.specs.Conversations.{IsAnswered, Turn}
 use Rattle.lh_serving.specs.Parts.{kept}
-use Rattle.lh_serving.specs.Texts.{told}
+use Rattle.lh_serving.specs.Texts.{answer_line}
 use Rattle.lh_serving.specs.declared.answer.Answer.TheVariants as answer
 use Rattle.lh_serving.specs.declared.answer.Fault.{Fault}
 use Rattle.lh_serving.specs.declared.answer.Fault.TheVariants as fault
@@ -21,7 +21,7 @@ use Rattle.lh_subcommands.specs.Run.{commands_due}
 -- a line asks for nothing, or for a call for which memory didn't run out
 abbrev pub IsCalled : Result (Option Request) Fault → List ℕ → Type 0
 IsCalled (Ok None) said = Unit {0}
-IsCalled (Ok (Some (ask.Call call))) said = said ≢ told (Some (answer.Fault fault.Memory))
+IsCalled (Ok (Some (ask.Call call))) said = said ≢ answer_line (Some (answer.Fault fault.Memory))
 IsCalled _ said = ⊥
 
 -- so does each line

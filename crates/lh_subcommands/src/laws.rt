@@ -6,7 +6,7 @@ ghost use Rattle.lh_page.specs.declared.pair.Pair.{Pair};
 ghost use Rattle.lh_script.specs.StepTexts.{entry_text};
 ghost use Rattle.lh_script.specs.Texts.{line, reply_text, size_text};
 ghost use Rattle.lh_subcommands.specs.ContinuedLaws.{ApplyLaw, MigrateLaw, QueryLaw};
-ghost use Rattle.lh_subcommands.specs.Devices.{longest_line};
+ghost use Rattle.lh_subcommands.specs.Devices.{longest_output_line};
 ghost use Rattle.lh_subcommands.specs.ImageTexts.{record_text};
 ghost use Rattle.lh_subcommands.specs.LongestLine.{IsEntryInLimits, IsNumber, IsRecordInLimits, IsReplyInLimits};
 ghost use Rattle.lh_subcommands.specs.ServeLaws.{SameRepliesLaw};
@@ -46,9 +46,9 @@ pub fn serve_replies_as_commands()
 /// No line that `commands`, `steps` and `dump` write is longer than the room that is kept for one: so none wants memory
 /// after the first write.
 pub fn lines_have_room()
-    ensures replies { (reply : Reply) → IsReplyInLimits reply → length (line (reply_text reply)) ≤ longest_line }
-    ensures sizes { (buckets : ℕ) → IsNumber buckets → length (line (size_text buckets)) ≤ longest_line }
-    ensures entries { (entry : Entry) → IsEntryInLimits entry → length (line (entry_text entry)) ≤ longest_line }
+    ensures replies { (reply : Reply) → IsReplyInLimits reply → length (line (reply_text reply)) ≤ longest_output_line }
+    ensures sizes { (buckets : ℕ) → IsNumber buckets → length (line (size_text buckets)) ≤ longest_output_line }
+    ensures entries { (entry : Entry) → IsEntryInLimits entry → length (line (entry_text entry)) ≤ longest_output_line }
     ensures records { (bucket : ℕ) (pair : Pair) → IsNumber bucket → IsRecordInLimits pair →
-        length (line (record_text bucket pair)) ≤ longest_line }
+        length (line (record_text bucket pair)) ≤ longest_output_line }
 {}

@@ -6,9 +6,9 @@ ghost use Rattle.std.specs.Io.KnownBytes.{Appends, Consumes, IsAtEnd, Keeps, Rea
 ghost use Rattle.lh_bucket.specs.Listing.{Lists};
 ghost use Rattle.lh_image.specs.Reading.{following, leading, reading_of};
 ghost use Rattle.lh_serving.specs.Answers.{FileSeen, file_of, first_file};
-ghost use Rattle.lh_serving.specs.Conversations.{IsAt, IsQuiet, pending};
+ghost use Rattle.lh_serving.specs.Conversations.{IsAt, HasToldAll, pending};
 ghost use Rattle.lh_subcommands.specs.Devices.{TakesBeginning};
-ghost use Rattle.lh_subcommands.specs.Serve.{Breaks, EndsServing, EndsServingFrom, IsCutShort, IsTelling, IsUnopened};
+ghost use Rattle.lh_subcommands.specs.Serve.{EndsAtFault, EndsServing, EndsServingFrom, IsCutShort, IsTelling, IsUnopened};
 
 use crate::device::write_all;
 use crate::input::unreadable;
@@ -39,7 +39,7 @@ fn listen<R: Read>(
     talk: &Conversation,
     chunk: &mut [u8],
 ) -> Result<usize, DeviceFault>
-    requires told { IsQuiet talk.now }
+    requires told { HasToldAll talk.now }
     requires room { 0 < length chunk.old }
     ensures bytes { IfOk result (λ n. (n ≤ length chunk.new)
         × Consumes (R.remaining reader.old) (R.remaining reader.new) (take n chunk.new)
@@ -69,7 +69,7 @@ fn write_pending<W: Write>(writer: &mut W, talk: &Conversation) -> Result<(), Wr
 
 /// Tells what waits, if anything does.
 fn tell<W: Write>(writer: &mut W, talk: &mut Conversation) -> Result<(), WriteFailed>
-    ensures told { OnOk result (IsQuiet talk.new) }
+    ensures told { OnOk result (HasToldAll talk.new) }
     ensures ok { (start : FileSeen) (before : Option (List ℕ)) (heard : List ℕ) →
         IsTelling start talk.old before (W.contents writer.old) heard →
         OnOk result (IsTelling start talk.new before (W.contents writer.new) heard) }
@@ -134,7 +134,7 @@ fn answer_all<W: Write>(
     bytes: &[u8],
 ) -> Result<(), WriteFailed>
     requires { talk.old.image ≡ None }
-    ensures told { OnOk result (IsQuiet talk.new) }
+    ensures told { OnOk result (HasToldAll talk.new) }
     ensures ok { (start : FileSeen) (before : Option (List ℕ)) (heard : List ℕ) →
         IsTelling start talk.old before (W.contents writer.old) heard →
         OnOk result (IsTelling start talk.new before (W.contents writer.new) (heard ++ bytes.now)) }
@@ -156,9 +156,9 @@ fn take_turn<R: Read, W: Write>(
     talk: &mut Conversation,
     chunk: &mut [u8],
 ) -> Result<bool, DeviceFault>
-    requires told { IsQuiet talk.old }
+    requires told { HasToldAll talk.old }
     requires room { 0 < length chunk.old }
-    ensures told { OnOk result (IsQuiet talk.new) }
+    ensures told { OnOk result (HasToldAll talk.new) }
     ensures ok { (start : FileSeen) (before : Option (List ℕ)) (heard : List ℕ) →
         IsTelling start talk.old before (W.contents writer.old) heard →
         IfOk result (λ more. (bytes : List ℕ) × Consumes (R.remaining reader.old) (R.remaining reader.new) bytes
@@ -167,7 +167,7 @@ fn take_turn<R: Read, W: Write>(
     ensures err { (start : FileSeen) (before : Option (List ℕ)) (heard : List ℕ) →
         IsTelling start talk.old before (W.contents writer.old) heard →
         IfErr result (λ fault. (bytes : List ℕ) × Consumes (R.remaining reader.old) (R.remaining reader.new) bytes
-        × Breaks start fault before (W.contents writer.new) heard bytes) }
+        × EndsAtFault start fault before (W.contents writer.new) heard bytes) }
 {
     let Ok(count) = listen(reader, talk, chunk) else {
         return Err(DeviceFault::Read);
@@ -189,7 +189,7 @@ fn converse<R: Read, W: Write>(
     reader: &mut R,
     writer: &mut W,
 ) -> Status
-    requires { IsQuiet talk }
+    requires { HasToldAll talk }
     ensures { (start : FileSeen) → IsAt start talk [] [] → IfSome (R.remaining reader.old) (λ input.
         EndsServing start input result (R.remaining reader.new) (W.contents writer.old) (W.contents writer.new)) }
 {
@@ -226,7 +226,7 @@ pub fn answer_serve<R: Read, W: Write>(
 
 /// A conversation over the file of the image that the input begins with, or how the run ends.
 fn opened<R: Read>(alloc: Global, reader: &mut R) -> Result<Conversation, Status>
-    ensures quiet { IfOk result IsQuiet }
+    ensures quiet { IfOk result HasToldAll }
     ensures ok { IfSome (R.remaining reader.old) (λ input. IfOk result (λ talk.
         (l : Lists) × (reading_of (leading input) ≡ Ok l) × IsAt (file_of l) talk [] [])) }
     ensures rest { IfSome (R.remaining reader.old) (λ input.

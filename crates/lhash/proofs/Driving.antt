@@ -12,7 +12,7 @@ use Rattle.lh_bucket.specs.Listing.{Lists}
 use Rattle.lh_bucket.specs.declared.call.Call.{Call as CallOf}
 use Rattle.lh_settling.specs.Acts.{calls_of, replies_of, IsInOrder, acts_before}
 use Rattle.lh_settling.specs.ClosedFile.{ClosedFile}
-use Rattle.lh_settling.specs.Settled.{IsHistory, IsSettled}
+use Rattle.lh_settling.specs.Settled.{IsStamped, IsSettled}
 use Rattle.lh_settling.specs.declared.act.ActLine.{ActLine}
 use Rattle.lh_settling.specs.declared.settle_fault.SettleFault.TheVariants as settle
 use Rattle.lh_file.specs.Closing.{NoneOutside, HasHistory}
@@ -23,7 +23,7 @@ use Rattle.lh_file.specs.Words.HandState.{HandState}
 use Rattle.lh_script.specs.Commands.{command}
 use Rattle.lh_subcommands.specs.Devices.{TakesBeginning}
 use Rattle.lhash.specs.Driven.{driven_text, snapshots_text}
-use Rattle.lhash.specs.Driving.{AreSettled, EndsDriving, IsDrivenWith, IsDriveFault, IsDriveFaultWith, IsFaultOfOne}
+use Rattle.lhash.specs.Driving.{IsSettledWith, EndsDriving, IsDrivenWith, IsDriveFault, IsDriveFaultWith, IsFaultOfOne}
 use Rattle.lhash.specs.Driving.{IsSettledBefore, empty_file, ended_by}
 use Rattle.lh_subcommands.specs.Run.{ReadsScript}
 use Rattle.lh_script.specs.Scripts.{script}
@@ -155,7 +155,7 @@ driven_as s t calls other n m d is same count h = subst (λ (x : Settings). IsDr
 -- the history of the acts before each snapshot is the first part of that of all
 pub first_of : BeforeLaw →
     (settings : Settings) (closed : ClosedFile) (acts history : List ActLine) (taken : List ClosedFile) →
-    IsHistory closed acts history →
+    IsStamped closed acts history →
     All (IsSettledBefore settings acts) taken →
     All (λ snapshot. IsSettledFirst (empty_file settings) snapshot acts history) taken
 first_of law settings closed acts history taken is each =
@@ -170,7 +170,7 @@ pub snapshot_fault : (settings : Settings) (closed : ClosedFile) (acts history :
     (fault : DriveFault) → closed.config ≡ settings →
     IsSettled (empty_file settings) closed acts history →
     All (λ (snapshot : ClosedFile). snapshot.config ≡ settings) taken →
-    (closed.gathered ≡ true → closed.root % 2 ≡ 0 → AreSettled (empty_file settings) closed acts taken) →
+    (closed.gathered ≡ true → closed.root % 2 ≡ 0 → IsSettledWith (empty_file settings) closed acts taken) →
     IsFaultOfOne settings acts taken fault → IsDriveFaultWith settings (length taken) fault
 snapshot_fault settings closed acts history taken (Settle fault) is settled configs known
     (snapshot, there, due, ne, un) =
@@ -204,10 +204,10 @@ pub all_settled : SnapshotLaw →
     (file : FileState) (opening : Lists) (closed : ClosedFile) (acts : List ActLine) (hand : HandState)
     (taken : List ClosedFile) → file.listing ≡ opening →
     HasHistory file.listing closed acts hand → hand.view.left + length hand.acts ≡ 2 ^ 63 → NoneOutside hand.entries →
-    All (HasTakenOne file hand) taken → AreSettled opening closed acts taken
+    All (HasTakenOne file hand) taken → IsSettledWith opening closed acts taken
 all_settled law file opening closed acts hand taken from held full none each =
     let own = (held.2 full none).0 in
-    subst (λ (l : Lists). AreSettled l closed acts taken) from (
+    subst (λ (l : Lists). IsSettledWith l closed acts taken) from (
       lines_of held.0,
       own,
       All-weaker (HasTakenOne file hand) (λ (s : ClosedFile). IsSettledFirst file.listing s acts (lines_of held.0))

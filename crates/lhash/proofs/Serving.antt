@@ -26,7 +26,7 @@ use Rattle.lh_subcommands.specs.Run.{EndsReplay, EndsSteps}
 use Rattle.lh_serving.specs.Answers.{FileSeen, first_file}
 use Rattle.lh_subcommands.specs.Serve.{EndsGoingOn, EndsServing, EndsServingFrom}
 use Rattle.lhash.specs.Serving.{Ending, EndsCommands, EndsDrivingIn, EndsTold, IsHelped, IsRun, IsTurnedAway, IsWordsOf}
-use Rattle.lhash.specs.Serving.{RefusesBelow, RefusesBeside, RefusesSnapshots, Serves, ServesApply, ServesBuild}
+use Rattle.lhash.specs.Serving.{RefusesBelow, RefusesBeside, RefusesSnapshots, IsPerformed, ServesApply, ServesBuild}
 use Rattle.lhash.specs.Serving.{ServesClient, ServesDrive, ServesFile, ServesFrom, ServesImage, TurnsAway}
 use Rattle.lhash.specs.Serving.{below_initial, beside_image, snapshots_of_shards, wanted_version}
 use Rattle.lh_subcommands.specs.declared.status.DeviceFault.TheVariants.{Read, Write}
@@ -35,8 +35,8 @@ use Rattle.lh_subcommands.specs.declared.status.Status.TheVariants.{Done, Input,
 
 -- a request is served as what it is
 pub served_as : {r asked : Request} → r ≡ asked → (status : Status) (left rest before now : Option (List ℕ)) →
-    Serves asked status left rest before now → Serves r status left rest before now
-served_as is status left rest before now = subst (λ (r : Request). Serves r status left rest before now) (sym is)
+    IsPerformed asked status left rest before now → IsPerformed r status left rest before now
+served_as is status left rest before now = subst (λ (r : Request). IsPerformed r status left rest before now) (sym is)
 
 -- what ended out of memory, with nothing written, ended in a way that allows it
 unwritten : (EndsWith : Ending) (status : Status) (left before now : Option (List ℕ)) →
@@ -74,7 +74,7 @@ below_asked words (Some name) named none settings given below r is =
 -- a run for words that ask for one thing served it, or ran out of memory
 served : (words : List Text) (status : Status) (left rest before now : Option (List ℕ)) (name : Text) (r : Request)
     (EndsWith : Ending) →
-    (Serves r status left rest before now → IfSome left (λ input. EndsWith input status before now)) →
+    (IsPerformed r status left rest before now → IfSome left (λ input. EndsWith input status before now)) →
     ((input : List ℕ) → Keeps before now → EndsWith input Memory before now) →
     Asks words name →
     asked_by name (settings_given words) (number_given words) (image_begins words) (settings_typed words) ≡ Some r →
@@ -82,7 +82,7 @@ served : (words : List Text) (status : Status) (left rest before now : Option (L
 served words status left rest before now name r EndsWith ends allows asks is (inl run) =
     let same : Some run.0 ≡ Some r = sym (asked_named words name run.0 asks run.1) ∙ is in
     let one : run.0 ≡ r = cc in
-    ends (subst (λ (x : Request). Serves x status left rest before now) one run.2)
+    ends (subst (λ (x : Request). IsPerformed x status left rest before now) one run.2)
 served words status left rest before now name r EndsWith ends allows asks is (inr run) =
     unwritten EndsWith status left before now allows run.0 run.2
 
@@ -116,7 +116,7 @@ unserved start status (Some input) rest before now is unread keeps =
 
 pub serves_client : ServesClient
 serves_client words status left rest before now settings asks none given within (inl run) =
-    subst (λ (x : Request). Serves x status left rest before now)
+    subst (λ (x : Request). IsPerformed x status left rest before now)
     (serves_file words settings run.0 asks none given within run.1) run.2
 serves_client words status left rest before now settings asks none given within (inr run) =
     unserved (first_file settings) status left rest before now run.0 run.1 run.2
@@ -137,15 +137,15 @@ unheard status (Some input) rest before now is keeps =
 
 pub serves_from : ServesFrom
 serves_from words status left rest before now asks begins none (inl run) =
-    subst (λ (x : Request). Serves x status left rest before now) (serves_image words run.0 asks begins none run.1)
+    subst (λ (x : Request). IsPerformed x status left rest before now) (serves_image words run.0 asks begins none run.1)
     run.2
 serves_from words status left rest before now asks begins none (inr run) =
     unheard status left rest before now run.0 run.2
 
 pub refuses_beside : RefusesBeside
 refuses_beside words status left rest before now asks begins given (inl run) =
-    subst (λ (x : Request). Serves x status left rest before now) (refuses_setting words run.0 asks begins given run.1)
-    run.2
+    subst (λ (x : Request). IsPerformed x status left rest before now)
+    (refuses_setting words run.0 asks begins given run.1) run.2
 refuses_beside words status left rest before now asks begins given (inr run) =
     (subst (IsWordsOf beside_image) (sym run.0) tt, run.1, run.2)
 
@@ -207,7 +207,7 @@ refuses_snapshots words status left rest before now settings n h k asks given co
     let same : Some run.0 ≡ Some request.SnapshotsOfShards =
     sym (asked_named words (codes "drive") run.0 asks run.1) ∙ is in
     let one : run.0 ≡ request.SnapshotsOfShards = cc in
-    subst (λ (x : Request). Serves x status left rest before now) one run.2
+    subst (λ (x : Request). IsPerformed x status left rest before now) one run.2
 refuses_snapshots words status left rest before now settings n h k asks given counted parts taken apart within
     (inr run) =
     (subst (IsWordsOf snapshots_of_shards) (sym run.0) tt, run.1, run.2)
@@ -216,7 +216,7 @@ refuses_snapshots words status left rest before now settings n h k asks given co
 serves_alone : (words : List Text) (status : Status) (left rest before now : Option (List ℕ)) (name : Text)
     (r : Request) (EndsWith : Ending)
     (settings : Option Settings) → settings_given words ≡ settings →
-    (Serves r status left rest before now → IfSome left (λ input. EndsWith input status before now)) →
+    (IsPerformed r status left rest before now → IfSome left (λ input. EndsWith input status before now)) →
     ((input : List ℕ) → Keeps before now → EndsWith input Memory before now) → Asks words name →
     ((numbers : Text → Option ℕ) (image typed : Bool) → asked_by name None numbers image typed ≡ Some r) →
     ((s : Settings) (numbers : Text → Option ℕ) (image typed : Bool) →
@@ -322,7 +322,7 @@ pub refuses_below : RefusesBelow
 refuses_below words status left rest before now settings accepts none given below (inl (r, inl answers, serves)) =
     let is =
     below_asked words (subcommand_named words) refl (λ n. none (accepts, n)) settings given below r answers.1 in
-    subst (λ (x : Request). Serves x status left rest before now) is serves
+    subst (λ (x : Request). IsPerformed x status left rest before now) is serves
 refuses_below words status left rest before now settings accepts none given below (inl (r, inr answers, serves)) =
     absurd (answers.0 accepts)
 refuses_below words status left rest before now settings accepts none given below (inr run) =
@@ -339,7 +339,8 @@ helped words text Memory before now asks h = absurd h
 helped words text (NotSettled fault) before now asks h = absurd h
 
 turned : (words : List Text) (r : Request) (status : Status) (left rest before now : Option (List ℕ)) →
-    IsTurned words r → Serves r status left rest before now → IsTurnedAway words status before now × Keeps left rest
+    IsTurned words r → IsPerformed r status left rest before now →
+    IsTurnedAway words status before now × Keeps left rest
 turned words (request.Help text) status left rest before now is serves =
     (helped words (string_bytes text) status before now is serves.0, serves.1)
 turned words (request.Refused text) status left rest before now is serves =

@@ -27,7 +27,7 @@ use Rattle.lh_file.specs.declared.words.view.View.{View}
 use Rattle.lh_shards.specs.Closing.{AreClosedBy}
 use Rattle.lh_shards.specs.Dividing.{AllHave, EachPair, HasGiven}
 use Rattle.lh_shards.specs.Hands.{AreOf, AtShardOf, IsCount}
-use Rattle.lh_shards.specs.Joining.{AreJoined}
+use Rattle.lh_shards.specs.Joining.{AreJoinedByShard}
 use Rattle.lh_shards.specs.Number.{home_of}
 use Rattle.lh_shards.specs.OpenFault.{IsOpenFault}
 use Rattle.lh_shards.specs.Openings.{AreBegun, AreTraced}
@@ -226,7 +226,7 @@ sum_joined (f ∷ fs) (s ∷ ss) (n ∷ ns) long many each =
     )
 
 pub acts_joined : (files : List FileState) (first second news : List HandState) → AreOf files first →
-    AreOf files second → AreJoined first second news → acts_of news ≡ acts_of first + acts_of second
+    AreOf files second → AreJoinedByShard first second news → acts_of news ≡ acts_of first + acts_of second
 acts_joined files first second news one other j =
     sum_joined first second news j.count (other.count ∙ sym one.count)
     (λ k a b n ka kb kn. ap length (j.each k a b n ka kb kn).acts ∙ length-append a.acts b.acts)

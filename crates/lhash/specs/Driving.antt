@@ -52,8 +52,8 @@ IsSettledBefore settings acts snapshot =
 
 -- a file is settled with some history, and each of these snapshots with the acts that came before it, whose history is
 -- the first part of that
-abbrev pub AreSettled : Lists → ClosedFile → List ActLine → List ClosedFile → Type 0
-AreSettled opening closed acts taken =
+abbrev pub IsSettledWith : Lists → ClosedFile → List ActLine → List ClosedFile → Type 0
+IsSettledWith opening closed acts taken =
     (history : List ActLine) × IsSettled opening closed acts history
     × All (λ snapshot. IsSettledFirst opening snapshot acts history) taken
 

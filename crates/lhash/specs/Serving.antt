@@ -70,32 +70,35 @@ wanted_version First = One
 wanted_version Second = Two
 
 -- what a request led to, with what the reader had left and has, and what the writer held and holds
-abbrev pub Serves : Request → Status → Option (List ℕ) → Option (List ℕ) → Option (List ℕ) → Option (List ℕ) → Type 0
-Serves (Commands config) status left rest before now =
+abbrev pub IsPerformed : Request → Status → Option (List ℕ) → Option (List ℕ) → Option (List ℕ) → Option (List ℕ) →
+    Type 0
+IsPerformed (Commands config) status left rest before now =
     IfSome left (λ input. Ends status (commands_due config input) before now)
-Serves (Steps config) status left rest before now = IfSome left (λ input. EndsSteps config input status before now)
-Serves (Replay config) status left rest before now = IfSome left (λ input. EndsReplay config input status before now)
-Serves (Build config image) status left rest before now =
+IsPerformed (Steps config) status left rest before now = IfSome left (λ input. EndsSteps config input status before now)
+IsPerformed (Replay config) status left rest before now =
+    IfSome left (λ input. EndsReplay config input status before now)
+IsPerformed (Build config image) status left rest before now =
     IfSome left (λ input. EndsBuilding (wanted_version image) config input status before now)
-Serves Check status left rest before now = IfSome left (λ input. Ends status (check_due input) before now)
-Serves Dump status left rest before now = IfSome left (λ input. Ends status (dump_due input) before now)
-Serves Draw status left rest before now = IfSome left (λ input. Ends status (draw_due input) before now)
-Serves Migrate status left rest before now = IfSome left (λ input. Ends status (migrate_due input) before now)
-Serves Query status left rest before now = IfSome left (λ input. Ends status (query_due input) before now)
-Serves (Apply image) status left rest before now =
+IsPerformed Check status left rest before now = IfSome left (λ input. Ends status (check_due input) before now)
+IsPerformed Dump status left rest before now = IfSome left (λ input. Ends status (dump_due input) before now)
+IsPerformed Draw status left rest before now = IfSome left (λ input. Ends status (draw_due input) before now)
+IsPerformed Migrate status left rest before now = IfSome left (λ input. Ends status (migrate_due input) before now)
+IsPerformed Query status left rest before now = IfSome left (λ input. Ends status (query_due input) before now)
+IsPerformed (Apply image) status left rest before now =
     IfSome left (λ input. EndsApplying (wanted_version image) input status before now)
-Serves (Drive config threads shards snapshots) status left rest before now =
+IsPerformed (Drive config threads shards snapshots) status left rest before now =
     IfSome left (λ input. EndsDrivingIn (shards == 1) config shards snapshots input status before now)
-Serves (Serve config) status left rest before now =
+IsPerformed (Serve config) status left rest before now =
     IfSome left (λ input. EndsServing (first_file config) input status rest before now)
-Serves ServeImage status left rest before now =
+IsPerformed ServeImage status left rest before now =
     IfSome left (λ input. EndsServingFrom input status rest before now)
-Serves (Help text) status left rest before now = IsHelped (string_bytes text) status before now × Keeps left rest
-Serves (Refused text) status left rest before now = (status ≡ Words text) × Keeps left rest × Keeps before now
-Serves MaxBelowInitial status left rest before now = IsWordsOf below_initial status × Keeps left rest × Keeps before now
-Serves SettingsBesideImage status left rest before now =
+IsPerformed (Help text) status left rest before now = IsHelped (string_bytes text) status before now × Keeps left rest
+IsPerformed (Refused text) status left rest before now = (status ≡ Words text) × Keeps left rest × Keeps before now
+IsPerformed MaxBelowInitial status left rest before now =
+    IsWordsOf below_initial status × Keeps left rest × Keeps before now
+IsPerformed SettingsBesideImage status left rest before now =
     IsWordsOf beside_image status × Keeps left rest × Keeps before now
-Serves SnapshotsOfShards status left rest before now =
+IsPerformed SnapshotsOfShards status left rest before now =
     IsWordsOf snapshots_of_shards status × Keeps left rest × Keeps before now
 
 -- whether a request has an image written
@@ -123,7 +126,7 @@ IsTurnedAway words _ before now = ⊥
 -- written.
 abbrev pub IsRun : List Text → Status → Option (List ℕ) → Option (List ℕ) → Option (List ℕ) → Option (List ℕ) → Type 0
 IsRun words status left rest before now =
-    ((request : Request) × Answers words request × Serves request status left rest before now)
+    ((request : Request) × Answers words request × IsPerformed request status left rest before now)
     ⊎ ((status ≡ Memory) × Keeps left rest × Keeps before now)
 
 -- the run ended so, or it was done, and what it left gathered could not be written

@@ -43,7 +43,7 @@ pub record HaveMadeOne (old new : List HandState) : Type 0 where
 
 -- what a thread that was to make these calls comes back with: hands of the shards and their files' own, which have
 -- made all of them unless there is a fault, and a fault that is none for want of calls
-pub record IsWorked (files : List FileState) (calls : ℕ) (worked : Worked) : Type 0 where
+pub record IsWorkedOnShards (files : List FileState) (calls : ℕ) (worked : Worked) : Type 0 where
   pub of : AreOf files worked.hands
   pub own : AreOwn files worked.hands
   pub share : AllShare calls worked.hands

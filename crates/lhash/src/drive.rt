@@ -2,7 +2,7 @@
 ghost use Rattle.std.specs.Prelude.{◌≡◌, ◌%◌, ◌≤◌, true, All, IfOk, IfErr, IfSome, OnOk, length};
 ghost use Rattle.lh_settling.specs.Acts.{calls_of};
 ghost use Rattle.lh_file.specs.Buckets.Brands.{IsBrandOf};
-ghost use Rattle.lhash.specs.Driving.{AreSettled, EndsDriving, IsDriven, IsDrivenWith, IsDriveFault, IsDriveFaultWith};
+ghost use Rattle.lhash.specs.Driving.{IsSettledWith, EndsDriving, IsDriven, IsDrivenWith, IsDriveFault, IsDriveFaultWith};
 ghost use Rattle.lhash.specs.Driving.{IsFaultOfOne, IsSettledBefore, empty_file, ended_by, unsettled_as};
 
 use crate::driven::{Driven, SnapshotsText};
@@ -99,7 +99,7 @@ fn settled(
 ) -> Result<Driven, DriveFault>
     requires empty { empty.now ≡ empty_file closed.now.config }
     requires known { closed.now.gathered ≡ true → closed.now.root % 2 ≡ 0 →
-        AreSettled empty.now closed.now acts.now taken.now }
+        IsSettledWith empty.now closed.now acts.now taken.now }
     requires configs { All (λ snapshot. snapshot.config ≡ closed.now.config) taken.now }
     ensures ok { IfOk result (IsDrivenWith closed.now.config (calls_of acts.now) (length taken.now)) }
     ensures err { IfErr result (IsDriveFaultWith closed.now.config (length taken.now)) }

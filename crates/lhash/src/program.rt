@@ -2,7 +2,7 @@
 ghost use Rattle.std.specs.Prelude.{◌≡◌, ◌≤◌, ◌==◌, Bool, IfOk, IfSome, map};
 ghost use Rattle.lh_shards.specs.Hands.{IsCount};
 ghost use Rattle.lh_options.specs.Options.{IsServable};
-ghost use Rattle.lhash.specs.Serving.{EndsDrivingIn, IsHelped, IsRun, IsWhetherImageAsked, IsWordsOf, Serves};
+ghost use Rattle.lhash.specs.Serving.{EndsDrivingIn, IsHelped, IsRun, IsWhetherImageAsked, IsWordsOf, IsPerformed};
 ghost use Rattle.lhash.specs.Serving.{wanted_version};
 
 use crate::drive::answer_drive;
@@ -82,7 +82,7 @@ fn serve<A: Threads + Wait + Sync, R: Read, W: Write>(
     writer: &mut W,
 ) -> Status
     requires { IsServable request }
-    ensures { Serves request result (R.remaining reader.old) (R.remaining reader.new)
+    ensures { IsPerformed request result (R.remaining reader.old) (R.remaining reader.new)
         (W.contents writer.old) (W.contents writer.new) }
 {
     match request {

@@ -5,7 +5,7 @@ ghost use Rattle.lh_shards.specs.Dividing.{AllHave};
 ghost use Rattle.lh_shards.specs.Hands.{AreOf};
 ghost use Rattle.lh_shards.specs.Own.{AllShare, AreOwn};
 ghost use Rattle.lhash.specs.Driving.{IsWorkersFault};
-ghost use Rattle.lhash.specs.ShardWorkers.{AreKept, AreLessened, ArePartOf, AreRecording, HaveMadeOne, IsWorked};
+ghost use Rattle.lhash.specs.ShardWorkers.{AreKept, AreLessened, ArePartOf, AreRecording, HaveMadeOne, IsWorkedOnShards};
 ghost use Rattle.lhash.specs.ShardWorkers.{acts_of};
 ghost use Rattle.lhash.specs.Workers.{places_from};
 
@@ -37,7 +37,7 @@ struct Part<'a, J: FileBrand> {
 }
 
 impl<'a, J: FileBrand> Promise<Worked> for Part<'a, J> {
-    ghost kept_by = { λ part worked. IsWorked part.shards.now part.calls worked };
+    ghost kept_by = { λ part worked. IsWorkedOnShards part.shards.now part.calls worked };
 }
 
 /// Makes a call, which takes one of those that the hand of its shard may make.
@@ -80,7 +80,7 @@ fn work<J: FileBrand, R: Wait>(
     requires part { ArePartOf shards.now (places_from first threads (length calls.now)) hands }
     requires records { AreRecording shards.now }
     requires threads { 0 < threads }
-    ensures { IsWorked shards.now (places_from first threads (length calls.now)) result }
+    ensures { IsWorkedOnShards shards.now (places_from first threads (length calls.now)) result }
 {
     for place in (first..calls.len()).step_by(threads) {
         if let Err(fault) = make(rt, shards, &mut hands, &calls[place]) {
@@ -239,7 +239,7 @@ pub fn work_in_threads<J: FileBrand + Send + Sync, R: Threads + Wait + Sync>(
                         requires part { ArePartOf shards.now (places_from first threads (length calls.now)) part }
                         requires records { AreRecording shards.now }
                         requires threads { 0 < threads }
-                        ensures { IsWorked shards.entry.now
+                        ensures { IsWorkedOnShards shards.entry.now
                             (places_from first threads (length calls.entry.now)) result }
                     { work(rt, shards, part, calls, first, threads) },
                 ) else {

@@ -28,7 +28,7 @@ use Rattle.lh_core.specs.declared.state.SplitState.TheVariants as split
 use Rattle.lh_core.specs.State.{State, splitting}
 use Rattle.lh_core.specs.Holds.{is_barred, is_held, is_held_alone}
 use Rattle.lh_core.specs.Rules.{allowed, put}
-use Rattle.lh_core.specs.Log.{reply_of}
+use Rattle.lh_core.specs.Log.{effect_reply}
 use Rattle.lh_core.specs.History.{served_by, has_insert, outline}
 use Rattle.lh_core.specs.Sound.{IsPhase}
 use Rattle.lh_core.specs.Kept.{IsWorld}
@@ -221,7 +221,7 @@ module _ (c : Call) (v0 v1 v2 : WorldSeen) (f0 f1 : Effect) (h : IsWorld v0) (r 
             same = at5.same;
             state = at5.state ∙ sym at0.state;
             replied =
-                λ m p. some_same (sym (ap reply_of is) ∙ (t3.follows m (to3 m p)).0 ∙ ap (reply_to m) serves_call);
+                λ m p. some_same (sym (ap effect_reply is) ∙ (t3.follows m (to3 m p)).0 ∙ ap (reply_to m) serves_call);
             stands =
                 λ m p.
                 (t4.follows (after m c)

@@ -12,7 +12,7 @@ use Rattle.lh_bucket.specs.declared.call.Reply.{Reply}
 use Rattle.lh_bucket.specs.declared.call.Reply.TheVariants.{Absent, Inserted, Exists, Deleted, Replaced}
 use Rattle.lh_bucket.specs.Listing.{Lists, size}
 use Rattle.lh_bucket.specs.PlainMap.{Records, reply, after, replies, outcome, found}
-use Rattle.lh_core.specs.Opened.{IsOpened}
+use Rattle.lh_core.specs.Opened.{IsOpenedWorld}
 use Rattle.lh_core.specs.State.{State, first}
 use Rattle.lh_core.specs.Kept.{IsWorld}
 use Rattle.lh_core.specs.Serial.{IsAtRest, IsGivenUp, IsServedAlone, IsServed, IsServedOn, IsSerial, IsSerialFrom}
@@ -192,12 +192,12 @@ no_records v p = (empty, p, none_empty)
 
 -- calls on the world of a listing
 pub from_opened : (l : Lists) (v : WorldSeen) (m : Records) (cs : List Call) (rs : List Reply) (w : WorldSeen) →
-    IsOpened l v →
+    IsOpenedWorld l v →
     IsSerialFrom v.config m v.state.buckets cs rs w → IsSerialFrom l.config m (size l) cs rs w
 from_opened l v m cs rs w opened h =
     subst (λ n. IsSerialFrom l.config m n cs rs w) (ap (λ (a : State). a.buckets) opened.state)
     (subst (λ (t : Settings). IsSerialFrom t m v.state.buckets cs rs w) opened.config h)
 
-pub opened_rests : (l : Lists) (v : WorldSeen) → IsOpened l v → IsAtRest v.state
+pub opened_rests : (l : Lists) (v : WorldSeen) → IsOpenedWorld l v → IsAtRest v.state
 opened_rests l v h =
     record { workers = ap (λ (x : State). x.workers) h.state; splitter = ap (λ (x : State). x.splitter) h.state }

@@ -20,7 +20,7 @@ use Rattle.lh_bucket.specs.Call.{key_of}
 use Rattle.lh_bucket.specs.PlainMap.{Records, reply, after}
 use Rattle.lh_bucket.specs.Verdict.{verdict_of}
 use Rattle.lh_core.specs.World.{IsPlaced, HasKeysOnce, no_bucket}
-use Rattle.lh_core.specs.Kept.{IsRow, head_at}
+use Rattle.lh_core.specs.Kept.{IsBucketRow, head_at}
 use Rattle.lh_core.specs.Splits.{IsSplit, unfilled}
 use Rattle.lh_core.specs.Laws.{LinearHashing}
 use Rattle.lh_bucket.specs.PlainMapLaws.{reply_here, after_here, after_elsewhere, kept_twice, kept_alike}
@@ -44,7 +44,7 @@ verdict_here initial capacity i l c e =
     ∙ ap (λ t. cond t Here (Next (l + 1) (hash_at initial (l + 1) c))) (eq-eqb l l refl)
 
 -- an act at bucket i, to which the call's key leads at the bucket's own level
-module _ (g : LinearHashing) (s : Settings) (filled : ℕ) (row : List Seen) (h : IsRow s filled row)
+module _ (g : LinearHashing) (s : Settings) (filled : ℕ) (row : List Seen) (h : IsBucketRow s filled row)
     (some : 1 ≤ s.initial) (from : s.initial ≤ filled) (c : Call) (k i : ℕ)
     (aim : IsAim s.initial filled (code_of (key_of c)) k i) (level : k ≡ level_of s.initial filled i) where
   act_leads : hash_at s.initial (level_of s.initial filled i) (code_of (key_of c)) ≡ i
@@ -89,7 +89,7 @@ module _ (g : LinearHashing) (s : Settings) (filled : ℕ) (row : List Seen) (h 
         (cases_eq j i);
   }
 
-  pub act_row : (b : Seen) → b.head ≡ (get_or row i no_bucket).head → HasKeysOnce b → IsRow s filled (set row i b)
+  pub act_row : (b : Seen) → b.head ≡ (get_or row i no_bucket).head → HasKeysOnce b → IsBucketRow s filled (set row i b)
   act_row b e once = record {
     all = length-set row i b ∙ h.all;
     heads = λ j lt.
@@ -168,8 +168,8 @@ module _ (xs : List Seen) (n : ℕ) (s t : Seen) where
       ∙ get_or-set_other xs n j s no_bucket d
 
 -- a split of the pointer's bucket
-module _ (g : LinearHashing) (s : Settings) (size : ℕ) (row : List Seen) (h : IsRow s size row) (some : 1 ≤ s.initial)
-    (from : s.initial ≤ size) where
+module _ (g : LinearHashing) (s : Settings) (size : ℕ) (row : List Seen) (h : IsBucketRow s size row)
+    (some : 1 ≤ s.initial) (from : s.initial ≤ size) where
   root : IsRoot s.initial size (level s.initial size) (pointer s.initial size)
   root = root_is g s.initial size some from
 
@@ -337,7 +337,7 @@ module _ (g : LinearHashing) (s : Settings) (size : ℕ) (row : List Seen) (h : 
     abbrev Once : ℕ → Type 0
     Once j = HasKeysOnce (get_or bs j no_bucket)
 
-    pub split_row : IsRow s (size + 1) bs
+    pub split_row : IsBucketRow s (size + 1) bs
     split_row = record {
       all = long;
       heads = by_cases Headed head_pointer head_end head_other;

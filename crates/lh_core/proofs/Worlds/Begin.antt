@@ -19,7 +19,7 @@ use Rattle.lh_bucket.specs.Records.{map_of}
 use Rattle.lh_core.specs.declared.control.Control.{Control}
 use Rattle.lh_core.specs.State.{first}
 use Rattle.lh_core.specs.Control.{IsControl, control_state, world_of}
-use Rattle.lh_core.specs.Kept.{AreBuckets, IsRow, IsWorld, IsEmptyRow, empty_at}
+use Rattle.lh_core.specs.Kept.{AreBuckets, IsBucketRow, IsWorld, IsEmptyRow, empty_at}
 use Rattle.lh_core.specs.Laws.{LinearHashing}
 use Rattle.lh_core.specs.Sound.{IsSound}
 use Rattle.lh_core.specs.World.{IsPlaced, HasKeysOnce, no_bucket}
@@ -66,7 +66,7 @@ unfolding IsDistinct
 nothing_twice s i = tt
 
 pub first_row_is : LinearHashing → (s : Settings) (row : List Seen) → 1 ≤ s.initial → IsEmptyRow s s.initial row →
-    IsRow s s.initial row
+    IsBucketRow s s.initial row
 first_row_is g s row one h = record {
   all = h.all;
   once = λ i lt. subst HasKeysOnce (sym (h.each i lt)) (nothing_twice s i);
@@ -118,7 +118,7 @@ first_world g c row range root filled state h =
         range = range;
         sound = sound;
         row =
-            subst (λ n. IsRow c.config n row) (sym (ap (λ (x : Extent). x.buckets) is))
+            subst (λ n. IsBucketRow c.config n row) (sym (ap (λ (x : Extent). x.buckets) is))
             (first_row_is g c.config row range.initial.0 h);
       },
     )

@@ -16,8 +16,8 @@ use Rattle.lh_core.specs.declared.control.Control.{Control}
 use Rattle.lh_core.specs.declared.state.SplitState.TheVariants as split
 use Rattle.lh_core.specs.State.{all_idle, resting}
 use Rattle.lh_core.specs.Control.{IsControl, control_state, world_of}
-use Rattle.lh_core.specs.Kept.{IsRow, IsWorld}
-use Rattle.lh_core.specs.Opened.{IsListedRow, IsOpened, lists_in, records_of}
+use Rattle.lh_core.specs.Kept.{IsBucketRow, IsWorld}
+use Rattle.lh_core.specs.Opened.{IsListedRow, IsOpenedWorld, lists_in, records_of}
 use Rattle.lh_core.specs.Sound.{IsSound}
 use Rattle.lh_core.specs.World.{IsPlaced, no_bucket}
 use Rattle.lh_core.proofs.Logs.Aiming.{resting_sound}
@@ -31,7 +31,7 @@ module _ (l : Lists) (kept : IsListing l) where
   listed_sound = resting_sound l.config (size l) kept.config.initial.0 kept.shape.from_initial kept.shape.to_max
 
   module _ (row : List Seen) (h : IsListedRow l (size l) row) where
-    listed_row : IsRow l.config (size l) row
+    listed_row : IsBucketRow l.config (size l) row
     listed_row = record {
       all = h.all;
       heads = λ i lt. ap (λ (b : Seen). b.head) (h.each i lt);
@@ -69,15 +69,15 @@ module _ (l : Lists) (kept : IsListing l) where
           record {
             range = in_range;
             sound = sound;
-            row = subst (λ s. IsRow s c.filled.buckets row) (sym config)
-                (subst (λ n. IsRow l.config n row) (sym (ap (λ (x : Extent). x.buckets) is)) listed_row);
+            row = subst (λ s. IsBucketRow s c.filled.buckets row) (sym config)
+                (subst (λ n. IsBucketRow l.config n row) (sym (ap (λ (x : Extent). x.buckets) is)) listed_row);
           },
         )
 
     -- such a world, of which the buckets are seen as they are
     pub opened_is : PlacedLaw → (config : Settings) (root : Extent) → config ≡ l.config →
         root ≡ record { initial = l.config.initial; buckets = size l }
-        → IsOpened l
+        → IsOpenedWorld l
         (record {
           config = config;
           state =

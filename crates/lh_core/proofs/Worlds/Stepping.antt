@@ -20,10 +20,10 @@ use Rattle.lh_core.specs.declared.event.Event.{Event}
 use Rattle.lh_core.specs.declared.event.Event.TheVariants as event
 use Rattle.lh_core.specs.State.{State, with_moved}
 use Rattle.lh_core.specs.Rules.{allowed}
-use Rattle.lh_core.specs.Log.{reply_of}
+use Rattle.lh_core.specs.Log.{effect_reply}
 use Rattle.lh_core.specs.History.{outline, call_held, served_by, has_insert}
 use Rattle.lh_core.specs.Sound.{IsSound, IsPhase}
-use Rattle.lh_core.specs.Kept.{IsRow, IsWorld}
+use Rattle.lh_core.specs.Kept.{IsBucketRow, IsWorld}
 use Rattle.lh_core.specs.Control.{IsControl, KeepsFile, IsActOf, HasNoReply, IsQuiet, control_state, step_to}
 use Rattle.lh_core.specs.Control.{acted as acted_state, world_of}
 use Rattle.lh_core.specs.Laws.{LinearHashing}
@@ -44,7 +44,7 @@ told_outline effect.Freed t = refl
 told_outline (effect.Point n) t = refl
 told_outline effect.Dropped t = refl
 
-told_reply : (f : Effect) → HasNoReply f → reply_of f ≡ None
+told_reply : (f : Effect) → HasNoReply f → effect_reply f ≡ None
 told_reply effect.Called t = refl
 told_reply (effect.Aim k m) t = refl
 told_reply (effect.Locked m l) t = refl
@@ -82,7 +82,7 @@ is_ok e = subst IsOk (sym e) refl
 module _ (c d : Control) (row : List Seen) where
   pub after_step : LinearHashing → (rows : List Seen) (e : Event) (o : Option Effect) → IsControl c →
       IsWorld (world_of c row) → KeepsFile c d → allowed c.config (control_state c) e ≡ Ok (o, control_state d) →
-      IsRow c.config d.filled.buckets rows → IsControl d × IsWorld (world_of d rows)
+      IsBucketRow c.config d.filled.buckets rows → IsControl d × IsWorld (world_of d rows)
   after_step g rows e o h w r ok q =
       let sound : IsSound d.config (control_state d) =
       subst (λ s. IsSound s (control_state d)) (sym r.config)
@@ -97,7 +97,7 @@ module _ (c d : Control) (row : List Seen) where
         record {
           range = range;
           sound = sound;
-          row = subst (λ (s : Settings). IsRow s d.filled.buckets rows) (sym r.config) q;
+          row = subst (λ (s : Settings). IsBucketRow s d.filled.buckets rows) (sym r.config) q;
         },
       )
 
@@ -105,7 +105,8 @@ module _ (c d : Control) (row : List Seen) where
       KeepsFile c d → d.filled ≡ c.filled → step_to x d ≡ allowed c.config (control_state c) e → OnErr x (d ≡ c) →
       IsControl d × IsWorld (world_of d row)
   after_turn g e (Ok f) h w r same ok err =
-      after_step g row e (Some f) h w r (sym ok) (subst (λ (x : Extent). IsRow c.config x.buckets row) (sym same) w.row)
+      after_step g row e (Some f) h w r (sym ok)
+      (subst (λ (x : Extent). IsBucketRow c.config x.buckets row) (sym same) w.row)
   after_turn g e (Err f) h w r same ok err =
       subst (λ (x : Control). IsControl x × IsWorld (world_of x row)) (sym err) (h, w)
 

@@ -6,7 +6,7 @@ use Rattle.lh_addr.specs.Growth.{hash_at, HashRises}
 use Rattle.lh_addr.specs.declared.aim.Aim.{Aim}
 use Rattle.lh_file.specs.History.Buckets.{bit}
 use Rattle.lh_file.specs.FileState.{FileState}
-use Rattle.lh_file.specs.Snapshots.Scans.{Scanning, leads, aimed, HasScanned}
+use Rattle.lh_file.specs.Snapshots.Scans.{Scanning, leads, times_aimed, HasScanned}
 use Rattle.lh_file.specs.Words.HandState.{HandState}
 use Rattle.lh_file.specs.declared.snapshots.bucket_copy.BucketCopy.{BucketCopy}
 use Rattle.lh_file.specs.Words.Sums.{total, times, once_below}
@@ -18,7 +18,7 @@ at_level level bucket = record { level = level; bucket = bucket }
 
 -- one aim more: how often a code is aimed at, and the room that is left
 pub aimed-snoc : (initial code : ℕ) (aims : List Aim) (aim : Aim) →
-    aimed initial code (aims ++ aim ∷ []) ≡ aimed initial code aims + bit (leads initial code aim)
+    times_aimed initial code (aims ++ aim ∷ []) ≡ times_aimed initial code aims + bit (leads initial code aim)
 aimed-snoc initial code aims aim =
     omega (
       arith,
@@ -38,8 +38,8 @@ raised rises initial code level bucket pos below =
 
 -- the first buckets, of which each code leads to one
 pub next_first : (initial code n : ℕ) (aims : List Aim) →
-    aimed initial code aims ≡ once_below (hash_at initial 0 code) n →
-    aimed initial code (aims ++ at_level 0 n ∷ []) ≡ once_below (hash_at initial 0 code) (n + 1)
+    times_aimed initial code aims ≡ once_below (hash_at initial 0 code) n →
+    times_aimed initial code (aims ++ at_level 0 n ∷ []) ≡ once_below (hash_at initial 0 code) (n + 1)
 next_first initial code n aims h =
     let x : ℕ = hash_at initial 0 code in
     let same : times x (n ∷ []) ≡ 0 + bit (leads initial code (at_level 0 n)) = refl in
@@ -72,17 +72,17 @@ halves level below =
 pub met_in_all : (traced : Bool) (file : FileState) (scan after : Scanning) (hand left : HandState)
     (copies : List BucketCopy) → HasScanned traced file scan hand copies after left
     → (code : ℕ) →
-    aimed scan.initial code scan.aims ≡
+    times_aimed scan.initial code scan.aims ≡
     total (λ (copy : BucketCopy). bit (leads scan.initial code copy.aim)) copies
-    + aimed scan.initial code after.aims
+    + times_aimed scan.initial code after.aims
 met_in_all traced file scan after hand left [] (same, _) code =
-    omega (arith, ap (λ (s : Scanning). aimed scan.initial code s.aims) same)
+    omega (arith, ap (λ (s : Scanning). times_aimed scan.initial code s.aims) same)
 met_in_all traced file scan after hand left (copy ∷ copies) (next, now, met, visited, rest) code =
     let n = met.0 in
     let later =
     subst
     (λ i.
-    aimed i code next.aims ≡
-    total (λ (x : BucketCopy). bit (leads i code x.aim)) copies + aimed i code after.aims) n
+    times_aimed i code next.aims ≡
+    total (λ (x : BucketCopy). bit (leads i code x.aim)) copies + times_aimed i code after.aims) n
     (met_in_all traced file next after now left copies rest code) in
     omega (arith, met.1 code, later, total-cons (λ (x : BucketCopy). bit (leads scan.initial code x.aim)) copy copies)

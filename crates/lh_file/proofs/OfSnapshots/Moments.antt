@@ -21,7 +21,7 @@ use Rattle.lh_bucket.specs.Listing.{Lists, EachPlace, IsHome, list_at}
 use Rattle.lh_bucket.specs.PlainMap.{Records}
 use Rattle.lh_bucket.specs.Records.{map_of}
 use Rattle.lh_settling.specs.ClosedFile.{ClosedFile, IsWhole}
-use Rattle.lh_settling.specs.Contents.{IsPlaced}
+use Rattle.lh_settling.specs.Contents.{ArePlaced}
 use Rattle.lh_settling.specs.Laws.{FilledLaw}
 use Rattle.lh_settling.specs.Settled.{map_in}
 use Rattle.lh_file.specs.History.Buckets.{Mirrors, IsPlacedIn}
@@ -87,7 +87,7 @@ module _ (law : AddressLaw) (keys : KeyLaw) (filled : FilledLaw) (config : Setti
       (cases_lt b (length row))
 
   -- where each bucket holds what a map has of its keys, all hold the map
-  pub row_placed : (m : Records) → Each row (Mirrors m) → IsPlaced config.initial (length row) m (lists_of row)
+  pub row_placed : (m : Records) → Each row (Mirrors m) → ArePlaced config.initial (length row) m (lists_of row)
   row_placed m held =
       filled config.initial (length row) m (lists_of row)
       (λ code. ((law config.initial (length row) code (address config.initial (length row) code) pos least).0 refl).0)
@@ -120,9 +120,9 @@ module _ (law : AddressLaw) (keys : KeyLaw) (filled : FilledLaw) (config : Setti
     row_snapshot opening entries logs log (told, held) =
         let m : Records = left_after (map_in opening) log in (
           told,
-          subst (λ (l : List (List Pair)). IsPlaced closed.config.initial (buckets_of closed.root) m l) (sym lists)
-              (subst (λ n. IsPlaced closed.config.initial n m (lists_of row)) (sym size)
-              (subst (λ (s : Settings). IsPlaced s.initial (length row) m (lists_of row)) (sym same)
+          subst (λ (l : List (List Pair)). ArePlaced closed.config.initial (buckets_of closed.root) m l) (sym lists)
+              (subst (λ n. ArePlaced closed.config.initial n m (lists_of row)) (sym size)
+              (subst (λ (s : Settings). ArePlaced s.initial (length row) m (lists_of row)) (sym same)
               (row_placed m held))),
         )
 

@@ -19,8 +19,8 @@ abbrev pub leads : ℕ → ℕ → Aim → Bool
 leads initial code aim = hash_at initial aim.level code == aim.bucket
 
 -- of how many of these aims a code is one
-abbrev pub aimed : ℕ → ℕ → List Aim → ℕ
-aimed initial code aims = total (λ aim. bit (leads initial code aim)) aims
+abbrev pub times_aimed : ℕ → ℕ → List Aim → ℕ
+times_aimed initial code aims = total (λ aim. bit (leads initial code aim)) aims
 
 -- an aim that some code has, at a level that a file may have
 pub record IsWithin (initial : ℕ) (aim : Aim) : Type 0 where
@@ -65,7 +65,7 @@ abbrev pub HasMet : Scanning → Aim → Scanning → Type 0
 HasMet old aim new =
     (new.initial ≡ old.initial)
     × ((code : ℕ) →
-    aimed old.initial code old.aims ≡ bit (leads old.initial code aim) + aimed old.initial code new.aims)
+    times_aimed old.initial code old.aims ≡ bit (leads old.initial code aim) + times_aimed old.initial code new.aims)
 
 -- how many buckets a scan has still to visit at most: those of its aims, were each split up to the highest level
 abbrev pub ahead : Scanning → ℕ
@@ -82,5 +82,5 @@ HasScanned traced file scan hand (copy ∷ copies) after left =
 abbrev pub ScanLaw : Type 0
 ScanLaw =
     (traced : Bool) (file : FileState) (scan after : Scanning) (hand left : HandState) (copies : List BucketCopy) →
-    ((code : ℕ) → aimed scan.initial code scan.aims ≡ 1) → HasScanned traced file scan hand copies after left →
+    ((code : ℕ) → times_aimed scan.initial code scan.aims ≡ 1) → HasScanned traced file scan hand copies after left →
     after.aims ≡ [] → (code : ℕ) → total (λ copy. bit (leads scan.initial code copy.aim)) copies ≡ 1

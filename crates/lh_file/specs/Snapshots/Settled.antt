@@ -3,7 +3,7 @@ use Rattle.std.specs.Prelude.{◌≡◌, ◌+◌, ◌%◌, ◌^◌, List, Contai
 use Rattle.lh_bucket.specs.Listing.{Lists}
 use Rattle.lh_settling.specs.Acts.{acts_before}
 use Rattle.lh_settling.specs.ClosedFile.{ClosedFile}
-use Rattle.lh_settling.specs.Settled.{IsHistory, IsSettled}
+use Rattle.lh_settling.specs.Settled.{IsStamped, IsSettled}
 use Rattle.lh_settling.specs.declared.act.ActLine.{ActLine}
 use Rattle.lh_file.specs.Closing.{NoneOutside, HasHistory}
 use Rattle.lh_file.specs.Snapshots.Moments.{IsSnapshot}
@@ -19,7 +19,7 @@ IsSettledFirst opening snapshot acts history =
 abbrev pub BeforeLaw : Type 0
 BeforeLaw =
     (snapshot closed : ClosedFile) (acts before history : List ActLine) →
-    IsHistory snapshot (acts_before snapshot.stamps acts) before → IsHistory closed acts history →
+    IsStamped snapshot (acts_before snapshot.stamps acts) before → IsStamped closed acts history →
     before ≡ take snapshot.stamps history
 
 -- A snapshot of a traced file, with no split under way, was taken by the hand that closed the file, or by one that was

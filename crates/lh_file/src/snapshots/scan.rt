@@ -6,7 +6,7 @@ ghost use Rattle.lh_addr.specs.Limits.{IsInitial};
 ghost use Rattle.lh_file.specs.Calls.Served.{IsNotSpent};
 ghost use Rattle.lh_file.specs.FileState.{IsOf};
 ghost use Rattle.lh_file.specs.History.Buckets.{bit};
-ghost use Rattle.lh_file.specs.Snapshots.Scans.{leads, aimed, ahead, IsWithin, HasMet, HasVisited, HasScanned};
+ghost use Rattle.lh_file.specs.Snapshots.Scans.{leads, times_aimed, ahead, IsWithin, HasMet, HasVisited, HasScanned};
 ghost use Rattle.lh_file.specs.Words.Rule.{Each};
 ghost use Rattle.lh_file.specs.Words.Sums.{total};
 ghost use Rattle.lh_file.specs.declared.snapshots.bucket_copy.BucketCopy.{BucketCopy as BucketCopyOf};
@@ -55,7 +55,7 @@ impl Model for Scan {
 /// The aims of the buckets that a file begins with.
 fn first_aims(alloc: Global, first: u32) -> Result<Vec<Aim>, Memory>
     requires { IsInitial first }
-    ensures all { IfOk result (λ aims. (code : ℕ) → aimed first code aims.items ≡ 1) }
+    ensures all { IfOk result (λ aims. (code : ℕ) → times_aimed first code aims.items ≡ 1) }
     ensures within { IfOk result (λ aims. Each aims.items (IsWithin first)) }
 {
     let mut aims = Vec::with_capacity(alloc, first as usize)?;
@@ -74,8 +74,8 @@ fn push_raised(aims: &mut Vec<Aim>, first: u32, bucket: u32, from: u8, to: u8)
     requires room { vec_len aims.old + (to - from) ≤ vec_capacity aims.old }
     requires within { Each aims.old.items (IsWithin first) }
     ensures all { (code : ℕ) →
-        aimed first code aims.new.items + bit (leads first code (record { level = to; bucket = bucket }))
-        ≡ aimed first code aims.old.items + bit (leads first code (record { level = from; bucket = bucket })) }
+        times_aimed first code aims.new.items + bit (leads first code (record { level = to; bucket = bucket }))
+        ≡ times_aimed first code aims.old.items + bit (leads first code (record { level = from; bucket = bucket })) }
     ensures ahead { total (λ aim. 2 ^ (16 - aim.level)) aims.new.items + 2 ^ (16 - to)
         ≡ total (λ aim. 2 ^ (16 - aim.level)) aims.old.items + 2 ^ (16 - from) }
     ensures within { Each aims.new.items (IsWithin first) }
@@ -98,7 +98,7 @@ impl Scan {
         file: &HashFile<G, M, J>,
     ) -> Result<Scan, Memory>
         ensures initial { IfOk result (λ scan. scan.initial ≡ file.now.state.config.initial) }
-        ensures all { IfOk result (λ scan. (code : ℕ) → aimed scan.initial code scan.aims ≡ 1) }
+        ensures all { IfOk result (λ scan. (code : ℕ) → times_aimed scan.initial code scan.aims ≡ 1) }
     {
         let initial = file.words.config.initial();
         let aims = first_aims(alloc, initial)?;

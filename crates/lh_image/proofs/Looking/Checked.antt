@@ -23,12 +23,12 @@ use Rattle.lh_image.specs.declared.header.Header.{Header}
 use Rattle.lh_image.specs.declared.judge.page_checks.PageFaults.{PageFaults}
 use Rattle.lh_image.specs.declared.table.Entry.{Entry}
 use Rattle.lh_image.specs.declared.checked.index.PageIndex.{PageIndex}
-use Rattle.lh_image.specs.Checked.{AreIndexed, IsIndexed, mark_of, no_index}
+use Rattle.lh_image.specs.Checked.{AreIndexed, IsIndexed, code_mark, no_index}
 use Rattle.lh_image.specs.Faults.{bad_used, first_fault_of, has_bad_slot, image_fault}
 use Rattle.lh_image.specs.Image.{ImageLaw, IsImage, OneListingLaw, listing_of}
 use Rattle.lh_image.specs.Layout.{page, view_of}
 use Rattle.lh_image.specs.Listed.{IsLate, IsMemoryOr, IsRead}
-use Rattle.lh_image.specs.LookUp.{IsOpened, MapLaw, first_pairs, found_first, found_from, head_rows_at, home_of}
+use Rattle.lh_image.specs.LookUp.{IsOpenedImage, MapLaw, first_pairs, found_first, found_from, head_rows_at, home_of}
 use Rattle.lh_image.specs.LookUp.{look_up, own_fault, rest_rows_at, value_in}
 use Rattle.lh_image.specs.Pages.{HaveCome}
 use Rattle.lh_image.specs.Reading.{IsDueFault, judged_by, reading_of}
@@ -47,7 +47,7 @@ use Rattle.lh_image.proofs.OfReading.Whole.{AnswersView, exact_is, image_is}
 -- ---- what was checked
 
 read_is : (bytes : List ℕ) (header : Header) (root : Extent) (entries : List Entry) (pairs : List Pair)
-    (faults : PageFaults) → IsOpened bytes header root → HaveCome bytes header header.pages entries pairs faults →
+    (faults : PageFaults) → IsOpenedImage bytes header root → HaveCome bytes header header.pages entries pairs faults →
     IsRead bytes header entries pairs faults
 read_is bytes header root entries pairs faults o come = record { come = come; faultless = o.faultless; size = o.size }
 
@@ -66,7 +66,7 @@ memory_or bytes ReadFault late due = absurd late
 memory_or bytes f late due = fault_from bytes f due
 
 module _ (bytes : List ℕ) (header : Header) (root : Extent) (entries : List Entry) (pairs : List Pair)
-    (faults : PageFaults) (o : IsOpened bytes header root)
+    (faults : PageFaults) (o : IsOpenedImage bytes header root)
     (come : HaveCome bytes header header.pages entries pairs faults) where
   pub checked_fault : (f : ImageFault) → IsLate f → AnswersView header entries pairs faults (Err f) →
       IsMemoryOr f (image_fault bytes)
@@ -194,16 +194,16 @@ listed_as law bytes key l answer image e =
 
 -- ---- what is kept of the pages
 
-pub mark_apart : (key other : List ℕ) (kept mark : ℕ) → kept ≡ mark_of (code_of other) → mark ≡ mark_of (code_of key) →
-    kept ≢ mark → bytes_eq other key ≡ false
+pub mark_apart : (key other : List ℕ) (kept mark : ℕ) → kept ≡ code_mark (code_of other) →
+    mark ≡ code_mark (code_of key) → kept ≢ mark → bytes_eq other key ≡ false
 mark_apart key other kept mark is sought differ =
     false_from_ne_true _
-    (λ same. differ (is ∙ ap (λ k. mark_of (code_of k)) ((bytes_eq-Decides other key).0 same) ∙ sym sought))
+    (λ same. differ (is ∙ ap (λ k. code_mark (code_of k)) ((bytes_eq-Decides other key).0 same) ∙ sym sought))
 
 pub marks_more : (f : Format) (page marks : List ℕ) (n mark : ℕ) → n < length marks →
-    ((i : ℕ) → i < n → get_or marks i 0 ≡ mark_of (code_of (pair_of f (slot f page i)).key)) →
-    mark ≡ mark_of (code_of (pair_of f (slot f page n)).key) →
-    (i : ℕ) → i < n + 1 → get_or (set marks n mark) i 0 ≡ mark_of (code_of (pair_of f (slot f page i)).key)
+    ((i : ℕ) → i < n → get_or marks i 0 ≡ code_mark (code_of (pair_of f (slot f page i)).key)) →
+    mark ≡ code_mark (code_of (pair_of f (slot f page n)).key) →
+    (i : ℕ) → i < n + 1 → get_or (set marks n mark) i 0 ≡ code_mark (code_of (pair_of f (slot f page i)).key)
 marks_more f page marks n mark room before here i low = elim (cases_eq i n) [
   | inl same ↦ rw same (get_or-set_same marks n mark 0 room ∙ here)
   | inr other ↦ get_or-set_other marks n i mark 0 other ∙ before i (omega arith)
@@ -211,8 +211,8 @@ marks_more f page marks n mark room before here i low = elim (cases_eq i n) [
 
 -- in an image each page has records within its slots, and no bad one
 pub image_page : OneListingLaw → (bytes : List ℕ) (header : Header) (root : Extent) (l : Lists) →
-    IsOpened bytes header root → IsImage bytes l → (p : ℕ) → 1 ≤ p → p < header.pages → (f : Format) (pg : List ℕ) →
-    f ≡ format_of header.version → pg ≡ page bytes p →
+    IsOpenedImage bytes header root → IsImage bytes l → (p : ℕ) → 1 ≤ p → p < header.pages →
+    (f : Format) (pg : List ℕ) → f ≡ format_of header.version → pg ≡ page bytes p →
     (used_of pg ≤ f.slots) × ((k : ℕ) → k < used_of pg → is_bad_record f (slot f pg k) ≡ false)
 unfolding view_of bad_used
 image_page one bytes header root l o image p low high f pg fe pe =

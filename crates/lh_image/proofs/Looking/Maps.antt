@@ -24,7 +24,7 @@ use Rattle.lh_image.specs.Faults.{bad_bucket, has_misfit, is_at_home, misfits}
 use Rattle.lh_image.specs.Faults.{first_fault_of}
 use Rattle.lh_image.specs.Image.{IsImage, OneListingLaw, header_for}
 use Rattle.lh_image.specs.Layout.{header_of, view_of}
-use Rattle.lh_image.specs.LookUp.{IsOpened, MapLaw, StandsLaw, Stands, found_first, found_from, has_stranger}
+use Rattle.lh_image.specs.LookUp.{IsOpenedImage, MapLaw, StandsLaw, Stands, found_first, found_from, has_stranger}
 use Rattle.lh_image.specs.LookUp.{head_rows_at, home_of, look_up, own_fault, rest_rows_at, value_in}
 use Rattle.lh_image.specs.View.{View, initial, buckets, bucket, next, page_count}
 use Rattle.lh_image.proofs.Bytes.HeaderTests.{are_in_range}
@@ -247,7 +247,7 @@ stands_law addresses v key value some from e =
     (r.0, record { on_chain = r.1.among; own = r.1.own; faultless = r.1.faultless; there = r.1.there })
 
 -- of bytes that were opened
-pub stands_opened : StandsLaw → (bytes : List ℕ) (header : Header) (root : Extent) → IsOpened bytes header root →
+pub stands_opened : StandsLaw → (bytes : List ℕ) (header : Header) (root : Extent) → IsOpenedImage bytes header root →
     (key value : List ℕ) → look_up (view_of bytes) key ≡ Ok (Some value) → Stands (view_of bytes) key value
 unfolding view_of
 stands_opened law bytes header root o key value e =
@@ -258,7 +258,7 @@ stands_opened law bytes header root o key value e =
 
 -- ---- the header of an image's listing
 
-pub listed : {X : Type 0} (bytes : List ℕ) (header : Header) (root : Extent) → IsOpened bytes header root →
+pub listed : {X : Type 0} (bytes : List ℕ) (header : Header) (root : Extent) → IsOpenedImage bytes header root →
     (field : Header → X) (l : Lists) → IsImage bytes l →
     (P : ℕ) × (field header ≡ field (header_for (header_of bytes).version l P))
 listed bytes header root o field l image =

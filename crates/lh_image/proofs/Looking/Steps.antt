@@ -22,8 +22,8 @@ use Rattle.lh_image.specs.declared.version.Version.{Version}
 use Rattle.lh_image.specs.Faults.{at_head, bad_bucket, bad_kind, bad_level, bad_next, bad_used, first_fault_of}
 use Rattle.lh_image.specs.Faults.{has_bad_slot, where_so}
 use Rattle.lh_image.specs.Layout.{header_of, page, view_of}
-use Rattle.lh_image.specs.LookUp.{IsOpened, IsPlaceOf, IsSlotOf, found_first, found_from, has_stranger, head_rows_at}
-use Rattle.lh_image.specs.LookUp.{home_of, look_up, own_fault, rest_rows_at, value_in, value_of}
+use Rattle.lh_image.specs.LookUp.{IsOpenedImage, IsPlaceOf, IsSlotOf, found_first, found_from, has_stranger}
+use Rattle.lh_image.specs.LookUp.{head_rows_at, home_of, look_up, own_fault, rest_rows_at, value_in, slot_value}
 use Rattle.lh_image.specs.Misplaced.{is_home}
 use Rattle.lh_image.specs.PageChecks.{known_bad_level}
 use Rattle.lh_image.specs.Version.{format_of, page_bytes, version_of}
@@ -34,7 +34,7 @@ use Rattle.lh_image.proofs.Paths.Packing.{used_rule}
 
 -- ---- what is opened
 
-module _ (bytes : List ℕ) (header : Header) (root : Extent) (o : IsOpened bytes header root) where
+module _ (bytes : List ℕ) (header : Header) (root : Extent) (o : IsOpenedImage bytes header root) where
   pub version_is : header.version ≡ version_of bytes
   version_is = ap (λ (h : Header). h.version) o.fields ∙ version_shown bytes
 
@@ -149,7 +149,7 @@ pub next_other : (x S P b d : ℕ) → x ≢ 0 → S < x → x < P →
 next_other x S P b d some low high = grind (arith, nat_tests)
 
 -- where a page leads, by the header and the head that were read
-pub next_is : (bytes : List ℕ) (header : Header) (root : Extent) → IsOpened bytes header root →
+pub next_is : (bytes : List ℕ) (header : Header) (root : Extent) → IsOpenedImage bytes header root →
     (number : ℕ) (head : PageHead) (r : Bool) → head ≡ (view_of bytes).head number →
     r ≡
     (not (eqb head.next 0)
@@ -195,21 +195,21 @@ pub rest_slots : (v : View) (i p : ℕ) → false ≡ bad_next (links v) p →
 unfolding first_fault_of
 rest_slots v i p e = rw (← e) refl
 
-pub home_is : (bytes : List ℕ) (header : Header) (root : Extent) → IsOpened bytes header root →
+pub home_is : (bytes : List ℕ) (header : Header) (root : Extent) → IsOpenedImage bytes header root →
     (key : List ℕ) (home : ℕ) → home ≡ home_of (view_of bytes) key → is_home root home key ≡ true
 unfolding home_of
 home_is bytes header root o key home e =
     eq-eqb (address root.initial root.buckets (code_of key)) home
     (ap (λ (x : Extent). address x.initial x.buckets (code_of key)) (root_is bytes header root o) ∙ sym e)
 
-pub home_found : (bytes : List ℕ) (header : Header) (root : Extent) → IsOpened bytes header root → (key : List ℕ) →
+pub home_found : (bytes : List ℕ) (header : Header) (root : Extent) → IsOpenedImage bytes header root → (key : List ℕ) →
     address root.initial root.buckets (code_of key) ≡ home_of (view_of bytes) key
 unfolding home_of
 home_found bytes header root o key =
     ap (λ (x : Extent). address x.initial x.buckets (code_of key)) (root_is bytes header root o)
 
 -- the slots that were scanned are those of the View
-pub slots_are : (bytes : List ℕ) (header : Header) (root : Extent) → IsOpened bytes header root →
+pub slots_are : (bytes : List ℕ) (header : Header) (root : Extent) → IsOpenedImage bytes header root →
     (home number : ℕ) (f : Format) (pg : List ℕ) → f ≡ format_of (version_of bytes) → pg ≡ page bytes number →
     slot_rows (is_some (bad_slot f pg)) (list_any (λ (r : Pair). not (is_home root home r.key)) (pairs_of f pg))
     number ≡ slot_rows (has_bad_slot (view_of bytes) number) (has_stranger (view_of bytes) home number) number
@@ -234,7 +234,7 @@ slot_is bytes key number f pg place fe pe h =
     subst (λ b. IsSlotOf (format_of (version_of bytes)) b key (pairs_of (format_of (version_of bytes)) b) place) pe
     (subst (λ g. IsSlotOf g pg key (pairs_of g pg) place) fe h)
 
-pub format_is : (bytes : List ℕ) (header : Header) (root : Extent) → IsOpened bytes header root → (f : Format) →
+pub format_is : (bytes : List ℕ) (header : Header) (root : Extent) → IsOpenedImage bytes header root → (f : Format) →
     f ≡ format_of header.version → f ≡ format_of (version_of bytes)
 format_is bytes header root o f e = e ∙ ap format_of (version_is bytes header root o)
 
@@ -243,7 +243,7 @@ unfolding page_bytes
 page_size_is v f n e g = e ∙ ap page_size (sym g)
 
 -- a page has no more records than slots
-pub used_fits : (bytes : List ℕ) (header : Header) (root : Extent) → IsOpened bytes header root →
+pub used_fits : (bytes : List ℕ) (header : Header) (root : Extent) → IsOpenedImage bytes header root →
     (number : ℕ) (f : Format) → None ≡ first_fault_of (head_rows_at (view_of bytes) number) →
     f ≡ format_of header.version → ((view_of bytes).head number).used ≤ f.slots
 unfolding bad_used view_of
@@ -324,7 +324,7 @@ module _ (v : View) (key : List ℕ) (pages counter number : ℕ) (h : IsOnItsWa
       look_up v key ≡ found_from v key (pages - (counter + 1)) (next v number)
   step_next e g = here ∙ rw (e, g) refl
 
-module _ (bytes : List ℕ) (header : Header) (root : Extent) (o : IsOpened bytes header root) (key : List ℕ) where
+module _ (bytes : List ℕ) (header : Header) (root : Extent) (o : IsOpenedImage bytes header root) (key : List ℕ) where
   pub begins : (home : ℕ) → home ≡ home_of (view_of bytes) key → home < root.buckets →
       IsOnItsWay (view_of bytes) key header.pages 0 (1 + home)
   unfolding look_up
@@ -350,7 +350,7 @@ module _ (bytes : List ℕ) (header : Header) (root : Extent) (o : IsOpened byte
       below = subst (λ n. number < n) (pages_is bytes header root o) h.below;
       slot = at.0;
       short = at.1;
-      found = step_value (view_of bytes) key header.pages counter number h more (value_of bytes number k) none at.2;
+      found = step_value (view_of bytes) key header.pages counter number h more (slot_value bytes number k) none at.2;
     }
 
     pub goes_on : (following : ℕ) → own_fault (view_of bytes) (home_of (view_of bytes) key) number ≡ None →

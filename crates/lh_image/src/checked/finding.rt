@@ -5,9 +5,9 @@ ghost use Rattle.lh_addr.specs.Fnv.{code_of};
 ghost use Rattle.lh_page.specs.Format.{IsWithinLimits, page_size, slot_size};
 ghost use Rattle.lh_page.specs.PageFields.{is_bad_record, key_length, pair_of, pairs_of, used_of};
 ghost use Rattle.lh_page.specs.PageTable.{slot};
-ghost use Rattle.lh_image.specs.Checked.{IsChecked, IsIndexed, mark_of};
+ghost use Rattle.lh_image.specs.Checked.{IsChecked, IsIndexed, code_mark};
 ghost use Rattle.lh_image.specs.Layout.{page, view_of};
-ghost use Rattle.lh_image.specs.LookUp.{IsLookedAt, IsOpened, IsPlace, IsSlotOf, home_of, own_fault};
+ghost use Rattle.lh_image.specs.LookUp.{IsLookedAt, IsOpenedImage, IsPlace, IsSlotOf, home_of, own_fault};
 ghost use Rattle.lh_image.specs.Version.{format_of, version_of};
 
 use crate::checked::index::{PageIndex, mark_of};
@@ -46,7 +46,7 @@ fn is_there(
     requires used { place < used_of page.now }
     requires good { is_bad_record format (slot format page.now place) ≡ false }
     requires entry { IsIndexed format page.now entry.now }
-    requires mark { mark ≡ mark_of (code_of key.now) }
+    requires mark { mark ≡ code_mark (code_of key.now) }
     ensures { result ≡ bytes_eq (pair_of format (slot format page.now place)).key key.now }
 {
     if entry.marks[place] != mark {
@@ -63,7 +63,7 @@ fn place_in(page: &[u8], format: Format, entry: &PageIndex, key: &[u8], mark: u8
     requires few { used_of page.now ≤ format.slots }
     requires good { (i : ℕ) → i < used_of page.now → is_bad_record format (slot format page.now i) ≡ false }
     requires entry { IsIndexed format page.now entry.now }
-    requires mark { mark ≡ mark_of (code_of key.now) }
+    requires mark { mark ≡ code_mark (code_of key.now) }
     ensures { IsSlotOf format page.now key.now (pairs_of format page.now) result }
 {
     for place in 0..entry.used as usize {
@@ -85,12 +85,12 @@ fn look_at(
     mark: u8,
     number: u32,
 ) -> (Option<usize>, u32)
-    requires opened { IsOpened bytes.now header.now root.now }
+    requires opened { IsOpenedImage bytes.now header.now root.now }
     requires from { 1 ≤ number }
     requires below { number < header.now.pages }
     requires faultless { own_fault (view_of bytes.now) (home_of (view_of bytes.now) key.now) number ≡ None }
     requires entry { IsIndexed (format_of (version_of bytes.now)) (page bytes.now number) entry.now }
-    requires mark { mark ≡ mark_of (code_of key.now) }
+    requires mark { mark ≡ code_mark (code_of key.now) }
     ensures { IsLookedAt bytes.now key.now number (Ok result) }
 {
     let page = page_at(bytes, header, root, number);

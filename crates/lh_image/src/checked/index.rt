@@ -4,10 +4,10 @@ ghost use Rattle.lh_addr.specs.Fnv.{code_of};
 ghost use Rattle.lh_page.specs.Format.{IsWithinLimits, page_size};
 ghost use Rattle.lh_page.specs.PageFields.{is_bad_record, pair_of, used_of};
 ghost use Rattle.lh_page.specs.PageTable.{slot};
-ghost use Rattle.lh_image.specs.Checked.{AreIndexed, IsIndexed, mark_of};
+ghost use Rattle.lh_image.specs.Checked.{AreIndexed, IsIndexed, code_mark};
 ghost use Rattle.lh_image.specs.Image.{IsImage, listing_of};
 ghost use Rattle.lh_image.specs.Layout.{view_of};
-ghost use Rattle.lh_image.specs.LookUp.{IsOpened};
+ghost use Rattle.lh_image.specs.LookUp.{IsOpenedImage};
 
 use crate::fault::ImageFault;
 use crate::header::Header;
@@ -33,7 +33,7 @@ pub(crate) struct PageIndex {
 /// The byte of a code that tells most keys apart: its highest, since the lowest bits are those of the address.
 #[inline]
 pub(crate) fn mark_of(code: u64) -> u8
-    ensures { result ≡ mark_of code }
+    ensures { result ≡ code_mark code }
 {
     (code >> 56) as u8
 }
@@ -44,7 +44,7 @@ fn mark_in(page: &[u8], format: Format, place: usize) -> u8
     requires limits { IsWithinLimits format }
     requires within { place < format.slots }
     requires good { is_bad_record format (slot format page.now place) ≡ false }
-    ensures { result ≡ mark_of (code_of (pair_of format (slot format page.now place)).key) }
+    ensures { result ≡ code_mark (code_of (pair_of format (slot format page.now place)).key) }
 {
     mark_of(fnv1a(key_in(slot_at(page, format, place), format)))
 }
@@ -77,7 +77,7 @@ pub(crate) fn index_in(
     header: &Header,
     root: &Root,
 ) -> Result<Vec<PageIndex>, ImageFault>
-    requires opened { IsOpened bytes.now header.now root.now }
+    requires opened { IsOpenedImage bytes.now header.now root.now }
     requires image { IsImage bytes.now (listing_of (view_of bytes.now)) }
     ensures index { IfOk result (λ index. AreIndexed bytes.now header.now.pages index.items) }
     ensures fault { IfErr result (λ f. f ≡ ImageFault.Memory) }

@@ -1,6 +1,6 @@
 //! All pages of bytes that were opened, one after the other.
 ghost use Rattle.std.specs.Prelude.{◌≡◌, length, IfErr, IfOk};
-ghost use Rattle.lh_image.specs.LookUp.{IsOpened};
+ghost use Rattle.lh_image.specs.LookUp.{IsOpenedImage};
 ghost use Rattle.lh_image.specs.Pages.{HaveCome};
 ghost use Rattle.lh_image.specs.Table.{AreWithin};
 
@@ -20,7 +20,7 @@ pub(crate) fn pages_in(
     header: &Header,
     root: &Root,
 ) -> Result<(Table, PageFaults), ImageFault>
-    requires { IsOpened bytes.now header.now root.now }
+    requires { IsOpenedImage bytes.now header.now root.now }
     ensures within { IfOk result (λ r. AreWithin r.0.entries.items r.0.pairs.items) }
     ensures size { IfOk result (λ r. length r.0.entries.items ≡ header.now.pages) }
     ensures come { IfOk result (λ r.

@@ -4,7 +4,7 @@ ghost use Rattle.lh_page.specs.Format.{IsWithinLimits};
 ghost use Rattle.lh_page.specs.PageFields.{value_length};
 ghost use Rattle.lh_image.specs.Faults.{bad_next, first_fault_of};
 ghost use Rattle.lh_image.specs.Layout.{page, view_of};
-ghost use Rattle.lh_image.specs.LookUp.{IsLookedAt, IsOpened, IsPlace, head_rows_at, home_of, slot_of, value_of};
+ghost use Rattle.lh_image.specs.LookUp.{IsLookedAt, IsOpenedImage, IsPlace, head_rows_at, home_of, slot_of, slot_value};
 ghost use Rattle.lh_image.specs.Version.{format_of, page_bytes, version_of};
 ghost use Rattle.lh_image.specs.View.{bucket, links};
 
@@ -19,7 +19,7 @@ use lh_page::{Key, PageHead};
 /// The bytes of a page.
 #[inline]
 pub(crate) fn page_at<'a>(bytes: &'a [u8], header: &Header, root: &Root, number: u32) -> &'a [u8]
-    requires opened { IsOpened bytes.now header.now root.now }
+    requires opened { IsOpenedImage bytes.now header.now root.now }
     requires below { number < header.now.pages }
     ensures page { result.now ≡ page bytes.now number }
     ensures size { length result.now ≡ page_bytes header.now.version }
@@ -31,7 +31,7 @@ pub(crate) fn page_at<'a>(bytes: &'a [u8], header: &Header, root: &Root, number:
 
 /// The head of a page.
 fn head_at(bytes: &[u8], header: &Header, root: &Root, number: u32) -> PageHead
-    requires opened { IsOpened bytes.now header.now root.now }
+    requires opened { IsOpenedImage bytes.now header.now root.now }
     requires from { 1 ≤ number }
     requires below { number < header.now.pages }
     ensures { result ≡ (view_of bytes.now).head number }
@@ -47,7 +47,7 @@ fn fault_of_head(
     number: u32,
     head: &PageHead,
 ) -> Option<ImageFault>
-    requires opened { IsOpened bytes.now header.now root.now }
+    requires opened { IsOpenedImage bytes.now header.now root.now }
     requires from { 1 ≤ number }
     requires head { head.now ≡ (view_of bytes.now).head number }
     ensures { result ≡ first_fault_of (head_rows_at (view_of bytes.now) number) }
@@ -69,7 +69,7 @@ fn fault_of_head(
 
 /// Whether the next page that a page names is no overflow page of its bucket.
 fn names_bad_next(bytes: &[u8], header: &Header, root: &Root, number: u32, head: &PageHead) -> bool
-    requires opened { IsOpened bytes.now header.now root.now }
+    requires opened { IsOpenedImage bytes.now header.now root.now }
     requires head { head.now ≡ (view_of bytes.now).head number }
     ensures { result ≡ bad_next (links (view_of bytes.now)) number }
 {
@@ -91,7 +91,7 @@ fn look_at(
     home: u32,
     number: u32,
 ) -> Result<(Option<usize>, u32), ImageFault>
-    requires opened { IsOpened bytes.now header.now root.now }
+    requires opened { IsOpenedImage bytes.now header.now root.now }
     requires home { home ≡ home_of (view_of bytes.now) key.now }
     requires from { 1 ≤ number }
     requires below { number < header.now.pages }
@@ -117,7 +117,7 @@ pub(crate) fn place_of(
     root: &Root,
     key: &Key,
 ) -> Result<Option<(u32, usize)>, ImageFault>
-    requires { IsOpened bytes.now header.now root.now }
+    requires { IsOpenedImage bytes.now header.now root.now }
     ensures { IsPlace bytes.now key.now result }
 {
     let home = root.address(fnv1a(key.bytes()));
@@ -144,11 +144,11 @@ pub(crate) fn value_at<'a>(
     number: u32,
     place: usize,
 ) -> &'a [u8]
-    requires opened { IsOpened bytes.now header.now root.now }
+    requires opened { IsOpenedImage bytes.now header.now root.now }
     requires below { number < header.now.pages }
     requires slot { place < (format_of (version_of bytes.now)).slots }
     requires short { value_length (slot_of bytes.now number place) ≤ (format_of (version_of bytes.now)).value }
-    ensures value { result.now ≡ value_of bytes.now number place }
+    ensures value { result.now ≡ slot_value bytes.now number place }
     ensures short { length result.now ≤ (format_of (version_of bytes.now)).value }
 {
     let format = header.version.format();

@@ -2,7 +2,7 @@ use Rattle.std.proofs.Common.{◌≡◌, ◌<◌, map, ap, subst, ◌∙◌, ari
 use Rattle.std.proofs.lemmas.List.{length-map}
 use Rattle.lh_addr.specs.Growth.{pointer}
 use Rattle.lh_core.specs.Splits.{IsSplit}
-use Rattle.lh_core.specs.Kept.{IsRow}
+use Rattle.lh_core.specs.Kept.{IsBucketRow}
 use Rattle.lh_core.specs.World.{IsPlaced}
 use Rattle.lh_core.proofs.Records.Placing.{pointer_below, can_split, split_placed, split_row}
 use Rattle.lh_core.proofs.row.divide.Goals as goal
@@ -12,7 +12,7 @@ split_one-requires-clause-within g c =
     let row = map g.B.Bucket.seen c.args.buckets.now.items in
     let s = c.args.control.now.config in
     let size = c.args.control.now.root.buckets in
-    let rows : IsRow s size row = subst (λ n. IsRow s n row) c.requires.before c.requires.world.row in
+    let rows : IsBucketRow s size row = subst (λ n. IsBucketRow s n row) c.requires.before c.requires.world.row in
     let is : c.pointer-pointer.result ≡ pointer s.initial size =
     c.pointer-pointer.ensures ∙ ap (λ n. pointer n size) c.requires.control.root in
     omega (
@@ -30,7 +30,7 @@ split_one-requires-clause-can g c =
     let row = map g.B.Bucket.seen c.args.buckets.now.items in
     let s = c.args.control.now.config in
     let size = c.args.control.now.root.buckets in
-    let rows : IsRow s size row = subst (λ n. IsRow s n row) c.requires.before c.requires.world.row in
+    let rows : IsBucketRow s size row = subst (λ n. IsBucketRow s n row) c.requires.before c.requires.world.row in
     let is : c.pointer-pointer.result ≡ pointer s.initial size =
     c.pointer-pointer.ensures ∙ ap (λ n. pointer n size) c.requires.control.root in
     let long : vec_len c.args.buckets.now ≡ size =
@@ -45,7 +45,7 @@ returns-in-Ok-clause-row g c =
     let row = map g.B.Bucket.seen c.args.buckets.now.items in
     let s = c.args.control.now.config in
     let size = c.args.control.now.root.buckets in
-    let rows : IsRow s size row = subst (λ n. IsRow s n row) c.requires.before c.requires.world.row in
+    let rows : IsBucketRow s size row = subst (λ n. IsBucketRow s n row) c.requires.before c.requires.world.row in
     let is : c.pointer-pointer.result ≡ pointer s.initial size =
     c.pointer-pointer.ensures ∙ ap (λ n. pointer n size) c.requires.control.root in
     let sp : IsSplit row (pointer s.initial size) s.initial s.capacity
@@ -67,7 +67,7 @@ returns-in-Ok-clause-stands g c = λ m p.
     let row = map g.B.Bucket.seen c.args.buckets.now.items in
     let s = c.args.control.now.config in
     let size = c.args.control.now.root.buckets in
-    let rows : IsRow s size row = subst (λ n. IsRow s n row) c.requires.before c.requires.world.row in
+    let rows : IsBucketRow s size row = subst (λ n. IsBucketRow s n row) c.requires.before c.requires.world.row in
     let is : c.pointer-pointer.result ≡ pointer s.initial size =
     c.pointer-pointer.ensures ∙ ap (λ n. pointer n size) c.requires.control.root in
     let sp : IsSplit row (pointer s.initial size) s.initial s.capacity

@@ -12,7 +12,7 @@ use Rattle.lh_options.specs.OptionLaws.{help_asked, image_served, image_served_t
 use Rattle.lh_options.specs.OptionLaws.{initial_zero, max_below_initial, max_beside_image, max_given, max_over_limit}
 use Rattle.lh_options.specs.OptionLaws.{max_with_plus, migrate_alone, no_options, no_subcommand, program_version_asked}
 use Rattle.lh_options.specs.OptionLaws.{query_alone, replay_given, shards_given, shards_over_limit, shards_with_plus}
-use Rattle.lh_options.specs.OptionLaws.{shards_zero, snapshots_given, snapshots_of_shards, snapshots_over_limit}
+use Rattle.lh_options.specs.OptionLaws.{shards_zero, snapshots_given, snapshots_of_two_shards, snapshots_over_limit}
 use Rattle.lh_options.specs.OptionLaws.{snapshots_with_minus, steps_given, third_image, threads_over_limit}
 use Rattle.lh_options.specs.OptionLaws.{threads_zero, unknown_option, serve_given}
 use Rattle.lh_options.specs.declared.options.ImageVersion.TheVariants.{First, Second}
@@ -67,7 +67,7 @@ snapshots : GivesDrive snapshots_given (record { initial = 1; capacity = 14; loa
 unfolding clap_on_literals Accepts settings_given subcommand_named
 snapshots = (((refl, refl), refl), refl, refl, refl, refl)
 
-of_shards : GivesDrive snapshots_of_shards (record { initial = 1; capacity = 14; load = 100; max = 65536 }) 4 2 1
+of_shards : GivesDrive snapshots_of_two_shards (record { initial = 1; capacity = 14; load = 100; max = 65536 }) 4 2 1
 unfolding clap_on_literals Accepts settings_given subcommand_named
 of_shards = (((refl, refl), refl), refl, refl, refl, refl)
 

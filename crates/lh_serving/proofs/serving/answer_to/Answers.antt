@@ -5,8 +5,8 @@ use Rattle.lh_addr.specs.Extent.{Extent}
 use Rattle.lh_core.specs.World.{WorldSeen}
 use Rattle.lh_script.specs.declared.requests.Request.{Request}
 use Rattle.lh_script.specs.declared.requests.Request.TheVariants as ask
-use Rattle.lh_serving.specs.Answers.{Answers, FileSeen, Shows}
-use Rattle.lh_serving.specs.Texts.{image_text, told}
+use Rattle.lh_serving.specs.Answers.{AnswersLine, FileSeen, HoldsFile}
+use Rattle.lh_serving.specs.Texts.{image_text, answer_line}
 use Rattle.lh_serving.specs.declared.answer.Answer.{Answer}
 use Rattle.lh_serving.specs.declared.answer.Answer.TheVariants as answer
 use Rattle.lh_serving.specs.declared.answer.Fault.{Fault}
@@ -15,16 +15,16 @@ use Rattle.lh_serving.proofs.serving.answer_to.Goals as goal
 
 -- an answer, and the file that it leaves, by what was asked
 abbrev Leaves : FileSeen → List ℕ → WorldSeen → ℕ → Result (Option Request) Fault → Type 0
-Leaves file said w n asked = (next : FileSeen) × Answers file asked said next × Shows w n next
+Leaves file said w n asked = (next : FileSeen) × AnswersLine file asked said next × HoldsFile w n next
 
 -- an answer that no image follows
 only_said : (s : Said) (a : Answer) → s ≡ record { answer = Some a; image = None } →
-    told s.answer ++ image_text s.image ≡ told (Some a)
-only_said s a e = ap (λ (s : Said). told s.answer ++ image_text s.image) e ∙ append-nil (told (Some a))
+    answer_line s.answer ++ image_text s.image ≡ answer_line (Some a)
+only_said s a e = ap (λ (s : Said). answer_line s.answer ++ image_text s.image) e ∙ append-nil (answer_line (Some a))
 
 only_leaves : (file : FileSeen) (s : Said) (a : Answer) (w : WorldSeen) (n : ℕ)
     (asked : Result (Option Request) Fault) → s ≡ record { answer = Some a; image = None } →
-    Leaves file (told (Some a)) w n asked → Leaves file (told s.answer ++ image_text s.image) w n asked
+    Leaves file (answer_line (Some a)) w n asked → Leaves file (answer_line s.answer ++ image_text s.image) w n asked
 only_leaves file s a w n asked e h = subst (λ said. Leaves file said w n asked) (sym (only_said s a e)) h
 
 asked_some : {a : Result (Option Request) Fault} {o : Option Request} {r t : Request} → a ≡ Ok o → o ≡ Some r → r ≡ t →
@@ -41,7 +41,7 @@ returns-in-Ok-Some-Call-clause-answered c = λ file h.
     let d = c.serve_call.ensures.answered file h in
     only_leaves file c.only.result c.serve_call.result c.serve_call.new.world c.serve_call.new.records c.args.asked
     c.only.ensures
-    (subst (Leaves file (told (Some c.serve_call.result)) c.serve_call.new.world c.serve_call.new.records)
+    (subst (Leaves file (answer_line (Some c.serve_call.result)) c.serve_call.new.world c.serve_call.new.records)
     (sym
     (asked_some {t = ask.Call c.in-Ok-Some-Call.call} c.in-Ok-Some-Call.is c.in-Ok-Some-Call.field-0-is
     c.in-Ok-Some-Call.field-0-0-is))
@@ -53,26 +53,26 @@ returns-in-Ok-Some-Buckets-clause-answered c = λ file h.
     c.buckets.ensures.value ∙ ap (λ (r : Extent). r.buckets) c.root.ensures.value ∙ h.size in
     only_leaves file c.only-in-Ok-Some-Buckets.result (answer.Buckets c.buckets.result) c.args.world.now
     c.args.records.now c.args.asked c.only-in-Ok-Some-Buckets.ensures
-    (subst (Leaves file (told (Some (answer.Buckets c.buckets.result))) c.args.world.now c.args.records.now)
+    (subst (Leaves file (answer_line (Some (answer.Buckets c.buckets.result))) c.args.world.now c.args.records.now)
     (sym
     (asked_some {t = ask.Buckets} c.in-Ok-Some-Buckets.is c.in-Ok-Some-Buckets.field-0-is
     c.in-Ok-Some-Buckets.field-0-0-is))
-    (file, (ap (λ n. told (Some (answer.Buckets n))) e, refl), h))
+    (file, (ap (λ n. answer_line (Some (answer.Buckets n))) e, refl), h))
 
 pub returns-in-Ok-Some-Records-clause-answered : goal.returns-in-Ok-Some-Records-clause-answered
 returns-in-Ok-Some-Records-clause-answered c = λ file h.
     only_leaves file c.only-in-Ok-Some-Records.result (answer.Records c.args.records.now) c.args.world.now
     c.args.records.now c.args.asked c.only-in-Ok-Some-Records.ensures
-    (subst (Leaves file (told (Some (answer.Records c.args.records.now))) c.args.world.now c.args.records.now)
+    (subst (Leaves file (answer_line (Some (answer.Records c.args.records.now))) c.args.world.now c.args.records.now)
     (sym
     (asked_some {t = ask.Records} c.in-Ok-Some-Records.is c.in-Ok-Some-Records.field-0-is
     c.in-Ok-Some-Records.field-0-0-is))
-    (file, (ap (λ n. told (Some (answer.Records n))) h.count, refl), h))
+    (file, (ap (λ n. answer_line (Some (answer.Records n))) h.count, refl), h))
 
 pub returns-in-Ok-clause-answered : goal.returns-in-Ok-clause-answered
 returns-in-Ok-clause-answered c = λ file h.
     subst
-    (Leaves file (told (Some (answer.Image c.in-Ok.len)) ++ image_text (Some c.in-Ok.listing)) c.args.world.now
+    (Leaves file (answer_line (Some (answer.Image c.in-Ok.len)) ++ image_text (Some c.in-Ok.listing)) c.args.world.now
     c.args.records.now)
     (sym
     (asked_some {t = ask.Image} c.in-Ok-Some-Image.is c.in-Ok-Some-Image.field-0-is
@@ -83,7 +83,7 @@ pub returns-in-Err-imaged-clause-answered : goal.returns-in-Err-imaged-clause-an
 returns-in-Err-imaged-clause-answered c = λ file h.
     only_leaves file c.only-in-Err-imaged.result (answer.Fault c.in-Err-imaged.fault) c.args.world.now
     c.args.records.now c.args.asked c.only-in-Err-imaged.ensures
-    (subst (Leaves file (told (Some (answer.Fault c.in-Err-imaged.fault))) c.args.world.now c.args.records.now)
+    (subst (Leaves file (answer_line (Some (answer.Fault c.in-Err-imaged.fault))) c.args.world.now c.args.records.now)
     (sym
     (asked_some {t = ask.Image} c.in-Ok-Some-Image.is c.in-Ok-Some-Image.field-0-is
     c.in-Ok-Some-Image.field-0-0-is))
@@ -93,5 +93,5 @@ pub returns-in-Err-clause-answered : goal.returns-in-Err-clause-answered
 returns-in-Err-clause-answered c = λ file h.
     only_leaves file c.only-in-Err.result (answer.Fault c.in-Err.fault) c.args.world.now c.args.records.now c.args.asked
     c.only-in-Err.ensures
-    (subst (Leaves file (told (Some (answer.Fault c.in-Err.fault))) c.args.world.now c.args.records.now)
+    (subst (Leaves file (answer_line (Some (answer.Fault c.in-Err.fault))) c.args.world.now c.args.records.now)
     (sym c.in-Err.is) (file, (refl, refl), h))

@@ -1,7 +1,7 @@
 use Rattle.std.proofs.Common.{ℕ, ◌++◌, Some, ap}
 use Rattle.lh_image.specs.Canonical.{canonical}
 use Rattle.lh_image.specs.declared.version.Version.TheVariants.{Two}
-use Rattle.lh_serving.specs.Texts.{told}
+use Rattle.lh_serving.specs.Texts.{answer_line}
 use Rattle.lh_serving.specs.declared.answer.Answer.TheVariants as answer
 use Rattle.lh_serving.proofs.CallsServed.{copied}
 use Rattle.lh_serving.proofs.serving.imaged.Goals as goal
@@ -11,7 +11,8 @@ returns-in-Ok-image_len-clause-ok c = λ n file h. record {
   listing = c.in-Ok.listing;
   listed = copied c.args.world.now n file c.in-Ok.listing h c.in-Ok.ensures.listed;
   fits = c.in-Ok-image_len.ensures.ok.0;
-  text = ap (λ (k : ℕ). told (Some (answer.Image k)) ++ canonical Two c.in-Ok.listing) c.in-Ok-image_len.ensures.ok.1;
+  text = ap (λ (k : ℕ). answer_line (Some (answer.Image k)) ++ canonical Two c.in-Ok.listing)
+      c.in-Ok-image_len.ensures.ok.1;
 }
 
 pub returns-in-Err-clause-err : goal.returns-in-Err-clause-err

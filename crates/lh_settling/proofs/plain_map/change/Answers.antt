@@ -1,10 +1,10 @@
 use Rattle.std.proofs.Common.{rules, ◌∙◌, sym, ap, is_some}
-use Rattle.lh_settling.proofs.Tables.{get-records_of, inserted}
+use Rattle.lh_settling.proofs.Tables.{get-map_of_entries, inserted}
 use Rattle.lh_settling.proofs.plain_map.change.Goals as goal
 
 pub returns-in-Some-clause-found : goal.returns-in-Some-clause-found
 returns-in-Some-clause-found c =
-    ap is_some (c.in-Some.ensures.value ∙ sym (get-records_of c.args.records.now.entries c.args.key.now))
+    ap is_some (c.in-Some.ensures.value ∙ sym (get-map_of_entries c.args.records.now.entries c.args.key.now))
 
 pub returns-in-Some-clause-changed : goal.returns-in-Some-clause-changed
 returns-in-Some-clause-changed c =
@@ -13,4 +13,4 @@ returns-in-Some-clause-changed c =
 
 pub returns-in-None-clause-found : goal.returns-in-None-clause-found
 returns-in-None-clause-found c =
-    ap is_some (c.in-None.ensures.value ∙ sym (get-records_of c.args.records.now.entries c.args.key.now))
+    ap is_some (c.in-None.ensures.value ∙ sym (get-map_of_entries c.args.records.now.entries c.args.key.now))

@@ -1,9 +1,9 @@
 use Rattle.std.proofs.Common.{◌∙◌, sym}
-use Rattle.lh_settling.proofs.Tables.{get-records_of, taken}
+use Rattle.lh_settling.proofs.Tables.{get-map_of_entries, taken}
 use Rattle.lh_settling.proofs.plain_map.take.Goals as goal
 
 pub returns-clause-value : goal.returns-clause-value
-returns-clause-value c = c.remove.ensures.value ∙ sym (get-records_of c.args.records.now.entries c.args.key.now)
+returns-clause-value c = c.remove.ensures.value ∙ sym (get-map_of_entries c.args.records.now.entries c.args.key.now)
 
 pub returns-clause-left : goal.returns-clause-left
 returns-clause-left c =

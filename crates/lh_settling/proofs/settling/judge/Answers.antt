@@ -11,11 +11,11 @@ use Rattle.lh_settling.specs.declared.act.ActLine.{ActLine}
 use Rattle.lh_settling.specs.Acts.{stamps_of, IsInOrder}
 use Rattle.lh_addr.specs.RootWord.{buckets_of}
 use Rattle.lh_settling.specs.Contents.{StandsAs}
-use Rattle.lh_settling.specs.Settled.{left_by, IsHistory, IsLegal, IsSettled, HoldsMap}
+use Rattle.lh_settling.specs.Settled.{left_by, IsStamped, IsLegal, IsSettled, HoldsMap}
 use Rattle.lh_settling.proofs.Placed.{placed}
 use Rattle.lh_settling.proofs.settling.judge.Goals as goal
 
-stamped : (c : goal.After-new) → IsHistory c.args.closed.now c.args.acts.now c.in_ok-history.history.items
+stamped : (c : goal.After-new) → IsStamped c.args.closed.now c.args.acts.now c.in_ok-history.history.items
 stamped c =
     let shut : c.args.closed.now.root % 2 ≢ 1 =
     λ e. false≢true (sym c.if-split_open.false ∙ c.split_open.ensures.value.1 e) in

@@ -1,7 +1,7 @@
 use Rattle.std.proofs.Common.{ℕ, List, []}
 use Rattle.std.specs.Io.KnownBytes.{Consumes}
 use Rattle.lh_serving.specs.Answers.{FileSeen}
-use Rattle.lh_serving.specs.Conversations.{IsAt, IsQuiet}
+use Rattle.lh_serving.specs.Conversations.{IsAt, HasToldAll}
 use Rattle.lh_subcommands.specs.Serve.{IsTelling}
 use Rattle.lh_subcommands.proofs.serve.converse.Given as goal
 
@@ -11,5 +11,5 @@ invariant-turns g l = record {
   heard : (start : FileSeen) → IsAt start l.fn.talk [] [] →
       (bytes : List ℕ) × Consumes (g.R.Read.remaining l.fn.reader) (g.R.Read.remaining l.reader) bytes
       × IsTelling start l.talk (g.W.Write.contents l.fn.writer) (g.W.Write.contents l.writer) bytes;
-  told : IsQuiet l.talk;
+  told : HasToldAll l.talk;
 }

@@ -2,7 +2,7 @@ use Rattle.std.proofs.Common.{◌≡◌, ◌∙◌, ◌%◌, true, All, length, 
 use Rattle.lh_addr.specs.Settings.{Settings}
 use Rattle.lh_bucket.specs.Listing.{Lists}
 use Rattle.lh_settling.specs.Settled.{IsSettled}
-use Rattle.lhash.specs.Driving.{AreSettled, IsDriveFaultWith, IsFaultOfOne, IsSettledBefore}
+use Rattle.lhash.specs.Driving.{IsSettledWith, IsDriveFaultWith, IsFaultOfOne, IsSettledBefore}
 use Rattle.lhash.proofs.Driving.{first_of, replies_made, snapshot_fault}
 use Rattle.lhash.proofs.drive.settled.Goals as goal
 
@@ -41,7 +41,7 @@ returns-in_err-settle_each-clause-err c =
     subst
     (λ (l : Lists).
     c.args.closed.now.gathered ≡ true → c.args.closed.now.root % 2 ≡ 0 →
-    AreSettled l c.args.closed.now acts taken) c.requires.empty c.requires.known in
+    IsSettledWith l c.args.closed.now acts taken) c.requires.empty c.requires.known in
     let due : IsDriveFaultWith settings (length taken) fault =
     snapshot_fault settings c.args.closed.now acts c.in_ok-history.history taken fault refl
     (subst (λ opening. IsSettled opening c.args.closed.now acts c.in_ok-history.history) c.requires.empty

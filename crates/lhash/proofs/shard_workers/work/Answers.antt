@@ -6,7 +6,7 @@ use Rattle.lh_shards.specs.Hands.{AreOf}
 use Rattle.lh_shards.specs.Own.{AllShare, AreOwn}
 use Rattle.lhash.proofs.Places.{places_from-next, places_from-none}
 use Rattle.lhash.proofs.ShardHands.{have_fewer}
-use Rattle.lhash.specs.ShardWorkers.{IsWorked, acts_of}
+use Rattle.lhash.specs.ShardWorkers.{IsWorkedOnShards, acts_of}
 use Rattle.lhash.specs.Workers.{places_from}
 use Rattle.lhash.proofs.shard_workers.work.Goals.{else-loop-place-test}
 use Rattle.lhash.proofs.shard_workers.work.Goals.{then-loop-place-test+in_default+else-threads-place-end}
@@ -15,7 +15,7 @@ use Rattle.lhash.proofs.shard_workers.work.Goals as goal
 -- hands that have made as many calls have made all of them
 all_made : (files : List FileState) (calls : ℕ) (end hands : List HandState) → end ≡ hands → AreOf files hands →
     AreOwn files hands → AllShare calls hands → acts_of hands ≡ calls →
-    IsWorked files calls (record { hands = end; fault = None })
+    IsWorkedOnShards files calls (record { hands = end; fault = None })
 all_made files calls end hands is of own share made = record {
   of = subst (AreOf files) (sym is) of;
   own = subst (AreOwn files) (sym is) own;

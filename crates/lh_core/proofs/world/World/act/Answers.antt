@@ -3,7 +3,7 @@ use Rattle.lh_addr.specs.Extent.{Extent}
 use Rattle.lh_core.specs.declared.event.Event.TheVariants as event
 use Rattle.lh_core.specs.declared.effect.Effect.TheVariants as effect
 use Rattle.lh_core.specs.Control.{world_of}
-use Rattle.lh_core.specs.Kept.{IsRow}
+use Rattle.lh_core.specs.Kept.{IsBucketRow}
 use Rattle.lh_core.specs.World.{IsStep}
 use Rattle.lh_core.proofs.Worlds.Stepping.{acted, after_step}
 use Rattle.lh_core.proofs.world.World.act.Goals as goal
@@ -31,4 +31,5 @@ invariant_of-self g c =
     c.self.invariant.0 c.self.invariant.1 c.note_act.ensures.keeps
     (c.in-Ok.ensures.allowed
     ∙ ap (λ b. Ok (None, b)) (sym (c.note_act.ensures.state c.in-Ok.act c.in-Ok.ensures.act)))
-    (subst (λ (x : Extent). IsRow control.config x.buckets rows) (sym c.note_act.ensures.filled) c.serve.ensures.row)
+    (subst (λ (x : Extent). IsBucketRow control.config x.buckets rows) (sym c.note_act.ensures.filled)
+    c.serve.ensures.row)

@@ -2,7 +2,7 @@ use Rattle.std.proofs.Common.{map, Some, Ok, subst, sym, ap, ◌∙◌}
 use Rattle.lh_core.specs.declared.event.Event.TheVariants as event
 use Rattle.lh_core.specs.State.{State}
 use Rattle.lh_core.specs.Control.{world_of}
-use Rattle.lh_core.specs.Kept.{IsRow}
+use Rattle.lh_core.specs.Kept.{IsBucketRow}
 use Rattle.lh_core.specs.World.{IsStep}
 use Rattle.lh_core.proofs.Worlds.Stepping.{moved, after_step}
 use Rattle.lh_core.proofs.world.World.move_records.Goals as goal
@@ -24,5 +24,5 @@ invariant_of-self g c =
     after_step control c.note_move.new.self row c.linear_hashing.ensures rows event.SplitMove (Some c.in-Ok.effect)
     c.self.invariant.0 c.self.invariant.1 c.note_move.ensures.keeps
     (c.in-Ok.ensures.allowed ∙ ap (λ b. Ok (Some c.in-Ok.effect, b)) (sym c.note_move.ensures.state))
-    (subst (λ n. IsRow control.config n rows) (sym (ap (λ (z : State). z.filled) c.note_move.ensures.state))
+    (subst (λ n. IsBucketRow control.config n rows) (sym (ap (λ (z : State). z.filled) c.note_move.ensures.state))
     c.in-Ok-divide.ensures.row)

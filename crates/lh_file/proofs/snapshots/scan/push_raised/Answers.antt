@@ -2,7 +2,7 @@ use Rattle.std.proofs.Common.{◌≡◌, ◌+◌, ◌*◌, ◌^◌, ◌<◌, ◌
 use Rattle.std.proofs.Math.Nat.{mod-eq_of_lt}
 use Rattle.std.proofs.lemmas.Nat.{pow_below, mul-le}
 use Rattle.lh_addr.specs.declared.aim.Aim.{Aim}
-use Rattle.lh_file.specs.Snapshots.Scans.{aimed, IsWithin}
+use Rattle.lh_file.specs.Snapshots.Scans.{times_aimed, IsWithin}
 use Rattle.lh_file.specs.Words.Rule.{Each}
 use Rattle.lh_file.specs.Words.Sums.{total}
 use Rattle.lh_file.proofs.OfBuckets.Levels.{size_doubles}
@@ -41,7 +41,7 @@ loop-level-preserved c =
           λ code.
           omega (
             arith,
-            ap (aimed first code) same,
+            ap (times_aimed first code) same,
             aimed-snoc first code aims new,
             raised c.hashes_are_nested.ensures.rises first code k b c.requires.first.0 inv.reached,
             inv.all code,

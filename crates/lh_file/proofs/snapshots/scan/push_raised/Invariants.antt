@@ -1,6 +1,6 @@
 use Rattle.std.proofs.Common.{◌≡◌, ℕ, ◌+◌, ◌-◌, ◌*◌, ◌^◌, ◌<◌, ◌≤◌, vec_len, vec_capacity}
 use Rattle.lh_file.specs.History.Buckets.{bit}
-use Rattle.lh_file.specs.Snapshots.Scans.{leads, aimed, IsWithin}
+use Rattle.lh_file.specs.Snapshots.Scans.{leads, times_aimed, IsWithin}
 use Rattle.lh_file.specs.Words.Rule.{Each}
 use Rattle.lh_file.specs.Words.Sums.{total}
 use Rattle.lh_addr.specs.declared.aim.Aim.{Aim}
@@ -12,8 +12,9 @@ invariant-loop-level l = record {
   upto : l.level ≤ l.to;
   reached : l.bucket < l.first * 2 ^ l.level;
   all : (code : ℕ) →
-      aimed l.first code l.aims.items + bit (leads l.first code (record { level = l.level; bucket = l.bucket }))
-      ≡ aimed l.first code l.fn.aims.items + bit (leads l.first code (record { level = l.from; bucket = l.bucket }));
+      times_aimed l.first code l.aims.items + bit (leads l.first code (record { level = l.level; bucket = l.bucket }))
+      ≡ times_aimed l.first code l.fn.aims.items
+      + bit (leads l.first code (record { level = l.from; bucket = l.bucket }));
   ahead : total (λ (a : Aim). 2 ^ (16 - a.level)) l.aims.items + 2 ^ (16 - l.level)
       ≡ total (λ (a : Aim). 2 ^ (16 - a.level)) l.fn.aims.items + 2 ^ (16 - l.from);
   within : Each l.aims.items (IsWithin l.first);

@@ -2,7 +2,7 @@ use Rattle.std.proofs.Common.{subst, sym, ap, ◌∙◌, arith}
 use Rattle.lh_page.specs.declared.head.PageHead.{PageHead}
 use Rattle.lh_page.specs.PageFields.{pairs_of, used_of}
 use Rattle.lh_addr.specs.Fnv.{code_of}
-use Rattle.lh_image.specs.Checked.{mark_of}
+use Rattle.lh_image.specs.Checked.{code_mark}
 use Rattle.lh_image.specs.LookUp.{IsSlotOf, home_of}
 use Rattle.lh_image.specs.Layout.{view_of}
 use Rattle.lh_image.proofs.Looking.Checked.{indexed_as, own_head, own_records}
@@ -52,7 +52,7 @@ place_in-place-requires-clause-entry c =
     c.format-format.ensures) c.page_at-page.ensures.page c.requires.entry
 
 pub place_in-place-requires-clause-mark : goal.place_in-place-requires-clause-mark
-place_in-place-requires-clause-mark c = c.requires.mark ∙ ap (λ k. mark_of (code_of k)) (sym c.bytes.ensures.value)
+place_in-place-requires-clause-mark c = c.requires.mark ∙ ap (λ k. code_mark (code_of k)) (sym c.bytes.ensures.value)
 
 pub returns : goal.returns
 returns c =

@@ -1,7 +1,7 @@
 use Rattle.std.proofs.Common.{◌+◌, ◌-◌, sym, ap, subst, ◌∙◌, arith}
 use Rattle.lh_addr.specs.Growth.{address}
 use Rattle.lh_addr.specs.Fnv.{code_of}
-use Rattle.lh_image.specs.Checked.{mark_of}
+use Rattle.lh_image.specs.Checked.{code_mark}
 use Rattle.lh_image.specs.Image.{listing_of}
 use Rattle.lh_image.specs.Layout.{page, view_of}
 use Rattle.lh_image.specs.LookUp.{IsSlotOf, found_from}
@@ -30,7 +30,7 @@ look_at-place-requires-clause-entry c =
 
 pub look_at-place-requires-clause-mark : goal.look_at-place-requires-clause-mark
 look_at-place-requires-clause-mark c =
-    c.mark_of-mark.ensures ∙ ap mark_of (c.fnv1a-code.ensures ∙ ap code_of c.bytes.ensures.value)
+    c.mark_of-mark.ensures ∙ ap code_mark (c.fnv1a-code.ensures ∙ ap code_of c.bytes.ensures.value)
 
 pub returns-in-Some : goal.returns-in-Some
 returns-in-Some c =

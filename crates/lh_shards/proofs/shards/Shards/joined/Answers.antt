@@ -7,7 +7,7 @@ use Rattle.std.proofs.lemmas.List.{drop_all, length_push}
 use Rattle.lh_file.specs.HashFile.{Shared}
 use Rattle.lh_file.specs.Words.HandState.{HandState, IsJoined}
 use Rattle.lh_shards.specs.Hands.{IsOfShard}
-use Rattle.lh_shards.specs.Joining.{AreJoined}
+use Rattle.lh_shards.specs.Joining.{AreJoinedByShard}
 use Rattle.lh_shards.proofs.Places.{front_next, left_next, length_mapped, read_at, three_next}
 use Rattle.lh_shards.proofs.shards.Shards.joined.Given.{Over}
 use Rattle.lh_shards.proofs.shards.Shards.joined.Goals as goal
@@ -111,5 +111,5 @@ returns g c =
     c.into_vec.ensures.items ∙ c.loop-shard.invariant.hands
     ∙ ap (λ (l : List HandState). l ++ c.loop-shard.invariant.done)
     (drop_all c.loop-shard.shard c.args.first past) in
-    subst (λ (l : List HandState). AreJoined c.args.first c.args.second l) (sym is)
+    subst (λ (l : List HandState). AreJoinedByShard c.args.first c.args.second l) (sym is)
     (record { count = c.loop-shard.invariant.many ∙ all; each = c.loop-shard.invariant.each })

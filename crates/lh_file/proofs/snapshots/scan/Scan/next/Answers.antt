@@ -4,7 +4,7 @@ use Rattle.std.specs.Option.{option_to_list}
 use Rattle.std.proofs.lemmas.Nat.{pow_pos}
 use Rattle.lh_addr.specs.declared.aim.Aim.{Aim}
 use Rattle.lh_file.specs.History.Buckets.{bit}
-use Rattle.lh_file.specs.Snapshots.Scans.{IsWithin, Scanning, leads, aimed, ahead, HasMet}
+use Rattle.lh_file.specs.Snapshots.Scans.{IsWithin, Scanning, leads, times_aimed, ahead, HasMet}
 use Rattle.lh_file.specs.Words.Rule.{Each}
 use Rattle.lh_file.specs.Words.Sums.{total}
 use Rattle.lh_file.proofs.OfSnapshots.Aims.{at_level, aimed-snoc, room_of, ahead-snoc}
@@ -42,7 +42,7 @@ returns-clause-met g c =
           let same = ap (λ b. bit (leads first code (at_level copy.aim.level b))) c.in_ok-copy.ensures.bucket in
           omega (
             arith,
-            ap (aimed first code) cut,
+            ap (times_aimed first code) cut,
             aimed-snoc first code rest aim,
             c.push_raised.ensures.all code,
             same,
