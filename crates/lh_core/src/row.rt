@@ -99,7 +99,8 @@ pub(crate) fn divide<B: Bucket>(
     requires room { control.now.root.buckets < control.now.config.max }
     requires before { control.now.filled.buckets ≡ control.now.root.buckets }
     requires world { IsWorld (world_of control.now (map B.seen buckets.old.items)) }
-    ensures row { OnOk result (IsBucketRow control.now.config (control.now.root.buckets + 1) (map B.seen buckets.new.items)) }
+    ensures row { OnOk result (IsBucketRow control.now.config (control.now.root.buckets + 1)
+        (map B.seen buckets.new.items)) }
     ensures stands { (m : Records) → StandsFor (world_of control.now (map B.seen buckets.old.items)) m →
         OnOk result (IsPlaced control.now.config.initial (control.now.root.buckets + 1) m
         (map B.seen buckets.new.items)) }

@@ -58,7 +58,8 @@ impl Conversation {
     /// A conversation over a file with so many records, before anything was said.
     fn over(alloc: Global, world: World<PagedBucket>, records: u64) -> Result<Conversation, Memory>
         requires { IsAtRest world.state }
-        ensures begun { (start : FileSeen) → HoldsFile world records start → IfOk result (λ talk. IsAt start talk [] []) }
+        ensures begun { (start : FileSeen) → HoldsFile world records start →
+            IfOk result (λ talk. IsAt start talk [] []) }
         ensures quiet { IfOk result HasToldAll }
     {
         let part = Part::new(alloc)?;

@@ -71,7 +71,8 @@ fn add(records: &mut HashMap<Name, Value>, key: Key, value: Value) -> Result<(),
 fn take(records: &mut HashMap<Name, Value>, key: &Key) -> Option<Value>
     ensures value { result ≡ get (map_of_entries records.old.entries) key.now }
     ensures left { map_of_entries records.new.entries ≡
-        (if is_some result then remove (map_of_entries records.old.entries) key.now else map_of_entries records.old.entries) }
+        (if is_some result then remove (map_of_entries records.old.entries) key.now
+        else map_of_entries records.old.entries) }
 {
     records.remove(&Name(*key))
 }
@@ -80,7 +81,8 @@ fn take(records: &mut HashMap<Name, Value>, key: &Key) -> Option<Value>
 fn change(records: &mut HashMap<Name, Value>, key: &Key, value: Value) -> bool
     ensures found { result ≡ contains_key (map_of_entries records.old.entries) key.now }
     ensures changed { map_of_entries records.new.entries ≡
-        (if result then insert (map_of_entries records.old.entries) key.now value else map_of_entries records.old.entries) }
+        (if result then insert (map_of_entries records.old.entries) key.now value
+        else map_of_entries records.old.entries) }
 {
     match records.get_mut(&Name(*key)) {
         Some(old) => {

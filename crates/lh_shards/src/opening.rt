@@ -3,8 +3,8 @@ ghost use Rattle.std.specs.Prelude.{◌≡◌, ◌≢◌, ℕ, ◌<◌, length, 
 ghost use Rattle.std.specs.Bool.{OnTrue, OnFalse};
 ghost use Rattle.lh_bucket.specs.Listing.{EachPlace, IsFirst};
 ghost use Rattle.lh_shards.specs.Hands.{IsCount};
-ghost use Rattle.lh_shards.specs.Opening.{AreAlike, AreHome, AreOpened, IsAwayIn, IsFirstOfOtherShard, IsFirstOther, IsHomeIn};
-ghost use Rattle.lh_shards.specs.Opening.{whole_of};
+ghost use Rattle.lh_shards.specs.Opening.{AreAlike, AreHome, AreOpened, IsAwayIn, IsFirstOfOtherShard, IsFirstOther};
+ghost use Rattle.lh_shards.specs.Opening.{IsHomeIn, whole_of};
 ghost use Rattle.lh_shards.specs.OpenFault.{IsOpenFault};
 ghost use Rattle.lh_shards.specs.Settling.{AreParts};
 

@@ -8,7 +8,8 @@ ghost use Rattle.lh_image.specs.Reading.{following, leading, reading_of};
 ghost use Rattle.lh_serving.specs.Answers.{FileSeen, file_of, first_file};
 ghost use Rattle.lh_serving.specs.Conversations.{IsAt, HasToldAll, pending};
 ghost use Rattle.lh_subcommands.specs.Devices.{TakesBeginning};
-ghost use Rattle.lh_subcommands.specs.Serve.{EndsAtFault, EndsServing, EndsServingFrom, IsCutShort, IsTelling, IsUnopened};
+ghost use Rattle.lh_subcommands.specs.Serve.{EndsAtFault, EndsServing, EndsServingFrom, IsCutShort, IsTelling};
+ghost use Rattle.lh_subcommands.specs.Serve.{IsUnopened};
 
 use crate::device::write_all;
 use crate::input::unreadable;

@@ -2,8 +2,8 @@
 ghost use Rattle.std.specs.Prelude.{◌≡◌, ◌%◌, ◌≤◌, true, All, IfOk, IfErr, IfSome, OnOk, length};
 ghost use Rattle.lh_settling.specs.Acts.{calls_of};
 ghost use Rattle.lh_file.specs.Buckets.Brands.{IsBrandOf};
-ghost use Rattle.lhash.specs.Driving.{IsSettledWith, EndsDriving, IsDriven, IsDrivenWith, IsDriveFault, IsDriveFaultWith};
-ghost use Rattle.lhash.specs.Driving.{IsFaultOfOne, IsSettledBefore, empty_file, ended_by, unsettled_as};
+ghost use Rattle.lhash.specs.Driving.{EndsDriving, IsDriven, IsDrivenWith, IsDriveFault, IsDriveFaultWith};
+ghost use Rattle.lhash.specs.Driving.{IsFaultOfOne, IsSettledBefore, IsSettledWith, empty_file, ended_by, unsettled_as};
 
 use crate::driven::{Driven, SnapshotsText};
 use crate::workers::work_in_threads;

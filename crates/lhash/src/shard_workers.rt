@@ -5,8 +5,8 @@ ghost use Rattle.lh_shards.specs.Dividing.{AllHave};
 ghost use Rattle.lh_shards.specs.Hands.{AreOf};
 ghost use Rattle.lh_shards.specs.Own.{AllShare, AreOwn};
 ghost use Rattle.lhash.specs.Driving.{IsWorkersFault};
-ghost use Rattle.lhash.specs.ShardWorkers.{AreKept, AreLessened, ArePartOf, AreRecording, HaveMadeOne, IsWorkedOnShards};
-ghost use Rattle.lhash.specs.ShardWorkers.{acts_of};
+ghost use Rattle.lhash.specs.ShardWorkers.{AreKept, AreLessened, ArePartOf, AreRecording, HaveMadeOne};
+ghost use Rattle.lhash.specs.ShardWorkers.{IsWorkedOnShards, acts_of};
 ghost use Rattle.lhash.specs.Workers.{places_from};
 
 use crate::drive::DriveFault;
