@@ -237,6 +237,7 @@ pub stays-is : (head : Head) (level : ℕ) (m n : Records) → level ≡ raised_
 unfolding stays
 stays-is head level m n is left = left ∙ ap (λ l. retain_keys m (leads_to head.initial l head.number)) is
 
+-- the keys of a map that don't lead to a bucket one level up are those that a split sends away from it
 pub goes-is : (head : Head) (level : ℕ) (m n : Records) → level ≡ raised_level head →
     n ≡ retain_keys m (λ key. not (leads_to head.initial level head.number key)) →
     n ≡ retain_keys m (λ key. not (stays head key))
@@ -272,6 +273,7 @@ stay_list head level ps qs is left =
     twice (leads_to head.initial level head.number p.key)
     ∙ ap (λ l. leads_to head.initial l head.number p.key) is) ps
 
+-- the records whose keys don't lead to a bucket one level up are those that a split sends away from it
 pub go_list : (head : Head) (level : ℕ) (ps qs : List Pair) → level ≡ raised_level head →
     qs ≡ filter (λ p. not (leads_to head.initial level head.number p.key)) ps →
     qs ≡ filter (λ p. not (stays head p.key)) ps
@@ -282,9 +284,11 @@ go_list head level ps qs is left =
     (λ p. not (leads_to head.initial (raised_level head) head.number p.key))
     (λ p. ap (λ l. not (leads_to head.initial l head.number p.key)) is) ps
 
+-- a call is at a bucket exactly where it looks for the bucket's level and its hash there is the bucket's number
 pub here_law : HereLaw
 here_law head c k = (verdict-Here head c k, λ own. Here-verdict head c k own.0 own.1)
 
+-- a split leaves a key where it is exactly if its code still leads there one level up
 pub stay_law : StayLaw
 unfolding stays
 stay_law head level key filled =

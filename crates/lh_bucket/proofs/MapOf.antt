@@ -36,9 +36,11 @@ Apart es = IsDistinct bytes_eq (entry_keys es)
 abbrev pub Distinct : List Pair → Type 0
 Distinct ps = IsDistinct bytes_eq (keys_of ps)
 
+-- keys that compare as equal are the same
 pub exact : IsAntisymmetric (slice_cmp nat_cmp)
 exact = slice_cmp-IsAntisymmetric nat_cmp-IsAntisymmetric
 
+-- keys that the test of their bytes calls equal are the same
 pub equals : (x y : List ℕ) → bytes_eq x y ≡ true → x ≡ y
 equals x y e = (bytes_eq-Decides x y).0 e
 
@@ -60,14 +62,17 @@ pub get-map_of : (ps : List Pair) (q : List ℕ) → get (map_of ps) q ≡ looku
 unfolding map_of
 get-map_of ps q = get_made (map entry_of ps) q
 
+-- no records make the empty map
 pub map_of-none : map_of [] ≡ empty
 unfolding map_of
 map_of-none = refl
 
+-- records have the same keys as the entries that they make
 pub entry_keys-map : (ps : List Pair) → entry_keys (map entry_of ps) ≡ keys_of ps
 entry_keys-map [] = refl
 entry_keys-map (p ∷ ps) = ap (λ ks. p.key ∷ ks) (entry_keys-map ps)
 
+-- where no key stands twice among records, none does among the entries that they make
 pub apart_from_distinct : (ps : List Pair) → Distinct ps → Apart (map entry_of ps)
 apart_from_distinct ps d = subst (IsDistinct bytes_eq) (sym (entry_keys-map ps)) d
 
@@ -96,6 +101,7 @@ lookup_permuted q es fs p r d =
     lookup-from_Contains nat_list_eq_equiv q v es d
     (Contains-permutation fs es (q, v) r (Contains-from_lookup equals q v fs e)))
 
+-- nothing is found under a key that no entry has
 pub gone : (k : List ℕ) (es : Entries) → AllByRecursion (λ y. bytes_eq k y ≡ false) (entry_keys es) →
     lookup (bytes_eq k) es ≡ None
 gone k [] h = refl
@@ -212,6 +218,7 @@ by_test : (ps : List Pair) (k : List ℕ) (n : ℕ) (b : Bool) →
 by_test ps k n true e h = ((h refl).0, (h refl).1, e)
 by_test ps k n false e h = e
 
+-- the place found for a key has its record, with the map's value; where none is found the map has none
 pub stands : (ps : List Pair) (k : List ℕ) → StandsAt ps k (place_of ps k)
 unfolding place_of
 stands ps k =
@@ -268,5 +275,6 @@ map_of-with_value ps i k v first there = same_records _ _ (λ q.
     (get-insert nat_list_cmp_total (map_of ps) k v q
     ∙ ap (cond (eq_by_cmp (slice_cmp nat_cmp) q k) (Some v)) (get-map_of ps q)))
 
+-- a record within a list is the same whatever is read past its end
 pub get_or-any : (ps : List Pair) (i : ℕ) (d : Pair) → i < length ps → get_or ps i d ≡ get_or ps i (get_or ps i d)
 get_or-any ps i d h = grind (arith, elements)

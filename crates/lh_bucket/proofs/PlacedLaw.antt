@@ -55,6 +55,7 @@ module _ (home : List ℕ → ℕ) where
       equal : (m n : ℕ) → m ≡ n → nat_eq m n ≡ true
       equal m n e = grind (arith, nat_tests)
 
+-- each bucket of a listing has just those records of the whole listing whose keys have its address
 pub placed_law : PlacedLaw
 placed_law l bucket kept within =
     let home : List ℕ → ℕ = λ key. address l.config.initial (size l) (code_of key) in

@@ -26,6 +26,7 @@ use Rattle.lh_bucket.proofs.MapOf.{equals, same_records, get-map_of, get-retaine
 abbrev Entries : Type 0
 Entries = List (List ℕ × List ℕ)
 
+-- the entries of a map, as records, have the same keys
 pub keys_of-pairs_of_entries : (es : Entries) → keys_of (pairs_of_entries es) ≡ entry_keys es
 keys_of-pairs_of_entries [] = refl
 keys_of-pairs_of_entries (e ∷ es) = ap (λ ks. e.0 ∷ ks) (keys_of-pairs_of_entries es)
@@ -71,6 +72,7 @@ removed es fs k h = same_records _ _ (λ q.
     (get-remove nat_list_cmp_total (map_of (pairs_of_entries es)) k q
     ∙ ap (cond (eq_by_cmp (slice_cmp nat_cmp) q k) None) (get-pairs_of_entries es q)))
 
+-- the map has an entry less where one was taken out, and is as it was where none was
 pub taken : (es fs : Entries) (k : List ℕ) (o : Option (List ℕ)) →
     ((q : List ℕ) →
     lookup (is_at (slice_cmp nat_cmp q)) fs ≡
@@ -104,6 +106,7 @@ plain_made head es initial capacity ordered home =
       sorted = sorted;
     }
 
+-- the keys of entries rise strictly where their records are in the order of their keys
 pub ordered_entries : (es : Entries) → IsInKeyOrder (pairs_of_entries es) →
     IsStrictlySortedBy (slice_cmp nat_cmp) (entry_keys es)
 ordered_entries es h = subst (IsStrictlySortedBy (slice_cmp nat_cmp)) (keys_of-pairs_of_entries es) h
@@ -157,6 +160,7 @@ one_more q k ks = list_any-append (is_at (slice_cmp nat_cmp q)) ks (k ∷ [])
 same_key : (q k : List ℕ) → is_at (slice_cmp nat_cmp q) k ≡ true → q ≡ k
 same_key q k h = equals q k (texts_ties q k ∙ h)
 
+-- while no key was looked at, a map without entries has those that pass
 pub has_none : (f : List ℕ → Bool) (es fs : Entries) → fs ≡ [] → HasOf f es [] fs
 has_none f es fs is q =
     ap (lookup (is_at (slice_cmp nat_cmp q))) is ∙ nothing (f q) (lookup (is_at (slice_cmp nat_cmp q)) es)

@@ -46,6 +46,7 @@ had ps key value d h =
     ∙ lookup-from_Contains nat_list_eq_equiv key value (map entry_of ps) (apart_from_distinct ps d)
     (h.0, omega (arith, length-map ps entry_of), get_or-map entry_of ps h.0 p ∙ ap entry_of h.2)
 
+-- where no key stands twice, the map of some records has just these
 pub lookup_law : LookupLaw
 lookup_law ps key value d = (found ps key value, had ps key value d)
 
@@ -56,10 +57,12 @@ new_key p ps d =
     (subst (AllByRecursion (λ y. bytes_eq p.key y ≡ false)) (sym (entry_keys-map ps))
     (IsDistinct-head bytes_eq p.key (keys_of ps) d))
 
+-- one record more in front puts its value under its key in the map
 pub map_of-cons : (p : Pair) (ps : List Pair) → map_of (p ∷ ps) ≡ insert (map_of ps) p.key p.value
 unfolding map_of
 map_of-cons p ps = refl
 
+-- where no key stands twice, the map of some records has as many as there are
 pub count_law : CountLaw
 count_law [] d = ap len map_of-none ∙ len-empty (slice_cmp nat_cmp) (List ℕ)
 count_law (p ∷ ps) d =
@@ -67,6 +70,7 @@ count_law (p ∷ ps) d =
     ∙ ap (λ (o : Option (List ℕ)). cond (is_some o) (len (map_of ps)) (len (map_of ps) + 1)) (new_key p ps d)
     ∙ ap (λ n. n + 1) (count_law ps (IsDistinct-tail bytes_eq p.key (keys_of ps) d)) ∙ add-one (length ps)
 
+-- the map of some records has the key of each
 pub key_law : KeyLaw
 key_law ps place below =
     let key = key_at ps place in
@@ -100,6 +104,7 @@ lookup-both (p ∷ ps) qs q h =
       | false ↦ λ e. lookup-both ps qs q e
     ] h
 
+-- a key that the second of two lists doesn't have is found in both as in the first
 pub lookup-first : (ps qs : List Pair) (q : List ℕ) → lookup (bytes_eq q) (map entry_of qs) ≡ None →
     lookup (bytes_eq q) (map entry_of (ps ++ qs)) ≡ lookup (bytes_eq q) (map entry_of ps)
 lookup-first [] qs q h = h

@@ -65,9 +65,11 @@ label_within columns step place some h =
 pub has_some : (l : Lists) → IsListing l → 1 ≤ size l
 has_some l h = omega (arith, h.config.initial.0, h.shape.from_initial)
 
+-- a file has 65,536 buckets at most
 pub has_most : (l : Lists) → IsListing l → size l ≤ 65536
 has_most l h = omega (arith, h.config.max.1, h.shape.to_max)
 
+-- each label stands at one of the file's columns
 pub label_column : (l : Lists) (place : ℕ) → 1 ≤ size l → place < label_count l →
     place * label_step (size l) < column_count (size l)
 unfolding label_count

@@ -117,6 +117,7 @@ chain-boxes l bucket short =
     (λ p h. sym (append-nil (bar_text (page_bar l bucket p))))
     ∙ sym (turn-texts bar_text (λ p. page_bar l bucket p ∷ []) shown)
 
+-- of a file of 128 buckets or fewer, with no chain of more pages than are drawn, each page is drawn as a box
 pub box_law : BoxLaw
 unfolding columns_text whole_tally
 box_law l few short = record {
@@ -144,6 +145,7 @@ used-is law l bucket page some h =
     omega (arith, swapped, length-drop (page * capacity) pairs, length-take capacity (drop (page * capacity) pairs))
     ∙ sym (ap (λ (some : List Pair). length some) piece)
 
+-- each box is coloured as far as its page is used
 pub colour_law : PiecesLaw → ColourLaw
 unfolding page_bar
 colour_law law l bucket page some h = record {
@@ -151,6 +153,7 @@ colour_law law l bucket page some h = record {
   colour = refl;
 }
 
+-- two boxes of a bucket, and boxes of two buckets, don't overlap
 pub apart_law : ApartLaw
 unfolding page_bar
 apart_law = record {
@@ -180,6 +183,7 @@ quotient-high g bucket some =
     let next : g * (bucket / g + 1) ≡ g * (bucket / g) + g = grind arith in
     omega (arith, lt-mul-div-succ bucket some, next)
 
+-- each bucket is shown by one column
 pub column_law : ColumnLaw
 unfolding column_count
 column_law buckets bucket column h =
@@ -201,6 +205,7 @@ named p S L i h false first is of_first = inl refl
 named p S L i h true true is of_first = inr (ap (λ b. cond b (Some (L + 1)) None) (lt-ltb L (L + 1) (omega arith)))
 named p S L i h true false is of_first = absurd (grind (arith, nat_tests))
 
+-- the legend names the level of each bucket
 pub legend_law : LegendLaw
 unfolding legend_of level_above level_of pointer
 legend_law l bucket h =

@@ -25,6 +25,7 @@ lists_more l first bucket low high =
 pub lists_none : (l : Lists) (first : ℕ) → lists_between l first first ≡ []
 lists_none l first = let none : first - first ≡ 0 = omega arith in ap (λ (n : ℕ). take n (drop first l.lists)) none
 
+-- one bucket more adds its records
 pub count_more : (l : Lists) (first bucket : ℕ) → first ≤ bucket → bucket < size l →
     count_of (lists_between l first (bucket + 1)) ≡
     count_of (lists_between l first bucket) + length (list_at l.lists bucket)
@@ -32,6 +33,7 @@ count_more l first bucket low high =
     ap count_of (lists_more l first bucket low high)
     ∙ sum_by_push (λ pairs. length pairs) (lists_between l first bucket) (list_at l.lists bucket)
 
+-- one bucket more adds the pages of its chain
 pub pages_more : (l : Lists) (capacity first bucket : ℕ) → first ≤ bucket → bucket < size l →
     sum_by (chain_length capacity) (lists_between l first (bucket + 1))
     ≡ sum_by (chain_length capacity) (lists_between l first bucket) + chain_length capacity (list_at l.lists bucket)
@@ -45,6 +47,7 @@ unfolding longest_of
 longest_push capacity [] pairs = omega arith
 longest_push capacity (first ∷ lists) pairs = omega (arith, longest_push capacity lists pairs)
 
+-- with one bucket more the longest chain is the one of before or the bucket's own
 pub longest_more : (l : Lists) (capacity first bucket : ℕ) → first ≤ bucket → bucket < size l →
     longest_of capacity (lists_between l first (bucket + 1))
     ≡ max (longest_of capacity (lists_between l first bucket)) (chain_length capacity (list_at l.lists bucket))

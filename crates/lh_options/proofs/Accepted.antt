@@ -342,26 +342,32 @@ image-reads name (inr (inr (inr (inr (inr is))))) = ap reads_image is
 apart : (name : Text) → IsFileCommand name → IsImageCommand name → ⊥
 apart name file image = false≢true (sym (file-reads name file) ∙ image-reads name image)
 
+-- a subcommand that the words may name has the options of a file's settings, or reads an image
 pub entered-named : (name : Text) (rows : List Row) → IsEntered name rows → IsFileCommand name ⊎ IsImageCommand name
 entered-named name rows (inl h) = inl h.0
 entered-named name rows (inr h) = inr h.0
 
+-- where it has those options, its rows give each setting a number in its range
 pub entered-settings : (name : Text) (rows : List Row) → IsEntered name rows → IsFileCommand name → HasSettings rows
 entered-settings name rows (inl h) is = h.1
 entered-settings name rows (inr h) is = absurd (apart name is h.0)
 
+-- the rows of `drive` give the numbers of threads, of shards and of snapshots, each in its range
 pub entered-drive : (name : Text) (rows : List Row) → IsEntered name rows → name ≡ codes "drive" → HasDriveNumbers rows
 entered-drive name rows (inl h) is = h.2 is
 entered-drive name rows (inr h) is = absurd (apart name (inr (inr (inr (inl is)))) h.0)
 
+-- the rows of `build` give the version of the image, one of the two
 pub entered-image : (name : Text) (rows : List Row) → IsEntered name rows → name ≡ codes "build" → HasImage rows
 entered-image name rows (inl h) is = h.3 is
 entered-image name rows (inr h) is = absurd (apart name (inr (inr (inl is))) h.0)
 
+-- the same of `apply`
 pub entered-applied : (name : Text) (rows : List Row) → IsEntered name rows → name ≡ codes "apply" → HasImage rows
 entered-applied name rows (inl h) is = absurd (apart name h.0 (inr (inr (inr (inr (inr is))))))
 entered-applied name rows (inr h) is = h.2 is
 
+-- the rows of a subcommand that reads an image give no settings
 pub entered-none : (name : Text) (rows : List Row) → IsEntered name rows → IsImageCommand name → settings_in rows ≡ None
 entered-none name rows (inl h) is = absurd (apart name h.0 is)
 entered-none name rows (inr h) is = h.1

@@ -14,10 +14,12 @@ pub about-reads : (old new : Command) (app : App) (text : Option (Bor Text)) →
     out-Command new ≡ record (out-Command old) { about = text } → Reads app old → Reads app new
 about-reads old new app text is k = (ap app_of_fields is ∙ k.0, ap (λ f. f.has_globals) is ∙ k.1)
 
+-- nor does a text behind the help
 pub example-reads : (old new : Command) (app : App) (text : Option (Bor Text)) →
     out-Command new ≡ record (out-Command old) { after_help = text } → Reads app old → Reads app new
 example-reads old new app text is k = (ap app_of_fields is ∙ k.0, ap (λ f. f.has_globals) is ∙ k.1)
 
+-- clap reads of it that it asks for a subcommand
 pub required-reads : (old new : Command) (app : App) →
     out-Command new ≡ record (out-Command old) { subcommand_required = true } → Reads app old
     → Reads (with_subcommand_required app) new
@@ -37,6 +39,7 @@ pub option-reads : (old new : Command) (a : Arg) (app : App) (rule : Rule) → A
 option-reads old new a app rule h local r k =
     (h.shape local ∙ ap₂ with_rule k.0 r, h.globals ∙ ap₂ (λ x y. x || y) k.1 local)
 
+-- clap reads of it the subcommand that was added
 pub subcommand-reads : (old sub new : Command) (app below : App) → AddsSubcommand old sub new → Reads app old →
     Reads below sub
     → Reads (with_subcommand app below.top) new

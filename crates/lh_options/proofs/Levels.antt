@@ -66,6 +66,7 @@ module _ (app : App) (P : Text → List Row → Type 0) (each : Every (Leaves P)
             (find-passes (λ s. answers_to p.0 (label_of s)) app.subs s is) k p.1 f,
       )
 
+  -- where a command asks for a subcommand, words without a fault enter one, and its name and rows have the fact
   pub entered-some : app.top.subcommand_required ≡ true → app.top.disable_help_subcommand ≡ false →
       (words : List Text) → built_fault app nothing_held words ≡ []
       → (e : Text × List Row) × (entered app (walk app.top.rules (names_of app) nothing_held words).stopped ≡ Some e)

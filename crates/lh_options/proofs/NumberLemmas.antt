@@ -98,6 +98,7 @@ module _ (name default : Text) (least most : ℕ) (rows : List Row) (r : Row)
             high = omega (arith, ints);
           }
 
+  -- a row that fits gives its option a number in the range
   pub number-fits : Fits name default least most r → HasNumber rows name least most
   number-fits fits = go r.values refl fits.values fits.filled
     where

@@ -58,11 +58,13 @@ numeral_value-numeral : (text : Text) → is_numeral (without_leading_plus text)
     numeral_value text ≡ Some (digits_value 10 (without_leading_plus text))
 numeral_value-numeral text e = ap (λ b. if b then Some (digits_value 10 (without_leading_plus text)) else None) e
 
+-- the number that rows give an option is the one that its text writes
 pub number-is : (rows : List Row) (name : Text) (least most : ℕ) (given : HasNumber rows name least most)
     → number_in rows name ≡ Some (digits_value 10 (without_leading_plus given.text))
 number-is rows name least most given =
     ap (option_and_then numeral_value) given.as_read ∙ numeral_value-numeral given.text given.numeral
 
+-- the number of an option is at most the greatest of its range
 pub number-at-most : (rows : List Row) (name : Text) (least most n : ℕ) → HasNumber rows name least most →
     number_in rows name ≡ Some n → n ≤ most
 number-at-most rows name least most n given is =
@@ -177,6 +179,7 @@ pub record HasEntered (words : List Text) (name : Text) (rows : List Row) : Type
   pub is : subcommand_of program_app words ≡ Some (name, rows)
   pub asked : IsEntered name rows
 
+-- a parse that succeeds has entered the subcommand that its matches name, with the rows that they give
 pub entered-from : (a : App) (m : ArgMatches) (words : List Text) (name : Text) (rows : List Row) → a ≡ program_app
     → (is_simple_and_free a ≡ true → fault_of a words ≡ []) → HasMatchesOf a words m
     → Some name ≡ subcommand_name_of m → Some rows ≡ option_map (λ p. p.1) (subcommand_rows_of m) →
@@ -188,6 +191,7 @@ entered-from a m words name rows is none matches named with_rows =
     let entered = entered-is m words name rows (same refl).1 named with_rows (found refl) in
     record { no_fault = found refl; is = entered.0; asked = entered.1 }
 
+-- the error of a parse that fails has one of the kinds that clap finds in the words, or memory ran out
 pub failed-from : (a : App) (words : List Text) (e : Error) → a ≡ program_app →
     (is_simple_and_free a ≡ true → HasKind (fault_of a words) e)
     → HasKind (fault_of program_app words) e
@@ -199,6 +203,7 @@ write-is : (words : List Text) (name : Text) (rows : List Row) → subcommand_of
     write_digits words ≡ all_in_digits rows
 write-is words name rows is = ap (λ (o : Option (Text × List Row)). option_map_or (λ s. all_in_digits s.1) o true) is
 
+-- what accepted words ask for by the rows of their subcommand answers them
 pub asked-answers : (words : List Text) (name : Text) (rows : List Row) (r : Request) → HasEntered words name rows →
     all_in_digits rows ≡ true
     → asked_in name rows ≡ Some r → Answers words r
@@ -216,6 +221,7 @@ signed-answers words name rows (request.Refused text) entered digits h =
     inr (λ a. false≢true (sym signed ∙ a.1), (inr (entered.no_fault, signed), h))
 signed-answers words name rows _ entered digits h = absurd h
 
+-- a request that refuses words runs nothing
 pub signed-servable : (r : Request) → IsRefusedText r → IsServable r
 signed-servable (request.Drive config threads shards snapshots) h = absurd h
 signed-servable _ h = tt

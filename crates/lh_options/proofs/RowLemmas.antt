@@ -370,6 +370,7 @@ module _ (name default : Text) (least most : ℕ) where
             let parts = or_else-nil (word_fault s names w.is_trailing w.waiting word w.held) _ f in
             step-every word w _ _ parts.1 (word-every names w.is_trailing w.waiting w.position word w.held parts.0 k)
 
+    -- after a walk over words without a fault each row of the option fits, where each did before
     pub walk-every : (names : Names) (w : Walk) (words : List Text) → walk_fault s names w words ≡ [] →
         Every FitsHere w.held.rows
         → Every FitsHere (fold (walked s.rules names) w words).held.rows
@@ -405,6 +406,7 @@ module _ (name default : Text) (least most : ℕ) where
           (λ f. here (has_row name rows) f) e
       by_name false ne = there (has_row a.id rows) ne
 
+  -- the same after the rules' defaults, where those are without a fault
   pub defaults-every : (c : List Rule) → Every IsTarget c → (rows : List Row) → defaults_fault rows c ≡ [] →
       Every FitsHere rows → Every FitsHere (fold with_default rows c)
   unfolding defaults_fault

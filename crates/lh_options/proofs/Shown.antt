@@ -50,6 +50,7 @@ encode-shown c plain = one (ltb c 128) refl
     one true is = λ i. low-shown c (ltb-true c 128 is) plain i && true
     one false is = last (ltb c 2048) (ltb c 65536)
 
+-- two texts without a control byte have none together
 pub both-shown : (old new : List ℕ) → has_no_control old ≡ true → has_no_control new ≡ true →
     has_no_control (old ++ new) ≡ true
 both-shown old new h k = list_all-append is_shown old new ∙ (λ i. h i && k i)

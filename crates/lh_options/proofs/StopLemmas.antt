@@ -107,6 +107,7 @@ module _ (s : Shape) (has_help : s.disable_help_subcommand ≡ false) where
           let parts = or_else-nil (word_fault s names w.is_trailing w.waiting word w.held) _ f in
           step-stops word w _ _ (word-elsewhere names w.is_trailing w.waiting w.position word w.held parts.0) k
 
+  -- a walk over words without a fault does not stop at `help`, where it had not before
   pub walk-stops : (names : Names) (w : Walk) (words : List Text) → walk_fault s names w words ≡ [] →
       StopsElsewhere w.stopped
       → StopsElsewhere (fold (walked s.rules names) w words).stopped

@@ -18,6 +18,7 @@ use Rattle.lh_page.proofs.Places.{absent_from_None}
 abbrev pub Apart : Pair → Pair → Type 0
 Apart p q = p.key ≢ q.key
 
+-- where no key stands twice, any two records have different keys
 pub apart_from_distinct : (pairs : List Pair) → IsDistinct bytes_eq (keys_of pairs) → AllPairs Apart pairs
 apart_from_distinct pairs h i j d lt below same =
     let keys = keys_of pairs in
@@ -26,6 +27,7 @@ apart_from_distinct pairs h i j d lt below same =
     (get_or-map (λ (p : Pair). p.key) pairs i d d.key (omega arith) ∙ same
     ∙ sym (get_or-map (λ (p : Pair). p.key) pairs j d d.key below))
 
+-- where any two records have different keys, no key stands twice
 pub distinct_from_apart : (pairs : List Pair) → AllPairs Apart pairs → IsDistinct bytes_eq (keys_of pairs)
 distinct_from_apart pairs h = IsDistinct-from_AllPairs bytes_eq-Decides (keys_of pairs) (λ i j d lt below same.
     let many : length (keys_of pairs) ≡ length pairs = length-map pairs (λ p. p.key) in
@@ -33,9 +35,11 @@ distinct_from_apart pairs h = IsDistinct-from_AllPairs bytes_eq-Decides (keys_of
     (sym (get_or-map (λ (p : Pair). p.key) pairs i no_pair d (omega arith)) ∙ same
     ∙ get_or-map (λ (p : Pair). p.key) pairs j no_pair d (omega arith)))
 
+-- no key stands twice where there are no records
 pub distinct_none : (pairs : List Pair) → pairs ≡ [] → IsDistinct bytes_eq (keys_of pairs)
 distinct_none pairs e = distinct_from_apart pairs (λ i j d lt below. absurd (omega (arith, ap length e)))
 
+-- no key stands twice where there is one record
 pub distinct_one : (p : Pair) → IsDistinct bytes_eq (keys_of (p ∷ []))
 distinct_one p = distinct_from_apart (p ∷ []) (λ i j d lt below. absurd (omega arith))
 

@@ -9,14 +9,17 @@ use Rattle.lh_page.specs.declared.format.Format.{Format}
 use Rattle.lh_page.specs.Format.{slot_size, slot_start}
 use Rattle.lh_page.specs.Rows.{field}
 
+-- a front of some bytes is a shorter front, and then the bytes that follow up to its end
 pub take-add : (m n : ℕ) (bytes : List ℕ) → take (m + n) bytes ≡ take m bytes ++ take n (drop m bytes)
 take-add m n bytes = same_lists _ _ (search (rules, places)) (λ k d h. grind (arith, places))
 
+-- a field is two fields, one right behind the other
 pub field-add : (bytes : List ℕ) (offset m n : ℕ) →
     field bytes offset (m + n) ≡ field bytes offset m ++ field bytes (offset + m) n
 field-add bytes offset m n =
     take-add m n (drop offset bytes) ∙ ap (λ rest. field bytes offset m ++ take n rest) (drop-drop m offset bytes)
 
+-- two fields side by side make one, with the bytes of the first and then those of the second
 pub join : (bytes : List ℕ) (offset m n : ℕ) (a b : List ℕ) → field bytes offset m ≡ a →
     field bytes (offset + m) n ≡ b → field bytes offset (m + n) ≡ a ++ b
 join bytes offset m n a b e f =
@@ -45,11 +48,13 @@ field-put_before a k offset size bytes part within before =
     ∙ ap (λ front. field front offset size) (take-put_mid_below a k bytes part a (omega arith) within)
     ∙ field-take offset size a bytes before
 
+-- a field behind what was written is as it was
 pub field-put_behind : (a k offset size : ℕ) (bytes part : List ℕ) → a ≤ length bytes → length part ≡ k →
     a + k ≤ offset → field (put_mid a k bytes part) offset size ≡ field bytes offset size
 field-put_behind a k offset size bytes part within whole behind =
     ap (take size) (drop-put_mid a k bytes part offset behind within whole)
 
+-- bytes in which a part was written are as many as before
 pub length-put : (a k : ℕ) (bytes part : List ℕ) → a + k ≤ length bytes → length part ≡ k →
     length (put_mid a k bytes part) ≡ length bytes
 length-put a k bytes part within whole =

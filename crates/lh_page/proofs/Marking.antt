@@ -21,12 +21,14 @@ marked_but old new before after place h at same i low below = elim (cases_eq i p
   | inr there ↦ let s = same i there below in at.others i there ∙ h i low s.0 ∙ ap mark_of (sym s.1)
 ]
 
+-- records keep their marks when one is appended and the mark at its place is set
 pub marked_push : (old new : List ℕ) (pairs : List Pair) (p : Pair) (place : ℕ) → place ≡ length pairs →
     IsMarked old pairs → IsMarkedAt old new (pairs ++ p ∷ []) place → IsMarked new (pairs ++ p ∷ [])
 marked_push old new pairs p place last h at = marked_but old new pairs (pairs ++ p ∷ []) place h at (λ i other below.
     let less : i < length pairs = omega (arith, length_push pairs p) in
     (less, ap (λ (q : Pair). q.key) (get_or_append_left pairs (p ∷ []) no_pair i less)))
 
+-- records keep their marks when the last one moves into a hole and the mark there is set
 pub marked_remove : (old new : List ℕ) (pairs : List Pair) (place : ℕ) (p : Pair) → place < length pairs →
     IsMarked old pairs → IsMarkedAt old new (swap_remove pairs place p) place → IsMarked new (swap_remove pairs place p)
 marked_remove old new pairs place p within h at =
@@ -62,6 +64,7 @@ moved_mark marks pairs place last p is within h low below =
     (get_or-take (length pairs - 1) moved place no_pair less
     ∙ get_or-set_same pairs place (get_or pairs (length pairs - 1) p) no_pair within)))
 
+-- records keep their marks when one is replaced by another with the same key
 pub marked_set : (marks : List ℕ) (pairs : List Pair) (place : ℕ) (p : Pair) → p.key ≡ key_at pairs place →
     IsMarked marks pairs → IsMarked marks (set pairs place p)
 marked_set marks pairs place p same h i low below =

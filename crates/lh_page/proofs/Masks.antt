@@ -25,6 +25,7 @@ bit_at-mask marks mark i low =
     let t = set_tells (get_or marks i 0) mark (eqb (get_or marks i 0) mark) refl in
     (λ h. t.0 (sym e ∙ h), λ h. e ∙ t.1 h)
 
+-- the mask of a test's answers has no bit behind those of the answers
 pub mask-lt : (marks : List ℕ) (mark n : ℕ) → length marks ≡ n → mask_l (map (λ x. eqb x mark) marks) < 2 ^ n
 mask-lt marks mark n long =
     subst (λ k. mask_l (map (λ x. eqb x mark) marks) < 2 ^ k) (length-map marks (λ x. eqb x mark) ∙ long)
@@ -32,6 +33,7 @@ mask-lt marks mark n long =
 
 -- ---- two masks side by side
 
+-- of two masks side by side, a bit before the second one begins is that of the first
 pub bit_at-front : (a b k i : ℕ) → i < k → bit_at (bit_or a (b * 2 ^ k)) i ≡ bit_at a i
 bit_at-front a b k i low =
     let none : bit_at (b * 2 ^ k) i ≡ 0 =
@@ -41,6 +43,7 @@ bit_at-front a b k i low =
     sym-zero : (n : ℕ) → n ≡ n + 0
     sym-zero n = omega arith
 
+-- and one from there on is that of the second, counted from there, where the first has ended
 pub bit_at-back : (a b k i : ℕ) → a < 2 ^ k → k ≤ i → bit_at (bit_or a (b * 2 ^ k)) i ≡ bit_at b (i - k)
 bit_at-back a b k i small high =
     let none = bit_at_above a k i small high in
@@ -50,6 +53,7 @@ bit_at-back a b k i small high =
 
 -- ---- the mask of two vectors' comparison
 
+-- the mask of the comparison of two vectors of 32 bytes tells at which places they are the same
 pub bitmask_alike : (xs ys : List ℕ) → length xs ≡ 32 → length ys ≡ 32 →
     mask_l (map (top (hbits w8)) (zip2 (λ a b. cond (eqb a b) (2 ^ bits w8 - 1) 0) xs ys)) % 2 ^ 64 ≡
     mask_l (zip2 eqb xs ys)
@@ -64,6 +68,7 @@ pub record IsCommon (a b : List ℕ) (t : ℕ) : Type 0 where
   pub same : (i : ℕ) → i < t → get_or a i 0 ≡ get_or b i 0
   pub differ : t < 32 → get_or a t 0 ≢ get_or b t 0
 
+-- two rows share at their fronts as many of 32 bytes as the mask of where they agree has ones at its low end
 pub common_from_mask : (a b xs ys : List ℕ) (m : ℕ) → 32 ≤ length a → 32 ≤ length b → xs ≡ take 32 a → ys ≡ take 32 b →
     m ≡ mask_l (zip2 eqb xs ys) → IsCommon a b (trailing_ones w64 m)
 common_from_mask a b xs ys m wide long front beside is =

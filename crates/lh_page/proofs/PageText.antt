@@ -139,5 +139,6 @@ module _ (f : Format) (page : Page) (w : IsWritable f page) where
             ∙ piece_at piece (slot_size f) sized f.slots 0 i low ∙ ap piece (zero-add i);
       }
 
+-- bytes have the table of a page that can be written exactly where they are its text
 pub page_text_law : PageTextLaw
 page_text_law f bytes page writable = (text_from f page bytes, λ e. rw e (table f page writable))

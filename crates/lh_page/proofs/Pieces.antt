@@ -17,6 +17,7 @@ page_more n b some many =
     ap (λ m. m / b) (let f : n - 1 ≡ n - b - 1 + b = omega arith in f) ∙ add-div_right (n - b - 1) some in
     omega arith
 
+-- a list of records is cut into as many pieces as it needs pages
 pub length-pieces : (n b : ℕ) (pairs : List Pair) → 1 ≤ b → length pairs ≤ n →
     length (pieces n b pairs) ≡ (length pairs - 1) / b + 1
 unfolding pieces
@@ -101,6 +102,7 @@ pieces-joined (suc n) b (first ∷ second ∷ rest) some h few =
     more-pieces n b first (joined (second ∷ rest)) h.0 (omega (arith, h.1, left))
     ∙ ap (λ pages. first ∷ pages) (pieces-joined n b (second ∷ rest) some h.2 (omega (arith, h.0, whole)))
 
+-- the pages of a list are the one row of packed pages that hold its records in their order
 pub packing : PackingLaw
 packing b pairs pages some = (
   λ h.
@@ -144,6 +146,7 @@ piece_at (suc n) b (suc k) pairs some few low = elim (cases_Bool (leb (length pa
       rw more (omega (arith, h.0), h.1 ∙ ap (take b) (drop-drop (k * b) b pairs ∙ ap (λ m. drop m pairs) (sym e)))
 ]
 
+-- each page of a list holds the records from its own place on, and there are as many pages as that takes
 pub all_pieces : PiecesLaw
 unfolding Starts
 all_pieces b pairs some = (

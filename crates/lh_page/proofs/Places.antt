@@ -12,12 +12,15 @@ use Rattle.lh_page.specs.Records.{place_of, no_pair, AbsentBelow, StandsFirst}
 has_key : List ℕ → Pair → Bool
 has_key key p = bytes_eq p.key key
 
+-- the test whether bytes are the same passes where they are
 pub bytes_eq-same : (x y : List ℕ) → x ≡ y → bytes_eq x y ≡ true
 bytes_eq-same x y e = (bytes_eq-Decides x y).1 e
 
+-- and it fails where they are not
 pub bytes_eq-other : (x y : List ℕ) → x ≢ y → bytes_eq x y ≡ false
 bytes_eq-other x y n = false_from_ne_true (bytes_eq x y) (λ e. n ((bytes_eq-Decides x y).0 e))
 
+-- the place of a key is where the first record with it stands
 pub place_of-found : (pairs : List Pair) (key : List ℕ) (i : ℕ) → StandsFirst pairs i key → place_of pairs key ≡ Some i
 unfolding place_of
 place_of-found pairs key i h =
@@ -26,6 +29,7 @@ place_of-found pairs key i h =
     (λ k below. bytes_eq-other _ _ (h.1 k below (omega arith))) (λ _. bytes_eq-same _ _ h.2) in
     rw (first, lt-ltb i (length pairs) h.0)
 
+-- no place is answered for a key that no record has
 pub place_of-absent : (pairs : List Pair) (key : List ℕ) → AbsentBelow pairs (length pairs) key →
     place_of pairs key ≡ None
 unfolding place_of

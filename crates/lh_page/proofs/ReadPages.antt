@@ -22,6 +22,7 @@ use Rattle.lh_page.proofs.Zeros.{all_zero-parts}
 at_range : (p : ℕ → Bool) (n k : ℕ) (b : Bool) → k < n → p k ≡ b → p (get_or (range_with_len 0 n) k 0) ≡ b
 at_range p n k b low e = ap p (get_or-range_with_len 0 n k 0 low ∙ zero-add k) ∙ e
 
+-- of the numbers from zero on, the first that passes a test is found
 pub find-first : (p : ℕ → Bool) (n i : ℕ) → i < n → ((k : ℕ) → k < i → p k ≡ false) → p i ≡ true →
     find p (range_with_len 0 n) ≡ Some i
 find-first p n i low before here =
@@ -33,6 +34,7 @@ find-first p n i low before here =
     ∙ slice_get-get_or (range_with_len 0 n) i 0 (omega arith)
     ∙ ap Some (get_or-range_with_len 0 n i 0 low ∙ zero-add i)
 
+-- where none of them passes, none is found
 pub find-none : (p : ℕ → Bool) (n : ℕ) → ((k : ℕ) → k < n → p k ≡ false) → find p (range_with_len 0 n) ≡ None
 find-none p n none =
     let long : length (range_with_len 0 n) ≡ n = length-range_with_len 0 n in
@@ -44,11 +46,13 @@ find-none p n none =
 
 -- ---- slots
 
+-- a used slot is bad exactly where its record is bad
 pub is_bad_slot-used : (f : Format) (bytes : List ℕ) (i : ℕ) → i < used_of bytes →
     is_bad_slot f bytes i ≡ is_bad_record f (slot f bytes i)
 unfolding is_bad_slot
 is_bad_slot-used f bytes i used = rw (lt-ltb i (used_of bytes) used) refl
 
+-- a slot that isn't used is bad exactly where it isn't all zeros
 pub is_bad_slot-unused : (f : Format) (bytes : List ℕ) (i : ℕ) → used_of bytes ≤ i →
     is_bad_slot f bytes i ≡ not (all_zero (slot f bytes i))
 unfolding is_bad_slot
@@ -68,6 +72,7 @@ pub record IsReadTo (f : Format) (bytes : List ℕ) (pairs : List Pair) (n : ℕ
   pub long : length pairs ≡ n
   pub read : pairs ≡ map (λ i. pair_of f (slot f bytes i)) (range_with_len 0 n)
 
+-- one used slot more was read, without a fault, and its record comes last
 pub read_more : (f : Format) (bytes s : List ℕ) (pairs : List Pair) (n : ℕ) (pair : Pair) → n < used_of bytes →
     s ≡ slot f bytes n → Some pair ≡ (if is_bad_record f s then None else Some (pair_of f s)) →
     IsReadTo f bytes pairs n → IsReadTo f bytes (pairs ++ pair ∷ []) (n + 1)
@@ -86,6 +91,7 @@ read_more f bytes s pairs n pair used is read h =
           ∙ sym (map-range_with_len_more (λ i. pair_of f (slot f bytes i)) 0 n n (zero-add n));
     }
 
+-- a used slot from which no record is read, behind slots without a fault, is the least bad one
 pub bad_slot-read : (f : Format) (bytes s : List ℕ) (pairs : List Pair) (n : ℕ) → n < f.slots → n < used_of bytes →
     s ≡ slot f bytes n → None ≡ (if is_bad_record f s then None else Some (pair_of f s)) → IsReadTo f bytes pairs n →
     bad_slot f bytes ≡ Some n
@@ -102,6 +108,7 @@ good_to f bytes pairs n to same zero h i below = elim (cases_lt i n) [
   | inr behind ↦ is_bad_slot-unused f bytes i (omega arith) ∙ not_from_true _ (zero i behind below)
 ]
 
+-- where all used slots were read, the first slot behind them that isn't all zeros is the least bad one
 pub bad_slot-filled : (f : Format) (bytes : List ℕ) (pairs : List Pair) (n i : ℕ) → n ≡ used_of bytes →
     FirstFilled f bytes n i → IsReadTo f bytes pairs n → bad_slot f bytes ≡ Some i
 unfolding bad_slot
@@ -109,12 +116,14 @@ bad_slot-filled f bytes pairs n i same first h =
     find-first (is_bad_slot f bytes) f.slots i first.1 (good_to f bytes pairs n i same first.2 h)
     (is_bad_slot-unused f bytes i (omega (arith, first.0)) ∙ not_from_false _ first.3)
 
+-- where all used slots were read and those behind them are all zeros, no slot is bad
 pub bad_slot-none : (f : Format) (bytes : List ℕ) (pairs : List Pair) (n : ℕ) → n ≡ used_of bytes →
     UnusedAreZero f bytes n f.slots → IsReadTo f bytes pairs n → bad_slot f bytes ≡ None
 unfolding bad_slot
 bad_slot-none f bytes pairs n same zero h =
     find-none (is_bad_slot f bytes) f.slots (good_to f bytes pairs n f.slots same zero h)
 
+-- the records that were read from all used slots are those of the page
 pub pairs_of-read : (f : Format) (bytes : List ℕ) (pairs : List Pair) (n : ℕ) → n ≡ used_of bytes →
     IsReadTo f bytes pairs n → pairs ≡ pairs_of f bytes
 unfolding pairs_of

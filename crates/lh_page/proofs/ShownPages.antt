@@ -138,6 +138,7 @@ module _ (f : Format) (bytes : List ℕ) (page : Page) (w : IsWritable f page) (
     pairs = pairs_back i;
   }
 
+-- what is written is read back, without a fault where the page has room for its records
 pub read_back : ReadBackLaw
 read_back f bytes page b writable h room = (page_back f bytes page writable h, no_fault f bytes page writable h b room)
 
@@ -249,6 +250,7 @@ module _ (f : Format) (bytes : List ℕ) (fit : AreBytes bytes) (long : length b
     };
   }
 
+-- a page's bytes are the writing of their fields exactly where they have no fault
 pub faultless : FaultlessLaw
 faultless f bytes fit long = (
   λ none. (shown f bytes fit long none, writable f bytes fit long none),

@@ -50,6 +50,7 @@ good_parts f s good =
       behind_value = not-false _ p.1;
     }
 
+-- a slot with a key, lengths that fit, and zeros behind the key and the value, has no fault
 pub good_from : (f : Format) (s : List ℕ) → IsGood f s → is_bad_record f s ≡ false
 unfolding is_bad_record
 good_from f s h =
@@ -59,6 +60,7 @@ good_from f s h =
     (le-ltb _ _ h.value))
     (not_from_true _ h.behind_key)) (not_from_true _ h.behind_value)
 
+-- the record in a slot without a fault fits a slot
 pub fits_from_good : (f : Format) (s : List ℕ) → length s ≡ slot_size f → is_bad_record f s ≡ false →
     FitsSlot f (pair_of f s)
 fits_from_good f s long good =
@@ -102,6 +104,7 @@ module _ (f : Format) (pair : Pair) (h : FitsSlot f pair) where
       sym (drop-drop f.key 2 (slot_text f (Some pair)))
       ∙ drop_at (padded f.key pair.key) (padded f.value pair.value) f.key (length-padded f.key pair.key h.key)
 
+  -- the record read from a slot is the one that was written there
   pub pair_of-text : pair_of f (slot_text f (Some pair)) ≡ pair
   pair_of-text i = record {
     key =
@@ -134,6 +137,7 @@ module _ (f : Format) (pair : Pair) (h : FitsSlot f pair) where
       ∙ drop_at pair.value z m refl)
       ∙ take_all (f.value - m) z (omega (arith, length-replicate {A = ℕ} (f.value - m) 0))
 
+  -- a slot in which a record that fits was written has no fault
   pub good_text : is_bad_record f (slot_text f (Some pair)) ≡ false
   good_text = good_from f (slot_text f (Some pair)) (record {
     some = h.some;

@@ -18,6 +18,7 @@ use Rattle.lh_page.specs.Records.{no_pair}
 abbrev IsFull : List Pair → Type 0
 IsFull unit = length unit ≡ 4
 
+-- full units have four times as many records as there are units
 pub length-joined : (units : List (List Pair)) → AreUnits units → length (joined units) ≡ 4 * length units
 length-joined [] h = refl
 length-joined (u ∷ us) h =
@@ -39,6 +40,7 @@ get_or-joined (u ∷ us) (suc q) r e d h within low =
     get_or-append_right u (joined us) 4 (4 * suc q + r) d one (omega arith) ∙ (ap (λ i. get_or (joined us) i d) place
     ∙ get_or-joined us q r e d (All-tail IsFull u us h) (omega arith) low)
 
+-- a record set in a row of a unit is set among all records at the place of that row
 pub set-joined : (units : List (List Pair)) (q r : ℕ) (e : List Pair) (p : Pair) → AreUnits units → q < length units →
     r < 4 → joined (set units q (set (get_or units q e) r p)) ≡ set (joined units) (4 * q + r) p
 set-joined [] q r e p h within low = absurd (omega arith)
@@ -60,6 +62,7 @@ get_or-place units i e d h within =
     let place : i ≡ 4 * (i / 4) + i % 4 = omega arith in
     ap (λ k. get_or (joined units) k d) place ∙ get_or-joined units (i / 4) (i % 4) e d h (omega arith) (omega arith)
 
+-- a record is set at a place among all records where it is set in the row of that place
 pub set-place : (units : List (List Pair)) (i : ℕ) (was unit : List Pair) (p : Pair) → AreUnits units →
     i < 4 * length units → was ≡ get_or units (i / 4) was → unit ≡ set was (i % 4) p →
     joined (set units (i / 4) unit) ≡ set (joined units) i p
@@ -70,10 +73,12 @@ set-place units i was unit p h within at is =
 
 -- ---- the first n records
 
+-- the records taken from the front are as many as are asked for, where the units have so many
 pub length-first : (n : ℕ) (units : List (List Pair)) → AreUnits units → n ≤ 4 * length units →
     length (take n (joined units)) ≡ n
 length-first n units h within = length-take-le n (joined units) (omega (arith, length-joined units h))
 
+-- each of the first records is in its own row of its own unit
 pub get_or-first : (n : ℕ) (units : List (List Pair)) (i : ℕ) (unit : List Pair) (d : Pair) → AreUnits units →
     n ≤ 4 * length units → i < n → unit ≡ get_or units (i / 4) unit →
     get_or unit (i % 4) d ≡ get_or (take n (joined units)) i d
@@ -86,6 +91,7 @@ pub within-first : (n : ℕ) (units : List (List Pair)) (i : ℕ) (whole : List 
     n ≤ 4 * length units → take n (joined units) ≡ whole → i < length whole → i < n
 within-first n units i whole h within is below = omega (arith, length-first n units h within, ap length is)
 
+-- one of the first records is set where its row in its unit is
 pub set-first : (n : ℕ) (units : List (List Pair)) (i : ℕ) (was unit : List Pair) (p : Pair) → AreUnits units →
     n ≤ 4 * length units → i < n → was ≡ get_or units (i / 4) was → unit ≡ set was (i % 4) p →
     take n (joined (set units (i / 4) unit)) ≡ set (take n (joined units)) i p
@@ -154,6 +160,7 @@ written-back n q front back whole unit many =
     take_at (set front q unit ++ back) _ n
     (omega (arith, length-append (set front q unit) back, length-set front q unit))
 
+-- units stay full when a row of one of them is set
 pub units-across : (front back : List (List Pair)) (q r : ℕ) (d unit : List Pair) (p : Pair) →
     AreUnits (front ++ back) → q < length front → unit ≡ set (get_or front q d) r p →
     AreUnits (set front q unit ++ back)

@@ -33,6 +33,7 @@ bytes_from_number (suc n) k xs ys fit small e i low high = elim (cases_lt k i) [
       (fit k) (small k) e)
 ]
 
+-- rows of keys that agree in their seven words are the same
 pub same_from_words : (a b : List ℕ) → length a ≡ key_room → length b ≡ key_room → ((i : ℕ) → slice_index a i < 256) →
     ((i : ℕ) → slice_index b i < 256) → same_words a b ≡ true → a ≡ b
 unfolding word_at
@@ -60,6 +61,7 @@ same_from_words a b long whole fit small e =
       | inr behind ↦ later behind
     ]
 
+-- rows that are the same agree in their seven words
 pub words_from_same : (a b : List ℕ) → a ≡ b → same_words a b ≡ true
 words_from_same a b e =
     and_from _ _

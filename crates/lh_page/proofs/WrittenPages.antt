@@ -53,6 +53,7 @@ slot_behind f head i whole low =
     ∙ drop-replicate before all 0)
     ∙ take-replicate (slot_size f) (all - before) 0 (omega (arith, slots_apart f i f.slots low))
 
+-- a page of zeros with the head over its front has the head written, and no record yet
 pub written_none : (f : Format) (empty part : List ℕ) (page : Page) → empty ≡ zeros (page_size f) →
     part ≡ head_text page → IsPartlyWritten f (part ++ drop 16 empty) page 0
 written_none f empty part page none is =
@@ -67,6 +68,7 @@ written_none f empty part page none is =
       left = λ i low past. slot_behind f (head_text page) i refl low;
     })
 
+-- one record more was written, in the next slot
 pub written_more : (f : Format) (old new : List ℕ) (page : Page) (pair : Pair) (n : ℕ) → n < f.slots →
     slice_get page.pairs n ≡ Some pair → IsPartlyWritten f old page n → WritesSlot f old new n pair →
     IsPartlyWritten f new page (n + 1)
@@ -80,6 +82,7 @@ written_more f old new page pair n low is h w = record {
   left = λ i within past. w.others i within (λ same. omega (arith, same)) ∙ h.left i within (omega arith);
 }
 
+-- where all its records were written, the bytes are those of the page
 pub written_all : (f : Format) (bytes : List ℕ) (page : Page) → IsPartlyWritten f bytes page (length page.pairs) →
     IsPage f bytes page
 written_all f bytes page h = record {

@@ -12,6 +12,7 @@ use Rattle.lh_page.specs.Rows.{zeros, padded}
 
 -- ---- rows of zeros
 
+-- bytes that are all zero are a row of as many zeros
 pub zeros_from : (bytes : List ℕ) → all_zero bytes ≡ true → bytes ≡ zeros (length bytes)
 zeros_from [] e = refl
 zeros_from (x ∷ xs) e =
@@ -20,10 +21,12 @@ zeros_from (x ∷ xs) e =
     let r = zeros_from xs p.1 in
     cc
 
+-- each byte of a row of zeros is zero
 pub all_zero-zeros : (n : ℕ) → all_zero (zeros n) ≡ true
 all_zero-zeros zero = refl
 all_zero-zeros (suc n) = all_zero-zeros n
 
+-- bytes of a given number that are all zero are a row of so many zeros
 pub zeros_of_length : (bytes : List ℕ) (n : ℕ) → length bytes ≡ n → all_zero bytes ≡ true → bytes ≡ zeros n
 zeros_of_length bytes n long e = zeros_from bytes e ∙ ap zeros long
 
@@ -34,6 +37,7 @@ found_clear s p q k n r end is clear =
     let less : n - k ≡ q - (p + k) = omega arith in
     ap (λ m. all_zero (take m (drop (p + k) s))) less ∙ sym is ∙ clear
 
+-- where all bytes are zero, those before a place are, and those from it on
 pub all_zero-parts : (n : ℕ) (xs : List ℕ) → all_zero xs ≡ true →
     (all_zero (take n xs) ≡ true) × (all_zero (drop n xs) ≡ true)
 all_zero-parts n xs h =
@@ -49,6 +53,7 @@ padded-take m n bytes le behind =
     ap (λ k. take n bytes ++ zeros (m - k)) (length-take-le n bytes le)
     ∙ ap (λ rest. take n bytes ++ rest) (sym behind) ∙ take-append-drop n bytes
 
+-- bytes that are padded to a length have it, where they aren't longer
 pub length-padded : (n : ℕ) (bytes : List ℕ) → length bytes ≤ n → length (padded n bytes) ≡ n
 length-padded n bytes le =
     omega (arith, length-append bytes (zeros (n - length bytes)), length-replicate {A = ℕ} (n - length bytes) 0)

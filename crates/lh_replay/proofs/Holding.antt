@@ -198,6 +198,7 @@ pub neither : (a b : Bool) → (a || b) ≡ false → (a ≡ false) × (b ≡ fa
 neither true b e = absurd (false≢true (sym e))
 neither false b e = (refl, e)
 
+-- as far as its box reaches, a bucket is held by its worker
 pub held_law : HeldLaw
 held_law config w m k earlier [] state h none = locked config h.0 w m k state h.2
 held_law config w m k earlier (s ∷ later) state h none =

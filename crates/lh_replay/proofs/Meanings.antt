@@ -55,6 +55,7 @@ reaches-next is_lock lane event events entry entries rows true is h =
 reaches-next is_lock lane event events entry entries rows false is h =
     later-ends is_lock lane event events entry entries rows is h
 
+-- a box or an arrow reaches down to the first step that ends it, or to the last row
 pub reach_law : ReachLaw
 unfolding rows_until
 reach_law is_lock lane [] entries same =
@@ -81,6 +82,7 @@ lanes-all [] row lanes h = absurd (omega (arith, h))
 lanes-all (event ∷ events) zero lanes h = omega (arith, lanes-more events (max lanes (lane_of event + 1)))
 lanes-all (event ∷ events) (suc row) lanes h = lanes-all events row (max lanes (lane_of event + 1)) (omega (arith, h))
 
+-- the lane of each step is drawn
 pub lane_law : LaneLaw
 unfolding lane_count
 lane_law events row h = lanes-all events row 1 h

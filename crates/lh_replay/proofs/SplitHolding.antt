@@ -143,6 +143,7 @@ after config old new earlier (s ∷ later) state h none =
     let before = after config old new earlier later h.0 h.1 apart.1 in
     (step_keeps config h.0 new s.0 s.1 state h.2 apart.0 before.0, before.1)
 
+-- as far as their boxes reach, two buckets are held by the splitter
 pub both_held_law : BothHeldLaw
 both_held_law config old new earlier later state h none =
     let at_end = after config old new earlier later state h none in both_held config state old new at_end.0 at_end.1

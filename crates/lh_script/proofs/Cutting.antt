@@ -25,6 +25,7 @@ nowhere p (x ∷ xs) (suc n) h le =
 whole : (xs : List ℕ) → take (length xs) xs ≡ xs
 whole xs = grind (arith, common_steps)
 
+-- where no LF is found, there is none
 pub no_lf : (xs : List ℕ) → IsFirstByte (is_byte 10) xs None → list_any is_lf xs ≡ false
 unfolding is_lf
 no_lf xs h =
@@ -37,6 +38,7 @@ cut [] n lt e = absurd (omega arith)
 cut (x ∷ xs) zero lt e = let f : x ≡ 10 = grind (arith, nat_tests) in ap (λ y. y ∷ xs) f
 cut (x ∷ xs) (suc n) lt e = ap (λ ys. x ∷ ys) (cut xs n (omega arith) e)
 
+-- bytes that are cut at the first LF are a line, which has no other LF, and what stands behind it
 pub cut_at_lf : (xs front behind : List ℕ) (n : ℕ) → IsFirstByte (is_byte 10) xs (Some n) → front ≡ take n xs →
     behind ≡ drop (n + 1) xs → (xs ≡ line front ++ behind) × (list_any is_lf front ≡ false)
 unfolding is_lf

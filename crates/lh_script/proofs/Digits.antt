@@ -15,6 +15,7 @@ IsAscii-from_test (byte ∷ bytes) h =
     let parts = and_parts (nat_lt byte 128) (list_all (λ byte. nat_lt byte 128) bytes) h in
     IsAscii-cons byte bytes (ltb-true byte 128 parts.0) (IsAscii-from_test bytes parts.1)
 
+-- bytes written in hexadecimal digits are UTF-8
 pub IsUtf8-encode_lower : (bytes : List ℕ) → IsUtf8 (encode_lower bytes)
 IsUtf8-encode_lower bytes =
     IsUtf8-from_ascii (encode_lower bytes)

@@ -38,6 +38,7 @@ regroup false true true c = refl
 regroup false true false c = refl
 regroup false false b c = refl
 
+-- pairs of digits make half as many bytes as there are digits, and nothing else makes any
 pub pairs_length_is : (xs : List ℕ) → option_map length (pairs xs) ≡ pairs_length xs
 unfolding pairs
 pairs_length_is [] = refl
@@ -49,6 +50,7 @@ pairs_length_is (c ∷ d ∷ cs) =
     (sym (regroup (length cs % 2 == 0) (is_digit c) (is_digit d) (list_all is_digit cs)))
     ∙ rw ((half (length cs)).0, (half (length cs)).1) refl)
 
+-- the same, with its tests written out
 pub length_of_pairs : (xs : List ℕ) →
     option_map length (pairs xs) ≡
     cond ((length xs % 2 == 0) && list_all (λ c. is_some (digit c)) xs) (Some (length xs / 2)) None
@@ -63,6 +65,7 @@ table_is : DIGIT_VALUES ≡ map value_or_mark (range_with_len 0 256)
 unfolding digit
 table_is = refl
 
+-- the table has the value of each digit at its code, and 16 for a byte that is no digit
 pub digit_from_table : (c : ℕ) → c < 256 → get_or DIGIT_VALUES c 0 ≡ unwrap_or (digit c) 16
 digit_from_table c lt =
     ap (λ table. get_or table c 0) table_is ∙ get_or-map-range_with_len value_or_mark 0 256 c c 0 lt (omega arith)
@@ -93,6 +96,7 @@ mark_bound : (o : Option ℕ) → IfSome o (λ d. d < 16) → unwrap_or o 16 ≤
 mark_bound None h = omega arith
 mark_bound (Some d) h = omega arith
 
+-- a digit's value, or 16 for what is no digit, is at most 16
 pub value_bound : (c : ℕ) → unwrap_or (digit c) 16 ≤ 16
 value_bound c = mark_bound (digit c) (digit_small c)
 
@@ -100,9 +104,11 @@ mark_test : (o : Option ℕ) → IfSome o (λ d. d < 16) → nat_lt (unwrap_or o
 mark_test None h = refl
 mark_test (Some d) h = grind (arith, nat_tests)
 
+-- no entry of the table is above 16
 pub table_bound : (c : ℕ) → c < 256 → get_or DIGIT_VALUES c 0 ≤ 16
 table_bound c lt = omega (arith, digit_from_table c lt, value_bound c)
 
+-- a byte is a digit exactly where its value, or 16 for what is no digit, is below 16
 pub digit_is_below : (c : ℕ) → nat_lt (unwrap_or (digit c) 16) 16 ≡ is_some (digit c)
 digit_is_below c = mark_test (digit c) (digit_small c)
 
@@ -118,6 +124,7 @@ good_byte (Some d) (Some e) (Some bs) h k lt mt =
     let same : 16 * d + e ≡ 16 * (d % 16) + e % 16 = omega arith in
     ap (λ n. Some (n ∷ bs)) same
 
+-- where the first two bytes are digits, the byte that they make comes before those of the rest
 pub pair_good : (xs : List ℕ) (high low : ℕ) → 1 < length xs → high ≡ unwrap_or (digit (get_or xs 0 0)) 16 →
     low ≡ unwrap_or (digit (get_or xs 1 0)) 16 → bit_or high low < 16 →
     pairs xs ≡ option_map (λ bytes. (16 * (high % 16) + low % 16) ∷ bytes) (pairs (drop 2 xs))
@@ -135,6 +142,7 @@ bad_byte None b r h k m = refl
 bad_byte (Some d) None r h k m = refl
 bad_byte (Some d) (Some e) r h k m = absurd (omega (arith, or_lt 4 d e (omega arith) (omega arith)))
 
+-- where one of the first two bytes is no digit, the bytes are no pairs of digits
 pub pair_bad : (xs : List ℕ) (high low : ℕ) → 1 < length xs → high ≡ unwrap_or (digit (get_or xs 0 0)) 16 →
     low ≡ unwrap_or (digit (get_or xs 1 0)) 16 → 16 ≤ bit_or high low → pairs xs ≡ None
 unfolding pairs
@@ -153,6 +161,7 @@ no_front : (r : Option (List ℕ)) → r ≡ with_front [] r
 no_front None = refl
 no_front (Some bs) = refl
 
+-- while no byte is written, all bytes are still to come
 pub front_none : (xs : List ℕ) → pairs xs ≡ with_front [] (pairs xs)
 front_none xs = no_front (pairs xs)
 
@@ -192,6 +201,7 @@ by_test : (b : Bool) (n : ℕ) (P Q : Type 0) → nat_lt n 16 ≡ b → (n < 16 
 by_test true n P Q e f g = f (grind (arith, nat_tests))
 by_test false n P Q e f g = g (grind (arith, nat_tests))
 
+-- of two facts, one for marks below 16 and one for all others, the one that the test picks holds
 pub marks_decide : (n : ℕ) (P Q : Type 0) → (n < 16 → P) → (16 ≤ n → Q) → MatchBool (nat_lt n 16) P Q
 marks_decide n P Q f g = by_test (nat_lt n 16) n P Q refl f g
 
@@ -223,5 +233,6 @@ room_short xs room o e lt =
     by_half ((length xs % 2 == 0) && list_all (λ c. is_some (digit c)) xs) (length xs / 2) (length room) o
     (λ m. byte_string xs ≡ Some (take m room)) (e ∙ length_of_pairs xs) lt
 
+-- an odd number of bytes is no pairs of digits
 pub odd_none : (xs : List ℕ) → length xs % 2 ≡ 1 → option_map length (pairs xs) ≡ None
 odd_none xs e = length_of_pairs xs ∙ rw e refl

@@ -18,6 +18,7 @@ after_nothing : {A : Type 0} (r : Result (List A) ScriptFault) → r ≡ after [
 after_nothing (Ok xs) = refl
 after_nothing (Err e) = refl
 
+-- before the first line is read, no statements stand before those of the script
 pub script_starts : {A : Type 0} (read : Reading A) (text : List ℕ) →
     from_line read 1 (lines text) ≡ after [] (from_line read 1 (lines text))
 script_starts read text = after_nothing (from_line read 1 (lines text))
@@ -28,6 +29,7 @@ unfolding from_line
 empty_ends read n front [] e = rw lines_none (ap (λ xs. Ok xs) (append-nil front))
 empty_ends read n front (c ∷ cs) e = absurd (omega arith)
 
+-- where no bytes are left, the script gives the statements that were read
 pub script_ends : {A : Type 0} (read : Reading A) (n : ℕ) (all : Result (List A) ScriptFault) (front : List A)
     (rest : List ℕ) → all ≡ after front (from_line read n (lines rest)) → length rest ≡ 0 → all ≡ Ok front
 script_ends read n all front rest h e = h ∙ empty_ends read n front rest e
@@ -37,6 +39,7 @@ faulty : {A : Type 0} (said : Result (Option A) LineFault) (n : ℕ) (front : Li
 faulty (Ok found) n front r fault e = absurd (let bad : Err fault ≡ Ok tt = e in cc)
 faulty (Err other) n front r fault e = let same : fault ≡ other = cc in ap (λ f. Err (AtLine n f)) (sym same)
 
+-- where the next line is at fault, the script gives that fault with the line's number
 pub line_faulty : {A : Type 0} (read : Reading A) (n : ℕ) (all : Result (List A) ScriptFault) (front : List A)
     (rest line behind : List ℕ) (fault : LineFault) → all ≡ after front (from_line read n (lines rest)) →
     lines rest ≡ line ∷ lines behind → Err fault ≡ fault_in (read (words line)) → all ≡ Err (AtLine n fault)
@@ -50,6 +53,7 @@ joined (Ok found) n front (Ok xs) e = ap (λ ys. Ok ys) (sym (append_assoc front
 joined (Ok found) n front (Err fault) e = refl
 joined (Err fault) n front r e = absurd (let bad : Ok tt ≡ Err fault = e in cc)
 
+-- where it is not, what the line adds comes behind the statements that were read
 pub line_read : {A : Type 0} (read : Reading A) (n : ℕ) (all : Result (List A) ScriptFault) (front grown : List A)
     (rest line behind : List ℕ) → all ≡ after front (from_line read n (lines rest)) →
     lines rest ≡ line ∷ lines behind → Ok tt ≡ fault_in (read (words line)) →

@@ -8,10 +8,12 @@ use Rattle.std.proofs.lemmas.Bool.Decides.{nat_tests}
 use Rattle.memchr.specs.Find.{IsFirstByte, is_byte}
 use Rattle.lh_script.specs.Lines.{lines, words, is_blank, is_lf, onto, ends_word, begins_with_lf, without_last_cr}
 
+-- the place of the first element that passes a test, or else the length, is at most the length
 pub length_from_position : {X : Type 0} (p : X → Bool) (xs : List X) → position_or_len p xs ≤ length xs
 length_from_position p [] = omega arith
 length_from_position p (x ∷ xs) = grind (arith, length_from_position p xs)
 
+-- a place that was found, or the length where none was, is that number
 pub unwrap_position : {X : Type 0} (p : X → Bool) (xs : List X) (n : ℕ) → n ≡ length xs →
     (unwrap_or (position p xs) n ≡ position_or_len p xs) × (position_or_len p xs ≤ length xs)
 unwrap_position p xs n e = (grind (arith, length_from_position p xs), length_from_position p xs)
@@ -56,6 +58,7 @@ blank_goes : (b : Bool) (x : ℕ) (xs : List ℕ) (c : ℕ) (cs : List ℕ) → 
 blank_goes true x xs c cs e h k = h (rw (e, one_plus) at k)
 blank_goes false x xs c cs e h k = let j : x ∷ xs ≡ c ∷ cs = rw e at k in let i : x ≡ c = cc in ap is_blank (sym i) ∙ e
 
+-- the first byte behind the blanks at the front is no blank
 pub word_behind_blanks : (xs : List ℕ) (c : ℕ) (cs : List ℕ) → drop (blank_count xs) xs ≡ c ∷ cs → is_blank c ≡ false
 word_behind_blanks [] c cs k = let bad : [] ≡ c ∷ cs = k in cc
 word_behind_blanks (x ∷ xs) c cs k = blank_goes (is_blank x) x xs c cs refl (word_behind_blanks xs c cs) k
@@ -96,9 +99,11 @@ nothing : (xs : List ℕ) → length xs ≡ 0 → words xs ≡ []
 nothing [] e = words_none
 nothing (x ∷ xs) e = absurd (omega arith)
 
+-- where nothing stands behind the blanks at the front, there are no words
 pub no_words : (xs : List ℕ) → length (drop (blank_count xs) xs) ≡ 0 → words xs ≡ []
 no_words xs e = words_behind_blanks xs ∙ nothing (drop (blank_count xs) xs) e
 
+-- what stands behind the blanks, up to the next blank, is the first word, and the rest has the others
 pub word_split : (xs rest : List ℕ) → rest ≡ drop (blank_count xs) xs → 0 < length rest →
     words xs ≡ take (word_end rest) rest ∷ words (drop (word_end rest) rest)
 word_split xs [] e h = absurd (omega arith)
@@ -110,6 +115,7 @@ word_split xs (c ∷ cs) e h =
 abbrev last_is_cr : List ℕ → Type 0
 last_is_cr xs = get_or xs (length xs - 1) 0 ≡ 13
 
+-- a CR at the end of a line is dropped
 pub cr_goes : (xs : List ℕ) → 0 < length xs → get_or xs (length xs - 1) 0 ≡ 13 →
     without_last_cr xs ≡ take (length xs - 1) xs
 cr_goes [] h e = absurd (omega arith)
@@ -119,6 +125,7 @@ cr_goes (c ∷ d ∷ cs) h e =
     let k : get_or (d ∷ cs) (length (d ∷ cs) - 1) 0 ≡ 13 = ap (λ m. get_or (c ∷ d ∷ cs) m 0) (sym n) ∙ e in
     ap (λ xs. c ∷ xs) (cr_goes (d ∷ cs) (omega arith) k) ∙ ap (λ m. take m (c ∷ d ∷ cs)) (sym n)
 
+-- a line without a CR at its end stays as it is
 pub cr_stays : (xs : List ℕ) → (0 < length xs → get_or xs (length xs - 1) 0 ≢ 13) → without_last_cr xs ≡ xs
 cr_stays [] h = refl
 cr_stays (c ∷ []) h = grind (arith, nat_tests, h (omega arith))
@@ -162,6 +169,7 @@ at_front : (b : Bool) (c d : ℕ) (ds : List ℕ) → is_lf c ≡ b → FirstLin
 at_front true c d ds e h lt = lines_lf c (d ∷ ds) e ∙ rw e refl
 at_front false c d ds e h lt = line_next (is_lf d) c d ds e refl h lt
 
+-- what stands before the first LF is the first line, without a CR at its end, and the rest has the others
 pub lines_first : (xs : List ℕ) → FirstLine xs
 lines_first [] lt = absurd (omega arith)
 lines_first (c ∷ []) lt = one_byte (is_lf c) c refl lt
@@ -185,6 +193,7 @@ whole_one : (b : Bool) (c : ℕ) → is_lf c ≡ b → line_end (c ∷ []) ≡ 1
 whole_one true c e k = let bad : 0 ≡ length (c ∷ []) = rw e at k in absurd (omega arith)
 whole_one false c e _ = lines_plain c [] e ∙ (rw (and_false (c == 13)) (ap (onto c) lines_none))
 
+-- bytes without an LF are one line, where there are any
 pub lines_whole : (xs : List ℕ) → 0 < length xs → line_end xs ≡ length xs → lines xs ≡ xs ∷ []
 lines_whole [] lt k = absurd (omega arith)
 lines_whole (c ∷ []) lt k = whole_one (is_lf c) c refl k
@@ -194,10 +203,12 @@ lines_whole (c ∷ d ∷ ds) lt k = whole_next (is_lf c) c d ds refl (lines_whol
 pub part_from : {X : Type 0} (n : ℕ) (xs : List X) → take (length xs - n) (drop n xs) ≡ drop n xs
 part_from n xs = grind (arith, common_steps)
 
+-- the words of a line are the word that was cut off, and those of what stands behind it
 pub word_parts : (xs rest word behind : List ℕ) → rest ≡ drop (blank_count xs) xs → 0 < length rest →
     word ≡ take (word_end rest) rest → behind ≡ drop (word_end rest) rest → words xs ≡ word ∷ words behind
 word_parts xs rest word behind e h a b = word_split xs rest e h ∙ rw (a, b) refl
 
+-- the lines of a text are the line that was cut off, and those of what stands behind it
 pub line_parts : (xs line behind : List ℕ) → line_end xs < length xs → line ≡ without_last_cr (take (line_end xs) xs) →
     behind ≡ drop (line_end xs + 1) xs → lines xs ≡ line ∷ lines behind
 line_parts xs line behind h a b = lines_first xs h ∙ rw (a, b, plus_one) refl
@@ -224,6 +235,7 @@ first_place p (x ∷ xs) (suc n) lt h e =
     missed (p x) p x xs refl (h 0 (omega arith))
     ∙ ap suc (first_place p xs n (omega arith) (λ k kn f. h (suc k) (omega arith) f) e)
 
+-- the first line ends where an LF was found, or at the end of the text where none was
 pub lf_found : (xs : List ℕ) (r : Option ℕ) (n : ℕ) → IsFirstByte (is_byte 10) xs r → n ≡ length xs →
     unwrap_or r n ≡ position_or_len is_lf xs
 unfolding is_lf
@@ -231,5 +243,6 @@ lf_found xs None n h e = e ∙ sym (no_place (is_byte 10) xs (λ k lt f. h k (om
 lf_found xs (Some k) n h e =
     sym (first_place (is_byte 10) xs k h.0.high (λ j lt f. h.0.before j (omega arith) lt f) h.1)
 
+-- the first line ends within the text
 pub line_bound : (xs : List ℕ) → position_or_len is_lf xs ≤ length xs
 line_bound xs = length_from_position is_lf xs

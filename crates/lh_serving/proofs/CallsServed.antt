@@ -28,6 +28,7 @@ sized v file c n same size (inl e) =
     ∙ ap (λ k. size_after file.settings (after file.map c) k (reply file.map c)) size)
 sized v file c n same size (inr e) = inr (e ∙ size)
 
+-- a call that was served is answered by the plain map's reply, and the world is the file after it
 pub called : (v w : WorldSeen) (n m : ℕ) (c : Call) (y : Reply) (file : FileSeen) → HoldsFile v n file →
     IsServedOn v file.map c y m w →
     (next : FileSeen) × AnswersCall file c (answer.Reply y) next × HoldsFile w m next
@@ -37,6 +38,7 @@ called v w n m c y file h d = (
   record { same = d.same ∙ h.same; rest = d.rest; stands = d.stands; count = d.count; size = refl },
 )
 
+-- an insert that was given up is answered that memory ran out, and the world is the same file still
 pub refused : (v w : WorldSeen) (n : ℕ) (c : Call) (file : FileSeen) → HoldsFile v n file → IsGivenUp v w → IsInsert c →
     (next : FileSeen) × AnswersCall file c (answer.Fault fault.Memory) next × HoldsFile w n next
 refused v w n c file h g i = (
@@ -51,6 +53,7 @@ refused v w n c file h g i = (
   },
 )
 
+-- a call where 64 bits count no more records may be answered that memory ran out, and nothing changes
 pub uncounted : (v : WorldSeen) (n : ℕ) (c : Call) (file : FileSeen) → HoldsFile v n file → 2 ^ 64 - 1 ≤ n →
     (next : FileSeen) × AnswersCall file c (answer.Fault fault.Memory) next × HoldsFile v n next
 uncounted v n c file h le = (file, (refl, inr (let e = h.count in omega (arith, e, le))), h)

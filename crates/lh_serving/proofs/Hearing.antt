@@ -26,6 +26,7 @@ none_of_two b c e f = rw (e, f) refl
 no_lf : (xs ys : List ℕ) → list_any is_lf xs ≡ false → list_any is_lf ys ≡ false → list_any is_lf (xs ++ ys) ≡ false
 no_lf xs ys e f = list_any-append is_lf xs ys ∙ none_of_two (list_any is_lf xs) (list_any is_lf ys) e f
 
+-- a conversation that begins has heard nothing and told nothing
 pub begun : (start : FileSeen) (w : WorldSeen) (n : ℕ) (p : Option (List ℕ)) (waiting : List ℕ) → HoldsFile w n start →
     p ≡ kept [] → waiting ≡ [] →
     IsAt start (talk_of w n p waiting None) [] []

@@ -110,6 +110,7 @@ AtHomeBefore initial size lists n =
     (bucket place : ℕ) → bucket < n → place < length (list_at lists bucket)
     → IsHome initial size bucket (list_at lists bucket) place
 
+-- where all records of a bucket are at home, and of the buckets before it, so are all of the buckets up to it
 pub home_more : (initial size : ℕ) (lists : List (List Pair)) (n : ℕ) (ps : List Pair) → list_at lists n ≡ ps
     → ((place : ℕ) → place < length ps → IsHome initial size n ps place) → AtHomeBefore initial size lists n
     → AtHomeBefore initial size lists (n + 1)

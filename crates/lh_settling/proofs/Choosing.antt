@@ -110,6 +110,7 @@ module _ (m : Records) (lists : List (List Pair)) where
         | false ↦ λ e. outside q e
       ] refl
 
+  -- each key stands in the lists just as in the map, or there is a least one that stands otherwise
   pub stray_or_not : ((q : List ℕ) → StandsAs m lists q) ⊎ ((k : List ℕ) × IsFirstStray m lists k)
   stray_or_not = ⊎_elim
       (λ (all : (q : List ℕ) → Among q candidates ≡ true → StandsAs m lists q). inl (λ q. everywhere q (all q)))
@@ -185,6 +186,7 @@ module _ (initial size : ℕ) where
       (λ (f : FirstOf lists). inr f)
       (home_upto lists n)
 
+  -- each record is at home, or there is a least bucket with a key of another address, and a least such key
   pub home_or_not : (lists : List (List Pair)) → (EachPlace (IsHome initial size) lists) ⊎ FirstOf lists
   home_or_not lists = ⊎_elim
       (λ (h : AtHomeBefore initial size lists (length lists)).

@@ -106,5 +106,6 @@ module _ (law : AddressLaw) (opening : Lists) (closed : ClosedFile) (acts : List
       real : SplitUnderWay ≢ Memory
       real e = cc
 
+-- a closed file is settled, or a fault is due that isn't out of memory
 pub answer_law : AddressLaw → AnswerLaw
 answer_law law opening closed acts kept = said law opening closed acts kept

@@ -21,12 +21,14 @@ err_err fault other e = cc
 
 module _ (opening : Lists) (closed : ClosedFile) (acts : List ActLine) (kept : IsClosed closed)
     (settled : SettledLaw) where
+  -- unless memory ran out, settling answers a history exactly where the file is settled
   pub settled_exactly : (answer : Result (List ActLine) SettleFault) → IfOk answer (IsSettled opening closed acts)
       → IfErr answer (IsDue opening closed acts) → answer ≢ Err Memory → IsOk answer ↔ Settled opening closed acts
   settled_exactly (Ok history) ok err other = (λ _. (history, ok), λ _. refl)
   settled_exactly (Err fault) ok err other =
       (λ e. absurd (false≢true e), λ s. absurd (other (ap Err (settled opening closed acts fault kept s err))))
 
+  -- unless memory ran out, settling answers any other fault exactly where it is due
   pub due_exactly : OneFaultLaw → (answer : Result (List ActLine) SettleFault)
       → IfOk answer (IsSettled opening closed acts) → IfErr answer (IsDue opening closed acts) → (fault : SettleFault)
       → fault ≢ Memory → answer ≢ Err Memory → (answer ≡ Err fault) ↔ IsDue opening closed acts fault

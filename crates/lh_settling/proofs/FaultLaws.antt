@@ -159,6 +159,7 @@ module _ (opening : Lists) (closed : ClosedFile) (acts : List ActLine) where
       away_one closed.config.initial (buckets_of closed.root) closed.lists b c k l r.4 d.4
   with_placed b k Memory m n r d = absurd (n refl)
 
+-- one fault at most is due besides out of memory
 pub fault_law : OneFaultLaw
 fault_law opening closed acts SplitUnderWay g m n f d = with_split opening closed acts g n f d
 fault_law opening closed acts (MissingStamp s) g m n f d = with_missing opening closed acts s g m n f d
@@ -174,6 +175,7 @@ within_size law closed kept code =
     ((law closed.config.initial (buckets_of closed.root) code
     (address closed.config.initial (buckets_of closed.root) code) kept.config.initial.0 kept.from_initial).0 refl).0
 
+-- where a file is settled no fault is due besides out of memory
 pub settled_law : AddressLaw → SettledLaw
 settled_law law opening closed acts SplitUnderWay kept s d = absurd (not_both closed.root s.1.stamped.whole d)
 settled_law law opening closed acts (MissingStamp t) kept s d =

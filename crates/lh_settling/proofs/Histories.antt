@@ -17,6 +17,7 @@ use Rattle.lh_settling.specs.declared.act.ActLine.{ActLine}
 use Rattle.lh_settling.specs.Acts.{calls_of, replies_of}
 use Rattle.lh_settling.specs.Replay.{calls_inserting}
 
+-- calls and then others leave what the others leave of the map after the first
 pub outcome-append : (m : Records) (xs ys : List Call) → outcome m (xs ++ ys) ≡ outcome (outcome m xs) ys
 outcome-append m [] ys = refl
 outcome-append m (x ∷ xs) ys = outcome-append (after m x) xs ys
@@ -31,6 +32,7 @@ reply_at m [] n c e = none e
 reply_at m (x ∷ xs) zero c e = ap (λ y. Some (reply m y)) (same_Some x c e)
 reply_at m (x ∷ xs) (suc n) c e = reply_at (after m x) xs n c e
 
+-- there are as many replies as calls
 pub length-replies : (m : Records) (calls : List Call) → length (replies m calls) ≡ length calls
 length-replies m [] = refl
 length-replies m (x ∷ xs) = ap suc (length-replies (after m x) xs)
@@ -48,6 +50,7 @@ same_list (x ∷ xs) [] h = none (h 0)
     none e = cc
 same_list (x ∷ xs) (y ∷ ys) h = λ i. same_Some x y (h 0) i ∷ same_list xs ys (λ p. h (suc p)) i
 
+-- the records of some lists with others behind them are those of the first and then of the others
 pub all_of-append : (xs ys : List (List Pair)) → all_of (xs ++ ys) ≡ all_of xs ++ all_of ys
 all_of-append [] ys = refl
 all_of-append (x ∷ xs) ys = ap (λ zs. x ++ zs) (all_of-append xs ys) ∙ sym (append_assoc x (all_of xs) (all_of ys))
@@ -90,14 +93,17 @@ module _ (m : Records) (history : List ActLine) (n : ℕ) (act : ActLine) (below
   call_at : slice_get (calls_of history) n ≡ Some act.call
   call_at = slice_get-map (λ (a : ActLine). a.call) history n ∙ ap (option_map (λ (a : ActLine). a.call)) at
 
+  -- the reply that was given at a place is that of the act there
   pub given_at : slice_get (replies_of history) n ≡ Some act.reply
   given_at = slice_get-map (λ (a : ActLine). a.reply) history n ∙ ap (option_map (λ (a : ActLine). a.reply)) at
 
+  -- the reply that is due there is that of the map which the calls before it leave
   pub due_at : (r : Records) (due : Reply) → r ≡ outcome m (take n (calls_of history)) → due ≡ reply r act.call
       → slice_get (replies m (calls_of history)) n ≡ Some due
   due_at r due left e = reply_at m (calls_of history) n act.call call_at
       ∙ ap Some (sym (e ∙ ap (λ r. reply r act.call) left))
 
+  -- the map after the act's call is the one that the calls up to it leave
   pub left_more : (r r' : Records) → r ≡ outcome m (take n (calls_of history)) → r' ≡ after r act.call
       → r' ≡ outcome m (take (n + 1) (calls_of history))
   left_more r r' left e =

@@ -66,6 +66,7 @@ places_of acts places same = All-permutation (IsPlaceOf acts) (stamped acts) pla
     let within : k < length acts = omega (arith, length-stamped acts) in
     subst (IsPlaceOf acts) (sym (stamped_at acts k d within)) (within, refl))
 
+-- in whatever order the stamps stand, the place beside each is that of an act
 pub place_below : (acts : List ActLine) (places : List (ℕ × ℕ)) (k : ℕ) (d : ℕ × ℕ)
     → IsPermutation (stamped acts) places → k < length places → (get_or places k d).1 < length acts
 place_below acts places k d same below = (places_of acts places same k d below).0

@@ -63,6 +63,7 @@ absent_all : (ps : List Pair) (k : List ℕ) → AllByRecursion (λ y. bytes_eq 
 absent_all [] k h = refl
 absent_all (p ∷ ps) k h = ap (Under k p ps) h.0 ∙ absent_all ps k h.1
 
+-- two tests both fail where not even one of them passes
 pub either_or : (a b : Bool) → (a || b) ≡ false → (a ≡ false) × (b ≡ false)
 either_or true b e = absurd (false≢true (sym e))
 either_or false b e = (refl, e)
@@ -211,6 +212,7 @@ module _ (initial size : ℕ) (m : Records) (lists : List (List Pair))
       tested true o some = refl
       tested false o some = absurd (false≢true some)
 
+  -- where the records of a map are placed, each stands in the bucket of its address
   pub placed_home : ArePlaced initial size m lists → EachPlace (IsHome initial size) lists
   placed_home h = filled_home h.each h.beyond
 
@@ -226,6 +228,7 @@ module _ (initial size : ℕ) (m : Records) (lists : List (List Pair))
         (few_distinct (list_at lists (Home q)) q (own (Home q))));
   }
 
+  -- where the records of a map are placed, each key stands in the lists just as in the map
   pub placed_stands : ArePlaced initial size m lists → (q : List ℕ) → StandsAs m lists q
   placed_stands h q =
       one_of (values_under q (all_of lists)) (get m q) (few_distinct (all_of lists) q h.distinct)

@@ -42,6 +42,7 @@ put_in a (x ∷ xs) r = ⊎_elim
     least high zero d b = high
     least high (suc k) d b = head (λ (a : ActLine). a.stamp) x xs r k d (omega arith)
 
+-- acts can be put in the order of their stamps
 pub order_of : (acts : List ActLine) → (history : List ActLine) × IsInOrder acts history
 order_of [] = ([], record { same = IsPermutation-refl []; rising = λ i j d u b. absurd (omega arith) })
 order_of (a ∷ acts) =

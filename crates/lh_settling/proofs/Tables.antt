@@ -115,11 +115,13 @@ least_none es ns None all least =
     λ q. missing (get (map_of_entries es) q) (is_some-get es q ∙ ap (list_any (is_named q)) (sym all ∙ least))
 least_none es ns (Some k) all least = tt
 
+-- the least of all keys, where there is one, is a key of the table
 pub least_there : (es : Entries) (ns : List Name) (o : Option (List ℕ)) → ns ≡ entry_keys es → IsLeast ns o
     → IfSome o (λ k. IsSome (get (map_of_entries es) k))
 least_there es ns None all least = tt
 least_there es ns (Some k) all least = is_some-get es k ∙ ap (list_any (is_named k)) (sym all) ∙ least.0
 
+-- no key of the table comes before the least one, where there is one
 pub least_first : (es : Entries) (ns : List Name) (o : Option (List ℕ)) → ns ≡ entry_keys es → IsLeast ns o
     → IfSome o (λ k. (q : List ℕ) → IsBefore q k → get (map_of_entries es) q ≡ None)
 least_first es ns None all least = tt

@@ -199,9 +199,11 @@ module _ (m : Records) (lists : List (List Pair)) (left : Records) (stray : Opti
       full (Some v) some e = not_nil v [] (sym e)
       full None some e = absurd (false≢true some)
 
+  -- where no key that was met strays and nothing is left, each key stands just as in the map
   pub none_stray : stray ≡ None → ((q : List ℕ) → get left q ≡ None) → (q : List ℕ) → StandsAs m lists q
   none_stray is gone q = stands q (subst (IsStrayOf m (all_of lists)) is t.first q) (gone q)
 
+  -- where nothing is left, the least key met that strays is the least that stands otherwise than in the map
   pub old_stray : (k : List ℕ) → stray ≡ Some k → ((q : List ℕ) → get left q ≡ None) → IsFirstStray m lists k
   old_stray k is gone =
       let f = subst (IsStrayOf m (all_of lists)) is t.first in

@@ -10,6 +10,7 @@ use Rattle.lh_bucket.specs.declared.call.Reply.TheVariants.{Found, Absent, Inser
 use Rattle.lh_settling.specs.Acts.{FirstDiffer}
 use Rattle.lh_settling.proofs.Values.{equals, itself}
 
+-- two numbers are the same or differ
 pub told_number : (m n : ℕ) → (m ≡ n) ⊎ (m ≢ n)
 told_number m n = ⊎_elim
     (λ (below : m < n). inr (λ e. absurd (omega (arith, e))))
@@ -19,6 +20,7 @@ told_number m n = ⊎_elim
     (cases_lt n m))
     (cases_lt m n)
 
+-- the same of two lists of bytes
 pub told_bytes : (x y : List ℕ) → (x ≡ y) ⊎ (x ≢ y)
 told_bytes x y =
     elim (bytes_eq x y) as (λ b. bytes_eq x y ≡ b → (x ≡ y) ⊎ (x ≢ y)) [
@@ -29,6 +31,7 @@ told_bytes x y =
 found_same : (v w : List ℕ) → Found v ≡ Found w → v ≡ w
 found_same v w e = cc
 
+-- the same of two replies
 pub told_reply : (x y : ReplyOf) → (x ≡ y) ⊎ (x ≢ y)
 told_reply (Found v) (Found w) = ⊎_elim
     (λ (same : v ≡ w). inl (ap Found same))
@@ -63,6 +66,7 @@ told_list told (x ∷ xs) (y ∷ ys) = ⊎_elim
     (λ (other : x ≢ y). inr (0, record { before = λ p b. absurd (omega arith); here = λ e. other (same_Some x y e) }))
     (told x y)
 
+-- the same of two lists of values
 pub told_values : (xs ys : List (List ℕ)) → (xs ≡ ys) ⊎ (xs ≢ ys)
 told_values xs ys = ⊎_elim
     (λ (same : xs ≡ ys). inl same)

@@ -21,12 +21,15 @@ use Rattle.lh_bucket.specs.Records.{entry_of, map_of}
 use Rattle.lh_settling.specs.Contents.{IsBefore, values_under}
 use Rattle.lh_settling.specs.Replay.{calls_inserting}
 
+-- lists of bytes that the test calls equal are the same
 pub equals : (x y : List ℕ) → bytes_eq x y ≡ true → x ≡ y
 equals x y e = (bytes_eq-Decides x y).0 e
 
+-- the test calls each list of bytes equal to itself
 pub itself : (x : List ℕ) → bytes_eq x x ≡ true
 itself x = (bytes_eq-Decides x x).1 refl
 
+-- the test tells apart lists of bytes that differ
 pub apart : (x y : List ℕ) → x ≢ y → bytes_eq x y ≡ false
 apart x y h = false_from_ne_true (bytes_eq x y) (λ e. h (equals x y e))
 
@@ -34,6 +37,7 @@ apart x y h = false_from_ne_true (bytes_eq x y) (λ e. h (equals x y e))
 pub before-apart : (x y : List ℕ) → IsBefore x y → bytes_eq x y ≡ false
 before-apart x y h = texts_ties x y ∙ ap is_eq h
 
+-- keys that compare as equal are the same
 pub exact : IsAntisymmetric (slice_cmp nat_cmp)
 exact = slice_cmp-IsAntisymmetric nat_cmp-IsAntisymmetric
 
@@ -41,10 +45,12 @@ exact = slice_cmp-IsAntisymmetric nat_cmp-IsAntisymmetric
 pub same_records : (m n : Records) → ((q : List ℕ) → get m q ≡ get n q) → m ≡ n
 same_records m n h = same_map nat_list_cmp_total exact m n h
 
+-- the map of no records has nothing under any key
 pub get-map_of-nil : (q : List ℕ) → get (map_of []) q ≡ None
 unfolding map_of
 get-map_of-nil q = get-empty (slice_cmp nat_cmp) q
 
+-- a map of records has the first one's value under its key, and under others what the rest make
 pub get-map_of-cons : (p : Pair) (ps : List Pair) (q : List ℕ)
     → get (map_of (p ∷ ps)) q ≡ cond (bytes_eq q p.key) (Some p.value) (get (map_of ps) q)
 unfolding map_of
@@ -65,6 +71,7 @@ get_first (p ∷ ps) q =
       | false ↦ get_first ps q
     ]
 
+-- the values under a key in two lists of records are those of the first and then of the second
 pub values_under-append : (q : List ℕ) (ps qs : List Pair)
     → values_under q (ps ++ qs) ≡ values_under q ps ++ values_under q qs
 values_under-append q ps qs =
@@ -78,6 +85,7 @@ values_under-push q ps p e =
     values_under-append q ps (p ∷ [])
     ∙ ap (λ b. values_under q ps ++ map (λ (p : Pair). p.value) (cond b (p ∷ []) [])) e
 
+-- one record more with another key adds no value under this one
 pub values_under-other : (q : List ℕ) (ps : List Pair) (p : Pair) → bytes_eq q p.key ≡ false
     → values_under q (ps ++ p ∷ []) ≡ values_under q ps
 values_under-other q ps p e =
@@ -175,6 +183,7 @@ never_before k b = false≢true (sym (before-apart k k b) ∙ itself k)
 pub value_same : (v w : List ℕ) → bytes_eq v w ≡ true → Some v ≡ Some w
 value_same v w e = ap Some (equals v w e)
 
+-- a value that was found is not one that the test tells apart from it
 pub value_other : (v w : List ℕ) → bytes_eq v w ≡ false → Some v ≢ Some w
 value_other v w e same = false≢true (sym e ∙ ap (λ x. bytes_eq v x) (sym (same_Some v w same)) ∙ itself v)
 

@@ -20,9 +20,11 @@ use Rattle.lh_settling.proofs.Histories.{same_list}
 use Rattle.lh_settling.proofs.Orders.{no_act}
 
 module _ {X : Type 0} (g : X → ℕ) where
+  -- a list that rises does so without its first item
   pub tail : (x : X) (xs : List X) → IsNonDecreasingBy g (x ∷ xs) → IsNonDecreasingBy g xs
   tail x xs h i j d upto below = h (suc i) (suc j) d (omega arith) (omega arith)
 
+  -- in a list that rises no item has a lower number than the first
   pub head : (x : X) (xs : List X) → IsNonDecreasingBy g (x ∷ xs) → (k : ℕ) (d : X) → k < length xs
       → g x ≤ g (get_or xs k d)
   head x xs h k d below = h 0 (suc k) d (omega arith) (omega arith)
@@ -88,6 +90,7 @@ module _ (history : List ActLine) (q : ℕ) (stamps : stamps_of history ≡ rang
       ∙ ap (λ (xs : List ℕ). get_or xs k d.stamp) stamps
       ∙ get_or-range_with_len 0 q k d.stamp (omega (arith, many)) ∙ zero-add k
 
+-- acts have one history at most
 pub history_law : HistoryLaw
 history_law closed acts history other h o = same_list history other (λ p. ⊎_elim
     (λ (below : p < length history). at p below (slice_get history p) refl)
@@ -131,5 +134,6 @@ first_differ_one xs ys zs s t same f g = ⊎_elim
     (cases_lt t s))
     (cases_lt s t)
 
+-- lists that are the same have no first place where they differ
 pub differ_not_same : {X : Type 0} (xs ys zs : List X) (t : ℕ) → xs ≡ zs → zs ≡ ys → FirstDiffer xs ys t → ⊥
 differ_not_same xs ys zs t same is f = f.here (ap (λ l. slice_get l t) (same ∙ is))

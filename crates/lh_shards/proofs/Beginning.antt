@@ -20,6 +20,7 @@ BegunFrom listings recording files =
     (shard : ℕ) (listing : Lists) (file : FileState) → slice_get listings shard ≡ Some listing →
     slice_get files shard ≡ Some file → IsBegunAs listing recording shard file
 
+-- with one file more, begun from the next listing, each is begun from the listing of its place
 pub begun_next : (listings : List Lists) (recording : Bool) (files : List FileState) (shard : ℕ) (listing : Lists)
     (file : FileState) → length files ≡ shard → slice_get listings shard ≡ Some listing →
     IsBegunAs listing recording shard file → BegunFrom listings recording files →

@@ -31,6 +31,7 @@ none_of_none false o e = e
 empty_part : (n i : ℕ) → IsPart n i empty empty
 empty_part n i key = none_of_none (home_of n key == i) (get empty key) (get-empty (slice_cmp nat_cmp) key)
 
+-- empty listings are the parts of the empty map
 pub empties_are_parts : (config : Settings) (listings : List Lists) →
     All (λ (listing : Lists). listing ≡ record { config = config; lists = replicate config.initial [] }) listings →
     AreParts empty listings

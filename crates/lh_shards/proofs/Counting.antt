@@ -24,6 +24,7 @@ pub record SoFar {X : Type 0} (Answers : FileState → HandState → X → HandS
   pub many : length terms ≡ i
   pub passed : Passed (HasAnswered Answers files terms) i olds items
 
+-- when the file of a place has answered, the files before the next place have
 pub so_far_next : {X : Type 0} (Answers : FileState → HandState → X → HandState → Type 0) (files : List FileState)
     (olds : List HandState) (i : ℕ) (terms : List X) (items : List HandState) (f : FileState) (b : HandState)
     (t : X) (a : HandState) → slice_get files i ≡ Some f → slice_get olds i ≡ Some b → Answers f b t a →
@@ -47,6 +48,7 @@ so_far_next Answers files olds i terms items f b t a at_f at_b new was =
           was.passed);
     }
 
+-- when the files before the end have answered, all have
 pub all_answered : {X : Type 0} (Answers : FileState → HandState → X → HandState → Type 0) (files : List FileState)
     (olds : List HandState) (i : ℕ) (terms : List X) (items : List HandState) → i ≡ length files →
     SoFar Answers files olds i terms items → AreAnswered Answers files olds terms items
@@ -66,6 +68,7 @@ has_counted n i f old term new o b = subst (λ x. IsOfShard n i f x) (sym b.know
   home = o.home;
 })
 
+-- hands that were answered the number of buckets are hands of their files still
 pub counted_are_of : (files : List FileState) (olds news : List HandState) (terms : List ℕ) → AreOf files olds →
     AreAnswered IsBuckets files olds terms news → AreOf files news
 counted_are_of files olds news terms o b = record {

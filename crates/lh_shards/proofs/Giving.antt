@@ -24,6 +24,7 @@ Kept calls i olds hs =
 abbrev pub Rest : ℕ → List HandState → List HandState → Type 0
 Rest i olds hs = (k : ℕ) → i ≤ k → slice_get hs k ≡ slice_get olds k
 
+-- with one new hand more, each got its calls of the old hand at its place
 pub given_next : (calls : ℕ) (olds gs : List HandState) (i : ℕ) (b g : HandState) → length gs ≡ i →
     slice_get olds i ≡ Some b → IsBranch calls b g → Given calls olds gs → Given calls olds (gs ++ g ∷ [])
 given_next calls olds gs i b g n at new was k old h ko kh =
@@ -33,6 +34,7 @@ given_next calls olds gs i b g n at new was k old h ko kh =
     (λ e. was k old h ko e)
     (at_push gs g k h kh)
 
+-- when the hand of a place gave calls away, the hands before the next place have
 pub kept_next : (calls : ℕ) (olds hs : List HandState) (i : ℕ) (b a : HandState) → slice_get olds i ≡ Some b →
     HasGiven calls b a → Kept calls i olds hs → Kept calls (i + 1) olds (set hs i a)
 kept_next calls olds hs i b a at new was k old h lt ko kh =
@@ -42,6 +44,7 @@ kept_next calls olds hs i b a at new was k old h lt ko kh =
     (λ e. let ne : k ≢ i = e.0 in was k old h (omega arith) ko e.1)
     (set_tells hs i a k h kh)
 
+-- when the hand of a place has changed, those from the next place on are as they were
 pub rest_next : (olds hs : List HandState) (i : ℕ) (a : HandState) → Rest i olds hs → Rest (i + 1) olds (set hs i a)
 rest_next olds hs i a was k lt = set_other hs i a k (λ e. omega (arith, e)) ∙ was k (omega arith)
 
@@ -84,6 +87,7 @@ turn files states olds items i x h seen are many rest lt xi hi =
     sym (rest i le) ∙ slice_get_read items (length items) i h refl (omega arith) hi in
     record { file_at = fa; hand_at = ha; of = (are.each i x.state h fa ha).of }
 
+-- hands that got calls of hands of some files are hands of these files
 pub given_are_of : (calls : ℕ) (files : List FileState) (olds news : List HandState) → AreOf files olds →
     EachPair (IsBranch calls) olds news → AreOf files news
 given_are_of calls files olds news o p = record {
@@ -94,6 +98,7 @@ given_are_of calls files olds news o p = record {
       branch_of_file calls (length files) i f was.0 h (o.each i f was.0 fi was.1) (p.each i was.0 h was.1 hi);
 }
 
+-- hands that gave calls away are hands of their files still
 pub kept_are_of : (calls : ℕ) (files : List FileState) (olds news : List HandState) → AreOf files olds →
     EachPair (HasGiven calls) olds news → AreOf files news
 kept_are_of calls files olds news o p = record {

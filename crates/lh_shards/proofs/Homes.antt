@@ -22,6 +22,7 @@ last_or_before p n h = ⊎_elim (λ (below : p < n). inl below) (λ (above : n �
 abbrev pub EachBefore : PlaceFact → List (List Pair) → ℕ → Type 0
 EachBefore Good lists n = (b p : ℕ) → b < n → p < length (list_at lists b) → Good b (list_at lists b) p
 
+-- when the keys of one bucket more belong to the shard, those of all buckets before the next do
 pub each_more : (n shard : ℕ) (lists : List (List Pair)) (i : ℕ) (ps : List Pair) → ps ≡ list_at lists i →
     ((p : ℕ) → p < length ps → IsHomeIn n shard 0 ps p) → EachBefore (IsHomeIn n shard) lists i →
     EachBefore (IsHomeIn n shard) lists (i + 1)
@@ -46,6 +47,7 @@ abbrev pub EachListingBefore : (ℕ → Lists → Type 0) → List Lists → ℕ
 EachListingBefore Good listings i =
     (k : ℕ) (listing : Lists) → k < i → slice_get listings k ≡ Some listing → Good k listing
 
+-- a fact that holds of one listing more holds of each before the next
 pub listing_more : (Good : ℕ → Lists → Type 0) (listings : List Lists) (i : ℕ) (listing : Lists) →
     slice_get listings i ≡ Some listing → Good i listing → EachListingBefore Good listings i →
     EachListingBefore Good listings (i + 1)
@@ -63,6 +65,7 @@ OpenedFrom listings recording shard file hand =
     (listing : Lists) → slice_get listings shard ≡ Some listing →
     IsOpened listing.config (size listing) recording (min (count_of listing.lists) (2 ^ 64 - 1)) file hand
 
+-- the first hands of files that are opened from the listings of their places are hands of these files
 pub opened_are_of : (listings : List Lists) (recording : Bool) (files : List FileState) (hands : List HandState) →
     length files ≡ length listings → length hands ≡ length listings →
     EachShard (OpenedFrom listings recording) files hands → AreOf files hands

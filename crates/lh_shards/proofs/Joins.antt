@@ -33,6 +33,7 @@ same_of n i f old new o s = record {
   home = subst (λ l. AreAtHome n i l) (sym s.acts) o.home;
 }
 
+-- hands that are the same, with whatever room for acts, are hands of their files still
 pub same_are_of : (files : List FileState) (olds news : List HandState) → AreOf files olds → AreSame olds news →
     AreOf files news
 same_are_of files olds news o s = record {
@@ -58,6 +59,7 @@ joined_of n i f one other new o p j = record {
       (All-append (λ (act : ActLine). home_of n (key_of act.call) ≡ i) one.acts other.acts o.home p.home);
 }
 
+-- hands that are made of two for each shard are hands of the files
 pub joined_are_of : (files : List FileState) (first second news : List HandState) → AreOf files first →
     AreOf files second → AreJoinedByShard first second news → AreOf files news
 joined_are_of files first second news o p j = record {

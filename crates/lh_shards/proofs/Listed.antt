@@ -115,6 +115,7 @@ closed_home n shard closed m bucket place own holds within =
     (own_home n shard m (key_at (list_at closed.lists bucket) place) own
     (held closed m bucket place holds is.0 (subst (λ (ps : List Pair). place < length ps) is.1 within)))
 
+-- the records that settled shards list stand in their own shards, where those that they were opened with did
 pub listed_law : ListedLaw
 listed_law openings listings shards histories n home are settled listed shard listing at =
     let many : length listings ≡ length shards = listed.count in

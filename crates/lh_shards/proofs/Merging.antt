@@ -134,6 +134,7 @@ module _ (n : ℕ) where
             next.1,
       )
 
+-- every merge of the shards' legal histories is legal from the whole map, and leaves what they leave as its parts
 pub one_map_law : OneMapLaw
 one_map_law whole parts histories merged many are home legal merge =
     one_map (length parts) merged whole parts histories many are home legal merge

@@ -64,6 +64,7 @@ serves_right : (file : FileState) (old : HandState) (call : Call) (result : Resu
 serves_right file old call (Ok a) new m = ap (λ (v : View). v.has_right) m.served.view
 serves_right file old call (Err e) new m = ap (λ (v : View). v.has_right) m.err.view
 
+-- hands of some files stay so when a hand of a shard takes the place of the one there
 pub of_after : (files : List FileState) (olds : List HandState) (i : ℕ) (f : FileState) (a : HandState) →
     AreOf files olds → slice_get files i ≡ Some f → IsOfShard (length files) i f a → AreOf files (set olds i a)
 of_after files olds i f a h at good = record {
@@ -85,6 +86,7 @@ pub record Ready (states : List FileState) (olds : List HandState) (i : ℕ) (x 
   pub hand_at : slice_get olds i ≡ Some h
   pub of : IsOf x.state h
 
+-- the file and the hand that are read at one place stand there, and the hand is one of the file
 pub ready : (files : List Shared) (items : List HandState) (states : List FileState) (olds : List HandState) (i : ℕ)
     (x : Shared) (h : HandState) → map (λ (file : Shared). file.state) files ≡ states → items ≡ olds →
     AreOf states olds → i < length states → x ≡ get_or files i x → h ≡ get_or items i h → Ready states olds i x h
@@ -95,6 +97,7 @@ ready files items states olds i x h seen same are lt xi hi =
     slice_get_read olds (length olds) i h refl lo (subst (λ l. h ≡ get_or l i h) same hi) in
     record { file_at = fa; hand_at = ha; of = (are.each i x.state h fa ha).of }
 
+-- after a call on its key's shard the hands are those of their files still
 pub of_made : {T : Type 0} {call : Call} {result : Result T FileFault} {reply_in : T → Reply} {x : Shared}
     {b a : HandState} (states : List FileState) (olds items : List HandState) (i : ℕ) → items ≡ olds →
     AreOf states olds → i ≡ home_of (length states) (key_of call) → Ready states olds i x b →
@@ -109,6 +112,7 @@ of_made {T} {call} {result} {reply_in} {x} {b} {a} states olds items i same h e 
           (h.each i x.state b r.file_at r.hand_at).home;
     }))
 
+-- the same of a call that gives an answer
 pub of_served : {call : Call} {result : Result Answered FileFault} {x : Shared} {b a : HandState}
     (states : List FileState) (olds items : List HandState) (i : ℕ) → items ≡ olds → AreOf states olds →
     i ≡ home_of (length states) (key_of call) → Ready states olds i x b → Serves x.state b call result a →
@@ -122,6 +126,7 @@ of_served {call} {result} {x} {b} {a} states olds items i same h e r m =
           serves_home (length states) i x.state b call result a m (sym e) (h.each i x.state b r.file_at r.hand_at).home;
     }))
 
+-- what the file and the hand of a place have done is done on that shard, and the other hands are as they were
 pub at_place : {x : Shared} {b a : HandState} (Does : FileState → HandState → HandState → Type 0)
     (states : List FileState) (olds items : List HandState) (i : ℕ) → items ≡ olds → Ready states olds i x b →
     Does x.state b a → AtShard i states olds (set items i a) Does
@@ -142,6 +147,7 @@ pub at_same : {x : Shared} {b a : HandState} (Does : FileState → HandState →
 at_same {x} {b} {a} Does states olds items i j same e r d =
     subst (λ k. AtShard k states olds (set items i a) Does) e (at_place Does states olds items i same r d)
 
+-- the same of a call by a key, on the key's shard
 pub at_shard : {x : Shared} {b a : HandState} (Does : FileState → HandState → HandState → Type 0) (key : List ℕ)
     (states : List FileState) (olds items : List HandState) (i : ℕ) → items ≡ olds →
     i ≡ home_of (length states) key → Ready states olds i x b → Does x.state b a →
@@ -168,6 +174,7 @@ grown Fact ss hs s h n each new j file hand fj hj =
     (at_push hs h j hand hj))
     (at_push ss s j file fj)
 
+-- the same of files of which more is seen than their state
 pub grown_files : (Fact : ShardFact) (fs : List Shared) (hs : List HandState) (x : Shared) (h : HandState) →
     length fs ≡ length hs → EachShard Fact (map (λ (file : Shared). file.state) fs) hs → Fact (length hs) x.state h →
     EachShard Fact (map (λ (file : Shared). file.state) (fs ++ x ∷ [])) (hs ++ h ∷ [])
@@ -205,6 +212,7 @@ abbrev pub OpenedAs : ShardFact
 OpenedAs shard file hand =
     IsOpened file.listing.config (size file.listing) file.recording file.opening file hand
 
+-- the first hands of files that are opened with their listings' buckets are hands of these files
 pub traced_are_of : (files : List FileState) (hands : List HandState) → length hands ≡ length files →
     EachShard OpenedAs files hands → AreOf files hands
 traced_are_of files hands n each =

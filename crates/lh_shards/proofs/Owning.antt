@@ -10,6 +10,7 @@ use Rattle.lh_shards.specs.Dividing.{HasGiven}
 use Rattle.lh_shards.specs.Own.{CalledLaw, SameLaw, HandsDividedLaw, HandsJoinedLaw}
 use Rattle.lh_shards.proofs.Places.{at_set, set_same, there}
 
+-- a call on one shard that leaves its hand the file's own, with its share, leaves all hands so
 pub called_law : CalledLaw
 called_law shard calls files file old new before after file_at before_at is = (
   λ keeps own k f h fk hk. ⊎_elim
@@ -26,6 +27,7 @@ called_law shard calls files file old new before after file_at before_at is = (
       (at_set old shard after k h (subst (λ l. slice_get l k ≡ Some h) is hk)),
 )
 
+-- there is one hand after a call, however many clauses speak of it
 pub same_law : SameLaw
 same_law shard old before after also at same =
     same_Some after also
@@ -43,6 +45,7 @@ given_away calls old given new branch gives = record {
   unchanged = tt;
 }
 
+-- hands that are divided leave both parts their files' own, and the shares of both are what they had
 pub divided_law : DividedLaw → HandsDividedLaw
 divided_law law calls others files old given new of branch gives own = (
   λ k f h fk hk.
@@ -74,6 +77,7 @@ divided_law law calls others files old given new of branch gives own = (
       (arith, less.enough, ap (λ x. x.view.left) less.kept, ap (λ x. length x.acts) less.kept, all k was.0 was.1),
 )
 
+-- hands that are made of two for each shard are their files' own where all were, and have the shares of both
 pub joined_law : JoinedLaw → HandsJoinedLaw
 joined_law law calls others files first second new of other_of joined = (
   λ own other_own k f h fk hk.

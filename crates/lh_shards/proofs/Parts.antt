@@ -47,6 +47,7 @@ two_apart false true w o h = refl
 two_apart false false w o h = refl
 
 module _ (p : List ℕ → Bool) (whole part : Records) (shows : Shows p whole part) where
+  -- a key that passes the test has the same value in the part as in the whole map
   pub here : (k : List ℕ) → p k ≡ true → get part k ≡ get whole k
   here k h = shows k ∙ ap (λ b. cond b (get whole k) None) h
 
@@ -72,6 +73,7 @@ module _ (p : List ℕ → Bool) (whole part : Records) (shows : Shows p whole p
       shows q ∙ two_apart (ties q k) (p q) None (get whole q) (λ e. test_tied p q k e ∙ h)
       ∙ ap (λ o. cond (p q) o None) (sym (get_cut whole k q))
 
+  -- a call whose key passes the test has the same reply from the part as from the whole map
   pub reply_here : (c : Call) → p (key_of c) ≡ true → reply part c ≡ reply whole c
   reply_here (Search k) h = ap found (here k h)
   reply_here (Insert k v) h = ap (λ o. cond (is_some o) Exists Inserted) (here k h)
@@ -87,6 +89,7 @@ same_part : (p : List ℕ → Bool) (b : Bool) (a x u : Records) → Shows p a u
 same_part p true a x u h g = h
 same_part p false a x u h g = g
 
+-- a call whose key passes the test, made on both, leaves the part that of the whole map
 pub after_here : (p : List ℕ → Bool) (whole part : Records) → Shows p whole part → (c : Call) → p (key_of c) ≡ true →
     Shows p (after whole c) (after part c)
 after_here p w u s (Search k) h = s
@@ -100,6 +103,7 @@ after_here p w u s (Replace k v) h =
     either p (contains_key w k) (contains_key u k) (insert w k v) w (insert u k v) u (ap is_some (here p w u s k h))
     (put_here p w u s k v h) s
 
+-- a call on the whole map whose key doesn't pass the test leaves the part that of the whole map
 pub after_elsewhere : (p : List ℕ → Bool) (whole part : Records) → Shows p whole part → (c : Call) →
     p (key_of c) ≡ false → Shows p (after whole c) part
 after_elsewhere p w u s (Search k) h = s

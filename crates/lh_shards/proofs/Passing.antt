@@ -17,6 +17,7 @@ pub record Passed (Fact : HandFact) (i : ℕ) (olds items : List HandState) : Ty
       Fact k old new
   pub rest : (k : ℕ) → i ≤ k → slice_get items k ≡ slice_get olds k
 
+-- when the fact holds of the hand of a place, the hands before the next place have passed
 pub passed_next : (Fact : HandFact) (i : ℕ) (olds items : List HandState) (b a : HandState) →
     slice_get olds i ≡ Some b → Fact i b a → Passed Fact i olds items → Passed Fact (i + 1) olds (set items i a)
 passed_next Fact i olds items b a at new was = record {

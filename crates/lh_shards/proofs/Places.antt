@@ -11,6 +11,7 @@ there [] i lt = absurd (omega arith)
 there (x ∷ xs) zero lt = (x, refl)
 there (x ∷ xs) (suc i) lt = there xs i (omega arith)
 
+-- what stands in a list that was written to is what was written, at its place, or stood there before
 pub at_set : {X : Type 0} (xs : List X) (i : ℕ) (v : X) (j : ℕ) (x : X) → slice_get (set xs i v) j ≡ Some x →
     ((j ≡ i) × (x ≡ v)) ⊎ (slice_get xs j ≡ Some x)
 at_set [] i v j x h = inr h
@@ -19,6 +20,7 @@ at_set (y ∷ ys) zero v (suc j) x h = inr h
 at_set (y ∷ ys) (suc i) v zero x h = inr h
 at_set (y ∷ ys) (suc i) v (suc j) x h = ⊎_elim (λ e. inl (ap suc e.0, e.1)) (λ e. inr e) (at_set ys i v j x h)
 
+-- what stands in a list to which something was added is that, at the end, or stood there before
 pub at_push : {X : Type 0} (xs : List X) (v : X) (j : ℕ) (x : X) → slice_get (xs ++ v ∷ []) j ≡ Some x →
     ((j ≡ length xs) × (x ≡ v)) ⊎ (slice_get xs j ≡ Some x)
 at_push [] v zero x h = inl (refl, sym (same_Some v x h))
@@ -26,12 +28,14 @@ at_push [] v (suc j) x h = inr h
 at_push (y ∷ ys) v zero x h = inr h
 at_push (y ∷ ys) v (suc j) x h = ⊎_elim (λ e. inl (ap suc e.0, e.1)) (λ e. inr e) (at_push ys v j x h)
 
+-- what stands in a list that a function made was made of what stands there in the other
 pub at_map : {X Y : Type 0} (f : X → Y) (xs : List X) (j : ℕ) (y : Y) → slice_get (map f xs) j ≡ Some y →
     (x : X) × (slice_get xs j ≡ Some x) × (f x ≡ y)
 at_map f [] j y h = absurd (none-some y h)
 at_map f (x ∷ xs) zero y h = (x, refl, same_Some (f x) y h)
 at_map f (x ∷ xs) (suc j) y h = at_map f xs j y h
 
+-- a list that a function made is as long as the one that it was made of
 pub length_mapped : {X Y : Type 0} (f : X → Y) (xs : List X) → length (map f xs) ≡ length xs
 length_mapped f [] = refl
 length_mapped f (x ∷ xs) = ap suc (length_mapped f xs)
@@ -55,12 +59,14 @@ set_tells (y ∷ ys) (suc i) v zero x h = inr ((λ e. omega (arith, e)), h)
 set_tells (y ∷ ys) (suc i) v (suc j) x h =
     ⊎_elim (λ e. inl (ap suc e.0, e.1)) (λ e. inr ((λ s. e.0 (omega (arith, s))), e.1)) (set_tells ys i v j x h)
 
+-- what was written at a place within a list stands there
 pub set_same : {X : Type 0} (xs : List X) (i : ℕ) (v w : X) → slice_get xs i ≡ Some w →
     slice_get (set xs i v) i ≡ Some v
 set_same [] i v w h = absurd (none-some w h)
 set_same (y ∷ ys) zero v w h = refl
 set_same (y ∷ ys) (suc i) v w h = set_same ys i v w h
 
+-- at other places of a list that was written to all is as before
 pub set_other : {X : Type 0} (xs : List X) (i : ℕ) (v : X) (j : ℕ) → j ≢ i → slice_get (set xs i v) j ≡ slice_get xs j
 set_other [] i v j ne = refl
 set_other (y ∷ ys) zero v zero ne = absurd (ne refl)
@@ -89,6 +95,7 @@ EachThree {X} {Y} {Z} Relates xs ys zs =
     (k : ℕ) (x : X) (y : Y) (z : Z) → slice_get xs k ≡ Some x → slice_get ys k ≡ Some y → slice_get zs k ≡ Some z →
     Relates x y z
 
+-- a relation holds at each place of three lists still when the third gets one more that it holds of
 pub three_next : {X Y Z : Type 0} (Relates : X → Y → Z → Type 0) (xs : List X) (ys : List Y) (zs : List Z) (i : ℕ)
     (x : X) (y : Y) (z : Z) → length zs ≡ i → slice_get xs i ≡ Some x → slice_get ys i ≡ Some y → Relates x y z →
     EachThree Relates xs ys zs → EachThree Relates xs ys (zs ++ z ∷ [])

@@ -35,6 +35,7 @@ mapped_at : (openings : List Lists) (i : ℕ) (o : Lists) → slice_get openings
     slice_get (map map_in openings) i ≡ Some (map_in o)
 mapped_at openings i o at = slice_get-map map_in openings i ∙ ap (option_map map_in) at
 
+-- settled shards are one map
 pub settled_are_one_map : (openings : List Lists) (shards : List ClosedShard) (histories : List (List ActLine)) →
     length openings ≡ length shards → AreShards shards → AreSettled openings shards histories →
     MakeOneMap openings shards histories

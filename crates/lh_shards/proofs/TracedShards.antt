@@ -32,6 +32,7 @@ chosen {X} P (suc n) has =
           (at_push before.0 last.0 k x at),
     )
 
+-- traced shards that were closed whole are settled, each by one legal history, and are one map
 pub traced_law : TracedLaw
 traced_law openings files hands shards n opened of are by whole =
     let Settles : ℕ → List ActLine → Type 0 =

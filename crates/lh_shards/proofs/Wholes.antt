@@ -26,6 +26,7 @@ or_else : {X : Type 0} → Option X → Option X → Option X
 or_else (Some x) o = Some x
 or_else None o = o
 
+-- whether two keys are the same
 pub ties : List ℕ → List ℕ → Bool
 ties q k = eq_by_cmp (slice_cmp nat_cmp) q k
 
@@ -33,6 +34,7 @@ tied : (q k : List ℕ) → ties q k ≡ true → q ≡ k
 unfolding ties
 tied q k h = (bytes_eq-Decides q k).0 (texts_ties q k ∙ h)
 
+-- a key is the same as itself
 pub itself : (key : List ℕ) → ties key key ≡ true
 unfolding ties
 itself key = sym (texts_ties key key) ∙ (bytes_eq-Decides key key).1 refl
@@ -41,6 +43,7 @@ get_none : (q : List ℕ) → get (map_of []) q ≡ None
 unfolding map_of
 get_none q = get-empty (slice_cmp nat_cmp) q
 
+-- the map of some records has of a key the first one's value where it is that one's key, else what the others have
 pub get_first : (p : Pair) (ps : List Pair) (q : List ℕ) →
     get (map_of (p ∷ ps)) q ≡ cond (ties q p.key) (Some p.value) (get (map_of ps) q)
 unfolding map_of ties
@@ -146,6 +149,7 @@ part_of : (b : Bool) (p w : Option (List ℕ)) → (b ≡ true → w ≡ p) → 
 part_of true p w here away = sym (here refl)
 part_of false p w here away = away refl
 
+-- listings whose records stand in their own shards are the parts of the map of them all
 pub home_are_parts : (listings : List Lists) → AreHome listings → AreParts (whole_of listings) listings
 home_are_parts listings home i listing at key =
     let n : ℕ = length listings in

@@ -73,6 +73,7 @@ unmade LeadsTo version (Device Write) given a h = absurd h
 unmade LeadsTo version Memory given a h = Keeps-refl a
 unmade LeadsTo version (NotSettled fault) given a h = absurd h
 
+-- a run of `build` that read no script ends without a write
 pub unbuilt : (version : Version) (settings : Settings) (status : Status) (left a : Option (List ℕ)) →
     IfSome left (λ input. ReadsScript {A = Call} (Err status) (script command input)) →
     IfSome left (λ input. EndsBuilding version settings input status a a)
@@ -106,6 +107,7 @@ pub made_whole : (LeadsTo : Leading) (version : Version) (calls : List Call) (l 
 made_whole LeadsTo version calls l given before now is led written =
     (calls, canonical version l, is, record { listing = l; led = led; fits = written.0; bytes = refl }, written.1)
 
+-- a run of `build` that wrote the whole image is done
 pub built_whole : (version : Version) (settings : Settings) (calls : List Call) (l : Lists)
     (left before now : Option (List ℕ)) →
     IsScriptOf left calls → IsLedTo settings calls l → IsWritten version l (Ok tt) before now →
@@ -130,6 +132,7 @@ made_not LeadsTo version calls l (OldRecord bucket place) given before now is le
 made_not LeadsTo version calls l TooLarge given before now is led written =
     (calls, is, record { listing = l; led = led; refused = written.0 }, written.1)
 
+-- a run of `build` whose file was not written as an image ends by that fault
 pub built_not : (version : Version) (settings : Settings) (calls : List Call) (l : Lists) (fault : WriteImageFault)
     (status : Status)
     (left before now : Option (List ℕ)) → status ≡ unwritten_as fault → IsScriptOf left calls →

@@ -41,6 +41,7 @@ leading_read : LeadingLaw → OneListingLaw → (image text : List ℕ) (l : Lis
     reading_of (leading (image ++ text)) ≡ Ok l
 leading_read leads one image text l h = ap reading_of (leads image text l h).0 ∙ image_read one image l h
 
+-- `query` answers what the plain map of the listing answers to the script's calls, or the script's first fault
 pub query_law : LeadingLaw → OneListingLaw → QueryLaw
 unfolding query_due
 query_law leads one image text l h =
@@ -48,6 +49,7 @@ query_law leads one image text l h =
     let rest = (leads image text l h).1 in
     λ i. replies_due (read i) (script command (rest i))
 
+-- `apply` writes the canonical image of the listing that the calls leave, or ends at the script's first fault
 pub apply_law : LeadingLaw → OneListingLaw → ApplyLaw
 unfolding EndsApplying
 apply_law leads one version image text l status before now h ends =
@@ -99,6 +101,7 @@ without_calls census image l h due (Device Write) given before now none (calls, 
 without_calls census image l h due Memory given before now none ends = ends
 without_calls census image l h due (NotSettled fault) given before now none ends = absurd ends
 
+-- `apply` of a script without calls ends as `migrate` does for the image alone
 pub migrate_law : LeadingLaw → OneListingLaw → CensusLaw → MigrateLaw
 unfolding migrate_due
 migrate_law leads one census image text l status before now h none ends =

@@ -56,6 +56,7 @@ no_script (Device Write) l file given is h = absurd h
 no_script Memory l file given is h = tt
 no_script (NotSettled fault) l file given is h = absurd h
 
+-- a run whose input was not read as an image ends by that fault
 pub image_refused : (fault : ImageFault) (status : Status) (left : Option (List ℕ)) → status ≡ refused_as fault →
     IfSome left (λ input. IsDueFault fault (reading_of (leading input))) →
     IfSome left (λ input. ReadsContinued (Err status) (reading_of (leading input)) (script_behind input))
@@ -70,6 +71,7 @@ IsFollowed listing left now =
     IfSome left
     (λ input. ((l : Lists) × (reading_of (leading input) ≡ Ok l) × (listing ≡ l)) × (now ≡ Some (following input)))
 
+-- an image that was read, with what follows it left to read, is followed by its script
 pub followed : (listing : Lists) (left now : Option (List ℕ)) →
     IfSome left (λ input. (l : Lists) × (reading_of (leading input) ≡ Ok l) × (listing ≡ l)) →
     IfSome left (λ input. now ≡ Some (following input)) →
@@ -77,6 +79,7 @@ pub followed : (listing : Lists) (left now : Option (List ℕ)) →
 followed listing None now h k = tt
 followed listing (Some input) now h k = (h, k)
 
+-- where the image was read, and then the script that follows it, both were read
 pub both_read : (listing : Lists) (calls : List Call) (left now : Option (List ℕ)) → IsFollowed listing left now →
     IfSome now (λ rest. script command rest ≡ Ok calls) → AreRead left listing calls
 both_read listing calls None now h k = tt
@@ -86,6 +89,7 @@ both_read listing calls (Some input) now h k = (
   subst (λ (o : Option (List ℕ)). IfSome o (λ rest. script command rest ≡ Ok calls)) h.1 k,
 )
 
+-- where the image was read, but no script that follows it, the run ends as the reading of the script did
 pub script_refused : (listing : Lists) (status : Status) (left now : Option (List ℕ)) → IsFollowed listing left now →
     IfSome now (λ rest. ReadsScript {A = Call} (Err status) (script command rest)) →
     IfSome left (λ input. ReadsContinued (Err status) (reading_of (leading input)) (script_behind input))
@@ -113,6 +117,7 @@ untold (Device Write) file given a h = absurd h
 untold Memory file given a h = Keeps-refl a
 untold (NotSettled fault) file given a h = absurd h
 
+-- a run of `query` that read no image, or no script behind it, ends without a write
 pub unqueried : (status : Status) (left a : Option (List ℕ)) →
     IfSome left (λ input. ReadsContinued (Err status) (reading_of (leading input)) (script_behind input)) →
     IfSome left (λ input. Ends status (query_due input) a a)
@@ -135,6 +140,7 @@ queried status l (Some input) before now calls told world read serial ends =
     subst (λ (d : Result (List ℕ) InputFault). Ends status d before now)
     (due ∙ sym (ap (λ f. replies_due f (script_behind input)) read.0)) ends
 
+-- a run of `query` that is out of memory ends without a write
 pub unqueried_memory : (left a : Option (List ℕ)) → IfSome left (λ input. Ends Memory (query_due input) a a)
 unqueried_memory None a = tt
 unqueried_memory (Some input) a = Keeps-refl a
@@ -145,6 +151,7 @@ same_file : (l file : Lists) (world : WorldSeen) →
     lists_in world.buckets ≡ file.lists → l ≡ file
 same_file l file world is config lists = is ∙ (λ i. record { config = config i; lists = lists i })
 
+-- the listing of a world after calls is one of the file that they leave
 pub left_of : (file : Lists) (calls : List Call) (told : List Reply) (world : WorldSeen) (l : Lists) →
     IsSerialFrom file.config (records_of file) (size file) calls told world →
     (calls ≡ [] → lists_in world.buckets ≡ file.lists) →
@@ -174,6 +181,7 @@ unleft version Memory (Ok l) given a h = Keeps-refl a
 unleft version Memory (Err fault) given a h = Keeps-refl a
 unleft version (NotSettled fault) file given a h = absurd h
 
+-- a run of `apply` that read no image, or no script behind it, ends without a write
 pub unapplied : (version : Version) (status : Status) (left a : Option (List ℕ)) →
     IfSome left (λ input. ReadsContinued (Err status) (reading_of (leading input)) (script_behind input)) →
     IfSome left (λ input. EndsApplying version input status a a)
@@ -181,6 +189,7 @@ unfolding EndsApplying
 unapplied version status None a h = tt
 unapplied version status (Some input) a h = unleft version status (reading_of (leading input)) (script_behind input) a h
 
+-- a run of `apply` that is out of memory ends without a write
 pub unapplied_memory : (version : Version) (left a : Option (List ℕ)) →
     IfSome left (λ input. EndsApplying version input Memory a a)
 unfolding EndsApplying

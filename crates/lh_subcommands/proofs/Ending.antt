@@ -50,6 +50,7 @@ pub told_due : (settings : Settings) (map : Records) (start : ℕ) (given : Resu
 told_due settings map start given calls told buckets is replied size =
     ap Ok (ap₂ commands_text replied size) ∙ sym (ap (due (replies_text settings map start)) is)
 
+-- what `commands` told of its script's calls is what is due for the input
 pub answered : (settings : Settings) (status : Status) (left before now : Option (List ℕ)) (calls : List Call)
     (told : List Reply) (buckets : ℕ) →
     IfSome left (λ input. script command input ≡ Ok calls) → Ends status (Ok (commands_text told buckets)) before now →
@@ -75,11 +76,13 @@ untold IsOutput (Device Write) given a h = absurd h
 untold IsOutput Memory given a h = Keeps-refl a
 untold IsOutput (NotSettled fault) given a h = absurd h
 
+-- a run of `steps` that read no script ends without a write
 pub no_steps : (settings : Settings) (status : Status) (input : List ℕ) (a : Option (List ℕ)) →
     ReadsScript {A = Event} (Err status) (script step input) → EndsSteps settings input status a a
 unfolding EndsSteps
 no_steps settings status input a h = untold (TellsSteps settings) status (script step input) a h
 
+-- a run of `replay` that read no script ends without a write
 pub no_schedule : (settings : Settings) (status : Status) (input : List ℕ) (a : Option (List ℕ)) →
     ReadsScript {A = Event} (Err status) (script step input) → EndsReplay settings input status a a
 unfolding EndsReplay
@@ -134,6 +137,7 @@ schedule_begun settings None before now events entries given had written = tt
 schedule_begun settings (Some input) before now events entries given had written =
     (events, picture_of events entries, given, record { entries = entries; had = had; picture = refl }, written)
 
+-- what was read of an input gives the script that the input gives
 pub same_script : {A : Type 0} (read : Reading A) (input bytes : List ℕ) → IsReadOf 16777216 input bytes →
     script read bytes ≡ script read input
 same_script read input bytes (inl e) = ap (script read) e

@@ -44,6 +44,7 @@ unread text ReadFault due a h = Keeps-refl a
 unread text Memory due a h = Keeps-refl a
 unread text fault due a h = (ap (text_or_fault text) h, Keeps-refl a)
 
+-- a run of `check` that read no image ends without a write
 pub unchecked : (fault : ImageFault) (status : Status) (left a : Option (List ℕ)) → status ≡ refused_as fault →
     IfSome left (λ input. IsDueFault fault (reading_of input)) →
     IfSome left (λ input. Ends status (check_due input) a a)
@@ -53,6 +54,7 @@ unchecked fault status (Some input) a is h =
     subst (λ (s : Status). Ends s (check_due input) a a) (sym is)
     (unread (λ l. check_text (census_of l)) fault (reading_of input) a h)
 
+-- a run of `dump` that read no image ends without a write
 pub undumped : (fault : ImageFault) (status : Status) (left a : Option (List ℕ)) → status ≡ refused_as fault →
     IfSome left (λ input. IsDueFault fault (reading_of input)) → IfSome left (λ input. Ends status (dump_due input) a a)
 unfolding dump_due
@@ -71,6 +73,7 @@ unfolding check_due
 census_due census l input e is =
     ap (text_or_fault (λ l. check_text (census_of l))) e ∙ ap (λ (c : Census). Ok (check_text c)) (sym is)
 
+-- a run of `check` that wrote the census is done
 pub checked : (census : Census) (text : List ℕ) (left before now : Option (List ℕ)) →
     Shows left (λ l. census ≡ census_of l) → text ≡ check_text census →
     Appends before now text → IfSome left (λ input. Ends Done (check_due input) before now)
@@ -78,6 +81,7 @@ checked census text None before now shows is h = tt
 checked census text (Some input) before now shows is h =
     (check_text census, census_due census shows.0 input shows.1 shows.2, subst (Appends before now) is h)
 
+-- a run of `check` that wrote a beginning of the census ends by a failed write
 pub check_begun : (census : Census) (text : List ℕ) (left before now : Option (List ℕ)) →
     Shows left (λ l. census ≡ census_of l) → text ≡ check_text census →
     TakesBeginning before now text → IfSome left (λ input. Ends (Device Write) (check_due input) before now)
@@ -85,6 +89,7 @@ check_begun census text None before now shows is h = tt
 check_begun census text (Some input) before now shows is h =
     (check_text census, census_due census shows.0 input shows.1 shows.2, subst (TakesBeginning before now) is h)
 
+-- a run of `check` that is out of memory ends without a write
 pub check_unwritten : (left a : Option (List ℕ)) → IfSome left (λ input. Ends NoMemory (check_due input) a a)
 check_unwritten None a = tt
 check_unwritten (Some input) a = Keeps-refl a
@@ -95,12 +100,14 @@ records_due : (listing l : Lists) (input : List ℕ) → reading_of input ≡ Ok
 unfolding dump_due
 records_due listing l input e is = ap (text_or_fault dump_text) e ∙ ap (λ (x : Lists). Ok (dump_text x)) (sym is)
 
+-- a run of `dump` that wrote the records is done
 pub dumped : (listing : Lists) (left before now : Option (List ℕ)) → Shows left (λ l. listing ≡ l) →
     Appends before now (dump_text listing) → IfSome left (λ input. Ends Done (dump_due input) before now)
 dumped listing None before now shows h = tt
 dumped listing (Some input) before now shows h =
     (dump_text listing, records_due listing shows.0 input shows.1 shows.2, h)
 
+-- a run of `dump` that wrote a beginning of the records ends by a failed write
 pub dump_begun : (listing : Lists) (left before now : Option (List ℕ)) → Shows left (λ l. listing ≡ l) →
     TakesBeginning before now (dump_text listing) →
     IfSome left (λ input. Ends (Device Write) (dump_due input) before now)
@@ -114,6 +121,7 @@ drawing_due : (listing l : Lists) (input : List ℕ) → reading_of input ≡ Ok
 unfolding draw_due
 drawing_due listing l input e is = ap (text_or_fault drawing_of) e ∙ ap (λ (x : Lists). Ok (drawing_of x)) (sym is)
 
+-- a run of `draw` that read no image ends without a write
 pub undrawn : (fault : ImageFault) (status : Status) (left a : Option (List ℕ)) → status ≡ refused_as fault →
     IfSome left (λ input. IsDueFault fault (reading_of input)) → IfSome left (λ input. Ends status (draw_due input) a a)
 unfolding draw_due
@@ -121,12 +129,14 @@ undrawn fault status None a is h = tt
 undrawn fault status (Some input) a is h =
     subst (λ (s : Status). Ends s (draw_due input) a a) (sym is) (unread drawing_of fault (reading_of input) a h)
 
+-- a run of `draw` that wrote the drawing is done
 pub drawn : (listing : Lists) (left before now : Option (List ℕ)) → Shows left (λ l. listing ≡ l) →
     Appends before now (drawing_of listing) → IfSome left (λ input. Ends Done (draw_due input) before now)
 drawn listing None before now shows h = tt
 drawn listing (Some input) before now shows h =
     (drawing_of listing, drawing_due listing shows.0 input shows.1 shows.2, h)
 
+-- a run of `draw` that wrote a beginning of the drawing ends by a failed write
 pub draw_begun : (listing : Lists) (left before now : Option (List ℕ)) → Shows left (λ l. listing ≡ l) →
     TakesBeginning before now (drawing_of listing) →
     IfSome left (λ input. Ends (Device Write) (draw_due input) before now)
@@ -141,6 +151,7 @@ unfolding migrate_due
 image_due listing l input e is =
     ap (text_or_fault (canonical Two)) e ∙ ap (λ (x : Lists). Ok (canonical Two x)) (sym is)
 
+-- a run of `migrate` that read no image ends without a write
 pub unmigrated : (fault : ImageFault) (status : Status) (left a : Option (List ℕ)) → status ≡ refused_as fault →
     IfSome left (λ input. IsDueFault fault (reading_of input)) →
     IfSome left (λ input. Ends status (migrate_due input) a a)
@@ -150,6 +161,7 @@ unmigrated fault status (Some input) a is h =
     subst (λ (s : Status). Ends s (migrate_due input) a a) (sym is)
     (unread (canonical Two) fault (reading_of input) a h)
 
+-- a run of `migrate` that wrote the image is done
 pub migrated : (listing : Lists) (left before now : Option (List ℕ)) → Shows left (λ l. listing ≡ l) →
     IsWritten Two listing (Ok tt) before now → IfSome left (λ input. Ends Done (migrate_due input) before now)
 migrated listing None before now shows h = tt
@@ -175,6 +187,7 @@ failed census listing (OldRecord bucket place) input before now image due new h 
 failed census listing TooLarge input before now image due new h =
     absurd (omega (arith, few_pages census input listing image, h.0.1))
 
+-- a run of `migrate` whose listing was not written as an image ends by that fault
 pub migrate_begun : CensusLaw →
     (listing : Lists) (fault : WriteImageFault) (status : Status) (left before now : Option (List ℕ)) →
     status ≡ unwritten_as fault → Shows left (λ l. listing ≡ l) → IfSome left (λ input. IsImage input listing) →

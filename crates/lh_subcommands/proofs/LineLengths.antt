@@ -24,6 +24,7 @@ pub digits_fit : (most : ℕ) (bytes : List ℕ) → 1 ≤ most → length bytes
 digits_fit most [] one few = omega arith
 digits_fit most (byte ∷ bytes) one few = omega (arith, length-encode_with lower_digits (byte ∷ bytes))
 
+-- the line with the number of buckets is no longer than the longest
 pub size_fits : (buckets : ℕ) → buckets < 2 ^ 32 → length (line (size_text buckets)) ≤ longest_output_line
 size_fits buckets few =
     let digits = length-decimal-le 10 buckets (omega arith) (omega arith) (omega arith) in
@@ -34,6 +35,7 @@ size_fits buckets few =
       length-append (size_text buckets) (10 ∷ []),
     )
 
+-- the line of a reply is no longer than the longest
 pub reply_fits : (reply : Reply) → IsReplyInLimits reply → length (line (reply_text reply)) ≤ longest_output_line
 reply_fits (Found value) few =
     let digits = digits_fit longest_value value (omega arith) few in
@@ -52,6 +54,7 @@ reply_fits Replaced few = omega arith
 number_fits : (n : ℕ) → n < 2 ^ 32 → length (decimal n) ≤ 10
 number_fits n few = length-decimal-le 10 n (omega arith) (omega arith) (omega arith)
 
+-- the line of a record is no longer than the longest
 pub record_fits : (bucket : ℕ) (pair : Pair) → bucket < 2 ^ 32 → IsRecordInLimits pair →
     length (line (record_text bucket pair)) ≤ longest_output_line
 record_fits bucket pair few limits =
@@ -104,6 +107,7 @@ effect_fits (effect.Point buckets) few =
     )
 effect_fits effect.Dropped few = omega arith
 
+-- the line of an entry is no longer than the longest
 pub entry_fits : (entry : Entry) → IsEntryInLimits entry → length (line (entry_text entry)) ≤ longest_output_line
 entry_fits (Ok done) few = effect_fits done few
 entry_fits (Err refusal.WrongState) few = omega arith

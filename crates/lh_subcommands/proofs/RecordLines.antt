@@ -56,6 +56,7 @@ record_follows before now waiting sent bucket pairs i pair at h =
     ∙ sent-more (λ p. line (record_text bucket p)) sent pairs i pair (slice_get_within pairs i pair at)
     ∙ ap (λ (n : ℕ). sent ++ lines_before bucket pairs n) next) h
 
+-- a beginning of a bucket's lines up to a record is one of all lines of the bucket
 pub record_begins : (before now : Option (List ℕ)) (sent : List ℕ) (bucket : ℕ) (pairs : List Pair) (i : ℕ)
     (pair : Pair) →
     slice_get pairs i ≡ Some pair →
@@ -71,10 +72,12 @@ record_begins before now sent bucket pairs i pair at h =
     ∙ sent-all (λ p. line (record_text bucket p)) sent pairs i pair (slice_get_within pairs i pair at))
     (begins_longer before now _ (bucket_text bucket (drop (suc i) pairs)) h)
 
+-- before its first record no line of a bucket is sent
 pub no_lines : (before now : Option (List ℕ)) (waiting sent : List ℕ) (bucket : ℕ) (pairs : List Pair) →
     Sends before now waiting sent → Sends before now waiting (sent ++ lines_before bucket pairs 0)
 no_lines before now waiting sent bucket pairs h = subst (Sends before now waiting) (sym (append-nil sent)) h
 
+-- behind its last record all lines of a bucket are sent
 pub all_lines : (before now : Option (List ℕ)) (waiting sent : List ℕ) (bucket : ℕ) (pairs : List Pair) (i : ℕ) →
     length pairs ≤ i →
     Sends before now waiting (sent ++ lines_before bucket pairs i) →
@@ -102,6 +105,7 @@ bucket_follows before now waiting l i lt h =
     ∙ sym (pieces-more f (range_with_len 0 (size l)) i 0 within)
     ∙ ap (buckets_before l) next) h
 
+-- a beginning of the lines up to a bucket is one of all that `dump` writes
 pub bucket_begins : (before now : Option (List ℕ)) (l : Lists) (i : ℕ) → i < size l →
     TakesBeginning before now (buckets_before l i ++ bucket_text i (list_at l.lists i)) →
     TakesBeginning before now (dump_text l)
@@ -115,6 +119,7 @@ bucket_begins before now l i lt h =
     ∙ sym (pieces-split f row i 0 within))
     (begins_longer before now _ (flat_map f (drop (suc i) row)) h)
 
+-- the lines of all buckets are what `dump` writes
 pub all_buckets : (l : Lists) (i : ℕ) → size l ≤ i → buckets_before l i ≡ dump_text l
 unfolding dump_text
 all_buckets l i many =

@@ -162,6 +162,7 @@ no_line : (rest : List ℕ) → rest ≡ [] → (n : ℕ) → from_line command 
 unfolding from_line lines
 no_line rest none n = ap (λ text. from_line command n (lines text)) none
 
+-- `commands` has the answers written that `serve` gave from an empty file on, and then the number of buckets
 pub same_replies : SameRepliesLaw
 unfolding commands_due commands_text
 same_replies settings input answers h rest are short =

@@ -85,6 +85,7 @@ line_sent r None before now after old mid new sent h e f = ok_anyway r
 line_sent r (Some bytes) before now after old mid new sent h e f =
     f (sent ++ line bytes) (sends_later before now old mid sent (line bytes) h e)
 
+-- where a write failed, the writer took a beginning of what was sent before and a displayed line behind it
 pub line_stopped : {T E : Type 0} (r : Result T E) (shown : Option (List ℕ)) (before now after : Option (List ℕ))
     (old mid sent : List ℕ) →
     Sends before now old sent → AppendsText old mid (with_newline shown) →
@@ -100,10 +101,12 @@ pub line_missed : (shown : Option (List ℕ)) (before now : Option (List ℕ)) (
 line_missed None before now old sent h = tt
 line_missed (Some bytes) before now old sent h = stops_before before now old sent (line bytes) h
 
+-- what holds anyway holds of an error
 pub on_err : {T E P : Type 0} (r : Result T E) → P → OnErr r P
 on_err (Ok x) p = tt
 on_err (Err e) p = p
 
+-- what follows from what holds of an error holds of it too
 pub on_err_weaker : {T E P Q : Type 0} (r : Result T E) → (P → Q) → OnErr r P → OnErr r Q
 on_err_weaker (Ok x) f p = tt
 on_err_weaker (Err e) f p = f p

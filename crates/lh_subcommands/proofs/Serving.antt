@@ -111,6 +111,7 @@ at_end : (input heard : List ℕ) (rest : Option (List ℕ)) → Consumes (Some 
 at_end input heard None c e = absurd c
 at_end input heard (Some left) c e = c ∙ ap (λ x. heard ++ x) e ∙ append-nil heard
 
+-- `serve` is done where the input has ended and all of its complete lines are answered
 pub ends_done : (s : FileSeen) (left rest before now : Option (List ℕ)) (heard : List ℕ) → Consumes left rest heard →
     IsAtEnd rest → TellsAnswers s before now heard →
     IfSome left (λ input. EndsServing s input Done rest before now)
@@ -118,6 +119,7 @@ ends_done s None rest before now heard c e h = tt
 ends_done s (Some input) rest before now heard c e h =
     subst (TellsAnswers s before now) (sym (at_end input heard rest c e)) h
 
+-- `serve` ends by the fault of a device that failed
 pub ends_broken : (s : FileSeen) (fault : DeviceFault) (left mid rest before now : Option (List ℕ))
     (heard bytes : List ℕ) → Consumes left mid heard → Consumes mid rest bytes →
     EndsAtFault s fault before now heard bytes →
@@ -132,12 +134,14 @@ ends_broken s Read (Some input) mid rest before now heard bytes c d h = (
 ends_broken s Write (Some input) mid rest before now heard bytes c d h =
     (heard ++ bytes, Consumes-trans (Some input) mid rest heard bytes c d, h)
 
+-- `serve` ends by a failed read where the complete lines of what was heard are answered
 pub ends_read : (s : FileSeen) (left rest before now : Option (List ℕ)) (heard : List ℕ) → Consumes left rest heard →
     TellsAnswers s before now heard →
     IfSome left (λ input. EndsServing s input (Device Read) rest before now)
 ends_read s None rest before now heard c h = tt
 ends_read s (Some input) rest before now heard c h = (heard, c, h)
 
+-- `serve` that is out of memory at once has heard and told nothing
 pub ends_wanting : (s : FileSeen) (left before : Option (List ℕ)) →
     IfSome left (λ input. EndsServing s input Memory left before before)
 ends_wanting s None before = tt
@@ -160,6 +164,7 @@ unserved status (Err fault) lines rest before (inl (inr e)) =
 unserved status (Err fault) lines rest before (inr d) =
     subst (λ (s : Status). Ends s (Err (Image fault)) before before) (sym d.2) (ap image_of d.1, Keeps-refl before)
 
+-- `serve` of an image whose file was not opened tells nothing
 pub ends_unopened : (status : Status) (left rest before : Option (List ℕ)) →
     IfSome left (λ input. IsUnopened status (reading_of (leading input))) →
     IfSome left (λ input. EndsServingFrom input status rest before before)
@@ -204,12 +209,14 @@ pub takes_more : (bytes taken rest more behind : List ℕ) → bytes ≡ taken +
     bytes ≡ (taken ++ more) ++ behind
 takes_more bytes taken rest more behind e f = e ∙ ap (λ x. taken ++ x) f ∙ sym (append_assoc taken more behind)
 
+-- what was cut short in the rest of some bytes was cut short in all of them
 pub cut_in_rest : (s : FileSeen) (before now : Option (List ℕ)) (heard bytes taken rest : List ℕ) →
     bytes ≡ taken ++ rest → IsCutShort s before now ((heard ++ taken) ++ rest) →
     IsCutShort s before now (heard ++ bytes)
 cut_in_rest s before now heard bytes taken rest e h =
     subst (IsCutShort s before now) (append_assoc heard taken rest ∙ ap (λ x. heard ++ x) (sym e)) h
 
+-- from a reader that keeps what it has nothing was taken
 pub keeps_consumes : (a b : Option (List ℕ)) → Keeps a b → Consumes a b []
 keeps_consumes None b h = tt
 keeps_consumes (Some x) None h = absurd h

@@ -77,6 +77,7 @@ part_sent before now waiting sent first some more is h =
     subst (Sends before now waiting) (append_assoc sent first some ∙ ap (λ (text : List ℕ). sent ++ (first ++ text)) is)
     h
 
+-- a beginning of a text and of another one behind it was taken
 pub part_stopped : (before now : Option (List ℕ)) (sent first some more : List ℕ) → some ≡ more →
     TakesBeginning before now ((sent ++ first) ++ some) → TakesBeginning before now (sent ++ (first ++ more))
 part_stopped before now sent first some more is h =
@@ -95,6 +96,7 @@ pub text_sent : (before now : Option (List ℕ)) (waiting sent some more : List 
 text_sent before now waiting sent some more is h =
     subst (λ (text : List ℕ). Sends before now waiting (sent ++ text)) is h
 
+-- a beginning of a text was taken
 pub text_stopped : (before now : Option (List ℕ)) (sent some more : List ℕ) → some ≡ more →
     TakesBeginning before now (sent ++ some) → TakesBeginning before now (sent ++ more)
 text_stopped before now sent some more is h = subst (λ (text : List ℕ). TakesBeginning before now (sent ++ text)) is h
@@ -108,6 +110,7 @@ columns_of_few l few =
     if b then in_turn (chain_text l) (size l)
     else in_turn (λ column. bar_text (group_bar l column)) (column_count (size l))) (sym few)
 
+-- the columns of many buckets are the bars of their groups in turn
 pub columns_of_many : (l : Lists) → is_detailed (size l) ≡ false →
     in_turn (λ column. bar_text (group_bar l column)) (column_count (size l)) ≡ columns_text l
 unfolding columns_text

@@ -13,6 +13,7 @@ use Rattle.lh_settling.specs.declared.act.ActLine.{ActLine}
 use Rattle.lhash.specs.Driven.{Counts}
 use Rattle.lhash.specs.declared.driven.Driven.{Driven}
 
+-- a history has a reply at each place where it has an act
 pub replies-within : (acts : List ActLine) (k : ℕ) → k < length acts → k < length (replies_of acts)
 replies-within acts k lt = subst (λ (n : ℕ). k < n) (sym (length-map acts (λ act. act.reply))) lt
 

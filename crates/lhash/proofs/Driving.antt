@@ -51,6 +51,7 @@ unread settings snapshots (Device Write) input a h = absurd h
 unread settings snapshots NoMemory input a h = Keeps-refl a
 unread settings snapshots (NotSettled reason) input a h = absurd h
 
+-- a run of `drive` that read no script ends without a write
 pub unrun : (settings : Settings) (snapshots : ℕ) (status : Status) (left a : Option (List ℕ)) →
     IfSome left (λ input. ReadsScript {A = CallOf} (Err status) (script command input)) →
     IfSome left (λ input. EndsDriving settings snapshots input status a a)
@@ -88,6 +89,7 @@ ends_so settings snapshots input calls (Call fault) a given h = (calls, given, (
 ends_so settings snapshots input calls Thread a given h = Keeps-refl a
 ends_so settings snapshots input calls Memory a given h = Keeps-refl a
 
+-- a run of `drive` that has no totals ends by its fault, without a write
 pub undriven_so : (settings : Settings) (snapshots : ℕ) (calls : List CallOf) (fault : DriveFault) (status : Status)
     (left a : Option (List ℕ)) → IsScriptOf left calls →
     IsDriveFaultWith settings snapshots fault → status ≡ ended_by fault →
@@ -216,6 +218,7 @@ all_settled law file opening closed acts hand taken from held full none each =
           full none own) taken each,
     )
 
+-- the snapshots that a hand took of a file have the file's settings
 pub configs_taken : (file : FileState) (settings : Settings) (hand : HandState) (taken : List ClosedFile) →
     file.config ≡ settings → All (HasTakenOne file hand) taken →
     All (λ (snapshot : ClosedFile). snapshot.config ≡ settings) taken

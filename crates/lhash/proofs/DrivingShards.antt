@@ -37,6 +37,7 @@ unread settings shards (Device Write) input a h = absurd h
 unread settings shards NoMemory input a h = Keeps-refl a
 unread settings shards (NotSettled reason) input a h = absurd h
 
+-- a run of `drive` on several shards that read no script ends without a write
 pub unrun : (settings : Settings) (shards : ℕ) (status : Status) (left a : Option (List ℕ)) →
     IfSome left (λ input. ReadsScript {A = CallOf} (Err status) (script command input)) →
     IfSome left (λ input. EndsDrivingShards settings shards input status a a)
@@ -70,6 +71,7 @@ ends_so settings shards input calls (Call fault) a given h = (calls, given, (Cal
 ends_so settings shards input calls Thread a given h = Keeps-refl a
 ends_so settings shards input calls Memory a given h = Keeps-refl a
 
+-- a run of `drive` on several shards that has no totals ends by its fault, without a write
 pub undriven_so : (settings : Settings) (shards : ℕ) (calls : List CallOf) (fault : DriveFault) (status : Status)
     (left a : Option (List ℕ)) → IsScriptOf left calls →
     IsDriveShardsFault settings shards fault → status ≡ ended_by fault →

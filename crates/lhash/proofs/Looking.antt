@@ -38,9 +38,11 @@ looked file first old new same is entries acts share knows of k = record {
   knows = λ log in_first. subst (λ (h : HandState). Contains h.logs log) (sym is) (knows log (k.knows log in_first));
 }
 
+-- a hand that is its file's own, and has done nothing since, has looked on
 pub looked_first : (file : FileState) (hand : HandState) → IsOwn file hand → HasLookedOn file hand hand
 looked_first file hand own = record { own = own; acts = refl; share = refl; knows = λ log there. there }
 
+-- a hand that has looked on, and then was told of a log, has looked on
 pub looked_told : (file : FileState) (first old new : HandState) (count : ℕ) (log : List Entry) →
     new ≡ told_of old count log →
     HasLookedOn file first old → HasLookedOn file first new
@@ -54,6 +56,7 @@ looked_told file first old new count log is k =
     looked file first old new (told_of old count log) is refl refl refl
     (knows_more old (told_of old count log) (log ∷ []) refl) (subst (IsOf file) (sym is) of) k
 
+-- so has one that then looked at the records of the file
 pub looked_surveyed : (file : FileState) (first old new : HandState) → HasSurveyed old new → IsOf file new →
     HasLookedOn file first old → HasLookedOn file first new
 looked_surveyed file first old new h of k =
@@ -63,6 +66,7 @@ looked_surveyed file first old new h of k =
           (knows_more old (told_of (knowing old h.known) told.0 told.1) (told.1 ∷ []) refl) of k
     ]
 
+-- so has one that then looked on again
 pub looked_again : (file : FileState) (first old new : HandState) → HasLookedOn file old new →
     HasLookedOn file first old → HasLookedOn file first new
 looked_again file first old new h k =
@@ -102,11 +106,13 @@ taken_still file old new knows snapshot t =
       told = knows t.log t.told;
     }
 
+-- a hand that was told of all that another one was has taken that one's snapshots
 pub taken_kept : (file : FileState) (old new : HandState) (taken : List ClosedFile) → KnowsOf old new →
     All (HasTakenOne file old) taken → All (HasTakenOne file new) taken
 taken_kept file old new taken knows each =
     All-weaker (HasTakenOne file old) (HasTakenOne file new) (taken_still file old new knows) taken each
 
+-- the same, with one snapshot more that it took itself
 pub taken_more : (file : FileState) (old new : HandState) (taken : List ClosedFile) (snapshot : ClosedFile) →
     KnowsOf old new → All (HasTakenOne file old) taken → HasTakenOne file new snapshot →
     All (HasTakenOne file new) (taken ++ snapshot ∷ [])

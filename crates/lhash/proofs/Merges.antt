@@ -49,6 +49,7 @@ merges : (hs : List (List ActLine)) (n : ℕ) → IsMerge (idle n ++ hs) (joined
 merges [] n = idle_alone n
 merges (h ∷ hs) n = merge_one h hs n (merges hs)
 
+-- histories one after another are a merge of them
 pub joined_is_merge : (histories : List (List ActLine)) → IsMerge histories (joined histories)
 joined_is_merge histories = merges histories 0
 

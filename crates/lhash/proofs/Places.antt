@@ -70,6 +70,7 @@ more_sum : (first q r places : ℕ) → places ≡ q + (min (first + 1) r - min 
     (first + 1) * q + min (first + 1) r ≡ first * q + min first r + places
 more_sum first q r places is = omega (arith, row_more first q, is)
 
+-- one more of the first places adds the places from it on
 pub places_before-more : (first step count : ℕ) → first < step →
     places_before (first + 1) step count ≡ places_before first step count + places_from first step count
 places_before-more first step count within =
@@ -82,6 +83,7 @@ pub places_before-all : (step count : ℕ) → 0 < step → places_before step s
 places_before-all step count some =
     omega (arith, div-add-mod' count step, mul_comm step (count / step), mod_below count step some)
 
+-- the places from each of the first ones on are together no more than the number
 pub places_before-within : (first step count : ℕ) → 0 < step → first ≤ step → places_before first step count ≤ count
 places_before-within first step count some within =
     omega (arith, mul-le-mul_right (count / step) within, places_before-all step count some)

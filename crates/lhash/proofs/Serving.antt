@@ -86,12 +86,14 @@ served words status left rest before now name r EndsWith ends allows asks is (in
 served words status left rest before now name r EndsWith ends allows asks is (inr run) =
     unwritten EndsWith status left before now allows run.0 run.2
 
+-- a run for words that ask for `commands`, and give settings in order, ends by them
 pub serves_commands : ServesFile (codes "commands") EndsCommands
 serves_commands words status left rest before now settings asks given within run =
     served words status left rest before now (codes "commands") (request.Commands settings) (EndsCommands settings)
     (λ h. h) (λ input keeps. keeps) asks
     (commands (codes "commands") _ _ (image_begins words) (settings_typed words) settings refl given within) run
 
+-- the same of `steps`
 pub serves_steps : ServesFile (codes "steps") EndsSteps
 unfolding EndsSteps
 serves_steps words status left rest before now settings asks given within run =
@@ -99,6 +101,7 @@ serves_steps words status left rest before now settings asks given within run =
     (λ h. h) (λ input keeps. keeps) asks
     (steps (codes "steps") _ _ (image_begins words) (settings_typed words) settings refl given within) run
 
+-- the same of `replay`
 pub serves_replay : ServesFile (codes "replay") EndsReplay
 unfolding EndsReplay
 serves_replay words status left rest before now settings asks given within run =
@@ -114,6 +117,7 @@ unserved start status None rest before now is unread keeps = tt
 unserved start status (Some input) rest before now is unread keeps =
     subst (λ (s : Status). EndsServing start input s rest before now) (sym is) (unread, keeps)
 
+-- a run for words that ask for `serve` of an empty file, and give settings in order, ends by them
 pub serves_client : ServesClient
 serves_client words status left rest before now settings asks none given within (inl run) =
     subst (λ (x : Request). IsPerformed x status left rest before now)
@@ -135,6 +139,7 @@ unheard status (Some input) rest before now is keeps =
     subst (λ (s : Status). EndsGoingOn (reading_of (leading input)) (following input) s rest before now) (sym is)
     (no_image (reading_of (leading input)) (following input) rest before now keeps)
 
+-- a run for words that ask for `serve` of the file of an image, and give no setting, ends as `serve` does on it
 pub serves_from : ServesFrom
 serves_from words status left rest before now asks begins none (inl run) =
     subst (λ (x : Request). IsPerformed x status left rest before now) (serves_image words run.0 asks begins none run.1)
@@ -142,6 +147,7 @@ serves_from words status left rest before now asks begins none (inl run) =
 serves_from words status left rest before now asks begins none (inr run) =
     unheard status left rest before now run.0 run.2
 
+-- a run for words of `serve` that give a setting beside an image refuses them
 pub refuses_beside : RefusesBeside
 refuses_beside words status left rest before now asks begins given (inl run) =
     subst (λ (x : Request). IsPerformed x status left rest before now)
@@ -149,6 +155,7 @@ refuses_beside words status left rest before now asks begins given (inl run) =
 refuses_beside words status left rest before now asks begins given (inr run) =
     (subst (IsWordsOf beside_image) (sym run.0) tt, run.1, run.2)
 
+-- a run for words that ask for `build`, and give settings in order and the number of a version, ends by them
 pub serves_build : ServesBuild
 unfolding EndsBuilding
 serves_build words status left rest before now settings n asks given image within run =
@@ -192,11 +199,13 @@ driven words status left rest before now settings h k None counted asks given pa
     unwritten (EndsDrivingIn (h == 1) settings h k) status left before now
     (λ input keeps. driven_nothing (h == 1) settings h k input before now keeps) run.0 run.2
 
+-- a run for words that ask for `drive`, with settings in order, and one shard or no snapshot, ends by them
 pub serves_drive : ServesDrive
 serves_drive words status left rest before now settings shards snapshots asks given parts taken allowed within run =
     driven words status left rest before now settings shards snapshots (number_given words (codes "threads")) refl asks
     given parts taken allowed within run
 
+-- a run for words of `drive` that ask for snapshots of more shards than one, with settings in order, refuses them
 pub refuses_snapshots : RefusesSnapshots
 refuses_snapshots words status left rest before now settings n h k asks given counted parts taken apart within
     (inl run) =
@@ -236,6 +245,7 @@ serves_alone words status left rest before now name r EndsWith (Some s) given en
 serves_alone words status left rest before now name r EndsWith (Some s) given ends allows asks alone none (inr run) =
     unwritten EndsWith status left before now allows run.0 run.2
 
+-- a run for words that ask for `check` ends as `check` does on its input
 pub serves_check : ServesImage (codes "check") (EndsTold check_due)
 unfolding asked_by
 serves_check words status left rest before now asks run =
@@ -243,6 +253,7 @@ serves_check words status left rest before now asks run =
     (settings_given words) refl
     (λ h. h) (λ input keeps. keeps) asks (λ numbers image typed. refl) (λ s numbers image typed. refl) run
 
+-- the same of `dump`
 pub serves_dump : ServesImage (codes "dump") (EndsTold dump_due)
 unfolding asked_by
 serves_dump words status left rest before now asks run =
@@ -250,6 +261,7 @@ serves_dump words status left rest before now asks run =
     (settings_given words) refl
     (λ h. h) (λ input keeps. keeps) asks (λ numbers image typed. refl) (λ s numbers image typed. refl) run
 
+-- the same of `draw`
 pub serves_draw : ServesImage (codes "draw") (EndsTold draw_due)
 unfolding asked_by
 serves_draw words status left rest before now asks run =
@@ -257,6 +269,7 @@ serves_draw words status left rest before now asks run =
     (settings_given words) refl
     (λ h. h) (λ input keeps. keeps) asks (λ numbers image typed. refl) (λ s numbers image typed. refl) run
 
+-- the same of `migrate`
 pub serves_migrate : ServesImage (codes "migrate") (EndsTold migrate_due)
 unfolding asked_by
 serves_migrate words status left rest before now asks run =
@@ -264,6 +277,7 @@ serves_migrate words status left rest before now asks run =
     (settings_given words) refl
     (λ h. h) (λ input keeps. keeps) asks (λ numbers image typed. refl) (λ s numbers image typed. refl) run
 
+-- the same of `query`
 pub serves_query : ServesImage (codes "query") (EndsTold query_due)
 unfolding asked_by
 serves_query words status left rest before now asks run =
@@ -313,6 +327,7 @@ applied words status left rest before now n (Some s) given asks image (inr run) 
     unwritten (EndsApplying (wanted_version (version_numbered n))) status left before now
     (λ input keeps. applies_nothing (wanted_version (version_numbered n)) input before now keeps) run.0 run.2
 
+-- a run for words that ask for `apply`, and give the number of a version, ends by it
 pub serves_apply : ServesApply
 serves_apply words status left rest before now n asks image run =
     applied words status left rest before now n (settings_given words) refl asks image run

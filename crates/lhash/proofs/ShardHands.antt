@@ -61,6 +61,7 @@ at_set (y ∷ ys) (suc i) v (suc j) x h = ⊎_elim (λ e. inl (ap suc e.0, e.1))
 pub all_at : {X : Type 0} (P : X → Type 0) (xs : List X) → ((k : ℕ) (x : X) → slice_get xs k ≡ Some x → P x) → All P xs
 all_at P xs each k d lt = each k (get_or xs k d) (slice_get-get_or xs k d lt)
 
+-- what holds of all holds at each place
 pub at_place : {X : Type 0} (P : X → Type 0) (xs : List X) (k : ℕ) (x : X) → All P xs → slice_get xs k ≡ Some x → P x
 at_place P xs k x all at = subst P (get_or_from_slice_get xs k x x at) (all k x (slice_get_within xs k x at))
 
@@ -128,6 +129,7 @@ one_made files olds i file before after call reply of recording file_is here s =
       left = λ others. left_after olds i before after others here (omega (arith, left, enough));
     }
 
+-- after a call that was answered hands keep one act more, and each may make no more than one call fewer
 pub call_made : (key : List ℕ) (call : Call) (files : List FileState) (olds news : List HandState)
     (result : Result Answered FileFault) → AreOf files olds → AreRecording files →
     AtShardOf key files olds news (λ file before after. Serves file before call result after) →
@@ -138,6 +140,7 @@ call_made key call files olds news (Ok a) of recording s =
     s.before_is s.does.served)
 call_made key call files olds news (Err e) of recording s = tt
 
+-- where each hand may make a call, the fault of one is none for want of calls
 pub call_refused : (key : List ℕ) (call : Call) (files : List FileState) (olds news : List HandState)
     (result : Result Answered FileFault) → AllHave 1 olds →
     AtShardOf key files olds news (λ file before after. Serves file before call result after) → IfErr result IsNotSpent
@@ -174,6 +177,7 @@ pub have_fewer : (most calls : ℕ) (hands : List HandState) → calls ≤ most 
 have_fewer most calls hands fewer enough k hand at =
     let had : most ≤ hand.view.left = enough k hand at in omega (arith, had, fewer)
 
+-- hands that got so many calls, and are their files' own with these shares, are a thread's hands of these calls
 pub part_of : (files : List FileState) (calls : ℕ) (olds part : List HandState) → AreOf files part →
     AreOwn files part → AllShare calls part → EachPair (IsBranch calls) olds part → ArePartOf files calls part
 part_of files calls olds part of own share p =
@@ -191,6 +195,7 @@ part_of files calls olds part of own share p =
           omega (arith, left);
     }
 
+-- hands that gave so many calls away keep the same acts, and each may make no more than so many fewer
 pub lessened_by : (calls : ℕ) (olds news : List HandState) → EachPair (HasGiven calls) olds news →
     ((others : ℕ) → AllShare (others + calls) olds → AllShare others news) → AreLessened calls olds news
 lessened_by calls olds news p share = record {
@@ -225,6 +230,7 @@ sum_joined (f ∷ fs) (s ∷ ss) (n ∷ ns) long many each =
       sum_joined fs ss ns (omega (arith, long)) (omega (arith, many)) (λ k. each (suc k)),
     )
 
+-- hands that are made of two for each shard keep as many acts as both
 pub acts_joined : (files : List FileState) (first second news : List HandState) → AreOf files first →
     AreOf files second → AreJoinedByShard first second news → acts_of news ≡ acts_of first + acts_of second
 acts_joined files first second news one other j =
@@ -238,6 +244,7 @@ pub record AreEmpty (config : Settings) (files : List FileState) : Type 0 where
   pub listing : (shard : ℕ) (file : FileState) → slice_get files shard ≡ Some file → file.listing ≡ empty_file config
   pub recording : AreRecording files
 
+-- files that are begun from the listings of empty files, and are to record, are opened from these and record
 pub begun_empty : (config : Settings) (listings : List Lists) (openings files : List FileState) →
     AreBegun listings true openings → listings ≡ empty_files config (length openings) → files ≡ openings →
     AreEmpty config files
@@ -285,6 +292,7 @@ none_refused config listings (open_fault.Misplaced shard bucket place) count emp
     omega (arith, refused.2.here.within, ap length none)
 none_refused config listings open_fault.Memory count empty refused ne = ne refl
 
+-- the first hands of traced shards are their files' own
 pub opened_own : (openings files : List FileState) (hands : List HandState) → AreTraced openings files hands →
     AreOwn files hands
 opened_own openings files hands t k file hand fk hk =
@@ -299,20 +307,24 @@ opened_left openings files hands t k hand at =
     let opened = t.each k file.0 hand file.1 at in
     (ap (λ (v : View). v.left) opened.view, opened.acts)
 
+-- the first hands of traced shards keep no act
 pub opened_idle : (openings files : List FileState) (hands : List HandState) → AreTraced openings files hands →
     acts_of hands ≡ 0
 opened_idle openings files hands t = no_acts hands (λ k hand at. (opened_left openings files hands t k hand at).1)
 
+-- each first hand may make any number of calls up to 2^63
 pub opened_have : (openings files : List FileState) (hands : List HandState) (calls : ℕ) →
     AreTraced openings files hands → calls ≤ 2 ^ 63 → AllHave calls hands
 opened_have openings files hands calls t few k hand at =
     let left = (opened_left openings files hands t k hand at).0 in omega (arith, left, few)
 
+-- each first hand has made or may still make 2^63 calls
 pub opened_share : (openings files : List FileState) (hands : List HandState) → AreTraced openings files hands →
     AllShare (2 ^ 63) hands
 opened_share openings files hands t k hand at =
     let idle = opened_left openings files hands t k hand at in omega (arith, idle.0, ap length idle.1)
 
+-- shards that were opened empty are as many once they are closed, each of a file of the settings
 pub closed_of : (config : Settings) (openings files : List FileState) (first all : List HandState)
     (closed : List ClosedShard) → AreTraced openings files first → AreEmpty config files → AreOf files all →
     AreClosedBy true files all closed → AreShardsOf config (length openings) closed

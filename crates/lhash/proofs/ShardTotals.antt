@@ -39,6 +39,7 @@ all_empty settings (suc n) (l ∷ ls) many each =
     ∙ ap (λ (rest : List Lists). empty_file settings ∷ rest)
     (all_empty settings n ls (omega (arith, many)) (λ k. each (suc k)))
 
+-- so many listings, each that of an empty file, are those of so many empty files
 pub listed_empty : (settings : Settings) (shards : ℕ) (listings items : List Lists) → listings ≡ items →
     length items ≡ shards → All (λ (l : Lists). l ≡ empty_file settings) items →
     listings ≡ empty_files settings shards
@@ -47,6 +48,7 @@ listed_empty settings shards listings items is many each =
     ∙ all_empty settings shards items many
     (λ k listing at. at_place (λ (l : Lists). l ≡ empty_file settings) items k listing each at)
 
+-- there are as many listings of empty files as shards
 pub empty_count : (settings : Settings) (shards : ℕ) → length (empty_files settings shards) ≡ shards
 empty_count settings zero = refl
 empty_count settings (suc n) = ap suc (empty_count settings n)
@@ -65,6 +67,7 @@ replies_made openings closed histories many settled =
     ∙ length_permutation shard.acts history
     (settled.each k opening.0 shard history opening.1 ks kh).stamped.order.same)
 
+-- totals that count the replies and the records of settled shards are those of a legal history of one map
 pub driven_shards : (settings : Settings) (shards : ℕ) (openings : List Lists) (closed : List ClosedShard)
     (histories : List (List ActLine)) (d : Driven) (calls : List CallOf) →
     AreShardsOf settings shards closed → openings ≡ empty_files settings shards → length openings ≡ length closed →
@@ -129,6 +132,7 @@ faulted settings shards closed shard fault of known due ne =
     let within = subst (λ n. shard < n) of.count (slice_get_within closed shard due.closed due.closed_is) in
     (closed, shard, of, due, ne, partial settings shards closed shard fault known due within ne)
 
+-- the first fault of settling shards, or memory that ran out for it, is why a run of `drive` has no totals
 pub settle_faulted : (settings : Settings) (shards : ℕ) (closed : List ClosedShard) (shard : ℕ) (fault : SettleFault) →
     AreShardsOf settings shards closed → All (IsSettledWhole settings) closed →
     IsFirstDue (empty_files settings shards) closed (record { shard = shard; fault = fault }) →

@@ -52,6 +52,7 @@ phased s n f split.Moved h = inr h.0
 
 -- the aims that workers take
 module _ (g : LinearHashing) (s : Settings) (a : State) (h : IsSound s a) where
+  -- no fewer buckets are filled than the file began with
   pub some_filled : s.initial ≤ a.filled
   some_filled =
       ⊎_elim (λ (e : a.filled ≡ a.buckets). omega (arith, h.from_initial))
@@ -80,6 +81,7 @@ module _ (g : LinearHashing) (s : Settings) (a : State) (h : IsSound s a) where
   less : (k l : ℕ) → k ≤ l → nat_eq k l ≡ false → k < l
   less k l le e = grind (arith, nat_tests)
 
+  -- after an accepted call a worker's aim, if it has one, still leads where it should
   pub aimed_called : (c : Call) (o : Option Effect) (x y : WorkerState) → Leads s.initial a.filled x →
       called c x ≡ Ok (o, y) → Leads s.initial a.filled y
   aimed_called c o Idle y i e = subst (Leads s.initial a.filled) (became e) tt
@@ -88,6 +90,7 @@ module _ (g : LinearHashing) (s : Settings) (a : State) (h : IsSound s a) where
   aimed_called c o (Holding d k m) y i e = err_ok e
   aimed_called c o (Acted d m) y i e = err_ok e
 
+  -- the same after an accepted read
   pub aimed_read : (o : Option Effect) (x y : WorkerState) → Leads s.initial a.filled x → read s a x ≡ Ok (o, y) →
       Leads s.initial a.filled y
   aimed_read o Idle y i e = err_ok e
@@ -96,6 +99,7 @@ module _ (g : LinearHashing) (s : Settings) (a : State) (h : IsSound s a) where
   aimed_read o (Holding c k m) y i e = err_ok e
   aimed_read o (Acted c m) y i e = err_ok e
 
+  -- the same after an accepted lock
   pub aimed_lock : (o : Option Effect) (x y : WorkerState) → Leads s.initial a.filled x → lock s a x ≡ Ok (o, y) →
       Leads s.initial a.filled y
   aimed_lock o Idle y i e = err_ok e
@@ -104,6 +108,7 @@ module _ (g : LinearHashing) (s : Settings) (a : State) (h : IsSound s a) where
   aimed_lock o (Holding c k m) y i e = err_ok e
   aimed_lock o (Acted c m) y i e = err_ok e
 
+  -- the same after an accepted rehash
   pub aimed_rehash : (o : Option Effect) (x y : WorkerState) → Leads s.initial a.filled x → rehash s a x ≡ Ok (o, y) →
       Leads s.initial a.filled y
   aimed_rehash o Idle y i e = err_ok e
@@ -116,6 +121,7 @@ module _ (g : LinearHashing) (s : Settings) (a : State) (h : IsSound s a) where
       (less k (local_level s a m) i.not_above p.0) i)
   aimed_rehash o (Acted c m) y i e = err_ok e
 
+  -- the same after an accepted act
   pub aimed_act : (o : Option Effect) (x y : WorkerState) → Leads s.initial a.filled x → act s a x ≡ Ok (o, y) →
       Leads s.initial a.filled y
   aimed_act o Idle y i e = err_ok e
@@ -124,6 +130,7 @@ module _ (g : LinearHashing) (s : Settings) (a : State) (h : IsSound s a) where
   aimed_act o (Holding c k m) y i e = subst (Leads s.initial a.filled) (became (passed _ _ _ _ e).1) tt
   aimed_act o (Acted c m) y i e = err_ok e
 
+  -- the same after an accepted release
   pub aimed_release : (o : Option Effect) (x y : WorkerState) → Leads s.initial a.filled x → release x ≡ Ok (o, y) →
       Leads s.initial a.filled y
   aimed_release o Idle y i e = err_ok e
@@ -183,6 +190,7 @@ module _ (g : LinearHashing) (s : Settings) (a : State) (h : IsSound s a) where
   aim_after (Acted c m) e i = tt
 
   module _ (o : Option Effect) (b : State) where
+    -- after a split has begun the state is still sound, and each worker does what it did
     pub sound_begin : (x : SplitState) → a.splitter ≡ x → begin_split s a x ≡ Ok (o, b) → SplitTo b
     sound_begin split.Idle q e =
         let p = passed _ _ _ _ e in
@@ -193,6 +201,7 @@ module _ (g : LinearHashing) (s : Settings) (a : State) (h : IsSound s a) where
     sound_begin split.LockedMoved q e = err_ok e
     sound_begin split.Moved q e = err_ok e
 
+    -- the same after the splitter has locked its two buckets
     pub sound_lock_both : (x : SplitState) → a.splitter ≡ x → lock_both s a x ≡ Ok (o, b) → SplitTo b
     sound_lock_both split.Idle q e = err_ok e
     sound_lock_both split.Begun q e =
@@ -202,6 +211,7 @@ module _ (g : LinearHashing) (s : Settings) (a : State) (h : IsSound s a) where
     sound_lock_both split.LockedMoved q e = err_ok e
     sound_lock_both split.Moved q e = err_ok e
 
+    -- the same after the records are divided
     pub sound_move : (x : SplitState) → a.splitter ≡ x → move_records s a x ≡ Ok (o, b) → SplitTo b
     sound_move split.Idle q e = err_ok e
     sound_move split.Begun q e = err_ok e
@@ -221,6 +231,7 @@ module _ (g : LinearHashing) (s : Settings) (a : State) (h : IsSound s a) where
     sound_move split.LockedMoved q e = err_ok e
     sound_move split.Moved q e = err_ok e
 
+    -- the same after both buckets are let go
     pub sound_free : (x : SplitState) → a.splitter ≡ x → free_both a x ≡ Ok (o, b) → SplitTo b
     sound_free split.Idle q e = err_ok e
     sound_free split.Begun q e = err_ok e
@@ -230,6 +241,7 @@ module _ (g : LinearHashing) (s : Settings) (a : State) (h : IsSound s a) where
         subst SplitTo (became e) (sound_with_splitter split.Moved (subst (IsPhase s a.buckets a.filled) q h.phase))
     sound_free split.Moved q e = err_ok e
 
+    -- the same after the pointer has moved on
     pub sound_point : (x : SplitState) → a.splitter ≡ x → point a x ≡ Ok (o, b) → SplitTo b
     sound_point split.Idle q e = err_ok e
     sound_point split.Begun q e = err_ok e
@@ -249,6 +261,7 @@ module _ (g : LinearHashing) (s : Settings) (a : State) (h : IsSound s a) where
           refl,
         )
 
+    -- the same after the split is given up
     pub sound_drop : (x : SplitState) → a.splitter ≡ x → drop_split a x ≡ Ok (o, b) → SplitTo b
     sound_drop split.Idle q e = err_ok e
     sound_drop split.Begun q e =

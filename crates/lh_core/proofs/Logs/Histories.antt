@@ -72,6 +72,7 @@ module _ (g : LinearHashing) (s : Settings) (log : Log) (a : State) (t : Told s 
         tied = λ w x is. tied_other log e f w x (others w) (t.tied w x (subst (λ ps. slice_get ps w ≡ Some x) h.1 is));
       }
 
+  -- after an accepted event the state is still sound, and the log with that step tells of its workers
   pub told_ok : (e : Event) (f : Effect) (b : State) → allowed s a e ≡ Ok (outline f, b) → Told s ((e, Ok f) ∷ log) b
   told_ok (event.Call w c) f b ok =
       told_worker (event.Call w c) f w (called c) b ok (aimed_called g s a t.sound c (outline f))
@@ -104,6 +105,7 @@ module _ (g : LinearHashing) (s : Settings) (log : Log) (a : State) (t : Told s 
   told_ok event.SplitDrop f b ok =
       told_split event.SplitDrop f b (sound_drop g s a t.sound (outline f) b a.splitter refl ok) (λ w. tt)
 
+  -- the same after a refused event, which leaves the state as it was
   pub told_err : (e : Event) (r : Refusal) (b : State) → b ≡ a → Told s ((e, Err r) ∷ log) b
   told_err e r b is =
       subst (Told s ((e, Err r) ∷ log)) (sym is)
@@ -139,6 +141,7 @@ module _ (g : LinearHashing) (s : Settings) (log : Log) (a : State) (t : Told s 
   in_span event.SplitPoint f b ok = tt
   in_span event.SplitDrop f b ok = tt
 
+  -- an accepted event adds the call that it serves, if it serves one, to the calls of the acts
   pub acts_more : (e : Event) (f : Effect) (b : State) → allowed s a e ≡ Ok (outline f, b) →
       acts ((e, Ok f) ∷ log) ≡ and_call (acts log) (served_by a e)
   acts_more (event.Call w c) f b ok = refl
@@ -189,6 +192,7 @@ module _ (g : LinearHashing) (s : Settings) (log : Log) (a : State) (t : Told s 
       held_risen w f b x at ok (sym (ap (put_at a w (act s a)) at) ∙ ok)
 
 module _ (g : LinearHashing) (s : Settings) (one : 1 ≤ s.initial) (most : s.initial ≤ s.max) where
+  -- a state that a log leads to is sound, and the log tells of its workers
   pub told : (log : Log) (a : State) → IsHistory s log a → Told s log a
   told [] a h =
       subst (Told s []) (sym h)
@@ -199,6 +203,7 @@ module _ (g : LinearHashing) (s : Settings) (one : 1 ≤ s.initial) (most : s.in
   told ((e, Ok f) ∷ log) b h = told_ok g s log h.0 (told log h.0 h.1) e f b h.2
   told ((e, Err r) ∷ log) b h = told_err g s log h.0 (told log h.0 h.1) e r b h.2.0
 
+  -- where a log leads to a state, each accepted act of it lies in the span of the call that it serves
   pub spans : (log : Log) (a : State) → IsHistory s log a → ActsLieInSpans log
   spans [] a h = tt
   spans ((e, Ok f) ∷ log) b h = (spans log h.0 h.1, in_span g s log h.0 (told log h.0 h.1) e f b h.2)
@@ -230,15 +235,19 @@ module _ (g : LinearHashing) (s : Settings) (one : 1 ≤ s.initial) (most : s.in
   risen event.SplitPoint x log = tt
   risen event.SplitDrop x log = tt
 
+  -- every accepted act of a log took place at the level that its worker had come to
   pub all_risen : (log : Log) → ActsHaveRisen s log
   all_risen [] = tt
   all_risen ((e, x) ∷ log) = (all_risen log, risen e x log)
 
+-- in every state that a list of steps leads to, each aim leads to a filled bucket of no lower level
 pub aims_law : LinearHashing → AimsLaw
 aims_law g s log a one most h = (told g s one most log a h).sound.aims
 
+-- in every list of steps that the rules allow, each accepted act lies in the span of its call
 pub spans_law : LinearHashing → SpansLaw
 spans_law g s log a one most h = spans g s one most log a h
 
+-- each accepted act took place as many levels above the one read as there were rehashes since
 pub rises_law : LinearHashing → RisesLaw
 rises_law g s log one most = all_risen g s one most log

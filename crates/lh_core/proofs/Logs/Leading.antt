@@ -23,6 +23,7 @@ pub outcome_more : (m : Records) (cs : List Call) (c : Call) → outcome m (cs +
 outcome_more m [] c = refl
 outcome_more m (x ∷ cs) c = outcome_more (after m x) cs c
 
+-- one call more gets, after the replies to the others, the reply of the map that they leave
 pub replies_more : (m : Records) (cs : List Call) (c : Call) →
     replies m (cs ++ c ∷ []) ≡ replies m cs ++ reply (outcome m cs) c ∷ []
 replies_more m [] c = refl
@@ -37,6 +38,7 @@ replies_and : (cs : List Call) (o : Option Call) →
 replies_and cs None = refl
 replies_and cs (Some c) = replies_more empty cs c
 
+-- while no split is under way, as many buckets are filled as the root counts
 pub idle_filled : (s : Settings) (a : State) → IsPhase s a.buckets a.filled a.splitter → a.splitter ≡ split.Idle →
     a.filled ≡ a.buckets
 idle_filled s a p e = let q : IsPhase s a.buckets a.filled split.Idle = subst (IsPhase s a.buckets a.filled) e p in q
@@ -62,6 +64,7 @@ led g log w h ruled replied placed =
       aims = h.sound.aims;
     }
 
+-- the empty log has led to a world in the first state of its file that stands for the empty map
 pub led_none : LinearHashing → (w : WorldSeen) → IsWorld w → w.state ≡ first w.config → StandsFor w empty →
     HasLedTo [] w
 led_none g w h state placed = led g [] w h state refl placed
@@ -82,6 +85,7 @@ module _ (g : LinearHashing) (log : Log) (v w : WorldSeen) (e : Event) (t : Told
       )
   map_more (Err r) gave entry follows = (gave, follows)
 
+-- where a log has led to a world, the log with one step more has led to the world after that step
 pub led_more : LinearHashing → (log : Log) (v w : WorldSeen) (e : Event) (x : Entry) → IsWorld v → IsWorld w →
     IsStep v e x w → HasLedTo log v → HasLedTo ((e, x) ∷ log) w
 led_more g log v w e x before after step h =

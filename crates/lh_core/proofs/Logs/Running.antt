@@ -15,9 +15,11 @@ logged_more log [] (y ∷ ys) e x h = absurd (omega (arith, h))
 logged_more log (d ∷ es) [] e x h = absurd (omega (arith, h))
 logged_more log (d ∷ es) (y ∷ ys) e x h = logged_more ((d, y) ∷ log) es ys e x (omega (arith, h))
 
+-- where the empty log has led to a world, the headline holds of no events
 pub headline_none : (w : WorldSeen) → HasLedTo [] w → IsHeadline w.config [] [] w
 headline_none w h = record { same = refl; whole = refl; led = h }
 
+-- the headline holds of one event more where every log that led to the world before leads on to the next
 pub headline_more : (s : Settings) (es : List Event) (xs : List Entry) (v w : WorldSeen) (e : Event) (x : Entry) →
     IsHeadline s es xs v → w.config ≡ v.config → ((log : Log) → HasLedTo log v → HasLedTo ((e, x) ∷ log) w) →
     IsHeadline s (es ++ e ∷ []) (xs ++ x ∷ []) w

@@ -55,5 +55,6 @@ module _ (w : ℕ) (c : Call) where
   span ((event.SplitPoint, Ok f) ∷ log) h = add (event.SplitPoint, Ok f) log refl (span log h)
   span ((event.SplitDrop, Ok f) ∷ log) h = add (event.SplitDrop, Ok f) log refl (span log h)
 
+-- the span of a worker's open call reaches to the end of the log
 pub open_call_law : OpenCallLaw
 open_call_law w log c h = span w c log h

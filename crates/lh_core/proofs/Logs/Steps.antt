@@ -38,18 +38,23 @@ IsOther w (event.Act v) = v ≢ w
 IsOther w (event.Release v) = v ≢ w
 IsOther w _ = Unit {0}
 
+-- the test whether two workers are the same fails where they differ
 pub other_eq : (v w : ℕ) → v ≢ w → nat_eq v w ≡ false
 other_eq v w d = grind (arith, nat_tests)
 
+-- two workers that the test calls the same are the same
 pub same_eq : (v w : ℕ) → nat_eq v w ≡ true → v ≡ w
 same_eq v w e = grind (arith, nat_tests)
 
+-- a choice by that test is the second value where the workers differ
 pub other_cond : {X : Type 0} (v w : ℕ) (x y : X) → v ≢ w → cond (nat_eq v w) x y ≡ y
 other_cond v w x y d = ap (λ b. cond b x y) (other_eq v w d)
 
+-- it is the first value where they are the same
 pub same_cond : {X : Type 0} (v : ℕ) (x y : X) → cond (nat_eq v v) x y ≡ x
 same_cond v x y = ap (λ b. cond b x y) (eq-eqb v v refl)
 
+-- what holds of all items of a list holds of the one at a place
 pub all_at : {X : Type 0} (P : X → Type 0) (xs : List X) (i : ℕ) (x : X) → All P xs → slice_get xs i ≡ Some x → P x
 all_at P xs i x h e = subst P (get_or_from_slice_get xs i x x e) (h i x (slice_get_within xs i x e))
 
@@ -61,6 +66,7 @@ written xs w y x lt e =
     (slice_get-get_or (set xs w y) w y (subst (λ n. w < n) (sym (length-set xs w y)) lt)
     ∙ ap Some (get_or-set_same xs w y y lt)) ∙ e)
 
+-- what any other worker does after the write, it did before
 pub unwritten : {X : Type 0} (xs : List X) (w v : ℕ) (y x : X) → v ≢ w → slice_get (set xs w y) v ≡ Some x →
     slice_get xs v ≡ Some x
 unwritten xs w v y x d e =

@@ -100,6 +100,7 @@ risen_refused : (w : ℕ) (e : Event) (r : Refusal) (log : Log) (k : ℕ) → Ha
     HasRisen w ((e, Err r) ∷ log) k
 risen_refused w e r log k h = risen_more w (e, Err r) log k k refl (no_more k false refl) h
 
+-- what a log tells of a worker it still tells after an accepted event that isn't of that worker
 pub tied_other : (log : Log) (e : Event) (f : Effect) (w : ℕ) (x : WorkerState) → IsOther w e → IsTied log w x →
     IsTied ((e, Ok f) ∷ log) w x
 tied_other log e f w Idle d h = tt
@@ -108,6 +109,7 @@ tied_other log e f w (Aimed c k m) d h = (open_other w e (open_call w log) d ∙
 tied_other log e f w (Holding c k m) d h = (open_other w e (open_call w log) d ∙ h.0, risen_other w e f log k d h.1)
 tied_other log e f w (Acted c m) d h = tt
 
+-- the same after any refused event
 pub tied_refused : (log : Log) (e : Event) (r : Refusal) (w : ℕ) (x : WorkerState) → IsTied log w x →
     IsTied ((e, Err r) ∷ log) w x
 tied_refused log e r w Idle h = tt
@@ -118,6 +120,7 @@ tied_refused log e r w (Acted c m) h = tt
 
 -- what each step of a worker leaves to be told
 module _ (log : Log) (w : ℕ) (f : Effect) where
+  -- the log still tells of the worker after an accepted call of it
   pub tied_called : (c : Call) (x y : WorkerState) → IsTied log w x → called c x ≡ Ok (outline f, y) →
       IsTied ((event.Call w c, Ok f) ∷ log) w y
   tied_called c Idle y h e =
@@ -138,6 +141,7 @@ module _ (log : Log) (w : ℕ) (f : Effect) where
     rises = omega arith;
   }
 
+  -- the same after an accepted read
   pub tied_read : (s : Settings) (a : State) (x y : WorkerState) → IsTied log w x → read s a x ≡ Ok (outline f, y) →
       IsTied ((event.Read w, Ok f) ∷ log) w y
   tied_read s a Idle y h e = err_ok e
@@ -149,6 +153,7 @@ module _ (log : Log) (w : ℕ) (f : Effect) where
   tied_read s a (Holding c k m) y h e = err_ok e
   tied_read s a (Acted c m) y h e = err_ok e
 
+  -- the same after an accepted lock
   pub tied_lock : (s : Settings) (a : State) (x y : WorkerState) → IsTied log w x → lock s a x ≡ Ok (outline f, y) →
       IsTied ((event.Lock w, Ok f) ∷ log) w y
   tied_lock s a Idle y h e = err_ok e
@@ -162,6 +167,7 @@ module _ (log : Log) (w : ℕ) (f : Effect) where
   one_more : (k : ℕ) → k + 1 ≡ k + cond (nat_eq w w) 1 0
   one_more k = ap (λ n. k + n) (sym (same_cond w 1 0))
 
+  -- the same after an accepted rehash
   pub tied_rehash : (s : Settings) (a : State) (x y : WorkerState) → IsTied log w x → rehash s a x ≡ Ok (outline f, y) →
       IsTied ((event.Rehash w, Ok f) ∷ log) w y
   tied_rehash s a Idle y h e = err_ok e
@@ -172,6 +178,7 @@ module _ (log : Log) (w : ℕ) (f : Effect) where
       (h.0, risen_more w (event.Rehash w, Ok f) log k (k + 1) refl (one_more k) h.1)
   tied_rehash s a (Acted c m) y h e = err_ok e
 
+  -- the same after an accepted act
   pub tied_act : (s : Settings) (a : State) (x y : WorkerState) → IsTied log w x → act s a x ≡ Ok (outline f, y) →
       IsTied ((event.Act w, Ok f) ∷ log) w y
   tied_act s a Idle y h e = err_ok e
@@ -180,6 +187,7 @@ module _ (log : Log) (w : ℕ) (f : Effect) where
   tied_act s a (Holding c k m) y h e = subst (IsTied ((event.Act w, Ok f) ∷ log) w) (became (passed _ _ _ _ e).1) tt
   tied_act s a (Acted c m) y h e = err_ok e
 
+  -- the same after an accepted release
   pub tied_release : (x y : WorkerState) → IsTied log w x → release x ≡ Ok (outline f, y) →
       IsTied ((event.Release w, Ok f) ∷ log) w y
   tied_release Idle y h e = err_ok e

@@ -58,6 +58,7 @@ alone n x = record { buckets = n; filled = n; workers = x ∷ replicate 15 Idle;
 abbrev pub waiting : ℕ → ℕ → SplitState → State
 waiting n f x = record { buckets = n; filled = f; workers = replicate 16 Idle; splitter = x }
 
+-- a state at rest is that of its number of buckets with worker 0 idle and nobody else doing anything
 pub rest_alone : (s : Settings) (a : State) → IsPhase s a.buckets a.filled a.splitter → IsAtRest a →
     a ≡ alone a.buckets Idle
 rest_alone s a p r =
@@ -162,6 +163,7 @@ module _ (c : Call) (v0 v1 v2 : WorldSeen) (f0 f1 : Effect) (h : IsWorld v0) (r 
       (alone v0.state.buckets (Aimed c (height v0.config v0.state.buckets c) (bucket v0.config v0.state.buckets c))) v2
   at2 = goes v0.config _ _ (event.Read 0) _ v1 v2 f1 (read_goes v0.config v0.state.buckets c) at1 t1
 
+  -- after its call and its read, a worker alone may lock the bucket of its aim
   pub may_lock : IsOk (allowed v2.config v2.state (event.Lock 0))
   may_lock = may v0.config _ _ (event.Lock 0) _ v2 (lock_goes v0.config v0.state.buckets c) at2
 
@@ -171,6 +173,7 @@ module _ (c : Call) (v0 v1 v2 : WorldSeen) (f0 f1 : Effect) (h : IsWorld v0) (r 
         v3
     at3 = goes v0.config _ _ (event.Lock 0) _ v2 v3 f2 (lock_goes v0.config v0.state.buckets c) at2 t2
 
+    -- after the lock it may act
     pub may_act : IsOk (allowed v3.config v3.state (event.Act 0))
     may_act = may v0.config _ _ (event.Act 0) _ v3 (act_goes v0.config v0.state.buckets c) at3
 
@@ -178,6 +181,7 @@ module _ (c : Call) (v0 v1 v2 : WorldSeen) (f0 f1 : Effect) (h : IsWorld v0) (r 
     serves_call : served_by v3.state (event.Act 0) ≡ Some c
     serves_call = ap (λ a. served_by a (event.Act 0)) at3.state
 
+    -- where the call that the act serves is an insert, the worker's call is one
     pub wants_insert : has_insert (served_by v3.state (event.Act 0)) ≡ true → is_insert c ≡ true
     wants_insert h = sym (ap has_insert serves_call) ∙ h
 
@@ -187,6 +191,7 @@ module _ (c : Call) (v0 v1 v2 : WorldSeen) (f0 f1 : Effect) (h : IsWorld v0) (r 
         subst (λ (v : WorldSeen). IsOk (allowed v.config v.state (event.Release 0))) (sym e)
         (may v0.config _ _ (event.Release 0) _ v3 (give_up_goes v0.config v0.state.buckets c) at3)
 
+    -- once its bucket is let go without an act, the call is given up
     pub given_up : (v4 v5 : WorldSeen) (f3 : Effect) → v4 ≡ v3 → IsStep v4 (event.Release 0) (Ok f3) v5 →
         IsGivenUp v0 v5
     given_up v4 v5 f3 e t4 =
@@ -204,12 +209,15 @@ module _ (c : Call) (v0 v1 v2 : WorldSeen) (f0 f1 : Effect) (h : IsWorld v0) (r 
       at4 : At v0.config (alone v0.state.buckets (Acted c (bucket v0.config v0.state.buckets c))) v4
       at4 = goes v0.config _ _ (event.Act 0) _ v3 v4 f3 (act_goes v0.config v0.state.buckets c) at3 t3
 
+      -- after its act the worker may let its bucket go
       pub may_release : IsOk (allowed v4.config v4.state (event.Release 0))
       may_release = may v0.config _ _ (event.Release 0) _ v4 (release_goes v0.config v0.state.buckets c) at4
 
+      -- the effect of the act is a reply
       pub tells_reply : outline f3 ≡ None
       tells_reply = tells v0.config _ _ (event.Act 0) _ v3 v4 f3 (act_goes v0.config v0.state.buckets c) at3 t3
 
+      -- once the worker has let its bucket go, its call was served alone, with the reply of the act
       pub served : (v5 : WorldSeen) (f4 : Effect) (y : Reply) → f3 ≡ effect.Answered y →
           IsStep v4 (event.Release 0) (Ok f4) v5 → IsServedAlone v0 c y v5
       served v5 f4 y is t4 =
@@ -270,9 +278,11 @@ module _ (v0 v1 : WorldSeen) (f0 : Effect) (h : IsWorld v0) (r : IsAtRest v0.sta
       goes v0.config _ _ event.SplitBegin _ v0 v1 f0 (begin_goes v0.config v0.state.buckets room)
       (record { same = refl; state = rest_alone v0.config v0.state h.sound.phase r }) t0
 
+  -- a split that began at rest may lock both buckets
   pub may_lock_both : IsOk (allowed v1.config v1.state event.SplitLock)
   may_lock_both = may v0.config _ _ event.SplitLock _ v1 (both_goes v0.config v0.state.buckets) split1
 
+  -- a split taken to its end leaves the file at rest with one bucket more, and the same records
   pub grown : (v2 v3 v4 v5 : WorldSeen) (f1 f2 f3 f4 : Effect) → IsStep v1 event.SplitLock (Ok f1) v2 →
       IsStep v2 event.SplitMove (Ok f2) v3 → IsStep v3 event.SplitRelease (Ok f3) v4 →
       IsStep v4 event.SplitPoint (Ok f4) v5 → HasGrown v0 v5
@@ -300,6 +310,7 @@ module _ (v0 v1 : WorldSeen) (f0 : Effect) (h : IsWorld v0) (r : IsAtRest v0.sta
         subst (λ v. At v0.config (waiting v0.state.buckets v0.state.buckets split.Locked) v) (sym e)
         (goes v0.config _ _ event.SplitLock _ v1 v2 f1 (both_goes v0.config v0.state.buckets) split1 t1)
 
+    -- where no records were moved, both buckets may be let go
     pub may_free_unmoved : IsOk (allowed v3.config v3.state event.SplitRelease)
     may_free_unmoved = may v0.config _ _ event.SplitRelease _ v3 (free_unmoved_goes v0.config v0.state.buckets) split3
 
@@ -307,9 +318,11 @@ module _ (v0 v1 : WorldSeen) (f0 : Effect) (h : IsWorld v0) (r : IsAtRest v0.sta
       split4 : At v0.config (waiting v0.state.buckets v0.state.buckets split.Begun) v4
       split4 = goes v0.config _ _ event.SplitRelease _ v3 v4 f2 (free_unmoved_goes v0.config v0.state.buckets) split3 t2
 
+      -- after that the split may be given up
       pub may_drop : IsOk (allowed v4.config v4.state event.SplitDrop)
       may_drop = may v0.config _ _ event.SplitDrop _ v4 (drop_goes v0.config v0.state.buckets) split4
 
+      -- once it is dropped, the split is given up
       pub split_given_up : (v5 : WorldSeen) (f3 : Effect) → IsStep v4 event.SplitDrop (Ok f3) v5 → IsGivenUp v0 v5
       split_given_up v5 f3 t3 =
           let at5 : At v0.config (waiting v0.state.buckets v0.state.buckets split.Idle) v5 =

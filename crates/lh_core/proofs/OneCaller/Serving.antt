@@ -60,6 +60,7 @@ module _ (v u : WorldSeen) (m : Records) (c : Call) (y : Reply) (j k : ℕ) (b :
       ∙ ap (λ n. grows_after v.config n v.state.buckets y) counted
       ∙ ap (grows_after v.config (len (after m c)) v.state.buckets) (h.replied m stands)
 
+  -- a call that was served alone, and asks for no split, is served
   pub served_still : b ≡ false → IsAtRest v.state → IsServed v m c y k u
   served_still f r = record {
     same = h.same;
@@ -71,6 +72,7 @@ module _ (v u : WorldSeen) (m : Records) (c : Call) (y : Reply) (j k : ℕ) (b :
     count = counted;
   }
 
+  -- a call that was served alone, and asks for a split, is served once the file has grown
   pub served_grown : (w : WorldSeen) → b ≡ true → HasGrown u w → IsServed v m c y k w
   served_grown w f g = record {
     same = g.same ∙ h.same;
@@ -94,6 +96,7 @@ module _ (v u : WorldSeen) (m : Records) (c : Call) (y : Reply) (j k : ℕ) (b :
     count = counted;
   }
 
+-- a call served with the split that it asked for counts as served with it unless memory ran out
 pub served_on : (v : WorldSeen) (m : Records) (c : Call) (y : Reply) (k : ℕ) (w : WorldSeen) → IsServed v m c y k w →
     IsServedOn v m c y k w
 served_on v m c y k w h =
@@ -116,6 +119,7 @@ pub record Served (v : WorldSeen) (m : Records) (n : ℕ) (cs : List Call) (rs :
   pub few : k ≤ n + length cs
   pub unchanged : cs ≡ [] → w ≡ v
 
+-- before the first call, a world at rest is itself what the calls have come to
 pub served_none : (v : WorldSeen) (m : Records) (n : ℕ) → IsAtRest v.state → StandsFor v m → n ≡ len m →
     Served v m n [] [] v n
 served_none v m n r p c = record {
@@ -133,6 +137,7 @@ one_at_least : (cs : List Call) (c : Call) → cs ++ c ∷ [] ≡ [] → ⊥
 one_at_least [] c e = cc
 one_at_least (d ∷ cs) c e = cc
 
+-- calls that have come to a world, and one served there that adds at most a record, have come to the next
 pub served_more : (v : WorldSeen) (m : Records) (n : ℕ) (cs : List Call) (rs : List Reply) (u w : WorldSeen) (k : ℕ)
     (c : Call) (y : Reply) (j : ℕ) →
     Served v m n cs rs u k → j ≤ k + 1 → IsServed u (outcome m cs) c y j w →
@@ -151,6 +156,7 @@ served_more v m n cs rs u w k c y j h few d = record {
   unchanged = λ none. absurd (one_at_least cs c none);
 }
 
+-- calls that have come to a world were served one after another on the file that they began with
 pub served_all : (v : WorldSeen) (m : Records) (n : ℕ) (cs : List Call) (rs : List Reply) (w : WorldSeen) (k : ℕ) →
     IsWorld w → Served v m n cs rs w k →
     IsSerialFrom v.config m v.state.buckets cs rs w
@@ -184,9 +190,11 @@ from_first s v cs rs w same state h =
 pub first_rests : (s : Settings) (a : State) → a ≡ first s → IsAtRest a
 first_rests s a h = record { workers = ap (λ (x : State). x.workers) h; splitter = ap (λ (x : State). x.splitter) h }
 
+-- the empty map has no records
 pub none_empty : 0 ≡ len {R = slice_cmp nat_cmp} (empty {X = List ℕ})
 none_empty = sym (len-empty (slice_cmp nat_cmp) (List ℕ))
 
+-- no records stand in the buckets of a world that stands for the empty map
 pub no_records : (v : WorldSeen) → StandsFor v empty → HasRecords v 0
 no_records v p = (empty, p, none_empty)
 
@@ -198,6 +206,7 @@ from_opened l v m cs rs w opened h =
     subst (λ n. IsSerialFrom l.config m n cs rs w) (ap (λ (a : State). a.buckets) opened.state)
     (subst (λ (t : Settings). IsSerialFrom t m v.state.buckets cs rs w) opened.config h)
 
+-- the world of a listing is at rest
 pub opened_rests : (l : Lists) (v : WorldSeen) → IsOpenedWorld l v → IsAtRest v.state
 opened_rests l v h =
     record { workers = ap (λ (x : State). x.workers) h.state; splitter = ap (λ (x : State). x.splitter) h.state }

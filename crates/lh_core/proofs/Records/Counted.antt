@@ -78,6 +78,7 @@ length_all (ps ∷ lists) =
     length-append ps (all_of lists) ∙ ap (λ n. length ps + n) (length_all lists)
     ∙ sym (sum_by-cons (λ (pairs : List Pair). length pairs) ps lists)
 
+-- all buckets of a listing together have as many records as its plain map
 pub counted : CountLaw → (l : Lists) → IsListing l → count_of l.lists ≡ len (records_of l)
 counted count l h =
     let home : List ℕ → ℕ = λ key. address l.config.initial (size l) (code_of key) in

@@ -76,6 +76,7 @@ lists_more f h vs bs n v b lt at is before =
     map-append f vs (v ∷ []) ∙ ap (λ xs. xs ++ f v ∷ []) before ∙ ap (λ x. map h (take n bs) ++ x ∷ []) is
     ∙ sym (ap (map h) (taken bs n b lt at) ∙ map-append h (take n bs) (b ∷ []))
 
+-- what holds of every bucket holds of one more of the first buckets where it holds of that one
 pub kept_more : {B : Type 0} (seen : B → Seen) (bs : List B) (n : ℕ) (b : B) → n < length bs → b ≡ get_or bs n b →
     IsKept (seen b) → ((i : ℕ) → i < n → IsKept (bucket_at (map seen bs) i)) → (i : ℕ) → i < n + 1 →
     IsKept (bucket_at (map seen bs) i)

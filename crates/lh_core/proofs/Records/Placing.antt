@@ -53,12 +53,14 @@ module _ (g : LinearHashing) (s : Settings) (filled : ℕ) (row : List Seen) (h 
   act_home : address s.initial filled (code_of (key_of c)) ≡ i
   act_home = (g.address s.initial filled (code_of (key_of c)) i some from).1 (aim.within, act_leads)
 
+  -- the bucket of the act is the one that the call looks for
   pub act_here : verdict (get_or row i no_bucket).head (code_of (key_of c)) k ≡ Here
   act_here =
       ap (λ (x : Head). verdict x (code_of (key_of c)) k) (h.heads i aim.within)
       ∙ ap (verdict (head_at s filled i) (code_of (key_of c))) level
       ∙ verdict_here s.initial s.capacity i (level_of s.initial filled i) (code_of (key_of c)) act_leads
 
+  -- that bucket gives the call the reply of the map whose records are placed in the buckets
   pub act_reply : (m : Records) → IsPlaced s.initial filled m row →
       reply (content (get_or row i no_bucket)) c ≡ reply m c
   act_reply m pl =
@@ -68,6 +70,7 @@ module _ (g : LinearHashing) (s : Settings) (filled : ℕ) (row : List Seen) (h 
   there : i < length row
   there = subst (λ n. i < n) (sym h.all) aim.within
 
+  -- where that bucket is as the call leaves it, the records of the map after the call are placed
   pub act_placed : (m : Records) (b : Seen) → IsPlaced s.initial filled m row →
       content b ≡ after (content (get_or row i no_bucket)) c → IsPlaced s.initial filled (after m c) (set row i b)
   act_placed m b pl e = record {
@@ -89,6 +92,7 @@ module _ (g : LinearHashing) (s : Settings) (filled : ℕ) (row : List Seen) (h 
         (cases_eq j i);
   }
 
+  -- the row stays one when that bucket is replaced by one of the same head that has its keys once
   pub act_row : (b : Seen) → b.head ≡ (get_or row i no_bucket).head → HasKeysOnce b → IsBucketRow s filled (set row i b)
   act_row b e once = record {
     all = length-set row i b ∙ h.all;
@@ -173,6 +177,7 @@ module _ (g : LinearHashing) (s : Settings) (size : ℕ) (row : List Seen) (h : 
   root : IsRoot s.initial size (level s.initial size) (pointer s.initial size)
   root = root_is g s.initial size some from
 
+  -- the bucket that splits next is one of the file's
   pub pointer_below : pointer s.initial size < size
   pointer_below = omega (arith, root.size, root.in_range)
 
@@ -186,6 +191,7 @@ module _ (g : LinearHashing) (s : Settings) (size : ℕ) (row : List Seen) (h : 
       let big : 2 ^ 16 ≤ 2 ^ level s.initial size = pow_mono e in
       absurd (omega (arith, mul-le-mul some big, root.size))) (cases_lt (level s.initial size) 16)
 
+  -- of fewer than 65536 buckets, the one that splits next may be split into a new one at the end
   pub can_split : size < 65536 →
       CanSplit (get_or row (pointer s.initial size) no_bucket).head (unfilled size s.initial s.capacity)
   can_split few = subst (λ x. CanSplit x (unfilled size s.initial s.capacity)) (sym old_head)
@@ -296,6 +302,7 @@ module _ (g : LinearHashing) (s : Settings) (size : ℕ) (row : List Seen) (h : 
         (cases_lt j size))
         (cases_eq j (pointer s.initial size))
 
+    -- records that stand in the buckets of their addresses do so after the split, among one bucket more
     pub split_placed : (m : Records) → IsPlaced s.initial size m row → IsPlaced s.initial (size + 1) m bs
     split_placed m pl =
         record { all = long; each = by_cases (Home m) (home_pointer m pl) (home_end m pl) (home_other m pl) }
@@ -337,6 +344,7 @@ module _ (g : LinearHashing) (s : Settings) (size : ℕ) (row : List Seen) (h : 
     abbrev Once : ℕ → Type 0
     Once j = HasKeysOnce (get_or bs j no_bucket)
 
+    -- after the split, with one bucket more, each has its number and its level, and its keys once
     pub split_row : IsBucketRow s (size + 1) bs
     split_row = record {
       all = long;

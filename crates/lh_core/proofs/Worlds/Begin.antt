@@ -26,9 +26,11 @@ use Rattle.lh_core.specs.World.{IsPlaced, HasKeysOnce, no_bucket}
 use Rattle.lh_bucket.specs.PlainMapLaws.{same, get_kept}
 use Rattle.lh_core.proofs.Logs.Aiming.{first_sound}
 
+-- the empty row has the first buckets while there are none yet
 pub buckets_none : (is : ℕ → Seen) → AreBuckets is 0 []
 buckets_none is = record { all = refl; each = λ i lt. absurd (omega (arith, lt)) }
 
+-- a row of the first buckets with the next one at its end has one more of them
 pub buckets_more : (is : ℕ → Seen) (n : ℕ) (row : List Seen) → AreBuckets is n row →
     AreBuckets is (n + 1) (row ++ is n ∷ [])
 buckets_more is n row h = record {
@@ -44,9 +46,11 @@ buckets_more is n row h = record {
       (cases_lt i n);
 }
 
+-- the empty row has the first empty buckets while there are none yet
 pub row_none : (s : Settings) → IsEmptyRow s 0 []
 row_none s = buckets_none (empty_at s)
 
+-- a row of the first empty buckets with the next one at its end has one more of them
 pub row_more : (s : Settings) (n : ℕ) (row : List Seen) → IsEmptyRow s n row →
     IsEmptyRow s (n + 1) (row ++ empty_at s n ∷ [])
 row_more s n row h = buckets_more (empty_at s) n row h
@@ -65,6 +69,7 @@ nothing_twice : (s : Settings) (i : ℕ) → HasKeysOnce (empty_at s i)
 unfolding IsDistinct
 nothing_twice s i = tt
 
+-- the buckets that a file begins with have their numbers and their levels, and their keys once
 pub first_row_is : LinearHashing → (s : Settings) (row : List Seen) → 1 ≤ s.initial → IsEmptyRow s s.initial row →
     IsBucketRow s s.initial row
 first_row_is g s row one h = record {
@@ -85,6 +90,7 @@ none_either : {X : Type 0} (b : Bool) → ◌≡◌ {A = Option X} None (cond b 
 none_either true = refl
 none_either false = refl
 
+-- the records of the empty map are placed in the buckets that a file begins with
 pub first_placed : (s : Settings) (row : List Seen) → IsEmptyRow s s.initial row →
     IsPlaced s.initial s.initial empty row
 first_placed s row h = record {
@@ -102,6 +108,7 @@ first_placed s row h = record {
       ∙ sym (none_either (nat_eq (address s.initial s.initial (code_of q)) i))));
 }
 
+-- the control of a file that begins is sound, and makes a world with the buckets that it begins with
 pub first_world : LinearHashing → (c : Control) (row : List Seen) → IsInRange c.config →
     c.root ≡ record { initial = c.config.initial; buckets = c.config.initial } → c.filled ≡ c.root →
     control_state c ≡ first c.config → IsEmptyRow c.config c.config.initial row → IsControl c × IsWorld (world_of c row)

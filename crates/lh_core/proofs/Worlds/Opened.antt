@@ -47,12 +47,14 @@ module _ (l : Lists) (kept : IsListing l) where
         get_or-map (λ (b : Seen). b.pairs) row i no_bucket
         ∙ ap (λ (b : Seen). b.pairs) (h.each i (omega (arith, same, lt))))
 
+    -- each record of the listing's plain map stands in the bucket of its address and nowhere else
     pub listed_placed : PlacedLaw → IsPlaced l.config.initial (size l) (records_of l) row
     listed_placed placed = record {
       all = h.all;
       each = λ i lt. ap (λ (b : Seen). map_of b.pairs) (h.each i lt) ∙ placed l i kept lt;
     }
 
+    -- the control of the listing's file with nobody at work is sound, and makes a world with these buckets
     pub listed_world : (c : Control) → c.config ≡ l.config →
         c.root ≡ record { initial = l.config.initial; buckets = size l } → c.filled ≡ c.root
         → control_state c ≡ resting (size l) → IsControl c × IsWorld (world_of c row)

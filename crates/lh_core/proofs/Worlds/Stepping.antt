@@ -72,6 +72,7 @@ serves_none a event.SplitRelease q = refl
 serves_none a event.SplitPoint q = refl
 serves_none a event.SplitDrop q = refl
 
+-- an event that the rules refuse is a step that leaves the world as it is
 pub refused : (v : WorldSeen) (e : Event) (r : Refusal) → allowed v.config v.state e ≡ Err r → IsStep v e (Err r) v
 refused v e r h = record { config = refl; ruled = (refl, inl h); follows = λ m p. p }
 
@@ -80,6 +81,7 @@ is_ok : {X E : Type 0} {r : Result X E} {x : X} → r ≡ Ok x → IsOk r
 is_ok e = subst IsOk (sym e) refl
 
 module _ (c d : Control) (row : List Seen) where
+  -- after an accepted event the control is still sound, and makes a world with the row of filled buckets
   pub after_step : LinearHashing → (rows : List Seen) (e : Event) (o : Option Effect) → IsControl c →
       IsWorld (world_of c row) → KeepsFile c d → allowed c.config (control_state c) e ≡ Ok (o, control_state d) →
       IsBucketRow c.config d.filled.buckets rows → IsControl d × IsWorld (world_of d rows)
@@ -101,6 +103,7 @@ module _ (c d : Control) (row : List Seen) where
         },
       )
 
+  -- the same after an event, accepted or refused, that leaves the filled buckets as they are
   pub after_turn : LinearHashing → (e : Event) (x : Result Effect Refusal) → IsControl c → IsWorld (world_of c row) →
       KeepsFile c d → d.filled ≡ c.filled → step_to x d ≡ allowed c.config (control_state c) e → OnErr x (d ≡ c) →
       IsControl d × IsWorld (world_of d row)
@@ -116,6 +119,7 @@ module _ (c d : Control) (row : List Seen) where
       subst (λ (s : Settings). IsPlaced s.initial d.filled.buckets m rows) (sym r.config)
       (subst (λ (x : Extent). IsPlaced c.config.initial x.buckets m rows) (sym f) p)
 
+  -- an accepted event that leaves the records where they are and tells no reply is a step of the world
   pub turned : (e : Event) (f : Effect) → IsQuiet e → HasNoReply f → KeepsFile c d → d.filled ≡ c.filled →
       Ok (Some f, control_state d) ≡ allowed c.config (control_state c) e →
       IsStep (world_of c row) e (Ok f) (world_of d row)
@@ -129,6 +133,7 @@ module _ (c d : Control) (row : List Seen) where
     );
   }
 
+  -- an act that tells the map's reply, and leaves the records of the map after its call, is a step of the world
   pub acted : (w : ℕ) (act : Act) (y : Reply) (rows : List Seen) → IsActOf c w act → KeepsFile c d →
       d.filled ≡ c.filled →
       allowed c.config (control_state c) (event.Act w) ≡ Ok (None, acted_state (control_state c) w act) →
@@ -149,6 +154,7 @@ module _ (c d : Control) (row : List Seen) where
         );
       }
 
+  -- an insert's act that the rules allow may be refused where memory runs out, which leaves the world as it is
   pub act_wanted : (w : ℕ) (act : Act) → IsActOf c w act →
       allowed c.config (control_state c) (event.Act w) ≡ Ok (None, acted_state (control_state c) w act) →
       IsInsert act.call.now → IsStep (world_of c row) (event.Act w) (Err Memory) (world_of c row)
@@ -156,6 +162,7 @@ module _ (c d : Control) (row : List Seen) where
       let calls : served_by (control_state c) (event.Act w) ≡ Some act.call.now = ap call_held i.held in
       record { config = refl; ruled = (refl, inr (refl, ap has_insert calls ∙ insert, is_ok ok)); follows = λ m p. p }
 
+  -- the moving of a split's records is a step of the world if it places each map's records in one bucket more
   pub moved : (f : Effect) (rows : List Seen) → HasNoReply f → KeepsFile c d →
       control_state d ≡ with_moved (control_state c) →
       allowed c.config (control_state c) event.SplitMove ≡ Ok (Some f, with_moved (control_state c)) →
@@ -173,6 +180,7 @@ module _ (c d : Control) (row : List Seen) where
     );
   }
 
+  -- a moving of records that the rules allow may be refused where memory runs out, which leaves the world as it is
   pub move_wanted : (f : Effect) →
       allowed c.config (control_state c) event.SplitMove ≡ Ok (Some f, with_moved (control_state c)) →
       IsStep (world_of c row) event.SplitMove (Err Memory) (world_of c row)

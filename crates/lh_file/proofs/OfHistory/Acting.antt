@@ -37,6 +37,7 @@ pub owned : (c : ℕ) (d : SeatView) (i : ℕ) (p : Seen) → get_elem? d.parts 
 owned c d i p at is =
     subst (λ (b : Bool). bit b ≤ owners c d) is (term_le (λ (x : Seen). bit (owns c x)) d.parts i p at)
 
+-- what is never true is false
 pub none_or_all : (b : Bool) → (b ≡ true → ⊥) → b ≡ false
 none_or_all b never =
     elim b as (λ b. (b ≡ true → ⊥) → b ≡ false) [ true ↦ λ f. absurd (f refl) | false ↦ λ f. refl ] never

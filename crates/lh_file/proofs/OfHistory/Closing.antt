@@ -60,17 +60,20 @@ module _ {A : Type 0} where
   index_left (x ∷ xs) y d zero below = refl
   index_left (x ∷ xs) y d (suc i) below = index_left xs y d i (omega arith)
 
+  -- what is added to a list is read at the place that was the list's length
   pub index_last : (xs : List A) (y d : A) (i : ℕ) → i ≡ length xs → slice_index_or (xs ++ y ∷ []) i d ≡ y
   index_last [] y d zero is = refl
   index_last [] y d (suc i) is = absurd (omega arith)
   index_last (x ∷ xs) y d zero is = absurd (omega arith)
   index_last (x ∷ xs) y d (suc i) is = index_last xs y d i (omega arith)
 
+  -- past the end of a list the default is read
   pub index_past : (xs : List A) (d : A) (i : ℕ) → length xs ≤ i → slice_index_or xs i d ≡ d
   index_past [] d i past = refl
   index_past (x ∷ xs) d zero past = absurd (omega arith)
   index_past (x ∷ xs) d (suc i) past = index_past xs d i (omega arith)
 
+  -- what stands in a list stands before its end
   pub below_end : (i : ℕ) (l : List A) (a : A) → get_elem? l i ≡ some a → suc i ≤ length l
   below_end i [] a at = absurd (some-ne-none a (sym at))
   below_end zero (x ∷ l) a at = omega arith
@@ -171,9 +174,11 @@ module _ {A : Type 0} where
   read_at (x ∷ l) zero a d e = some-injective x a e
   read_at (x ∷ l) (suc i) a d e = read_at l i a d e
 
+  -- at each place before its end a list has what is read there with a default
   pub there_at : (l : List A) (i : ℕ) (d : A) → i < length l → get_elem? l i ≡ some (get_or l i d)
   there_at l i d below = at_index l i (get_or l i d) below (get_or_default l i d (get_or l i d) below)
 
+  -- something stands at each place before the end of a list
   pub some_at : (l : List A) (i : ℕ) → i < length l → (a : A) × (get_elem? l i ≡ some a)
   some_at [] i below = absurd (omega arith)
   some_at (x ∷ l) zero below = (x, refl)

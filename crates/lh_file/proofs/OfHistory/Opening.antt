@@ -183,6 +183,7 @@ module _ (k : Lists) where
   next_dealt n below true on = ap first_bucket_of (next_of k n below)
   next_dealt n below false on = absurd (false≢true on)
 
+  -- in a traced file the first seat that deals its next bucket has dealt out the buckets below the one after it
   pub dealt_one : (n : ℕ) → n < size k → (traced : Bool) → traced ≡ true →
       dealt_seat (undealt traced k n) ≡ undealt traced k (n + 1)
   dealt_one n below true on =
@@ -200,6 +201,7 @@ module _ (k : Lists) where
   undealt-past m n true low high =
       ap (λ ps. record (first_seat true k) { parts = ps }) (none_from k m low ∙ sym (none_from k n high))
 
+  -- after all buckets are dealt out the first seat has none, as that of an untraced file
   pub undealt-all : (n : ℕ) (traced : Bool) → size k ≤ n → undealt traced k n ≡ first_seat false k
   undealt-all n false past = refl
   undealt-all n true past = ap (λ ps. record (first_seat true k) { parts = ps }) (none_from k n past)

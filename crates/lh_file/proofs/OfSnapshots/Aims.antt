@@ -56,6 +56,7 @@ all_first initial code n pos past =
 abbrev pub room_of : Aim → ℕ
 room_of aim = 2 ^ (16 - aim.level)
 
+-- one aim more adds the buckets that it may still come to
 pub ahead-snoc : (aims : List Aim) (aim : Aim) → total room_of (aims ++ aim ∷ []) ≡ total room_of aims + room_of aim
 ahead-snoc aims aim = omega (arith, total-append room_of aims (aim ∷ []), total-cons room_of aim [])
 

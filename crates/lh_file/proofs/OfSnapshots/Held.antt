@@ -26,6 +26,7 @@ module _ {V : Type 0} (f : V → Seen) (vs : List V) (n : ℕ) (v : V) (below : 
       let within : n < length (map f vs) = omega (arith, length-map vs f) in
       ap (λ (b : Seen). take n (map f vs) ++ b ∷ []) (sym (row_at (f v))) ∙ sym (take_more (map f vs) n (f v) within)
 
+  -- the buckets from a place on are the one that stands there and those behind it
   pub row_left : drop n (map f vs) ≡ f v ∷ drop (n + 1) (map f vs)
   row_left =
       let within : n < length (map f vs) = omega (arith, length-map vs f) in
@@ -37,6 +38,7 @@ read_elem [] i a d e = absurd (some-ne-none a (sym e))
 read_elem (x ∷ l) zero a d e = some-injective x a e
 read_elem (x ∷ l) (suc i) a d e = read_elem l i a d e
 
+-- what stands in a list stands before its end
 pub elem_within : {A : Type 0} (l : List A) (i : ℕ) (a : A) → get_elem? l i ≡ some a → i < length l
 elem_within [] i a e = absurd (some-ne-none a (sym e))
 elem_within (x ∷ l) zero a e = omega arith
@@ -55,6 +57,7 @@ AreBucketsTo config size buckets n =
 pub no_row : (config : Settings) (size : ℕ) (buckets : List Seen) → AreBucketsTo config size buckets 0
 no_row config size buckets place bucket below at = absurd (omega (arith, below))
 
+-- where the buckets before a place and the one at it are what they have to be, so are those before the next place
 pub row_more : (config : Settings) (size : ℕ) (buckets : List Seen) (n : ℕ) (b : Seen) → get_or buckets n b ≡ b →
     IsInPlace config size n b → AreBucketsTo config size buckets n → AreBucketsTo config size buckets (n + 1)
 row_more config size buckets n b here is before place bucket below at = ⊎_elim
@@ -64,6 +67,7 @@ row_more config size buckets n b here is before place bucket below at = ⊎_elim
     subst (λ (x : Seen). IsInPlace config size place x) met (subst (λ i. IsInPlace config size i b) same is))
     (cases_lt place n)
 
+-- buckets that are what they have to be up to the last are all buckets of the file
 pub row_whole : (config : Settings) (size : ℕ) (buckets : List Seen) (n : ℕ) → size ≡ length buckets →
     length buckets ≤ n → AreBucketsTo config size buckets n → AreBucketsOf config buckets
 row_whole config size buckets n is all h place bucket at = let w = elem_within buckets place bucket at in

@@ -141,6 +141,7 @@ pub ok_map : {X E : Type 0} (r : Result X E) (P Q : X → Type 0) → IfOk r P �
 ok_map (Ok x) P Q is f = f x is
 ok_map (Err e) P Q is f = tt
 
+-- two facts of an answer, where there is one, hold of it together
 pub ok_both : {X E : Type 0} (r : Result X E) (P Q : X → Type 0) → IfOk r P → IfOk r Q → IfOk r (λ x. P x × Q x)
 ok_both (Ok x) P Q p q = (p, q)
 ok_both (Err e) P Q p q = tt

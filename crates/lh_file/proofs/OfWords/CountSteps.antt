@@ -124,7 +124,7 @@ module _ (initial max : ℕ) where
   }
 
 module _ (traced : Bool) (k : Lists) where
-  -- the rule allows to load a count,
+  -- the rule allows to load the count of inserts
   pub loads_inserts : (slots id : ℕ) (m : Seated) → 0 < m.0.view.initial →
       Allows (IsFileTable traced k) slots id m INSERTS (λ n. n) (loaded_inserts (step slots INSERTS 0 0 none) m)
   loads_inserts slots id m live s o _ me _ =
@@ -155,6 +155,7 @@ module _ (traced : Bool) (k : Lists) where
         ),
       )
 
+  -- the rule allows to load the count of deletes
   pub loads_deletes : (slots id : ℕ) (m : Seated) → 0 < m.0.view.initial →
       Allows (IsFileTable traced k) slots id m DELETES (λ n. n) (loaded_deletes (step slots DELETES 0 0 none) m)
   loads_deletes slots id m live s o _ me _ =
@@ -304,6 +305,7 @@ module _ (traced : Bool) (k : Lists) where
         refl,
       )
 
+  -- the same of a delete
   pub counts_delete : (slots id : ℕ) (m : Seated) → 0 < m.0.view.initial →
       m.0.view.inserted + m.0.view.deleted < length m.0.view.stamps
       → Allows (IsFileTable traced k) slots id m DELETES (λ n. (n + 1) % 2 ^ 64)

@@ -16,6 +16,7 @@ few_bytes : (v : Version) → ((format_of v).key ≤ longest_key) × ((format_of
 few_bytes One = (omega arith, omega arith)
 few_bytes Two = (omega arith, omega arith)
 
+-- a record for which a slot has room has a key and a value of lengths that keys and values have
 pub record_from_fits : (v : Version) (pair : Pair) → FitsSlot (format_of v) pair → IsRecord pair
 record_from_fits v pair h =
     record { key = (h.some, omega (arith, h.key, (few_bytes v).0)); value = omega (arith, h.value, (few_bytes v).1) }

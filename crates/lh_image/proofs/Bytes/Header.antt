@@ -40,6 +40,7 @@ part_bytes xs k n b i = elim (cases_lt i n) [
   | inr high ↦ rw (get_or_past (take n (drop k xs)) i 0 (omega (arith, length-take n (drop k xs)))) (omega arith)
 ]
 
+-- two rows of bytes, joined, are a row of bytes
 pub bytes_joined : (xs ys : List ℕ) → AreBytes xs → AreBytes ys → AreBytes (xs ++ ys)
 bytes_joined xs ys a b i = elim (cases_lt i (length xs)) [
   | inl low ↦ rw (get_or_append_left xs ys 0 i low) (a i)
@@ -69,6 +70,7 @@ field8 xs k b l =
 stretch : (m n : ℕ) (xs : List ℕ) → take (m + n) xs ≡ take m xs ++ take n (drop m xs)
 stretch m n xs = same_lists _ _ (search (rules, places)) (λ k d h. grind (arith, places))
 
+-- a part from an offset on is two parts, one behind the other
 pub cut : (m n k : ℕ) (xs : List ℕ) → take (m + n) (drop k xs) ≡ take m (drop k xs) ++ take n (drop (k + m) xs)
 cut m n k xs = rw (← drop-drop m k xs) (stretch m n (drop k xs))
 

@@ -38,10 +38,12 @@ inside low high x from to = grind (arith, nat_tests)
 within : (low high x : ℕ) → (ltb x low || ltb high x) ≡ false → (low ≤ x) × (x ≤ high)
 within low high x good = (grind (arith, nat_tests), grind (arith, nat_tests))
 
+-- an initial number of buckets out of its range is the first field at fault
 pub bad_initial : (h : Header) → ¬ IsInitial h.config.initial → Some initial_offset ≡ bad_field h true
 unfolding bad_field is_bad_field
 bad_initial h not_so = rw (outside 1 256 h.config.initial not_so) refl
 
+-- a capacity out of its range is the first field at fault, behind a good initial number of buckets
 pub bad_capacity : (h : Header) → IsInitial h.config.initial → ¬ HasRoom h → Some capacity_offset ≡ bad_field h true
 unfolding bad_field is_bad_field
 bad_capacity h i not_so =
@@ -51,6 +53,7 @@ bad_capacity h i not_so =
 pub capacity_of : (h : Header) → HasRoom h → IsCapacity h.config.capacity
 capacity_of h room = (room.0, omega (arith, room.1, few_slots h.version))
 
+-- a load threshold out of its range is the first field at fault, behind good fields
 pub bad_load : (h : Header) → IsInitial h.config.initial → HasRoom h → ¬ IsLoad h.config.load →
     Some load_offset ≡ bad_field h true
 unfolding bad_field is_bad_field
@@ -62,6 +65,7 @@ bad_load h i c not_so =
     ) refl
 
 module _ (h : Header) (i : IsInitial h.config.initial) (c : HasRoom h) (l : IsLoad h.config.load) where
+  -- a number of buckets out of its range is the first field at fault, behind good fields
   pub bad_buckets : out_of h.config.initial 65536 h.buckets ≡ true → Some buckets_offset ≡ bad_field h true
   unfolding bad_field is_bad_field
   bad_buckets bad =
@@ -85,12 +89,14 @@ module _ (h : Header) (i : IsInitial h.config.initial) (c : HasRoom h) (l : IsLo
         last,
       ) refl
 
+  -- a greatest number of buckets out of its range is the first field at fault, behind good fields
   pub bad_size : out_of h.config.initial 65536 h.buckets ≡ false → ¬ IsSize h.config.initial h.config.max →
       Some max_offset ≡ bad_field h true
   bad_size good not_so =
       last_field true true good
       (ap (λ b. b || ltb h.config.max h.buckets) (outside h.config.initial 65536 h.config.max not_so))
 
+  -- the same of a greatest number of buckets that is less than the number of buckets
   pub bad_max : out_of h.config.initial 65536 h.buckets ≡ false → h.config.max < h.buckets →
       Some max_offset ≡ bad_field h true
   bad_max good less = last_field true true good (above h.config.initial 65536 h.buckets h.config.max less)
@@ -98,6 +104,7 @@ module _ (h : Header) (i : IsInitial h.config.initial) (c : HasRoom h) (l : IsLo
       above : (a b c x : ℕ) → x < c → (ltb x a || ltb b x || ltb x c) ≡ true
       above a b c x less = grind (arith, nat_tests)
 
+  -- where all fields are in their ranges, only bytes behind them that aren't zeros are at fault
   pub fields_fit : (zeros : Bool) → out_of h.config.initial 65536 h.buckets ≡ false →
       IsSize h.config.initial h.config.max → h.buckets ≤ h.config.max →
       cond (not zeros) (Some fields_end) None ≡ bad_field h zeros
@@ -107,6 +114,7 @@ module _ (h : Header) (i : IsInitial h.config.initial) (c : HasRoom h) (l : IsLo
       fits : (a b c x : ℕ) → a ≤ x → x ≤ b → c ≤ x → (ltb x a || ltb b x || ltb x c) ≡ false
       fits a b c x from to more = grind (arith, nat_tests)
 
+-- a number of buckets in its range is at least the initial one, and at most what a file may have
 pub few_buckets : (b n : ℕ) → out_of n 65536 b ≡ false → (n ≤ b) × (b ≤ 65536)
 few_buckets b n good = within n 65536 b good
 
@@ -117,6 +125,7 @@ counts_rule : (P S b n : ℕ) →
 counts_rule P S b n =
     (λ e. (grind (arith, nat_tests), grind (arith, nat_tests), grind (arith, nat_tests)), λ f. grind (arith, nat_tests))
 
+-- where the counts have no fault, there are pages for header and buckets, and no more than an image may have
 pub few_pages : (h : Header) → bad_counts h ≡ false → (1 + h.buckets ≤ h.pages) × (h.pages ≤ 1048576)
 unfolding bad_counts
 few_pages h good = let r = (counts_rule h.pages h.buckets h.config.capacity h.records).0 good in (r.0, r.1)
@@ -125,10 +134,12 @@ few_pages h good = let r = (counts_rule h.pages h.buckets h.config.capacity h.re
 pub some_page : (h : Header) → bad_counts h ≡ false → h.pages ≢ 0
 some_page h good none = omega (arith, (few_pages h good).0)
 
+-- the counts have no fault where the numbers are in their ranges and the pages have slots for the records
 pub counts_fit : (h : Header) → AreInRange h → h.records ≤ h.config.capacity * (h.pages - 1) → bad_counts h ≡ false
 unfolding bad_counts
 counts_fit h r most = (counts_rule h.pages h.buckets h.config.capacity h.records).1 (r.enough, r.few, most)
 
+-- no field is at fault where the numbers are in their ranges and the bytes behind them are zeros
 pub no_bad_field : (h : Header) (zeros : Bool) → AreInRange h → zeros ≡ true → bad_field h zeros ≡ None
 no_bad_field h zeros r z =
     sym
@@ -137,6 +148,7 @@ no_bad_field h zeros r z =
     r.settings.max r.to_max)
     ∙ ap (λ (b : Bool). cond (not b) (Some fields_end) None) z
 
+-- there is no answer exactly where the test that comes first fails and what comes behind it answers nothing
 pub none_if : {A : Type 0} (b : Bool) (f : A) (r : Option A) → (cond b (Some f) r ≡ None) ↔ ((b ≡ false) × (r ≡ None))
 none_if true f r = (λ e. absurd cc, λ p. absurd cc)
 none_if false f r = (λ e. (refl, e), λ p. p.1)
@@ -144,6 +156,7 @@ none_if false f r = (λ e. (refl, e), λ p. p.1)
 max_rule : (m n s : ℕ) → (ltb m n || ltb 65536 m || ltb m s) ≡ false → (n ≤ m) × (m ≤ 65536) × (s ≤ m)
 max_rule m n s e = (grind (arith, nat_tests), grind (arith, nat_tests), grind (arith, nat_tests))
 
+-- a header without a fault has its numbers in their ranges, and zeros behind its fields
 pub are_in_range : (h : Header) (zeros : Bool) → bad_field h zeros ≡ None → bad_counts h ≡ false →
     AreInRange h × (zeros ≡ true)
 unfolding bad_field is_bad_field
@@ -175,6 +188,7 @@ are_in_range h zeros e few =
 
 -- ---- what is due
 
+-- where a field is at fault, the fault of the first such field is due
 pub due_field : (h : Header) (zeros : Bool) (o : ℕ) → Some o ≡ bad_field h zeros →
     Some (HeaderField o) ≡ first_fault_of (field_rows h zeros)
 unfolding first_fault_of
@@ -228,10 +242,12 @@ last_zeros h zeros e =
     later false false false false true o is = absurd cc
     later false false false false false o is = refl
 
+-- behind fields that are in their ranges, bytes that aren't zeros are at fault
 pub due_zeros : (h : Header) (zeros : Bool) → None ≡ bad_field h true → zeros ≡ false →
     Some fields_end ≡ bad_field h zeros
 due_zeros h zeros e z = sym (last_zeros h zeros e ∙ ap (λ (b : Bool). cond (not b) (Some fields_end) None) z)
 
+-- where no field is at fault, the fault of the counts is due, or none
 pub due_counts : (h : Header) (zeros bad : Bool) → None ≡ bad_field h true → zeros ≡ true → bad ≡ bad_counts h →
     where_so bad Counts ≡ first_fault_of (field_rows h zeros)
 unfolding first_fault_of

@@ -39,6 +39,7 @@ text_parts h rest =
     ∙ append_assoc (magic h.version) (number_text h ++ replicate (padding h.version) 0) rest
     ∙ ap (λ xs. magic h.version ++ xs) (append_assoc (number_text h) (replicate (padding h.version) 0) rest)
 
+-- the text of a header tells its version, whatever stands behind it
 pub version_of_text : (h : Header) (rest : List ℕ) → version_of (header_text h ++ rest) ≡ h.version
 version_of_text h rest =
     version_from_magic h.version (header_text h ++ rest)
@@ -46,6 +47,7 @@ version_of_text h rest =
     ∙ ap (λ n. take n (magic h.version ++ (number_text h ++ (replicate (padding h.version) 0 ++ rest))))
     (sym (length-magic h.version)) ∙ take-append_seam (magic h.version) _)
 
+-- a header whose numbers have room in their fields is read back from its text, whatever stands behind it
 pub header_of_text : (h : Header) (rest : List ℕ) → FitsHeader h → header_of (header_text h ++ rest) ≡ h
 unfolding header_of
 header_of_text h rest fits =
@@ -96,6 +98,7 @@ header_written v first numbers four size =
     ∙ ap (λ xs. (first ++ numbers) ++ xs)
     (take-replicate (padding v) 4060 0 (omega (arith, page_cut v, most_page v)))
 
+-- the text of a header is as long as a page of its version
 pub length-header_text : (h : Header) → length (header_text h) ≡ page_bytes h.version
 length-header_text h =
     length-append (magic h.version ++ number_text h) (replicate (padding h.version) 0)

@@ -28,12 +28,15 @@ kind_rule k p S c = (
   λ (a, b). or_from (not (eqb k (cond (leb p S) 1 2))) (not c) (not_from_true _ (eq-eqb k _ a)) (not_from_true c b),
 )
 
+-- a page behind the buckets' pages is to be an overflow page
 pub kind_above : (p S : ℕ) → S < p → ◌≡◌ {A = ℕ} (cond (leb p S) 1 2) 2
 kind_above p S l = grind (arith, nat_tests)
 
+-- a page that is to be an overflow page, and is one, stands behind the buckets' pages
 pub two_above : (p S k : ℕ) → k ≡ cond (leb p S) 1 2 → k ≡ 2 → S < p
 two_above p S k a b = grind (arith, nat_tests)
 
+-- a page of the kind that it is to be is a primary or an overflow page
 pub one_or_two : (k : ℕ) (b : Bool) → k ≡ cond b 1 2 → (eqb k 1 || eqb k 2) ≡ true
 one_or_two k true e = rw e refl
 one_or_two k false e = rw e refl
@@ -54,6 +57,7 @@ own_tests f g =
     (λ e. let x = a.0 e in let y = b.0 x.1 in (x.0, y.0, c.0 y.1), λ (k, u, s). a.1 (k, b.1 (u, c.1 s)))
 
 module _ (faultless : FaultlessLaw) (f : Format) (g : List ℕ) (fit : AreBytes g) (long : length g ≡ page_size f) where
+  -- bytes that pass a page's own tests are a page, and its fields fit their sizes
   pub page_from_tests : (b : Bool) → kind_of g ≡ cond b 1 2 → is_clear g ≡ true → used_of g ≤ f.slots →
       is_some (bad_slot f g) ≡ false → IsPage f g (page_of f g) × IsWritable f (page_of f g)
   unfolding has_bad_kind
@@ -65,6 +69,7 @@ module _ (faultless : FaultlessLaw) (f : Format) (g : List ℕ) (fit : AreBytes 
         slots,
       ))
 
+-- a page's reserved bytes are zeros, and it has no bad slot
 pub tests_from_page : ReadBackLaw → (f : Format) (g : List ℕ) → IsPage f g (page_of f g) × IsWritable f (page_of f g) →
     (is_clear g ≡ true) × (is_some (bad_slot f g) ≡ false)
 unfolding has_bad_kind
@@ -74,6 +79,7 @@ tests_from_page read_back f g h =
 
 -- ---- the bytes of a page of an image
 
+-- each byte of a page of some bytes is a byte
 pub page_is_bytes : (bytes : List ℕ) (p : ℕ) → AreBytes bytes → AreBytes (page bytes p)
 unfolding page
 page_is_bytes bytes p b = part_bytes bytes (page_bytes (version_of bytes) * p) (page_bytes (version_of bytes)) b
@@ -82,6 +88,7 @@ page_is_bytes bytes p b = part_bytes bytes (page_bytes (version_of bytes) * p) (
 whole_page : (w p P : ℕ) → p < P → w * p + w ≤ w * P
 whole_page w p P low = let more : p + 1 ≤ P = omega arith in omega (arith, mul-le-mul_left w more)
 
+-- of bytes that are whole pages, each page is as long as one of their version
 pub length-page : (bytes : List ℕ) (p P : ℕ) → length bytes ≡ page_bytes (version_of bytes) * P → p < P →
     length (page bytes p) ≡ page_bytes (version_of bytes)
 unfolding page

@@ -14,6 +14,7 @@ pub record StandsAt (whole : List ℕ) (offset : ℕ) (part : List ℕ) : Type 0
   pub joined : whole ≡ before ++ (part ++ after)
   pub place : length before ≡ offset
 
+-- as many bytes as a part has, taken where it stands in a text, are the part
 pub part_at : (whole part : List ℕ) (offset n : ℕ) → StandsAt whole offset part → length part ≡ n →
     take n (drop offset whole) ≡ part
 part_at whole part offset n s e =
@@ -22,9 +23,11 @@ part_at whole part offset n s e =
     ∙ ap (take n) (drop-append_seam s.before (part ++ s.after)) ∙ ap (λ m. take m (part ++ s.after)) (sym e)
     ∙ take-append_seam part s.after
 
+-- a part stands at the front of a text that begins with it
 pub at_front : (part ys : List ℕ) → StandsAt (part ++ ys) 0 part
 at_front part ys = record { before = []; after = ys; joined = refl; place = refl }
 
+-- with a text put before, a part stands further on by that text's length
 pub behind : (xs ys part : List ℕ) (offset m : ℕ) → StandsAt ys offset part → m ≡ length xs + offset →
     StandsAt (xs ++ ys) m part
 behind xs ys part offset m s e = record {
@@ -34,6 +37,7 @@ behind xs ys part offset m s e = record {
   place = length-append xs s.before ∙ ap (λ n. length xs + n) s.place ∙ sym e;
 }
 
+-- with a text put behind, a part stands where it stood
 pub ahead : (xs ys part : List ℕ) (offset : ℕ) → StandsAt xs offset part → StandsAt (xs ++ ys) offset part
 ahead xs ys part offset s = record {
   before = s.before;
@@ -44,6 +48,7 @@ ahead xs ys part offset s = record {
   place = s.place;
 }
 
+-- what stands in a part of a text stands in the text, at the sum of the two offsets
 pub inside : (whole mid part : List ℕ) (o p m : ℕ) → StandsAt whole o mid → StandsAt mid p part → m ≡ o + p →
     StandsAt whole m part
 inside whole mid part o p m s t e =
@@ -73,6 +78,7 @@ length-texts f w a (suc n) same =
 
 -- ---- pages that stand on a path
 
+-- a page that stands among those given by a range of numbers is given by one of them
 pub any_found : (g : ℕ → ℕ) (p a n : ℕ) → stands_in (map g (range_with_len a n)) p ≡ true →
     (k : ℕ) × (a ≤ k) × (k < a + n) × (g k ≡ p)
 unfolding stands_in
@@ -83,6 +89,7 @@ any_found g p a (suc n) h =
       | inr later ↦ let r = any_found g p (a + 1) n later in (r.0, omega (arith, r.1), omega (arith, r.2), r.3)
     ]
 
+-- a page that is given by one of a range of numbers stands among those given by all
 pub any_there : (g : ℕ → ℕ) (p a n k : ℕ) → a ≤ k → k < a + n → g k ≡ p →
     stands_in (map g (range_with_len a n)) p ≡ true
 unfolding stands_in

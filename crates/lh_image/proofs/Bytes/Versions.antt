@@ -13,6 +13,7 @@ pub page_bytes-one : page_bytes One ≡ 1024
 unfolding page_bytes
 page_bytes-one = refl
 
+-- no page is shorter than one of version 1
 pub least_page : (v : Version) → 1024 ≤ page_bytes v
 unfolding page_bytes
 least_page One = omega arith
@@ -30,33 +31,40 @@ unfolding page_bytes
 page_cut One = refl
 page_cut Two = refl
 
+-- the bytes that tell a version are four
 pub length-magic : (v : Version) → length (magic v) ≡ 4
 length-magic One = refl
 length-magic Two = refl
 
+-- a page has at least one slot
 pub some_slots : (v : Version) → 1 ≤ slots v
 some_slots One = omega arith
 some_slots Two = omega arith
 
+-- no page has more than 24 slots
 pub few_slots : (v : Version) → slots v ≤ 24
 few_slots One = omega arith
 few_slots Two = omega arith
 
 -- ---- the first four bytes
 
+-- the first bytes, four or more, tell the same version as all of them
 pub version-front : (n : ℕ) (bytes : List ℕ) → 4 ≤ n → version_of (take n bytes) ≡ version_of bytes
 unfolding version_of begins
 version-front n bytes enough = rw (take-take 4 n bytes enough) refl
 
+-- the first bytes, four or more, begin as an image exactly where all of them do
 pub no_magic-front : (n : ℕ) (bytes : List ℕ) → 4 ≤ n → no_magic (take n bytes) ≡ no_magic bytes
 unfolding no_magic begins
 no_magic-front n bytes enough = rw (take-take 4 n bytes enough) refl
 
+-- bytes that begin as a version does are of that version
 pub version_from_magic : (v : Version) (bytes : List ℕ) → take 4 bytes ≡ magic v → version_of bytes ≡ v
 unfolding version_of begins
 version_from_magic One bytes e = rw e refl
 version_from_magic Two bytes e = rw e refl
 
+-- bytes that begin as a version does begin as an image
 pub no_magic_from_magic : (v : Version) (bytes : List ℕ) → take 4 bytes ≡ magic v → no_magic bytes ≡ false
 unfolding no_magic begins
 no_magic_from_magic One bytes e = rw e refl
@@ -68,6 +76,7 @@ magic_by front one true as_one as_two some = as_two refl
 magic_by front true false as_one as_two some = as_one refl
 magic_by front false false as_one as_two some = absurd cc
 
+-- bytes that begin as an image begin as their version does
 pub magic_of : (bytes : List ℕ) → no_magic bytes ≡ false → take 4 bytes ≡ magic (version_of bytes)
 unfolding no_magic version_of begins
 magic_of bytes some =

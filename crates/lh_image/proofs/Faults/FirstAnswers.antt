@@ -34,9 +34,11 @@ answer_here A k o os all f same =
     let e : number f - k ≡ 0 = omega arith in
     subst (λ n. (get_or (o ∷ os) n None ≡ Some f) ↔ A f) e (all f (omega arith))
 
+-- it can't be that no answer is given and that one is
 pub nothing : {A : Type 0} (x : A) → None ≡ Some x → ⊥
 nothing x e = cc
 
+-- the first of numbered answers is the fault of the least number among those that apply, or none if none does
 pub first_answers : (A : ImageFault → Type 0) (k : ℕ) (os : List (Option ImageFault)) → AreNumbered k os →
     AreAnswers A k os → Answers A k (first_fault_of os)
 unfolding first_fault_of
@@ -79,6 +81,7 @@ abbrev pub AreNone : List (Option ImageFault) → Type 0
 AreNone [] = Unit {0}
 AreNone (o ∷ os) = (o ≡ None) × AreNone os
 
+-- the first of some answers is none exactly where no answer is given
 pub none_first : (os : List (Option ImageFault)) → (first_fault_of os ≡ None) ↔ AreNone os
 unfolding first_fault_of
 none_first [] = (λ e. tt, λ h. refl)

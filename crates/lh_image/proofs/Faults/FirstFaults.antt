@@ -155,6 +155,7 @@ answered : (bytes : List ℕ) → Answers (Applies bytes) 0 (image_fault bytes)
 unfolding image_fault first_fault_of
 answered bytes = first_answers (Applies bytes) 0 (answers bytes) (numbered bytes) (given bytes)
 
+-- a fault is answered exactly where it is the first
 pub first_fault_law : FirstFaultLaw
 first_fault_law bytes f =
     let a = (answered bytes).some f in (
@@ -162,6 +163,7 @@ first_fault_law bytes f =
       λ d. a.1 (d.applies, omega arith, λ g low lt. d.first g lt),
     )
 
+-- no fault is answered exactly where no condition holds
 pub no_fault_law : NoFaultLaw
 no_fault_law bytes =
     let a = (answered bytes).none in

@@ -61,6 +61,7 @@ misfits_after home came (r ∷ rs) =
           (rest.1 (a.1, more.1 (b.1, c.0), c.1)),
     )
 
+-- records have no misfit exactly where each is at home and no key stands twice
 pub no_misfit : (home : List ℕ → Bool) (rs : List Pair) →
     (misfits home [] rs ≡ false) ↔ (AllByRecursion (λ r. home r.key ≡ true) rs × IsDistinct bytes_eq (keys_of rs))
 no_misfit home rs = (
@@ -75,6 +76,7 @@ at_home_from f i [] a k l = absurd (omega arith)
 at_home_from f i (r ∷ rs) a zero l = eqb-true (f r.key) i a.0
 at_home_from f i (r ∷ rs) a (suc k) l = at_home_from f i rs a.1 k (omega arith)
 
+-- records that are at home by their places are so by tests, too
 pub home_tests : (f : List ℕ → ℕ) (i : ℕ) (rs : List Pair) → ((k : ℕ) → k < length rs → f (key_at rs k) ≡ i) →
     AllByRecursion (λ r. eqb (f r.key) i ≡ true) rs
 home_tests f i [] a = tt

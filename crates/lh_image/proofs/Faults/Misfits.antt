@@ -58,6 +58,7 @@ not_before next before rest h p path = false_from_ne_true (stands_in before p) (
     let e = path_only next (drop at.0 whole) (drop (length before) whole) p one two in
     omega (arith, length-drop at.0 whole, length-drop (length before) whole, ap length e, at.1, k2))
 
+-- the pages before the first place of a page are those in front of it, where it isn't one of them
 pub before_is : (before rest : List ℕ) (p : ℕ) → stands_in before p ≡ false →
     before_first (λ q. eqb q p) (before ++ p ∷ rest) ≡ before
 unfolding stands_in

@@ -18,12 +18,14 @@ find_none f a (suc n) e p low high =
       ]
     ]) refl e
 
+-- where no number passes, none is found
 pub none_found : (f : ℕ → Bool) (a n : ℕ) → ((p : ℕ) → a ≤ p → p < a + n → f p ≡ false) →
     find f (range_with_len a n) ≡ None
 none_found f a zero all = refl
 none_found f a (suc n) all =
     rw (all a (omega arith) (omega arith)) (none_found f (a + 1) n (λ p low high. all p (omega arith) (omega arith)))
 
+-- where the test for any number holds, there is a number that passes
 pub any_of : (f : ℕ → Bool) (a n : ℕ) → list_any f (range_with_len a n) ≡ true →
     (p : ℕ) × (a ≤ p) × (p < a + n) × (f p ≡ true)
 any_of f a zero e = absurd (false≢true e)
@@ -32,6 +34,7 @@ any_of f a (suc n) e = elim (or_cases (f a) (list_any f (range_with_len (a + 1) 
   | inr later ↦ let r = any_of f (a + 1) n later in (r.0, omega (arith, r.1), omega (arith, r.2), r.3)
 ]
 
+-- where there is a number that passes, the test for any number holds
 pub any_from : (f : ℕ → Bool) (a n p : ℕ) → a ≤ p → p < a + n → f p ≡ true → list_any f (range_with_len a n) ≡ true
 any_from f a zero p low high here = absurd (omega arith)
 any_from f a (suc n) p low high here = elim (cases_eq p a) [
@@ -40,10 +43,12 @@ any_from f a (suc n) p low high here = elim (cases_eq p a) [
       or_right (f a) (list_any f (range_with_len (a + 1) n)) (any_from f (a + 1) n p (omega arith) (omega arith) here)
 ]
 
+-- the count of numbers that pass is that of the first one and that of the others
 pub count_cons : (f : ℕ → Bool) (a n : ℕ) →
     count_by f (range_with_len a (suc n)) ≡ cond (f a) 1 0 + count_by f (range_with_len (a + 1) n)
 count_cons f a n = sum_by-cons (λ x. cond (f x) 1 0) a (range_with_len (a + 1) n)
 
+-- where a number passes, at least one is counted
 pub count_one : (f : ℕ → Bool) (a n p : ℕ) → a ≤ p → p < a + n → f p ≡ true → 1 ≤ count_by f (range_with_len a n)
 count_one f a zero p low high here = absurd (omega arith)
 count_one f a (suc n) p low high here = rw (count_cons f a n) (elim (cases_eq p a) [
@@ -51,6 +56,7 @@ count_one f a (suc n) p low high here = rw (count_cons f a n) (elim (cases_eq p 
   | inr other ↦ omega (arith, count_one f (a + 1) n p (omega arith) (omega arith) here)
 ])
 
+-- where two numbers pass, at least two are counted
 pub count_two : (f : ℕ → Bool) (a n p q : ℕ) → a ≤ p → p < q → q < a + n → f p ≡ true → f q ≡ true →
     2 ≤ count_by f (range_with_len a n)
 count_two f a zero p q low lt high here there = absurd (omega arith)
@@ -60,6 +66,7 @@ count_two f a (suc n) p q low lt high here there = rw (count_cons f a n) (elim (
   | inr other ↦ omega (arith, count_two f (a + 1) n p q (omega arith) lt (omega arith) here there)
 ])
 
+-- where no number passes, none is counted
 pub count_none : (f : ℕ → Bool) (a n : ℕ) → ((p : ℕ) → a ≤ p → p < a + n → f p ≡ true → ⊥) →
     count_by f (range_with_len a n) ≡ 0
 count_none f a zero none = refl
@@ -68,6 +75,7 @@ count_none f a (suc n) none = rw (count_cons f a n) (elim (cases_Bool (f a)) [
   | inr fails ↦ rw (fails, count_none f (a + 1) n (λ p low high. none p (omega arith) (omega arith))) refl
 ])
 
+-- where no two numbers pass, at most one is counted
 pub count_few : (f : ℕ → Bool) (a n : ℕ) → ((p q : ℕ) → a ≤ p → p < q → q < a + n → f p ≡ true → f q ≡ true → ⊥) →
     count_by f (range_with_len a n) ≤ 1
 count_few f a zero one = omega arith
@@ -84,6 +92,7 @@ count_few f a (suc n) one = rw (count_cons f a n) (elim (cases_Bool (f a)) [
 
 -- ---- the first number that passes, and two that pass
 
+-- two findings that are the same have found the same
 pub some_is : {A : Type 0} (x y : A) → Some x ≡ Some y → x ≡ y
 some_is x y e = cc
 
@@ -121,6 +130,7 @@ found_least f a (suc n) p =
       )
     ]
 
+-- where at least one number is counted, there is a number that passes
 pub one_of : (f : ℕ → Bool) (a n : ℕ) → 1 ≤ count_by f (range_with_len a n) →
     (p : ℕ) × (a ≤ p) × (p < a + n) × (f p ≡ true)
 one_of f a zero many = absurd (omega arith)
@@ -136,6 +146,7 @@ one_of f a (suc n) many =
           (r.0, omega (arith, r.1), omega (arith, r.2), r.3)
     ]
 
+-- where at least two numbers are counted, there are two that pass
 pub two_of : (f : ℕ → Bool) (a n : ℕ) → 2 ≤ count_by f (range_with_len a n) →
     (p q : ℕ) × (a ≤ p) × (p < q) × (q < a + n) × (f p ≡ true) × (f q ≡ true)
 two_of f a zero many = absurd (omega arith)

@@ -172,6 +172,7 @@ rows_from_sound bytes i = (
   ),
 )
 
+-- bytes have no fault exactly where their first page, their size and their pages have none
 pub sound_law : (bytes : List ℕ) → (image_fault bytes ≡ None) ↔ IsSound bytes
 unfolding image_fault
 sound_law bytes =

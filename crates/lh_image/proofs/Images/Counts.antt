@@ -122,5 +122,6 @@ module _ (packing : PackingLaw) (v : View) (l : Lists) (P : ℕ) (path : ℕ →
         longest = longest i;
       }
 
+-- the census of an image's listing counts the pages that the image has
 pub census_law : PackingLaw → CensusLaw
 census_law packing bytes l (P, path, image) = census_is packing (view_of bytes) l P path image.shown

@@ -29,11 +29,13 @@ pub whole_rule : (n least all : ℕ) → least ≤ all →
 whole_rule n least all low =
     (λ (e, f). grind (arith, nat_tests), λ e. (grind (arith, nat_tests), grind (arith, nat_tests)))
 
+-- one page or more have at least the bytes of one
 pub some_pages : (size P : ℕ) → 1 ≤ P → size ≤ size * P
 some_pages size P some = let more : size * 1 ≤ size * P = mul-le-mul_left size some in omega (arith, more)
 
 -- ---- the View that bytes give
 
+-- in what bytes show the header is on no chain, and a page has as many records as its head says
 pub is_view : (bytes : List ℕ) → IsView (view_of bytes)
 unfolding view_of pairs_of
 is_view bytes = record {
@@ -42,6 +44,7 @@ is_view bytes = record {
 }
 
 module _ (faultless : FaultlessLaw) (bytes : List ℕ) (fit : AreBytes bytes) (sound : IsSound bytes) where
+  -- bytes without a fault are an image of the listing that they show, by the chains of its buckets
   pub image_from_sound : IsImageBy bytes (listing_of (view_of bytes)) (page_count (view_of bytes))
       (chain_of (view_of bytes))
   unfolding view_of is_short has_trailing bad_kind bad_used page_bytes

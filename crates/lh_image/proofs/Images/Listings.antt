@@ -24,10 +24,12 @@ use Rattle.lh_image.proofs.Paths.ShortPaths.{paths_are_chains}
 abbrev pub chain_records : View → ℕ → List Pair
 chain_records v i = flat_map (v.records) (chain_of v i)
 
+-- the listing of a View has as many lists as the View has buckets
 pub size-listing_of : (v : View) → size (listing_of v) ≡ buckets v
 unfolding listing_of
 size-listing_of v = length-map-range_with_len (chain_records v) 0 (buckets v)
 
+-- each list of the listing has the records of its bucket's chain
 pub list_at-listing_of : (v : View) (i : ℕ) → i < buckets v → list_at (listing_of v).lists i ≡ chain_records v i
 unfolding listing_of
 list_at-listing_of v i l = get_or-map-range_with_len (chain_records v) 0 (buckets v) i i [] l (omega arith)
@@ -51,6 +53,7 @@ count-listing_of v view covered =
 
 -- ---- a listing by its buckets
 
+-- the records of a listing are at home where those of each of its buckets are
 pub home_by : (l : Lists) (initial buckets : ℕ) →
     ((i : ℕ) → i < size l → (place : ℕ) → place < length (list_at l.lists i) →
     IsHome initial buckets i (list_at l.lists i) place) →
@@ -60,6 +63,7 @@ home_by l initial buckets each i place below = elim (cases_lt i (size l)) [
   | inr high ↦ let past : place < 0 = rw (get_or_past l.lists i [] high) at below in absurd (omega arith)
 ]
 
+-- every list is one of records where that of each bucket is
 pub records_by : (l : Lists) → ((i : ℕ) → i < size l → All IsRecord (list_at l.lists i)) → (i : ℕ) →
     All IsRecord (list_at l.lists i)
 records_by l each i = elim (cases_lt i (size l)) [
@@ -77,6 +81,7 @@ records_along rec (x ∷ xs) each =
     (each x (or_left (eqb x x) (list_any (λ q. eqb q x) xs) (eq-eqb x x refl)))
     (records_along rec xs (λ p here. each p (or_right (eqb x p) (list_any (λ q. eqb q p) xs) here)))
 
+-- no list has a key twice where that of no bucket has
 pub distinct_by : (l : Lists) → ((i : ℕ) → i < size l → IsDistinct bytes_eq (keys_of (list_at l.lists i))) → (i : ℕ) →
     IsDistinct bytes_eq (keys_of (list_at l.lists i))
 unfolding IsDistinct
@@ -87,6 +92,7 @@ distinct_by l each i = elim (cases_lt i (size l)) [
 
 -- ---- the listing of an image
 
+-- pages that show a listing are as many as the header says
 pub pages_are : (v : View) (l : Lists) (P : ℕ) (path : ℕ → List ℕ) → Shows v l P path → P ≡ page_count v
 pages_are v l P path i = sym (ap (λ (h : Header). h.pages) i.header)
 
@@ -96,6 +102,7 @@ paths_of : (v : View) (l : Lists) (P : ℕ) (path : ℕ → List ℕ) → bucket
     IsCovered (next v) (bucket v) (buckets v) (page_count v) path
 paths_of v l P path e f c = rw (e, f) c
 
+-- the listing that pages show is that of their View
 pub listing_is : (v : View) (l : Lists) (P : ℕ) (path : ℕ → List ℕ) → Shows v l P path → l ≡ listing_of v
 unfolding listing_of
 listing_is v l P path i =

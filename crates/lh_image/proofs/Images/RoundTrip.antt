@@ -9,6 +9,7 @@ use Rattle.lh_image.specs.Layout.{view_of}
 use Rattle.lh_image.specs.Reading.{judged_by, reading_of}
 use Rattle.lh_image.specs.RoundTrip.{RoundTripLaw}
 
+-- the image of either version that is written of a listing is read as that listing
 pub round_trip : CanonicalLaw → OneListingLaw → RoundTripLaw
 unfolding reading_of
 round_trip written one version l listing fits few =

@@ -43,6 +43,7 @@ HasFitting v i =
     AllByRecursion (λ r. is_at_home v i r.key ≡ true) (chain_records v i)
     × IsDistinct bytes_eq (keys_of (chain_records v i))
 
+-- where no page has a misfit, the records of a bucket are at home and have no key twice
 pub fitting_from : (v : View) (covered : IsCovered (next v) (bucket v) (buckets v) (page_count v) (chain_of v)) →
     Clean (page_count v) (has_misfit v) → (i : ℕ) → i < buckets v → HasFitting v i
 unfolding has_misfit
@@ -56,6 +57,7 @@ shape_from v r =
     let size_is = size-listing_of v in
     rw size_is (record { from_initial = r.from_initial; to_max = r.to_max; each = size_is })
 
+-- where each bucket's records are at home, without a key twice, the records of the listing are at home
 pub home_from : (v : View) → ((i : ℕ) → i < buckets v → HasFitting v i) →
     EachPlace (IsHome (initial v) (size (listing_of v))) (listing_of v).lists
 home_from v fitting = rw (size-listing_of v) (home_by (listing_of v) (initial v) (buckets v) (λ i l.
@@ -63,6 +65,7 @@ home_from v fitting = rw (size-listing_of v) (home_by (listing_of v) (initial v)
     rw (list_at-listing_of v i m)
     (at_home_from (λ k. address (initial v) (buckets v) (code_of k)) i (chain_records v i) (fitting i m).0)))
 
+-- where each bucket's records are at home, without a key twice, no list of the listing has a key twice
 pub distinct_from : (v : View) → ((i : ℕ) → i < buckets v → HasFitting v i) → (i : ℕ) →
     IsDistinct bytes_eq (keys_of (list_at (listing_of v).lists i))
 distinct_from v fitting =
@@ -71,12 +74,14 @@ distinct_from v fitting =
 
 module _ (v : View) (view : IsView v) (r : AreInRange v.header) (clean : IsClean v)
     (are : (p : ℕ) → 1 ≤ p → p < page_count v → All IsRecord (v.records p)) where
+  -- the chains of pages without a fault are paths, and each page stands on that of its bucket
   pub clean_covered : IsCovered (next v) (bucket v) (buckets v) (page_count v) (chain_of v)
   clean_covered =
       let some : buckets v < page_count v = omega (arith, r.enough) in
       covered_chains (next v) (bucket v) (buckets v) (page_count v) view.none some
       (linked_from_clean v some clean.numbers_are clean.nexts clean.twice) (on_from_clean v clean.on_chains)
 
+  -- pages without a fault show the listing of their View, by the chains of its buckets
   pub shows_from_clean : Shows v (listing_of v) (page_count v) (chain_of v)
   unfolding bad_kind bad_level bad_used bad_total listing_of
   shows_from_clean =
@@ -138,9 +143,11 @@ sum_most f b a (suc n) all =
 
 module _ (v : View) (view : IsView v) (path : ℕ → List ℕ) (i : Shows v (listing_of v) (page_count v) path)
     (own : (p : ℕ) → 1 ≤ p → p < page_count v → ((v.head p).clear ≡ true) × (has_bad_slot v p ≡ false)) where
+  -- where pages show their listing, each stands on the path of its bucket
   pub shown_covered : IsCovered (next v) (bucket v) (buckets v) (page_count v) path
   shown_covered = rw (size-listing_of v) at i.paths
 
+  -- where pages show their listing, the numbers of the header are in their ranges
   pub shown_range : AreInRange v.header
   unfolding listing_of
   shown_range =
@@ -180,6 +187,7 @@ module _ (v : View) (view : IsView v) (path : ℕ → List ℕ) (i : Shows v (li
       (covered_same (next v) (bucket v) (buckets v) (page_count v) path (chain_of v) same c))
       ∙ sym (ap (λ (h : Header). h.records) i.header)
 
+  -- pages that show their listing have slots for as many records as the header says
   pub records_fit : record_count v ≤ capacity v * (page_count v - 1)
   unfolding numbers
   records_fit =
@@ -188,6 +196,7 @@ module _ (v : View) (view : IsView v) (path : ℕ → List ℕ) (i : Shows v (li
       (λ p low high. omega (arith, (fills p low (omega arith)).most, view.counted p low)) in
       rw total_is at most
 
+  -- pages that show their listing have no fault, where their reserved bytes are zeros and no slot is bad
   pub clean_from_shows : IsClean v
   unfolding listing_of bad_kind bad_level bad_used bad_total has_misfit
   clean_from_shows =

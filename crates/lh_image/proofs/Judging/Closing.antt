@@ -85,6 +85,7 @@ module _ (v : View) (entries : List Entry) (pairs : List Pair) (faults : PageFau
       list_any (λ i. stands_in (chain_of v i) p) (range_with_len 0 (buckets v))
   pages_are chains made p = stands_flat (λ (c : Vec ℕ Global). c.items) chains p ∙ on_chains (links v) chains p made
 
+  -- the least page with a misfit is the one found along the chains, or there is none where none was found
   pub misfit_is : (root : Extent) (chains : List (Vec ℕ Global)) (r : Option ℕ) →
       root ≡ record { initial = initial v; buckets = buckets v } → AreChains v chains →
       ((bad : ℕ → Bool) →
@@ -122,14 +123,17 @@ module _ (v : View) (entries : List Entry) (pairs : List Pair) (faults : PageFau
       misfits_last v entries pairs faults fine.some fine.kept fine.heads fine.linked fine.slots
       ∙ ap (option_map Misfit) e
 
+  -- the least page with a misfit, where there is one, is the fault that is to be answered
   pub misfit_told : (p : ℕ) → least (page_count v) (has_misfit v) ≡ Some p → judged v ≡ Err (Misfit p)
   misfit_told p e = judged_as v (Misfit p) (last_fault (Some p) e)
 
+  -- where no page has a misfit, the listing is to be answered
   pub read_whole : least (page_count v) (has_misfit v) ≡ None → judged v ≡ Ok (listing_of v)
   read_whole e = ap (λ o. judged_by o v) (last_fault None e)
 
   -- ---- the listing
 
+  -- the lists that are filled along the chains are, with the header's configuration, the listing that the pages show
   pub listing_is : (chains : List (Vec ℕ Global)) (lists : List (List Pair)) → AreChains v chains →
       lists ≡ map (λ (c : Vec ℕ Global). flat_map (page_records entries pairs) c.items) chains →
       record { config = v.header.config; lists = lists } ≡ listing_of v

@@ -6,6 +6,7 @@ use Rattle.std.proofs.lemmas.List.{take_more, append-nil, map-append}
 use Rattle.std.proofs.lemmas.List.Concat.{flat_map-append}
 use Rattle.std.proofs.lemmas.List.FromFn.{map-range_with_len_more}
 
+-- tests that agree in a range find the same number there
 pub find_same : (f g : ℕ → Bool) (a n : ℕ) → ((p : ℕ) → a ≤ p → p < a + n → f p ≡ g p) →
     find f (range_with_len a n) ≡ find g (range_with_len a n)
 find_same f g a zero same = refl
@@ -14,6 +15,7 @@ find_same f g a (suc n) same =
     let here : f a ≡ g a = same a (omega arith) (omega arith) in
     rw here (ap (λ (o : Option ℕ). cond (g a) (Some a) o) rest)
 
+-- the lists that are made of the first items, joined, after one item more
 pub flat_more : {X : Type 0} {Y : Type 0} (f : X → List Y) (xs : List X) (i : ℕ) (d : X) → i < length xs →
     flat_map f (take (i + 1) xs) ≡ flat_map f (take i xs) ++ f (get_or xs i d)
 flat_more f xs i d less =
@@ -21,6 +23,7 @@ flat_more f xs i d less =
     (flat_map-append f (take i xs) (get_or xs i d ∷ [])
     ∙ ap (λ ys. flat_map f (take i xs) ++ ys) (append-nil (f (get_or xs i d))))
 
+-- what is made of the first items, after one item more
 pub map_more : {X : Type 0} {Y : Type 0} (f : X → Y) (xs : List X) (i : ℕ) (d : X) → i < length xs →
     map f (take (i + 1) xs) ≡ map f (take i xs) ++ f (get_or xs i d) ∷ []
 map_more f xs i d less = rw (take_more xs i d less) (map-append f (take i xs) (get_or xs i d ∷ []))

@@ -86,6 +86,7 @@ unfolding first_fault_of
 one_row None = refl
 one_row (Some f) = refl
 
+-- the first fault of the pages is what is to be answered to them
 pub judged_as : (v : View) (f : ImageFault) → page_fault v ≡ Some f → judged v ≡ Err f
 judged_as v f e = ap (λ (o : Option ImageFault). judged_by o v) e
 
@@ -118,6 +119,7 @@ module _ (v : View) (entries : List Entry) (pairs : List Pair) (faults : PageFau
       find_same (at_head bad_level v) (at_head known_bad_level v) 1 m
       (λ p low high. level_known v p (find_none (at_head bad_bucket v) 1 m none p low high))))
 
+  -- the first fault that was noted of heads is the one that is due
   pub heads_told : (f : ImageFault) → Some f ≡ first_fault_of (noted_rows faults (record_count v)) →
       IsDueFault f (judged v)
   unfolding page_fault
@@ -138,6 +140,7 @@ module _ (v : View) (entries : List Entry) (pairs : List Pair) (faults : PageFau
           find_none (at_head bad_used v) 1 (page_count v - 1) (sym kept.noted.used ∙ clean.2) p low (omega arith),
         )
 
+    -- where no fault of heads was noted, each page has a plain head
     pub plain : (p : ℕ) → 1 ≤ p → p < page_count v → has_plain_head v p ≡ true
     plain p low high = let f = heads_fine p low high in plain_head v p f.0 f.2
 
@@ -145,11 +148,13 @@ module _ (v : View) (entries : List Entry) (pairs : List Pair) (faults : PageFau
     unfolding page_fault
     behind_heads = first_behind (head_rows v) (link_rows (links v) ++ record_rows v) (heads_are ∙ sym fine)
 
+    -- where no fault of heads was noted, the first fault of links is the one that is due, unless memory ran out
     pub links_told : (f : ImageFault) → IsMemoryOr f (first_fault_of (link_rows (links v))) → IsDueFault f (judged v)
     links_told f due =
         due_told f (first_fault_of (link_rows (links v))) (judged v) due
         (λ e. judged_as v f (behind_heads ∙ first_before (link_rows (links v)) (record_rows v) f e))
 
+    -- where no fault of heads was noted, the page noted for its slots is the least that has a bad slot
     pub slots_are : faults.slot ≡ least (page_count v) (has_bad_slot v)
     unfolding numbers
     slots_are =
@@ -161,6 +166,7 @@ module _ (v : View) (entries : List Entry) (pairs : List Pair) (faults : PageFau
       behind_links : page_fault v ≡ first_fault_of (record_rows v)
       behind_links = behind_heads ∙ first_behind (link_rows (links v)) (record_rows v) linked
 
+      -- where heads and links have no fault, the fault of the page noted for its slots is the one that is due
       pub slots_told : (f : ImageFault) → Some f ≡ option_map Slot faults.slot → IsDueFault f (judged v)
       slots_told f e =
           told f (judged v) (judged_as v f (behind_links

@@ -39,6 +39,7 @@ none_of (Some i) e = absurd cc
 
 module _ (v : View) (entries : List Entry) (pairs : List Pair) (faults : PageFaults)
     (fine : AreFine v entries pairs faults) where
+  -- where nothing was at fault, the chains are paths, and each page stands on that of its bucket
   pub covered : IsCovered (next v) (bucket v) (buckets v) (page_count v) (chain_of v)
   covered =
       let rows = (none_first (link_rows (links v))).0 fine.linked in
@@ -49,6 +50,7 @@ module _ (v : View) (entries : List Entry) (pairs : List Pair) (faults : PageFau
       ((row_clean (page_count v) (named_twice (links v)) Twice).0 rows.1.0))
       (on_from_clean v ((row_clean (page_count v) (on_no_chain (links v)) Never).0 rows.1.1.0))
 
+  -- the records that were kept of a page are those that the View shows
   pub records_same : (p : ℕ) → 1 ≤ p → p < page_count v → page_records entries pairs p ≡ v.records p
   records_same p low high =
       let slots : Clean (page_count v) (has_bad_slot v) =
@@ -57,6 +59,7 @@ module _ (v : View) (entries : List Entry) (pairs : List Pair) (faults : PageFau
       fine.kept.records p low high (plain v entries pairs faults fine.some fine.kept fine.heads p low high)
       (none_of (v.bad_slot p) (slots p low high))
 
+-- records that are the same page by page are the same along a list of pages
 pub flat_same : (f g : ℕ → List Pair) (xs : List ℕ) → ((p : ℕ) → stands_in xs p ≡ true → f p ≡ g p) →
     flat_map f xs ≡ flat_map g xs
 unfolding stands_in
@@ -67,6 +70,7 @@ flat_same f g (x ∷ xs) same =
     flat_same f g xs (λ p h. same p (or_right (eqb x p) (list_any (λ q. eqb q p) xs) h)) in
     flat_map-cons f x xs ∙ ap (λ ys. ys ++ flat_map f xs) here ∙ ap (λ ys. g x ++ ys) rest ∙ sym (flat_map-cons g x xs)
 
+-- the records that were kept along a chain are those that the View shows
 pub chain_records_same : (v : View) (entries : List Entry) (pairs : List Pair) (faults : PageFaults) →
     AreFine v entries pairs faults → (i : ℕ) → i < buckets v →
     flat_map (page_records entries pairs) (chain_of v i) ≡ flat_map v.records (chain_of v i)
@@ -77,6 +81,7 @@ chain_records_same v entries pairs faults fine i less =
 
 -- ---- the least
 
+-- of a list that has all pages and nothing else, the least that fails a test is the one that a search finds
 pub least_is : (bad : ℕ → Bool) (pages : List ℕ) (n : ℕ) (r : Option ℕ) →
     ((p : ℕ) → stands_in pages p ≡ true → (1 ≤ p) × (p < 1 + n)) →
     ((p : ℕ) → 1 ≤ p → p < 1 + n → stands_in pages p ≡ true) → IsLeastAmong bad pages r →
@@ -87,6 +92,7 @@ least_is bad pages n (Some m) within all least_one =
     (found_least bad 1 n m).1
     (at.0, at.1, least_one.1, λ q low less. least_one.2 q (all q low (omega (arith, at.1))) less)
 
+-- a page stands in joined lists exactly where it stands in one of them
 pub stands_flat : {X : Type 0} (f : X → List ℕ) (xs : List X) (p : ℕ) →
     stands_in (flat_map f xs) p ≡ list_any (λ x. stands_in (f x) p) xs
 unfolding stands_in

@@ -8,26 +8,31 @@ use Rattle.lh_image.specs.Faults.{bad_next, named_twice, on_no_chain, least, lin
 use Rattle.lh_image.specs.View.{numbers}
 use Rattle.lh_image.proofs.Judging.Finding.{find_same}
 
+-- where a page has a bad next page, the least such page is the first fault of links
 pub links_next : (l : Links) (p : ℕ) → Some p ≡ least l.pages (bad_next l) →
     first_fault_of (link_rows l) ≡ Some (Next p)
 unfolding first_fault_of
 links_next l p e = rw (← e) refl
 
+-- where none has one, the least page that is named twice is the first fault
 pub links_twice : (l : Links) (p : ℕ) → None ≡ least l.pages (bad_next l) → Some p ≡ least l.pages (named_twice l) →
     first_fault_of (link_rows l) ≡ Some (Twice p)
 unfolding first_fault_of
 links_twice l p e f = rw (← e, ← f) refl
 
+-- where none is named twice either, the least page on no chain is the first fault
 pub links_never : (l : Links) (p : ℕ) → None ≡ least l.pages (bad_next l) → None ≡ least l.pages (named_twice l) →
     Some p ≡ least l.pages (on_no_chain l) → first_fault_of (link_rows l) ≡ Some (Never p)
 unfolding first_fault_of
 links_never l p e f g = rw (← e, ← f, ← g) refl
 
+-- where there is none of the three, links have no fault
 pub links_none : (l : Links) → None ≡ least l.pages (bad_next l) → None ≡ least l.pages (named_twice l) →
     None ≡ least l.pages (on_no_chain l) → first_fault_of (link_rows l) ≡ None
 unfolding first_fault_of
 links_none l e f g = rw (← e, ← f, ← g) refl
 
+-- to test items through a function is to test the list that it makes of them
 pub any_of_items : {V : Type 0} {Y : Type 0} (items : V → Y) (t : Y → Bool) (vs : List V) →
     list_any (λ v. t (items v)) vs ≡ list_any t (map items vs)
 any_of_items items t [] = refl
@@ -43,6 +48,7 @@ on_chains l chains p made =
     ∙ ap (list_any (λ xs. stands_in xs p)) made
     ∙ sym (any_of_items (chain l.next l.pages) (λ xs. stands_in xs p) (range_with_len 0 l.heads))
 
+-- the first page that stands on none of the chains that were followed is the least page on no chain
 pub never_same : (l : Links) (n : ℕ) (chains : List (Vec ℕ Global)) → l.pages ≡ n →
     map (λ (chain : Vec ℕ Global). chain.items) chains ≡ map (chain l.next l.pages) (range_with_len 0 l.heads) →
     find (λ p. not (list_any (λ (chain : Vec ℕ Global). stands_in chain.items p) chains)) (range_with_len 1 (n - 1)) ≡

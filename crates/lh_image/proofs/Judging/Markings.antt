@@ -23,10 +23,12 @@ last true true = refl
 last true false = refl
 last false b = refl
 
+-- with no page of the chain yet, each mark is as it was
 pub mark_none : (b : Bool) (p : ℕ) → b ≡ (b || stands_in [] p)
 unfolding stands_in
 mark_none b p = or_none b
 
+-- with one page more, a page stands in a list where it stood there before or is that page
 pub stands_more : (xs : List ℕ) (i x p : ℕ) → i < length xs → get_or xs i 0 ≡ x →
     stands_in (take (i + 1) xs) p ≡ (stands_in (take i xs) p || eqb x p)
 unfolding stands_in
@@ -45,6 +47,7 @@ mark_more old seen xs i x p l e within h = rw (stands_more xs i x p l e) (elim (
       (ap (λ (b : Bool). get_or old p false || b) (or_none (stands_in (take i xs) p)))
 ])
 
+-- the marks of the pages below page x after page x, which isn't marked
 pub mark_skip : (old seen : List Bool) (xs : List ℕ) (i x p : ℕ) → i < length xs → get_or xs i 0 ≡ x → p < x →
     get_or seen p false ≡ (get_or old p false || stands_in (take i xs) p) →
     get_or seen p false ≡ (get_or old p false || stands_in (take (i + 1) xs) p)

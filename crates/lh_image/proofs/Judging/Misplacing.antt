@@ -29,6 +29,7 @@ flip x y = elim (cases_Bool (bytes_eq x y)) [
   ]
 ]
 
+-- with one item more, one passes a test where one passed before or the last one does
 pub any_last : {X : Type 0} (f : X → Bool) (xs : List X) (x : X) → list_any f (xs ++ x ∷ []) ≡ (list_any f xs || f x)
 any_last f [] x = elim (cases_Bool (f x)) [ inl passes ↦ rw passes refl | inr other ↦ rw other refl ]
 any_last f (y ∷ ys) x = elim (cases_Bool (f y)) [ inl passes ↦ rw passes refl | inr other ↦ rw other (any_last f ys x) ]
@@ -39,6 +40,7 @@ choose true false = refl
 choose false true = refl
 choose false false = refl
 
+-- a set that takes one key more has exactly the keys before and that one
 pub known_more : (key : List ℕ) (before : List (List ℕ)) (member new_member : List ℕ → Bool) →
     ((q : List ℕ) → new_member q ≡ cond (is_at (slice_cmp nat_cmp key) q) true (member q)) →
     IsSetOf member before → IsSetOf new_member (before ++ key ∷ [])
@@ -55,6 +57,7 @@ join true b c d = refl
 join false true c d = refl
 join false false c d = refl
 
+-- a misfit so far or in the rest is one so far, the next record, or one behind it
 pub misfit_step : (home : List ℕ → Bool) (before : List (List ℕ)) (rs : List Pair) (i : ℕ) (r : Pair) (m : Bool) →
     i < length rs → get_or rs i no_pair ≡ r →
     (m || misfits home (before ++ keys_of (take i rs)) (drop i rs)) ≡
@@ -73,6 +76,7 @@ misfit_step home before rs i r m less is =
     (join m (not (home r.key)) (list_any (bytes_eq r.key) (before ++ keys_of (take i rs)))
     (misfits home ((before ++ keys_of (take i rs)) ++ r.key ∷ []) (drop (i + 1) rs))))
 
+-- the keys that stand before a record, and its own, are those that stand before the next record
 pub keys_more : (before : List (List ℕ)) (rs : List Pair) (i : ℕ) (r : Pair) → i < length rs → get_or rs i no_pair ≡ r →
     (before ++ keys_of (take i rs)) ++ r.key ∷ [] ≡ before ++ keys_of (take (i + 1) rs)
 keys_more before rs i r less is =
@@ -99,6 +103,7 @@ still_stands pages x q here = stands_last pages x q ∙ or_left (stands_in pages
 last_stands : (pages : List ℕ) (x : ℕ) → stands_in (pages ++ x ∷ []) x ≡ true
 last_stands pages x = stands_last pages x x ∙ or_right (stands_in pages x) (eqb x x) (eq-eqb x x refl)
 
+-- the least page that fails a test, if there is one, stays the least after one page more that passes it
 pub least_sound : (bad : ℕ → Bool) (pages : List ℕ) (x : ℕ) (o : Option ℕ) → bad x ≡ false → IsLeastAmong bad pages o →
     IsLeastAmong bad (pages ++ x ∷ []) o
 least_sound bad pages x None test least =
@@ -131,6 +136,7 @@ least_new bad pages x m test least = elim (cases_lt m x) [
       )
 ]
 
+-- after one page more that fails it, the least is the lesser of that page and the least so far
 pub least_bad : (bad : ℕ → Bool) (pages : List ℕ) (x : ℕ) (o : Option ℕ) → bad x ≡ true → IsLeastAmong bad pages o →
     IsLeastAmong bad (pages ++ x ∷ []) (Some (lesser_of o x))
 least_bad bad pages x None test least = (
@@ -146,14 +152,17 @@ or_none : (b : Bool) → (b || false) ≡ b
 or_none true = refl
 or_none false = refl
 
+-- after a record that is a misfit, one is known
 pub then_true : (m v rest total : Bool) → v ≡ true → ((m || v) || rest) ≡ total → (true || rest) ≡ total
 then_true true v rest total passes e = e
 then_true false v rest total passes e = rw passes at e
 
+-- after a record that is none, what was known stays
 pub else_same : (m v rest total : Bool) → v ≡ false → ((m || v) || rest) ≡ total → (m || rest) ≡ total
 else_same true v rest total other e = e
 else_same false v rest total other e = rw other at e
 
+-- behind the last record, what is known is whether there is a misfit
 pub misfit_end : (home : List ℕ → Bool) (before : List (List ℕ)) (rs : List Pair) (i : ℕ) (m total : Bool) →
     length rs ≤ i → (m || misfits home (before ++ keys_of (take i rs)) (drop i rs)) ≡ total → m ≡ total
 unfolding misfits
@@ -162,12 +171,14 @@ misfit_end home before rs i m total all e =
     ap (λ (xs : List Pair). m || misfits home (before ++ keys_of (take i rs)) xs) (sym (drop_all i rs all)) ∙ e in
     sym (or_none m) ∙ none
 
+-- one page more of a chain stands behind all that were seen
 pub pages_more : (seen chain : List ℕ) (i : ℕ) → i < length chain →
     seen ++ take (i + 1) chain ≡ (seen ++ take i chain) ++ get_or chain i 0 ∷ []
 pages_more seen chain i less =
     ap (λ (xs : List ℕ). seen ++ xs) (take_more chain i 0 less)
     ∙ sym (append_assoc seen (take i chain) (get_or chain i 0 ∷ []))
 
+-- the keys on a chain before a page, and the page's own, are those before the next page
 pub chain_keys : (rec : ℕ → List Pair) (chain : List ℕ) (i p : ℕ) (rs : List Pair) → i < length chain →
     get_or chain i 0 ≡ p → rs ≡ rec p →
     keys_of (flat_map rec (take i chain)) ++ keys_of rs ≡ keys_of (flat_map rec (take (i + 1) chain))

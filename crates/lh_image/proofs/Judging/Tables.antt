@@ -11,6 +11,7 @@ use Rattle.std.proofs.lemmas.Bool.{ne_eqb, eq-eqb, cases_eq}
 use Rattle.std.proofs.lemmas.List.{append-nil, get_or-set_same, get_or-set_other}
 use Rattle.lh_image.specs.Chains.{pages_from}
 
+-- a step along `next` moves the page it leaves to the pages that are done, and the chain stays the same
 pub chain_step : (next : ℕ → ℕ) (done : List ℕ) (n i p : ℕ) → i < n → p ≢ 0 →
     (done ++ p ∷ []) ++ pages_from next (n - (i + 1)) (next p) ≡ done ++ pages_from next (n - i) p
 unfolding pages_from
@@ -18,11 +19,13 @@ chain_step next done n i p lt some =
     let k : n - i ≡ suc (n - (i + 1)) = omega arith in
     rw (k, ne_eqb p 0 some) (append_assoc done (p ∷ []) (pages_from next (n - (i + 1)) (next p)))
 
+-- page 0 adds no pages to those that are done
 pub chain_zero : (next : ℕ → ℕ) (done : List ℕ) (k : ℕ) → done ++ pages_from next k 0 ≡ done
 unfolding pages_from
 chain_zero next done zero = append-nil done
 chain_zero next done (suc k) = append-nil done
 
+-- the same of any page, where no more pages may come
 pub chain_none : (next : ℕ → ℕ) (done : List ℕ) (p : ℕ) → done ++ pages_from next 0 p ≡ done
 unfolding pages_from
 chain_none next done p = append-nil done
@@ -38,17 +41,20 @@ count_more f a (suc n) =
     rw e at (count_more f (a + 1) n) in
     omega (arith, count_cons f a (suc n), count_cons f a n)
 
+-- before any page has come, counts of 0 say how many name each page
 pub named_none : (next : ℕ → ℕ) (m p : ℕ) → get_or (replicate m 0) p 0 ≡ names next 0 p
 unfolding names
 named_none next zero p = refl
 named_none next (suc m) zero = refl
 named_none next (suc m) (suc p) = named_none next m p
 
+-- one page more names the page that follows it once more, and no other
 pub named_more : (next : ℕ → ℕ) (n p x : ℕ) → next n ≡ x → names next (n + 1) p ≡ names next n p + cond (eqb x p) 1 0
 unfolding names
 named_more next n p x e =
     rw add-one (count_more (λ q. eqb (next q) p) 0 n ∙ (let z : 0 + n ≡ n = omega arith in rw (z, e) refl))
 
+-- of the pages that have come, no more name a page than there are
 pub named_few : (next : ℕ → ℕ) (n p : ℕ) → names next n p ≤ n
 unfolding names
 named_few next n p =
@@ -65,5 +71,6 @@ named_set next counts n x v e within value named p below = rw (named_more next n
       rw (get_or-set_other counts x p v 0 other, ne_eqb x p (λ z. other (sym z))) (omega (arith, named p below))
 ])
 
+-- a page with a lesser number than the one that is named is named as often as before
 pub named_kept : (next : ℕ → ℕ) (n p x : ℕ) → next n ≡ x → p < x → names next (n + 1) p ≡ names next n p
 named_kept next n p x e lt = rw (named_more next n p x e, ne_eqb x p (λ z. omega arith)) (omega arith)

@@ -68,6 +68,7 @@ memory_or bytes f late due = fault_from bytes f due
 module _ (bytes : List ℕ) (header : Header) (root : Extent) (entries : List Entry) (pairs : List Pair)
     (faults : PageFaults) (o : IsOpenedImage bytes header root)
     (come : HaveCome bytes header header.pages entries pairs faults) where
+  -- a fault that the pages of opened bytes are answered with is the first of the bytes, or out of memory
   pub checked_fault : (f : ImageFault) → IsLate f → AnswersView header entries pairs faults (Err f) →
       IsMemoryOr f (image_fault bytes)
   checked_fault f late exact =
@@ -75,6 +76,7 @@ module _ (bytes : List ℕ) (header : Header) (root : Extent) (entries : List En
       (exact_is bytes header entries pairs faults (Err f) (omega (arith, o.in_range.enough))
       (read_is bytes header root entries pairs faults o come) exact)
 
+  -- opened bytes whose pages are answered with a listing are an image of the listing that they show
   pub checked_image : ImageLaw → OneListingLaw → (l : Lists) → AnswersView header entries pairs faults (Ok l) →
       IsImage bytes (listing_of (view_of bytes))
   checked_image law one l exact =
@@ -93,6 +95,7 @@ own_parts v i p e =
     (none_first (head_rows_at v p ++ rest_rows_at v i p)).0 e in
     ((none_first (head_rows_at v p)).1 (kind, (number, (level, (used, tt)))), so_none _ _ slots)
 
+-- a page that has no fault by itself has none by its head
 pub own_head : (v : View) (i p : ℕ) → own_fault v i p ≡ None → None ≡ first_fault_of (head_rows_at v p)
 own_head v i p e = sym (own_parts v i p e).0
 
@@ -107,6 +110,7 @@ good_records f bytes k good few low =
     sym (bad_used_slot f bytes k low)
     ∙ find_none (is_bad_slot f bytes) 0 f.slots (none_from _ good) k (omega arith) (omega arith)
 
+-- a page that has no fault by itself has no bad record in a used slot
 pub own_records : (bytes : List ℕ) (i p : ℕ) (f : Format) (pg : List ℕ) (k : ℕ) → own_fault (view_of bytes) i p ≡ None →
     f ≡ format_of (version_of bytes) → pg ≡ page bytes p → used_of pg ≤ f.slots → k < used_of pg →
     is_bad_record f (slot f pg k) ≡ false
@@ -118,10 +122,12 @@ own_records bytes i p f pg k e fe pe few low =
 
 -- ---- a key in its slot
 
+-- keys of different lengths aren't the same
 pub other_length : (xs ys : List ℕ) → length xs ≢ length ys → bytes_eq xs ys ≡ false
 other_length xs ys differ = false_from_ne_true _ (λ same. differ (ap length ((bytes_eq-Decides xs ys).0 same)))
 
 module _ (f : Format) (bytes key : List ℕ) (n : ℕ) (before : value_in key (first_pairs f bytes n) ≡ None) where
+  -- a key that isn't found in the first slots isn't found with one slot more, which has another key
   pub scanned_on : bytes_eq (pair_of f (slot f bytes n)).key key ≡ false →
       value_in key (first_pairs f bytes (n + 1)) ≡ None
   scanned_on other =
@@ -147,11 +153,13 @@ module _ (f : Format) (bytes key : List ℕ) (n : ℕ) (before : value_in key (f
         ∙ ap (λ o. option_or o (value_in key (pair_of f (slot f bytes ((n + 1) + k)) ∷ [])))
         (found_still k ((n + 1) + k) refl)
 
+    -- the value of the first used slot that has the key is what is found in the page
     pub found_first_there : (used : ℕ) → used ≡ used_of bytes → n < used →
         value_in key (pairs_of f bytes) ≡ Some (pair_of f (slot f bytes n)).value
     found_first_there used is low =
         ap (value_in key) (sym (first_pairs-all f bytes used is)) ∙ found_still (used - (n + 1)) used (omega arith)
 
+-- a key that no used slot has isn't found in the page
 pub not_found_there : (f : Format) (bytes key : List ℕ) (n used : ℕ) → value_in key (first_pairs f bytes n) ≡ None →
     n ≡ used → used ≡ used_of bytes → value_in key (pairs_of f bytes) ≡ None
 not_found_there f bytes key n used before all is =
@@ -164,6 +172,7 @@ no_fault_first : (o : Option ImageFault) (w : Option (List ℕ)) (further : Resu
 no_fault_first None w further answer e = refl
 no_fault_first (Some f) w further answer e = absurd cc
 
+-- where a look-up is on its way to an answer without a fault, the page that it meets has none by itself
 pub step_good : (v : View) (key : List ℕ) (pages counter number : ℕ) (answer : Option (List ℕ)) →
     IsOnItsWay v key pages counter number → counter < pages → look_up v key ≡ Ok answer →
     own_fault v (home_of v key) number ≡ None
@@ -187,6 +196,7 @@ never_past v key pages counter number answer h past e =
 ok_same : (a b : Option (List ℕ)) (r : Result (Option (List ℕ)) ImageFault) → r ≡ Ok a → r ≡ Ok b → a ≡ b
 ok_same a b r e g = cc
 
+-- what a look-up in an image finds is what the plain map of all records has
 pub listed_as : MapLaw → (bytes key : List ℕ) (l : Lists) (answer : Option (List ℕ)) → IsImage bytes l →
     look_up (view_of bytes) key ≡ Ok answer → get (map_of (all_of l.lists)) key ≡ answer
 listed_as law bytes key l answer image e =
@@ -194,12 +204,14 @@ listed_as law bytes key l answer image e =
 
 -- ---- what is kept of the pages
 
+-- keys with different marks aren't the same
 pub mark_apart : (key other : List ℕ) (kept mark : ℕ) → kept ≡ code_mark (code_of other) →
     mark ≡ code_mark (code_of key) → kept ≢ mark → bytes_eq other key ≡ false
 mark_apart key other kept mark is sought differ =
     false_from_ne_true _
     (λ same. differ (is ∙ ap (λ k. code_mark (code_of k)) ((bytes_eq-Decides other key).0 same) ∙ sym sought))
 
+-- the marks of the first keys of a page, after one mark more
 pub marks_more : (f : Format) (page marks : List ℕ) (n mark : ℕ) → n < length marks →
     ((i : ℕ) → i < n → get_or marks i 0 ≡ code_mark (code_of (pair_of f (slot f page i)).key)) →
     mark ≡ code_mark (code_of (pair_of f (slot f page n)).key) →
@@ -233,9 +245,11 @@ image_page one bytes header root l o image p low high f pg fe pe =
           ∙ sound.clean.slots p low below) fits less,
     )
 
+-- one entry, in the header's place, is enough where no page behind it has come
 pub no_pages : (bytes : List ℕ) (entries : List PageIndex) → length entries ≡ 1 → AreIndexed bytes 1 entries
 no_pages bytes entries one = record { size = one; pages = λ p low high. absurd (omega arith) }
 
+-- with the entry of one page more, the first pages and that one have their entries
 pub pages_more : (bytes : List ℕ) (entries : List PageIndex) (n : ℕ) (entry : PageIndex) (f : Format) (pg : List ℕ) →
     f ≡ format_of (version_of bytes) → pg ≡ page bytes n → AreIndexed bytes n entries → IsIndexed f pg entry →
     AreIndexed bytes (n + 1) (entries ++ entry ∷ [])
@@ -254,6 +268,7 @@ pages_more bytes entries n entry f pg fe pe are is = record {
   ];
 }
 
+-- the entry of a page in the bytes is the entry of the page that was cut out of them
 pub indexed_as : (bytes : List ℕ) (p : ℕ) (entry : PageIndex) (f : Format) (pg : List ℕ) →
     f ≡ format_of (version_of bytes) → pg ≡ page bytes p →
     IsIndexed (format_of (version_of bytes)) (page bytes p) entry → IsIndexed f pg entry

@@ -146,6 +146,7 @@ comes_to v key (suc n) p f some low high e =
           next_within v (home_of v key) p good more in comes_to v key n (next v p) f more (omega arith) at.1 rest
     ]) (sym (found_more v key (suc n) n p refl some) ∙ e)
 
+-- a look-up's fault is that of a page of the key's chain, or names a page that leads back to itself
 pub fault_law : AddressLaw → FaultLaw
 unfolding look_up home_of
 fault_law addresses v key f some from room e =

@@ -107,6 +107,7 @@ kept m f q e =
     ∙ ap (λ b. cond b (get m q) None) e
 
 module _ (one : OneListingLaw) (addresses : AddressLaw) (lookup : LookupLaw) (placed : PlacedLaw) where
+  -- in an image of a listing, what is found is what the plain map of all records has, and no fault
   pub map_law : MapLaw
   unfolding view_of home_of look_up
   map_law bytes l key (P, path, i) =
@@ -238,6 +239,7 @@ first_own v i low e =
     own_by : (b i S : ℕ) → i < S → (leb (1 + i) S && not (eqb b (1 + i - 1))) ≡ false → b ≡ i
     own_by b i S low e = grind (arith, nat_tests)
 
+-- a value that is found stands with the key in a page of the key's bucket
 pub stands_law : AddressLaw → StandsLaw
 unfolding look_up home_of
 stands_law addresses v key value some from e =
@@ -258,6 +260,7 @@ stands_opened law bytes header root o key value e =
 
 -- ---- the header of an image's listing
 
+-- of an image that was opened, each field of the header is that of its listing's header
 pub listed : {X : Type 0} (bytes : List ℕ) (header : Header) (root : Extent) → IsOpenedImage bytes header root →
     (field : Header → X) (l : Lists) → IsImage bytes l →
     (P : ℕ) × (field header ≡ field (header_for (header_of bytes).version l P))

@@ -16,10 +16,12 @@ use Rattle.lh_image.proofs.Faults.FirstAnswers.{first_before, first_behind}
 use Rattle.lh_image.proofs.Images.ImageLaws.{some_pages}
 use Rattle.lh_image.proofs.OfReading.FirstPage.{due, due-front, due_is, front, header-front, magic_is}
 
+-- bytes that begin as an image of neither version have that as the fault of their opening
 pub opening_magic : (bytes : List ℕ) → no_magic bytes ≡ true → opening_fault bytes ≡ Some Magic
 unfolding opening_fault
 opening_magic bytes e = first_before (header_rows bytes) (size_rows bytes) Magic (magic_is bytes e)
 
+-- bytes that begin as a version's image but are fewer than a header are too short to be opened
 pub opening_short : (bytes : List ℕ) → no_magic bytes ≡ false → length bytes < page_bytes (version_of bytes) →
     opening_fault bytes ≡ Some Short
 unfolding opening_fault is_short first_fault_of
@@ -28,6 +30,7 @@ opening_short bytes e less =
     let short : ltb (length bytes) (page_bytes (version_of bytes)) ≡ true = grind (arith, nat_tests) in
     rw (e, test, short) refl
 
+-- the header of the first page, or the fault that is due to its fields, is what opening gives
 pub opens_header : (bytes page : List ℕ) (result : Result Header ImageFault) → page ≡ front bytes →
     no_magic bytes ≡ false → page_bytes (version_of bytes) ≤ length bytes →
     IfOk result (λ header. header ≡ header_of page) → result_err result ≡ due page → OpensHeader bytes result
@@ -51,6 +54,7 @@ module _ (bytes : List ℕ) (header : Header) (size : ℕ) (is : header ≡ head
   first_fits : page_bytes (version_of bytes) ≤ size
   first_fits = omega (arith, all, some_pages (page_bytes (version_of bytes)) header.pages (omega (arith, r.enough)))
 
+  -- fewer bytes than the header's pages have are too short
   pub size_short : length bytes < size → Some Short ≡ first_fault_of (size_rows bytes)
   unfolding is_short first_fault_of
   size_short less =
@@ -63,12 +67,14 @@ module _ (bytes : List ℕ) (header : Header) (size : ℕ) (is : header ≡ head
   unfolding is_short
   long_enough enough = let low = first_fits in rw (← size_is) (grind (arith, nat_tests))
 
+  -- of more bytes, some trail behind the last page
   pub size_trailing : size < length bytes → Some Trailing ≡ first_fault_of (size_rows bytes)
   unfolding has_trailing first_fault_of
   size_trailing more =
       let long : ltb (image_bytes bytes) (length bytes) ≡ true = rw (← size_is) (grind (arith, nat_tests)) in
       rw (long_enough (omega arith), long) refl
 
+  -- just as many have no fault of their number
   pub size_whole : length bytes ≡ size → None ≡ first_fault_of (size_rows bytes)
   unfolding has_trailing first_fault_of
   size_whole same =

@@ -14,10 +14,12 @@ use Rattle.lh_page.specs.PageTable.{slot}
 use Rattle.lh_image.specs.LookUp.{IsScannedTo, IsSlotOf, first_pairs, met_first, value_in}
 use Rattle.lh_image.proofs.Looking.Values.{value_in-append, value_in-cons, value_in-none}
 
+-- the records of the first slots, after one slot more
 pub first_pairs-more : (f : Format) (bytes : List ℕ) (n : ℕ) →
     first_pairs f bytes (n + 1) ≡ first_pairs f bytes n ++ pair_of f (slot f bytes n) ∷ []
 first_pairs-more f bytes n = map-range_with_len_more (λ i. pair_of f (slot f bytes i)) 0 n n (zero-add n)
 
+-- the records of all used slots are those of the page
 pub first_pairs-all : (f : Format) (bytes : List ℕ) (n : ℕ) → n ≡ used_of bytes →
     first_pairs f bytes n ≡ pairs_of f bytes
 unfolding pairs_of
@@ -51,6 +53,7 @@ slot_more f bytes key xs n None true low short is h = (
 slot_more f bytes key xs n None false low short is h =
     value_more key xs (pair_of f (slot f bytes n)) false is ∙ ap (λ o. option_or o None) h
 
+-- before any slot was looked at, no key was found and no record is away from its bucket
 pub scanned_none : (f : Format) (bytes key : List ℕ) (home : List ℕ → Bool) → IsScannedTo f bytes key home 0 None false
 scanned_none f bytes key home =
     record { good = λ i low. absurd (omega arith); strangers = refl; place = value_in-none key }
@@ -59,6 +62,7 @@ or_false : (b : Bool) → (b || false) ≡ b
 or_false true = refl
 or_false false = refl
 
+-- what was looked at in the first slots, after one slot more that has no bad record
 pub scanned_more : (f : Format) (bytes key s own : List ℕ) (home : List ℕ → Bool) (n : ℕ) (found : Option ℕ)
     (strange away sought : Bool) → n < f.slots → s ≡ slot f bytes n → is_bad_record f s ≡ false →
     value_length s ≤ f.value →

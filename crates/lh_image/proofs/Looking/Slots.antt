@@ -19,12 +19,14 @@ use Rattle.lh_image.proofs.Faults.Ranges.{find_none, none_found}
 
 -- ---- zeros
 
+-- bytes that are all zeros are zeros in their front and in their rest
 pub zero_parts : (n : ℕ) (xs : List ℕ) → all_zero xs ≡ true →
     (all_zero (take n xs) ≡ true) × (all_zero (drop n xs) ≡ true)
 zero_parts n xs h =
     and_parts (all_zero (take n xs)) (all_zero (drop n xs))
     (sym (list_all-append (λ b. b == 0) (take n xs) (drop n xs)) ∙ (ap all_zero (take-append-drop n xs) ∙ h))
 
+-- bytes whose front and rest are all zeros are all zeros
 pub zero_join : (n : ℕ) (xs : List ℕ) → all_zero (take n xs) ≡ true → all_zero (drop n xs) ≡ true → all_zero xs ≡ true
 zero_join n xs a b =
     sym (ap all_zero (take-append-drop n xs)) ∙ list_all-append (λ b. b == 0) (take n xs) (drop n xs)
@@ -73,11 +75,13 @@ slots_from_rest f bytes i j clear low =
 
 -- ---- bad slots
 
+-- a used slot is bad exactly where its record is
 pub bad_used_slot : (f : Format) (bytes : List ℕ) (i : ℕ) → i < used_of bytes →
     is_bad_slot f bytes i ≡ is_bad_record f (slot f bytes i)
 unfolding is_bad_slot
 bad_used_slot f bytes i used = rw (lt-ltb i (used_of bytes) used) refl
 
+-- an unused slot is bad exactly where it isn't all zeros
 pub bad_unused_slot : (f : Format) (bytes : List ℕ) (i : ℕ) → used_of bytes ≤ i →
     is_bad_slot f bytes i ≡ not (all_zero (slot f bytes i))
 unfolding is_bad_slot
@@ -95,6 +99,7 @@ bad_slot_there f bytes i low bad =
     some_by (find (is_bad_slot f bytes) (range_with_len 0 f.slots))
     (λ e. false≢true (sym (find_none (is_bad_slot f bytes) 0 f.slots e i (omega arith) (omega arith)) ∙ bad))
 
+-- where no slot is bad, none is found in the page
 pub bad_slot_none : (f : Format) (bytes : List ℕ) → ((i : ℕ) → i < f.slots → is_bad_slot f bytes i ≡ false) →
     bad_slot f bytes ≡ None
 unfolding bad_slot
@@ -142,15 +147,18 @@ good_lengths f s good =
 
 -- ---- the rows of slots and records
 
+-- where there is a bad slot, its fault is the first of slots and records
 pub row_slot : (b t : Bool) (s m : ImageFault) → b ≡ true → Some s ≡ first_fault_of (where_so b s ∷ where_so t m ∷ [])
 unfolding first_fault_of
 row_slot b t s m e = rw e refl
 
+-- where there is none, but a misfit, the misfit's fault is the first
 pub row_misfit : (b t : Bool) (s m : ImageFault) → b ≡ false → t ≡ true →
     Some m ≡ first_fault_of (where_so b s ∷ where_so t m ∷ [])
 unfolding first_fault_of
 row_misfit b t s m e g = rw (e, g) refl
 
+-- where there is neither, slots and records have no fault
 pub row_none : (b t : Bool) (s m : ImageFault) → b ≡ false → t ≡ false →
     None ≡ first_fault_of (where_so b s ∷ where_so t m ∷ [])
 unfolding first_fault_of

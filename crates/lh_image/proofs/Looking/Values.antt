@@ -17,6 +17,7 @@ value_by : (x : Pair) (b : Bool) (o : Option Pair) →
 value_by x true o = refl
 value_by x false o = refl
 
+-- the value that is found is the first record's, where that has the key, or else the one found in the others
 pub value_in-cons : (key : List ℕ) (x : Pair) (xs : List Pair) →
     value_in key (x ∷ xs) ≡ cond (bytes_eq x.key key) (Some x.value) (value_in key xs)
 unfolding value_in
@@ -27,6 +28,7 @@ or_by : (b : Bool) (v : List ℕ) (o p : Option (List ℕ)) →
 or_by true v o p = refl
 or_by false v o p = refl
 
+-- in records with others behind them, the value found is that in the first ones, or else that in the others
 pub value_in-append : (key : List ℕ) (xs ys : List Pair) →
     value_in key (xs ++ ys) ≡ option_or (value_in key xs) (value_in key ys)
 unfolding value_in
@@ -36,6 +38,7 @@ value_in-append key (x ∷ xs) ys =
     ∙ or_by (bytes_eq x.key key) x.value (value_in key xs) (value_in key ys)
     ∙ ap (λ o. option_or o (value_in key ys)) (sym (value_in-cons key x xs))
 
+-- among no records, no value is found
 pub value_in-none : (key : List ℕ) → value_in key [] ≡ None
 unfolding value_in
 value_in-none key = refl

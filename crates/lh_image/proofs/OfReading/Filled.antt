@@ -34,6 +34,7 @@ ended xs ys buffer n less none e =
       rest = ap Some (none ∙ sym (drop_all (length buffer) xs short));
     }
 
+-- of known bytes as many came to the front of a filled buffer as it holds, or all
 pub filled : (old new : Option (List ℕ)) (n : ℕ) (buffer : List ℕ) → Fills old new n buffer →
     IfSome old (λ bytes. IsFilled bytes n buffer new)
 filled None new n buffer fills = tt
@@ -60,6 +61,7 @@ pub whole_read : (old new : Option (List ℕ)) (n : ℕ) (buffer : List ℕ) →
 whole_read None new n buffer filled all each = tt
 whole_read (Some bytes) new n buffer filled all each = fills_whole bytes new n buffer filled all each
 
+-- where a buffer wasn't filled to its end, there were fewer bytes than it holds
 pub cut_short : (old new : Option (List ℕ)) (n : ℕ) (buffer : List ℕ) →
     IfSome old (λ bytes. IsFilled bytes n buffer new) → n < length buffer →
     IfSome old (λ bytes. length bytes < length buffer)

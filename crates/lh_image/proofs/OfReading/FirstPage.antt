@@ -39,6 +39,7 @@ use Rattle.lh_image.proofs.OfReading.Filled.{fills_whole}
 abbrev pub front : List ℕ → List ℕ
 front bytes = take (page_bytes (version_of bytes)) bytes
 
+-- the header that the first page shows is that of all bytes
 pub header-front : (bytes : List ℕ) → header_of (front bytes) ≡ header_of bytes
 unfolding header_of
 header-front bytes =
@@ -57,6 +58,7 @@ header-front bytes =
       records = little_from-take records_offset 8 w bytes (omega arith) i;
     }
 
+-- the first page alone shows whether the bytes behind the header's fields are zeros
 pub zeros-front : (bytes : List ℕ) → ends_in_zeros (front bytes) ≡ ends_in_zeros bytes
 zeros-front bytes =
     let v : Version = version_of bytes in
@@ -72,20 +74,24 @@ zeros-front bytes =
 abbrev pub due : List ℕ → Option ImageFault
 due bytes = first_fault_of (field_rows (header_of bytes) (ends_in_zeros bytes))
 
+-- the first page alone shows what the header's fields are due
 pub due-front : (bytes : List ℕ) → due (front bytes) ≡ due bytes
 due-front bytes = rw (header-front bytes, zeros-front bytes) refl
 
 -- ---- the answers
 
+-- a fault is due where it is what is to be answered
 pub told : (f : ImageFault) (answer : Result Lists ImageFault) → answer ≡ Err f → IsDueFault f answer
 told ReadFault answer e = tt
 told Memory answer e = tt
 told f answer e = e
 
+-- the fault of some bytes is what is to be answered to them
 pub read_as : (bytes : List ℕ) (f : ImageFault) → image_fault bytes ≡ Some f → reading_of bytes ≡ Err f
 unfolding reading_of
 read_as bytes f e = rw e refl
 
+-- the first fault that the first page shows is what is to be answered
 pub from_header : (bytes : List ℕ) (f : ImageFault) → first_fault_of (header_rows bytes) ≡ Some f →
     reading_of bytes ≡ Err f
 unfolding image_fault
@@ -107,6 +113,7 @@ leaves_due None true f bytes now rest e =
     let is : f ≡ Counts = cc in rw is (consumed (page_bytes (version_of bytes)) bytes now rest)
 leaves_due None false f bytes now rest e = let no_fault : ⊥ = cc in absurd no_fault
 
+-- bytes that begin as no image have that as the first fault of their header
 pub magic_is : (bytes : List ℕ) → no_magic bytes ≡ true → first_fault_of (header_rows bytes) ≡ Some Magic
 unfolding first_fault_of
 magic_is bytes e = rw e refl
@@ -119,6 +126,7 @@ short_is bytes e less =
     let short : ltb (length bytes) (page_bytes (version_of bytes)) ≡ true = grind (arith, nat_tests) in
     read_as bytes Short (rw (e, test, short) refl)
 
+-- where bytes begin as an image and have a whole first page, the header's fault is what its fields are due
 pub due_is : (bytes : List ℕ) → no_magic bytes ≡ false → page_bytes (version_of bytes) ≤ length bytes →
     first_fault_of (header_rows bytes) ≡ due bytes
 unfolding first_fault_of
@@ -137,6 +145,7 @@ begun bytes buffer n mid size filled =
           ∙ version-front 1024 bytes (omega arith),
     )
 
+-- where what came first begins as no image, that is the fault that is due, and all behind the first page is left
 pub not_magic : (old new : Option (List ℕ)) (n : ℕ) (buffer : List ℕ) (page : Version → List ℕ) → length buffer ≡ 1024 →
     IfSome old (λ bytes. IsFilled bytes n buffer new) → no_magic (take n buffer) ≡ true →
     IfSome old (λ bytes. ReadsFront bytes (Err Magic) page new)
@@ -147,6 +156,7 @@ not_magic (Some bytes) new n buffer page size filled test =
     let first : page_bytes (version_of bytes) ≡ 1024 = ap page_bytes (version_of-none bytes none) ∙ page_bytes-one in
     (from_header bytes Magic (magic_is bytes none), rw first (consumed 1024 bytes new rest))
 
+-- where what came begins as an image but is shorter than any page, the fault of too few bytes is due
 pub too_short : (old new : Option (List ℕ)) (n : ℕ) (buffer : List ℕ) (page : Version → List ℕ) → length buffer ≡ 1024 →
     IfSome old (λ bytes. IsFilled bytes n buffer new) → no_magic (take n buffer) ≡ false → n < 1024 →
     IfSome old (λ bytes. ReadsFront bytes (Err Short) page new)
@@ -158,6 +168,7 @@ too_short (Some bytes) new n buffer page size filled test less =
       tt,
     )
 
+-- where the buffer was filled and begins as an image, the front of the bytes came and tells their version
 pub has_begun : (version : Version) (old new : Option (List ℕ)) (n : ℕ) (buffer : List ℕ) → length buffer ≡ 1024 →
     IfSome old (λ bytes. IsFilled bytes n buffer new) → no_magic (take n buffer) ≡ false → 1024 ≤ n →
     version ≡ version_of (take n buffer) → AreBytes buffer →
@@ -173,6 +184,7 @@ has_begun version (Some bytes) new n buffer size filled test whole told each =
 
 -- ---- the bytes of a longer page behind them
 
+-- where the rest of the first page didn't come, the reason for it is the answer that is due
 pub rest_cut : (version : Version) (old mid new : Option (List ℕ)) (front rest : List ℕ) (f : ImageFault) →
     length front ≡ 1024 → length rest ≡ page_bytes version - 1024 →
     IfSome old (λ bytes. HasBegun version bytes front mid) → IfSome mid (λ bytes. IsCut bytes (length rest) f) →
@@ -204,6 +216,7 @@ pub version_joined : (front rest : List ℕ) → length front ≡ 1024 → versi
 version_joined front rest size =
     sym (version-front 1024 (front ++ rest) (omega arith)) ∙ ap version_of (take_at front rest 1024 size)
 
+-- where the front of the first page came and then its rest, the page is the front of the bytes
 pub page_came : (version : Version) (old mid new : Option (List ℕ)) (front rest : List ℕ) (page : Version → List ℕ) →
     length front ≡ 1024 → length rest ≡ page_bytes version - 1024 →
     IfSome old (λ bytes. HasBegun version bytes front mid) → IfSome mid (λ bytes. FillsWhole bytes rest new) →
@@ -263,6 +276,7 @@ left_first : (bytes : List ℕ) (now : Option (List ℕ)) (f : ImageFault) → L
 left_first bytes now Trailing h = absurd h
 left_first bytes now f h = h
 
+-- what a read of the header leaves after a fault is what that fault leaves
 pub header_left : (old new : Option (List ℕ)) (f : ImageFault) → IfSome old (λ bytes. ReadsHeader bytes (Err f) new) →
     IfSome old (λ bytes. Leaves {X = Lists} (Err f) bytes new)
 header_left None new f h = tt
@@ -273,6 +287,7 @@ page_is : (version : Version) (bytes page : List ℕ) (now : Option (List ℕ)) 
     HasBegun version bytes page now → page ≡ front bytes
 page_is version bytes page now size has = has.filled.front ∙ ap (λ n. take n bytes) (size ∙ ap page_bytes has.told)
 
+-- the first page's header, or what its fields are due, is the header of the bytes, or the answer that is due
 pub reads_first : (version : Version) (old new : Option (List ℕ)) (page : List ℕ) (result : Result Header ImageFault) →
     length page ≡ page_bytes version → IfSome old (λ bytes. HasBegun version bytes page new) →
     IfOk result (λ header. header ≡ header_of page) → result_err result ≡ due page →

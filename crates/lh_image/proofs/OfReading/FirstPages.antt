@@ -13,9 +13,11 @@ first_entry : (p : ℕ) → entry_at (no_entry ∷ []) p ≡ no_entry
 first_entry zero = refl
 first_entry (suc p) = refl
 
+-- with the header's entry alone, each page's records lie among those of all
 pub within_first : (entries : List Entry) (pairs : List Pair) → entries ≡ no_entry ∷ [] → AreWithin entries pairs
 within_first entries pairs e p = rw (e, first_entry p) (omega arith)
 
+-- where a header was read without a fault, its page came, with its entry alone and nothing noted
 pub come_first : (bytes : List ℕ) (header : Header) (entries : List Entry) (pairs : List Pair) (faults : PageFaults)
     (now : Option (List ℕ)) → entries ≡ no_entry ∷ [] →
     faults ≡ record { kind = None; bucket = None; level = None; used = None; slot = None; sum = 0 } →

@@ -173,6 +173,7 @@ header_due bytes now ReadFault h = tt
 header_due bytes now Memory h = tt
 header_due bytes now f h = same_fault bytes f (λ e. cc) h.0
 
+-- a fault of the header is the one that is due of the image alone
 pub header_told : (old new : Option (List ℕ)) (f : ImageFault) → IfSome old (λ bytes. ReadsHeader bytes (Err f) new) →
     IfSome old (λ bytes. IsDueFault f (reading_of (leading bytes)))
 header_told None new f h = tt
@@ -184,6 +185,7 @@ cut_other bytes size ReadFault cut = λ e. cc
 cut_other bytes size Memory cut = λ e. cc
 cut_other bytes size f cut = absurd cut
 
+-- where not all pages came, the reason for it is the fault that is due of the image alone
 pub cut_told : (old mid : Option (List ℕ)) (header : Header) (f : ImageFault) →
     IfSome old (λ bytes. HasHeader header bytes mid) →
     ((bytes : List ℕ) → HasHeader header bytes mid → IsCut bytes (page_bytes (version_of bytes) * header.pages) f) →
@@ -200,6 +202,7 @@ cut_leaves bytes size now ReadFault cut = tt
 cut_leaves bytes size now Memory cut = tt
 cut_leaves bytes size now f cut = absurd cut
 
+-- where not all pages came, anything may be left after the fault
 pub cut_left : (old mid now : Option (List ℕ)) (header : Header) (f : ImageFault) →
     IfSome old (λ bytes. HasHeader header bytes mid) →
     ((bytes : List ℕ) → HasHeader header bytes mid → IsCut bytes (page_bytes (version_of bytes) * header.pages) f) →
@@ -332,6 +335,7 @@ CameBefore mid last header entries pairs faults =
 module _ (mid last : Option (List ℕ)) (header : Header) (entries : List Entry) (pairs : List Pair) (faults : PageFaults)
     (result : Result Lists ImageFault) (some : 1 ≤ header.pages)
     (read : CameBefore mid last header entries pairs faults) where
+  -- where all pages came, the answer to their View is the one that is due of the image alone
   pub answered : (old : Option (List ℕ)) → IfSome old (λ bytes. HasHeader header bytes mid) →
       AnswersView header entries pairs faults result →
       IfSome old (λ bytes. IsDueAnswer (λ listing l. listing ≡ l) result (reading_of (leading bytes)))
@@ -340,6 +344,7 @@ module _ (mid last : Option (List ℕ)) (header : Header) (entries : List Entry)
       exact_is (leading bytes) header entries pairs faults result some
       (read-leading bytes header entries pairs faults mid some has (read bytes has).0) exact
 
+  -- where all pages came and a listing is answered, the image alone is an image of it
   pub image_read : (old : Option (List ℕ)) → ImageLaw → IfSome old (λ bytes. HasHeader header bytes mid) →
       AnswersView header entries pairs faults result →
       IfSome old (λ bytes. IfOk result (λ listing. IsImage (leading bytes) listing))
@@ -361,6 +366,7 @@ rest_is : (bytes : List ℕ) (last : Option (List ℕ)) (size : ℕ) → last �
 unfolding following
 rest_is bytes last size e is = e ∙ ap (λ n. Some (drop n bytes)) is
 
+-- where all pages came, what is left is what follows the image, or what a late fault leaves
 pub left : (old mid last : Option (List ℕ)) (header : Header) (entries : List Entry) (pairs : List Pair)
     (faults : PageFaults) (result : Result Lists ImageFault) → 1 ≤ header.pages →
     CameBefore mid last header entries pairs faults →
@@ -411,6 +417,7 @@ faultless_size bytes none =
     just_whole (page_bytes (version_of bytes)) (image_bytes bytes) (length bytes) (so_none _ _ rows.1.1.1.0)
     (so_none _ _ rows.1.1.1.1.0)
 
+-- of an image with other bytes behind it, the image is what leads, and they are what follows
 pub leading_law : OneListingLaw → LeadingLaw
 unfolding leading following
 leading_law law bytes rest l is =

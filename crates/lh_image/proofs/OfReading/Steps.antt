@@ -36,6 +36,7 @@ cond_noted : (b : Bool) (a p : ℕ) (o : Option ℕ) (test : Bool) →
 cond_noted true a p o test = refl
 cond_noted false a p o test = refl
 
+-- with one number more, that one is noted where it passes and none did before
 pub find_more : (f : ℕ → Bool) (a m : ℕ) →
     find f (range_with_len a (suc m)) ≡ noted (find f (range_with_len a m)) (a + m) (f (a + m))
 find_more f a zero = let e : a + 0 ≡ a = omega arith in rw e refl
@@ -47,6 +48,7 @@ find_more f a (suc m) =
     ap (λ (o : Option ℕ). cond (f a) (Some a) o) rest
     ∙ cond_noted (f a) a (a + suc m) (find f (range_with_len (a + 1) m)) (f (a + suc m))
 
+-- with one number more, the sum grows by what that one gives
 pub sum_more : (f : ℕ → ℕ) (a m : ℕ) → sum_by f (range_with_len a (suc m)) ≡ sum_by f (range_with_len a m) + f (a + m)
 sum_more f a zero = let e : a + 0 ≡ a = omega arith in rw e (omega (arith, sum_by-cons f a (range_with_len (a + 1) 0)))
 sum_more f a (suc m) =
@@ -57,6 +59,7 @@ sum_more f a (suc m) =
 
 -- ---- the tests
 
+-- what is noted after one page more is noted of all pages up to that one
 pub noted_more : (v : View) (header : Header) (n : ℕ) (head : PageHead) (faults : PageFaults) (bad : Bool) → 1 ≤ n →
     header ≡ v.header → head ≡ v.head n → bad ≡ known_bad_slot v n →
     AreNoted v (n - 1) faults → AreNoted v ((n + 1) - 1) (seen faults header n head bad)
@@ -100,6 +103,7 @@ entry_before entries e p within = get_or_append_left entries (e ∷ []) no_entry
 entry_last : (entries : List Entry) (e : Entry) (n : ℕ) → length entries ≡ n → entry_at (entries ++ e ∷ []) n ≡ e
 entry_last entries e n size = get_or_at entries e [] no_entry n size
 
+-- after one page more, each page's records lie among those of all
 pub within_more : (entries new_entries : List Entry) (pairs new_pairs : List Pair) (own following : ℕ)
     (version : Version) (bytes : List ℕ) (room : ℕ) → AreWithin entries pairs →
     IsPushed entries pairs new_entries new_pairs own following version bytes room → AreWithin new_entries new_pairs
@@ -197,6 +201,7 @@ own_sound bytes n low plain none =
 
 -- ---- all of it
 
+-- where the next page was read, kept and noted, one page more came
 pub come_more : (bytes : List ℕ) (header : Header) (n : ℕ) (entries new_entries : List Entry)
     (pairs new_pairs : List Pair) (faults : PageFaults) (head : PageHead) (bad : Bool) (buffer : List ℕ) →
     1 ≤ n → buffer ≡ page bytes n → head ≡ head_of buffer →

@@ -56,6 +56,7 @@ short_is bytes header now has less =
     read_as bytes Short
     (first_behind (header_rows bytes) (size_rows bytes ++ page_rows (view_of bytes)) has.faultless ∙ rw test refl)
 
+-- where not all pages of the header came, the reason for it is the fault that is due
 pub cut_is : (bytes : List ℕ) (header : Header) (now : Option (List ℕ)) (f : ImageFault) → HasHeader header bytes now →
     IsCut bytes (page_bytes (version_of bytes) * header.pages) f → IsDueFault f (reading_of bytes)
 cut_is bytes header now Short has cut = short_is bytes header now has cut
@@ -63,6 +64,7 @@ cut_is bytes header now ReadFault has cut = tt
 cut_is bytes header now Memory has cut = tt
 cut_is bytes header now f has cut = absurd cut
 
+-- the same of the bytes that a reader had, where those are known
 pub cut_told : (old mid : Option (List ℕ)) (header : Header) (f : ImageFault) →
     IfSome old (λ bytes. HasHeader header bytes mid) →
     ((bytes : List ℕ) → HasHeader header bytes mid → IsCut bytes (page_bytes (version_of bytes) * header.pages) f) →
@@ -105,6 +107,7 @@ end_is bytes header mid now Trailing has enough no_end =
 end_is bytes header mid now ReadFault has enough no_end = (tt, tt)
 end_is bytes header mid now f has enough no_end = absurd no_end
 
+-- where the last page isn't the end of the bytes, the reason for it is the fault that is due
 pub end_told : (old mid last now : Option (List ℕ)) (header : Header) (f : ImageFault) →
     IfSome old (λ bytes. HaveAll bytes header mid last) → IfSome last (λ rest. IsNoEnd rest f now) →
     IfSome old (λ bytes. IsDueFault f (reading_of bytes))
@@ -112,6 +115,7 @@ end_told None mid last now header f all no_end = tt
 end_told (Some bytes) mid last now header f all no_end =
     (end_is bytes header mid now f all.0 all.1 (rw all.2 at no_end)).0
 
+-- where the last page isn't the end of the bytes, what is left is what that fault leaves
 pub end_left : (old mid last now : Option (List ℕ)) (header : Header) (f : ImageFault) →
     IfSome old (λ bytes. HaveAll bytes header mid last) → IfSome last (λ rest. IsNoEnd rest f now) →
     IfSome old (λ bytes. Leaves {X = Lists} (Err f) bytes now)
@@ -121,6 +125,7 @@ end_left (Some bytes) mid last now header f all no_end =
 
 -- ---- as many as there are
 
+-- where all pages came and nothing was left behind them, the bytes were read to their end
 pub all_read : (bytes : List ℕ) (mid last now : Option (List ℕ)) (header : Header) (entries : List Entry)
     (pairs : List Pair) (faults : PageFaults) → HasHeader header bytes mid →
     HaveCome bytes header header.pages entries pairs faults →
@@ -135,6 +140,7 @@ all_read bytes mid last now header entries pairs faults has come left ended =
       size = omega (arith, come.enough, ap length none, length-drop all bytes);
     }
 
+-- where all pages came, the bytes have as many, and what stands behind the pages is left
 pub have_all : (old mid last : Option (List ℕ)) (header : Header) (entries : List Entry) (pairs : List Pair)
     (faults : PageFaults) → IfSome old (λ bytes. HasHeader header bytes mid) →
     ((bytes : List ℕ) → HasHeader header bytes mid →
@@ -209,6 +215,7 @@ AnswersView header entries pairs faults result =
     (v : View) → v.header ≡ header → IsViewKept v entries pairs faults →
     IsDueAnswer (λ listing l. listing ≡ l) result (judged v)
 
+-- where the bytes were read to their end, the answer to their View is the one that is due
 pub exact_is : (bytes : List ℕ) (header : Header) (entries : List Entry) (pairs : List Pair) (faults : PageFaults)
     (result : Result Lists ImageFault) → 1 ≤ header.pages → IsRead bytes header entries pairs faults →
     AnswersView header entries pairs faults result → IsDueAnswer (λ listing l. listing ≡ l) result (reading_of bytes)
@@ -217,6 +224,7 @@ exact_is bytes header entries pairs faults result some read exact =
     (exact (view_of bytes) (header_same bytes ∙ sym read.come.fields)
     (kept_is bytes header entries pairs faults read))
 
+-- where all pages came and nothing was left behind them, the answer to their View is the one that is due
 pub answered : (old mid last now : Option (List ℕ)) (header : Header) (entries : List Entry) (pairs : List Pair)
     (faults : PageFaults) (result : Result Lists ImageFault) → 1 ≤ header.pages →
     IfSome old (λ bytes. HasHeader header bytes mid) →
@@ -252,6 +260,7 @@ each_byte_of bytes header entries pairs faults read i =
           get_or_past bytes i 0 (omega (arith, read.size)) in omega (arith, none)
     ]
 
+-- bytes that were read to their end are an image of the listing that is answered
 pub image_is : (bytes : List ℕ) (header : Header) (entries : List Entry) (pairs : List Pair) (faults : PageFaults)
     (result : Result Lists ImageFault) → ImageLaw → 1 ≤ header.pages → IsRead bytes header entries pairs faults →
     AnswersView header entries pairs faults result → IfOk result (λ listing. IsImage bytes listing)
@@ -261,6 +270,7 @@ image_is bytes header entries pairs faults (Ok x) law some read exact =
     let whole = whole_from bytes answer.0 answer.1 in
     (law bytes x (each_byte_of bytes header entries pairs faults read)).1 (whole.0, answer.2 ∙ sym whole.1)
 
+-- the same of bytes whose pages all came, with nothing left behind them
 pub image_read : (old mid last now : Option (List ℕ)) (header : Header) (entries : List Entry) (pairs : List Pair)
     (faults : PageFaults) (result : Result Lists ImageFault) → ImageLaw → 1 ≤ header.pages →
     IfSome old (λ bytes. HasHeader header bytes mid) →

@@ -29,6 +29,7 @@ next_rule x S P b c = (
   λ f. grind (arith, nat_tests),
 )
 
+-- where no page has a bad bucket or a bad next page, or is named twice, the pages are linked
 pub linked_from_clean : (v : View) → buckets v < page_count v → Clean (page_count v) (at_head bad_bucket v) →
     Clean (page_count v) (bad_next (links v)) → Clean (page_count v) (named_twice (links v)) →
     IsLinked (next v) (bucket v) (buckets v) (page_count v)
@@ -64,6 +65,7 @@ linked_from_clean v some clean_bucket clean_next clean_twice =
       ];
     }
 
+-- where no page is on no chain, each is on the chain of some bucket
 pub on_from_clean : (v : View) → Clean (page_count v) (on_no_chain (links v)) → OnChains v
 unfolding on_no_chain
 on_from_clean v clean p low high =
@@ -72,6 +74,7 @@ on_from_clean v clean p low high =
 
 -- ---- and back
 
+-- linked pages, of buckets that the file has, have no bad bucket
 pub clean_bucket_from : (v : View) → ((p : ℕ) → 1 ≤ p → p < page_count v → bucket v p < buckets v) →
     IsLinked (next v) (bucket v) (buckets v) (page_count v) → Clean (page_count v) (at_head bad_bucket v)
 unfolding bad_bucket
@@ -84,6 +87,7 @@ clean_bucket_from v below linked p low high =
       below p low high,
     )
 
+-- linked pages have no bad next page
 pub clean_next_from : (v : View) → IsLinked (next v) (bucket v) (buckets v) (page_count v) →
     Clean (page_count v) (bad_next (links v))
 unfolding bad_next
@@ -91,6 +95,7 @@ clean_next_from v linked p low high =
     (next_rule (next v p) (buckets v) (page_count v) (bucket v p) (bucket v (next v p))).1
     (λ more. (linked.no_head p low high more, linked.within p low high more, linked.same p low high more))
 
+-- linked pages aren't named twice
 pub clean_twice_from : (v : View) → IsView v → IsLinked (next v) (bucket v) (buckets v) (page_count v) →
     Clean (page_count v) (named_twice (links v))
 unfolding names
@@ -108,6 +113,7 @@ clean_twice_from v view linked p low high =
     ]) in
     lt-leb 2 (count_by (λ q. eqb (next v q) p) (range_with_len 0 (page_count v))) (omega arith)
 
+-- where each page is on the chain of some bucket, no page is on no chain
 pub clean_chains_from : (v : View) → OnChains v → Clean (page_count v) (on_no_chain (links v))
 unfolding on_no_chain
 clean_chains_from v on p low high =

@@ -25,6 +25,7 @@ pub record IsFilled (next len : ℕ → ℕ) (b S p : ℕ) : Type 0 where
   pub some : S < p → 1 ≤ len p
 
 module _ (next bucket : ℕ → ℕ) (S P b : ℕ) (rec : ℕ → List Pair) (linked : IsLinked next bucket S P) where
+  -- where each page's number of records is as it has to be, the records along a path are packed
   pub packed : (xs : List ℕ) (p : ℕ) → 1 ≤ p → p < P → IsPath next p xs →
       ((q : ℕ) → 1 ≤ q → q < P → IsFilled next (λ r. length (rec r)) b S q) → IsPacked b (map rec xs)
   packed [] p low high path filled = absurd (omega arith)

@@ -12,6 +12,7 @@ no_page_twice next xs h k m path less below same =
     let e : drop k xs ≡ drop m xs = path_only next (drop k xs) (drop m xs) (get_or xs k 0) one two in
     omega (arith, length-drop k xs, length-drop m xs, ap length e)
 
+-- paths have no page in common, and a path has no page twice
 pub paths_law : PathsLaw
 paths_law next bucket S P path covered = (
   λ i j p low below here there. sym (covered.own i p low here).2 ∙ (covered.own j p below there).2,

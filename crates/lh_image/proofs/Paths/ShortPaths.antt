@@ -7,12 +7,14 @@ use Rattle.lh_image.specs.Chains.{stands_in, IsPath, IsCovered, chain, ChainLaw}
 use Rattle.lh_image.proofs.Paths.Pigeons.{pigeonhole}
 use Rattle.lh_image.proofs.Paths.Walks.{path_only, path_is, covered_chains, covered_same, linked_from_covered}
 
+-- the rest of a path, from one of its pages on, is a path from that page
 pub path_from : (next : ℕ → ℕ) (xs : List ℕ) (h k : ℕ) → IsPath next h xs → k < length xs →
     IsPath next (get_or xs k 0) (drop k xs)
 path_from next [] h k path l = absurd (omega arith)
 path_from next (x ∷ xs) h zero path l = rw path.0 (refl, path.1, path.2)
 path_from next (x ∷ xs) h (suc k) path l = path_from next xs (next h) k path.2 (omega arith)
 
+-- the page at each place of a list stands in it
 pub stands_at : (xs : List ℕ) (k : ℕ) → k < length xs → stands_in xs (get_or xs k 0) ≡ true
 unfolding stands_in
 stands_at [] k l = absurd (omega arith)
@@ -41,12 +43,14 @@ path_short next xs h P path within =
     ] in
     pigeonhole (length xs) P (λ k. get_or xs k 0) (λ k l. within (get_or xs k 0) (stands_at xs k l)) one
 
+-- where each page stands on the path of its bucket, the paths are the chains
 pub paths_are_chains : (next bucket : ℕ → ℕ) (S P : ℕ) (path : ℕ → List ℕ) → IsCovered next bucket S P path → (i : ℕ) →
     i < S → chain next P i ≡ path i
 paths_are_chains next bucket S P path covered i l =
     path_is next (path i) (1 + i) P (covered.follows i l)
     (path_short next (path i) (1 + i) P (covered.follows i l) (λ p here. (covered.own i p l here).1))
 
+-- pages that are linked and each on a chain have the chains as their paths, and no others have paths
 pub chain_law : ChainLaw
 chain_law next bucket S P path none some = (
   λ a. covered_same next bucket S P (chain next P) path a.2 (covered_chains next bucket S P none some a.0 a.1),

@@ -31,6 +31,7 @@ sum_plus f g h a (suc n) all =
       sum_by-cons h a (range_with_len (a + 1) n),
     )
 
+-- functions that agree in a range have the same sum over it
 pub sum_same : (f g : ℕ → ℕ) (a n : ℕ) → ((p : ℕ) → a ≤ p → p < a + n → f p ≡ g p) →
     sum_by f (range_with_len a n) ≡ sum_by g (range_with_len a n)
 sum_same f g a zero all = refl
@@ -95,6 +96,7 @@ sum_buckets next bucket S P path f covered (suc m) i le =
     (λ p l h. sum_by-cons (λ j. only (path j) f p) i (range_with_len (i + 1) m)) in
     omega (arith, sum_by-cons (λ j. sum_by f (path j)) i (range_with_len (i + 1) m))
 
+-- the sum over the paths of all buckets is the sum over all pages
 pub sum_covered : (next bucket : ℕ → ℕ) (S P : ℕ) (path : ℕ → List ℕ) (f : ℕ → ℕ) → IsCovered next bucket S P path →
     sum_by (λ j. sum_by f (path j)) (range_with_len 0 S) ≡ sum_by f (range_with_len 1 (P - 1))
 sum_covered next bucket S P path f covered =

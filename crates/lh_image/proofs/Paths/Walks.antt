@@ -12,6 +12,7 @@ unfoldable pub walk : (ℕ → ℕ) → ℕ → ℕ → ℕ
 walk next p zero = p
 walk next p (suc k) = next (walk next p k)
 
+-- some steps from the next page lead where one step more leads from the page itself
 pub walk_on : (next : ℕ → ℕ) (p k : ℕ) → walk next (next p) k ≡ next (walk next p k)
 unfolding walk
 walk_on next p zero = refl
@@ -42,6 +43,7 @@ module _ (next bucket : ℕ → ℕ) (S P : ℕ) (none : next 0 ≡ 0) (linked :
   unfolding walk
   alive_before h k more e = more (ap next e ∙ none)
 
+  -- a walk that hasn't ended is at one of the pages
   pub walk_within : (h j : ℕ) → 1 ≤ h → h < P → ((i : ℕ) → i ≤ j → walk next h i ≢ 0) →
       (1 ≤ walk next h j) × (walk next h j < P)
   unfolding walk
@@ -163,6 +165,7 @@ next_stands next (x ∷ xs) h p path here more =
 abbrev OnSome : (ℕ → ℕ) → ℕ → ℕ → Type 0
 OnSome next S P = (p : ℕ) → 1 ≤ p → p < P → (i : ℕ) × (i < S) × (stands_in (chain next P i) p ≡ true)
 
+-- where pages are linked and each is on a chain, the chains are paths, and each page stands on that of its bucket
 pub covered_chains : (next bucket : ℕ → ℕ) (S P : ℕ) → next 0 ≡ 0 → S < P → IsLinked next bucket S P → OnSome next S P →
     IsCovered next bucket S P (chain next P)
 covered_chains next bucket S P none some linked on =
@@ -179,6 +182,7 @@ covered_chains next bucket S P none some linked on =
           (rw mine.2 at.1, rw mine.2 at.2);
     }
 
+-- so it is with other paths that are the same for each bucket
 pub covered_same : (next bucket : ℕ → ℕ) (S P : ℕ) (path other : ℕ → List ℕ) → ((i : ℕ) → i < S → other i ≡ path i) →
     IsCovered next bucket S P path → IsCovered next bucket S P other
 covered_same next bucket S P path other same c = record {
@@ -213,6 +217,7 @@ module _ (next bucket : ℕ → ℕ) (S P : ℕ) (path : ℕ → List ℕ) (none
       rw cut at here.3 in
       (here.0, here.1, here.2, rest.2)
 
+  -- pages that stand on the paths of their buckets are linked
   pub linked_from_covered : IsLinked next bucket S P
   linked_from_covered = record {
     heads = own_heads;

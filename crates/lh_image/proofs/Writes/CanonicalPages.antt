@@ -350,9 +350,11 @@ module _ (packing : PackingLaw) (pieces : PiecesLaw) (texts : PageTextLaw) (back
     shown = shows;
   }
 
+-- what is written in a version for which the listing is fit has the bytes of its pages
 pub canonical_length : PackingLaw → PiecesLaw → PageTextLaw → ReadBackLaw → LengthLaw
 canonical_length packing pieces texts back v l listing fit few = whole packing pieces texts back v l listing fit few
 
+-- what is written in a version for which the listing is fit is an image of the listing
 pub canonical_image : PackingLaw → PiecesLaw → PageTextLaw → ReadBackLaw → CanonicalLaw
 canonical_image packing pieces texts back v l listing fit few = (
   page_total l,

@@ -7,6 +7,7 @@ use Rattle.lh_image.specs.Canonical.{page_count_in, overflow_before}
 use Rattle.lh_image.specs.Census.{longest_before}
 use Rattle.lh_image.proofs.Writes.Counting.{overflow-more}
 
+-- the number of pages of the longest of the first chains, after one bucket more
 pub longest-more : (l : Lists) (n : ℕ) → longest_before l (n + 1) ≡ max (longest_before l n) (page_count_in l n)
 unfolding longest_before
 longest-more l n = ap (longest_before l) (add-one n)

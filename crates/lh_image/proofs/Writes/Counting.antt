@@ -14,6 +14,7 @@ use Rattle.lh_bucket.specs.Listing.{Lists, size, list_at, count_of}
 use Rattle.lh_image.specs.Canonical.{page_count_in, pages_in, overflow_before, page_total}
 use Rattle.lh_image.specs.Layout.{most_pages}
 
+-- the number of overflow pages of the first buckets, after one bucket more
 pub overflow-more : (l : Lists) (n : ℕ) → overflow_before l (n + 1) ≡ overflow_before l n + (page_count_in l n - 1)
 unfolding overflow_before
 overflow-more l n = ap (overflow_before l) (add-one n)
@@ -78,6 +79,7 @@ records_before l pieces b (suc n) low =
       records_before l pieces b n (omega arith),
     )
 
+-- a listing with no more pages than an image may have has no more records than so many pages may have slots for
 pub records_few : (l : Lists) → PiecesLaw → IsCapacity l.config.capacity → page_total l ≤ most_pages →
     count_of l.lists ≤ most_capacity * most_pages
 records_few l pieces b few =

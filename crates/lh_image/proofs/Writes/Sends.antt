@@ -15,6 +15,7 @@ take_split (suc i) n (x ∷ xs) =
 part_from : (n : ℕ) (xs : List ℕ) → take (length xs - n) (drop n xs) ≡ drop n xs
 part_from n xs = grind (arith, common_steps)
 
+-- a write of what is left of a text makes the beginning that was taken longer by as much as it took
 pub writes_more : (a b c : Option (List ℕ)) (xs : List ℕ) (i n : ℕ) → Appends a b (take i xs) →
     Appends b c (take n (take (length xs - i) (drop i xs))) → Appends a c (take (i + n) xs)
 writes_more a b c xs i n h k =

@@ -20,9 +20,11 @@ use Rattle.lh_image.proofs.Writes.Counting.{overflow_within, page_count_is, page
 
 module _ (pieces : PiecesLaw) (v : Version) (l : Lists) (listing : IsListing l) (fit : FitsVersion v l)
     (few : page_total l ≤ most_pages) where
+  -- each bucket has at least one page
   pub some_page : (i : ℕ) → 1 ≤ page_count_in l i
   some_page i = omega (arith, page_count_is l i pieces listing.config.capacity.0)
 
+  -- the number of a bucket's page is behind the header's and below the number of pages
   pub number_within : (i k : ℕ) → i < size l → k < page_count_in l i →
       (1 ≤ page_number l i k) × (page_number l i k < page_total l)
   number_within i zero low under = (omega arith, omega arith)
@@ -36,6 +38,7 @@ module _ (pieces : PiecesLaw) (v : Version) (l : Lists) (listing : IsListing l) 
         rw (ne_eqb (k + 1) (page_count_in l i) more) (omega (arith, few, number_within i (suc k) low (omega arith)))
   ]
 
+  -- a page of the format has room for the records of a bucket's page
   pub fits_format : (i k : ℕ) → i < size l → k < page_count_in l i →
       FitsFormat (format_of v) (get_or (pages_in l i) k [])
   fits_format i k low under =
@@ -52,6 +55,7 @@ module _ (pieces : PiecesLaw) (v : Version) (l : Lists) (listing : IsListing l) 
             (fitting_slots v l listing fit i));
       })
 
+  -- a bucket's page can be written in the format
   pub writable_page : (i k : ℕ) → i < size l → k < page_count_in l i → IsWritable (format_of v) (page_in l i k)
   writable_page i k low under = record {
     bucket = omega (arith, listing.shape.to_max, listing.config.max.1);
