@@ -71,13 +71,13 @@ words_from_same a b e =
     at : (place : ℕ) → eqb (word_at a place) (word_at b place) ≡ true
     at place = eq-eqb (word_at a place) (word_at b place) (ap (λ bytes. word_at bytes place) e)
 
--- rows with zeros behind their first bytes are the same where these are
-pub eq_told : (r : Bool) (n : ℕ) (a b v w : List ℕ) → OnTrue r (a ≡ b) → OnFalse r (a ≢ b) → take n a ≡ v →
-    take n b ≡ w → padded key_room v ≡ a → padded key_room w ≡ b → r ≡ bytes_eq v w
-eq_told true n a b v w same other front behind whole all =
-    sym (bytes_eq-same v w (sym front ∙ ap (take n) same ∙ behind))
-eq_told false n a b v w same other front behind whole all =
-    sym (bytes_eq-other v w (λ e. other (sym whole ∙ ap (padded key_room) e ∙ all)))
+-- rows of as many bytes with zeros behind them are the same where these bytes are
+pub eq_told : (r : Bool) (a b v w : List ℕ) → OnTrue r (a ≡ b) → OnFalse r (a ≢ b) → length v ≡ length w →
+    take (length v) a ≡ v → take (length w) b ≡ w → a ≡ padded key_room v → b ≡ padded key_room w → r ≡ bytes_eq v w
+eq_told true a b v w same other long front behind whole all =
+    sym (bytes_eq-same v w (sym front ∙ (ap (take (length v)) same ∙ (ap (λ n. take n b) long ∙ behind))))
+eq_told false a b v w same other long front behind whole all =
+    sym (bytes_eq-other v w (λ e. other (whole ∙ (ap (padded key_room) e ∙ sym all))))
 
 -- the first bytes of a row are those of another where the two agree at each of their places
 pub front_told : (r : Bool) (n : ℕ) (a b v : List ℕ) → n ≤ length a → n ≤ length b → take n a ≡ v →

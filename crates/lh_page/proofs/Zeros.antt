@@ -1,6 +1,6 @@
 -- Zeros, and zeros behind other bytes.
 use Rattle.std.proofs.Common.{◌≡◌, ℕ, zero, suc, ◌+◌, ◌-◌, ◌≤◌, Bool, true, eqb, List, [], ◌∷◌, ◌++◌, length, take}
-use Rattle.std.proofs.Common.{drop, refl, sym, ap, ◌∙◌, arith, take-append-drop, length-take-le}
+use Rattle.std.proofs.Common.{drop, refl, sym, ap, ◌∙◌, arith, take-append-drop}
 use Rattle.std.specs.Prelude.{◌==◌}
 use Rattle.std.proofs.lemmas.Bool.{and_parts, eqb-true}
 use Rattle.std.proofs.lemmas.List.{append_assoc, drop_at, drop-replicate, length-append, length-replicate}
@@ -45,13 +45,6 @@ all_zero-parts n xs h =
     (sym (list_all-append (λ b. b == 0) (take n xs) (drop n xs)) ∙ (ap all_zero (take-append-drop n xs) ∙ h))
 
 -- ---- zeros behind other bytes
-
--- a row is its first bytes with zeros behind them, where zeros stand there
-pub padded-take : (m n : ℕ) (bytes : List ℕ) → n ≤ length bytes → drop n bytes ≡ zeros (m - n) →
-    padded m (take n bytes) ≡ bytes
-padded-take m n bytes le behind =
-    ap (λ k. take n bytes ++ zeros (m - k)) (length-take-le n bytes le)
-    ∙ ap (λ rest. take n bytes ++ rest) (sym behind) ∙ take-append-drop n bytes
 
 -- bytes that are padded to a length have it, where they aren't longer
 pub length-padded : (n : ℕ) (bytes : List ℕ) → length bytes ≤ n → length (padded n bytes) ≡ n

@@ -13,7 +13,7 @@ ghost use Rattle.lh_page.specs.Mark.{mark_of, mixed_words, same_words, word_at};
 use crate::comparing::{STRIDE, common_front};
 use crate::limits::LONGEST_KEY;
 use crate::line::LINE_ROOM;
-use crate::rows::{KEY_ROOM, row};
+use crate::rows::{KEY_ROOM, PaddedBytes};
 use byteorder::{ByteOrder, LittleEndian};
 use std::cmp::Ordering;
 use std::marker::Model;
@@ -22,32 +22,20 @@ use thiserror::Error;
 /// A key of 1 to 56 bytes. Keys are compared and ordered by their bytes, a key before its longer extensions.
 #[derive(Clone, Copy, Debug)]
 pub struct Key {
-    // Zeros stand behind the key's bytes. The length is a whole word, since copies of an odd number of bytes are made
-    // of words that overlap, and each then waits for the one before.
-    bytes: [u8; KEY_ROOM],
-    len: usize,
+    bytes: PaddedBytes<KEY_ROOM>,
 }
 
 impl Model for Key {
-    ghost use Rattle.std.specs.Prelude.{◌≡◌, ℕ, ◌≤◌, ◌-◌, ◌++◌, List, length, take, drop};
-    ghost use Rattle.lh_page.specs.Limits.{longest_key};
-    ghost use Rattle.lh_page.specs.Rows.{key_room, padded, zeros, IsRow};
-    ghost use Rattle.std.proofs.Common.{ap, ◌∙◌, sym, arith, take-append-drop, length-take-le};
+    ghost use Rattle.std.specs.Prelude.{ℕ, List};
+    ghost use Rattle.lh_page.specs.Limits.{IsKey};
 
     ghost Value = { List ℕ };
 
-    ghost view = { λ k. take k.len k.bytes };
+    ghost view = { λ k. k.bytes };
 
-    ghost invariant = { λ k. (1 ≤ k.len) × (k.len ≤ longest_key) × IsRow key_room k.len k.bytes };
+    ghost invariant = { λ k. IsKey k.bytes };
 
-    ghost inverse = { λ b. record { bytes = padded key_room b; len = length b } };
-
-    ghost inverse_ok = { λ k h i. record {
-      bytes = (ap (λ n. take k.len k.bytes ++ zeros (key_room - n))
-          (length-take-le k.len k.bytes (omega (arith, h.1, h.2.0)))
-          ∙ (ap (λ r. take k.len k.bytes ++ r) (sym h.2.1) ∙ take-append-drop k.len k.bytes)) i;
-      len = length-take-le k.len k.bytes (omega (arith, h.1, h.2.0)) i;
-    } };
+    ghost inverse = { λ b. record { bytes = b } };
 }
 
 /// A length that no key has: 0, or more than 56 bytes.
@@ -78,8 +66,7 @@ impl Key {
         ensures { result ≡ bytes.now }
     {
         Key {
-            bytes: row(bytes),
-            len: bytes.len(),
+            bytes: PaddedBytes::of(bytes),
         }
     }
 
@@ -88,14 +75,14 @@ impl Key {
     pub(crate) fn len(&self) -> u8
         ensures { result ≡ length self.now }
     {
-        self.len as u8
+        self.bytes.len() as u8
     }
 
     pub fn bytes(&self) -> &[u8]
         ensures value { result.now ≡ self.now }
         ensures kept { IsKey self.now }
     {
-        &self.bytes[..self.len]
+        self.bytes.as_slice()
     }
 
     /// The key, with zeros behind it.
@@ -104,7 +91,7 @@ impl Key {
         ensures front { take (length self.now) result.now ≡ self.now }
         ensures kept { IsKey self.now }
     {
-        &self.bytes
+        self.bytes.row()
     }
 
     /// Whether this key is the first `len` of some bytes.
@@ -112,24 +99,21 @@ impl Key {
     pub(crate) fn is_front(&self, bytes: &[u8; LINE_ROOM], len: u8) -> bool
         ensures { result ≡ bytes_eq (take len bytes.now) self.now }
     {
-        self.len == len as usize && starts_alike(&self.bytes, bytes, len as usize)
+        self.bytes.len() == len as usize && starts_alike(self.bytes.row(), bytes, len as usize)
     }
 
     /// A key for places that hold none.
     pub(crate) fn placeholder() -> Self
         ensures { result ≡ 0 ∷ [] }
     {
-        Key {
-            bytes: [0; KEY_ROOM],
-            len: 1,
-        }
+        Key::of(&[0])
     }
 
     /// A byte that tells most keys apart, made of all of the key's bytes.
     pub(crate) fn mark(&self) -> u8
         ensures { result ≡ mark_of self.now }
     {
-        mix(&self.bytes)
+        mix(self.bytes.row())
     }
 }
 
@@ -187,7 +171,7 @@ impl PartialEq for Key {
     ghost laws = { partial_equiv_from_equiv nat_list_eq_equiv };
 
     fn eq(&self, other: &Self) -> bool {
-        self.len == other.len && is_same(&self.bytes, &other.bytes)
+        self.bytes.len() == other.bytes.len() && is_same(self.bytes.row(), other.bytes.row())
     }
 }
 

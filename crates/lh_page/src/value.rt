@@ -7,7 +7,7 @@ ghost use Rattle.std.specs.Cmp.Lexicographic.{texts_ties};
 ghost use Rattle.lh_page.specs.Limits.{IsValue};
 
 use crate::limits::LONGEST_VALUE;
-use crate::rows::{VALUE_ROOM, row};
+use crate::rows::{PaddedBytes, VALUE_ROOM};
 use std::cmp::Ordering;
 use std::marker::Model;
 use thiserror::Error;
@@ -15,31 +15,20 @@ use thiserror::Error;
 /// A value of 0 to 112 bytes. Values are compared and ordered by their bytes, a value before its longer extensions.
 #[derive(Clone, Copy, Debug)]
 pub struct Value {
-    // Zeros stand behind the value's bytes. The length is a whole word, as that of a key is.
-    bytes: [u8; VALUE_ROOM],
-    len: usize,
+    bytes: PaddedBytes<VALUE_ROOM>,
 }
 
 impl Model for Value {
-    ghost use Rattle.std.specs.Prelude.{◌≡◌, ℕ, ◌≤◌, ◌-◌, ◌++◌, List, length, take, drop};
-    ghost use Rattle.lh_page.specs.Limits.{longest_value};
-    ghost use Rattle.lh_page.specs.Rows.{value_room, padded, zeros, IsRow};
-    ghost use Rattle.std.proofs.Common.{ap, ◌∙◌, sym, arith, take-append-drop, length-take-le};
+    ghost use Rattle.std.specs.Prelude.{ℕ, List};
+    ghost use Rattle.lh_page.specs.Limits.{IsValue};
 
     ghost Value = { List ℕ };
 
-    ghost view = { λ v. take v.len v.bytes };
+    ghost view = { λ v. v.bytes };
 
-    ghost invariant = { λ v. (v.len ≤ longest_value) × IsRow value_room v.len v.bytes };
+    ghost invariant = { λ v. IsValue v.bytes };
 
-    ghost inverse = { λ b. record { bytes = padded value_room b; len = length b } };
-
-    ghost inverse_ok = { λ v h i. record {
-      bytes = (ap (λ n. take v.len v.bytes ++ zeros (value_room - n))
-          (length-take-le v.len v.bytes (omega (arith, h.0, h.1.0)))
-          ∙ (ap (λ r. take v.len v.bytes ++ r) (sym h.1.1) ∙ take-append-drop v.len v.bytes)) i;
-      len = length-take-le v.len v.bytes (omega (arith, h.0, h.1.0)) i;
-    } };
+    ghost inverse = { λ b. record { bytes = b } };
 }
 
 /// A length that no value has: more than 112 bytes.
@@ -70,8 +59,7 @@ impl Value {
         ensures { result ≡ bytes.now }
     {
         Value {
-            bytes: row(bytes),
-            len: bytes.len(),
+            bytes: PaddedBytes::of(bytes),
         }
     }
 
@@ -80,8 +68,7 @@ impl Value {
         ensures { result ≡ [] }
     {
         Value {
-            bytes: [0; VALUE_ROOM],
-            len: 0,
+            bytes: PaddedBytes::empty(),
         }
     }
 
@@ -91,10 +78,7 @@ impl Value {
         requires { IsValue bytes.now }
         ensures { self.new ≡ bytes.now }
     {
-        let len = bytes.len();
-        self.bytes[..len].copy_from_slice(bytes);
-        self.bytes[len..].fill(0);
-        self.len = len;
+        self.bytes.set(bytes);
     }
 
     /// The value, with zeros behind it.
@@ -102,14 +86,14 @@ impl Value {
     pub(crate) fn row(&self) -> &[u8; VALUE_ROOM]
         ensures { take (length self.now) result.now ≡ self.now }
     {
-        &self.bytes
+        self.bytes.row()
     }
 
     pub fn bytes(&self) -> &[u8]
         ensures value { result.now ≡ self.now }
         ensures kept { IsValue self.now }
     {
-        &self.bytes[..self.len]
+        self.bytes.as_slice()
     }
 }
 
