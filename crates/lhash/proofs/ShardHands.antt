@@ -37,7 +37,8 @@ use Rattle.lh_shards.specs.declared.fault.OpenFault.{OpenFault}
 use Rattle.lh_shards.specs.declared.fault.OpenFault.TheVariants as open_fault
 use Rattle.lhash.specs.Driving.{empty_file}
 use Rattle.lhash.specs.DrivingShards.{AreShardsOf, IsSettledWhole, acts_in, empty_files}
-use Rattle.lhash.specs.ShardWorkers.{AreKept, AreLessened, ArePartOf, AreRecording, HaveMadeOne, acts_of}
+use Rattle.lhash.specs.ShardWorkers.{AreKept, AreLessened, ArePartOf, AreRecording, HaveMadeAll, HaveMadeOne, acts_of}
+use Rattle.lhash.specs.declared.drive.DriveFault.{DriveFault}
 
 abbrev kept : HandState → ℕ
 kept hand = length hand.acts
@@ -176,6 +177,14 @@ call_kept served called same key call files olds news result of recording s e =
 pub have_fewer : (most calls : ℕ) (hands : List HandState) → calls ≤ most → AllHave most hands → AllHave calls hands
 have_fewer most calls hands fewer enough k hand at =
     let had : most ≤ hand.view.left = enough k hand at in omega (arith, had, fewer)
+
+-- the hands that are answered have made all calls where each part of that holds of them
+pub made_all : (files : List FileState) (calls : ℕ) (old : List HandState) (r : Result (List HandState) DriveFault) →
+    IfOk r (AreOf files) → IfOk r (AreOwn files) →
+    IfOk r (λ new. (others : ℕ) → AllShare (others + calls) old → AllShare (others + calls) new) →
+    IfOk r (λ new. acts_of new ≡ acts_of old + calls) → IfOk r (HaveMadeAll files calls old)
+made_all files calls old (Ok new) of own share acts = record { of = of; own = own; share = share; acts = acts }
+made_all files calls old (Err fault) of own share acts = tt
 
 -- hands that got so many calls, and are their files' own with these shares, are a thread's hands of these calls
 pub part_of : (files : List FileState) (calls : ℕ) (olds part : List HandState) → AreOf files part →

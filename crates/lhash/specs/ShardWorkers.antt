@@ -16,6 +16,22 @@ acts_of hands = sum_by (λ hand. length hand.acts) hands
 abbrev pub AreRecording : List FileState → Type 0
 AreRecording files = All (λ file. file.recording ≡ true) files
 
+-- hands that may make this many calls: they are hands of the shards, which record, and their files' own, and each may
+-- make all of the calls
+pub record MayMakeAll (files : List FileState) (calls : ℕ) (hands : List HandState) : Type 0 where
+  pub of : AreOf files hands
+  pub own : AreOwn files hands
+  pub records : AreRecording files
+  pub enough : AllHave calls hands
+
+-- hands that have made this many calls, and kept the act of each: they are hands of the shards still, and their files'
+-- own, with what shares they had of the calls
+pub record HaveMadeAll (files : List FileState) (calls : ℕ) (old new : List HandState) : Type 0 where
+  pub of : AreOf files new
+  pub own : AreOwn files new
+  pub share : (others : ℕ) → AllShare (others + calls) old → AllShare (others + calls) new
+  pub acts : acts_of new ≡ acts_of old + calls
+
 -- a thread's hands of these calls: they are hands of the shards and their files' own, keep no act, and each may make
 -- all of the calls
 pub record ArePartOf (files : List FileState) (calls : ℕ) (hands : List HandState) : Type 0 where

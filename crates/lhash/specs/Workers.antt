@@ -1,5 +1,5 @@
 -- What the threads of a run do of its script, and what they leave of their hands
-use Rattle.std.specs.Prelude.{◌≡◌, ℕ, ◌-◌, ◌%◌, false, List, None, All, Contains, IfSome, length}
+use Rattle.std.specs.Prelude.{◌≡◌, ℕ, ◌+◌, ◌-◌, ◌%◌, ◌≤◌, true, false, List, None, All, Contains, IfSome, length}
 use Rattle.std.specs.Int.{div_ceil}
 use Rattle.lh_settling.specs.ClosedFile.{ClosedFile}
 use Rattle.lh_file.specs.Calls.Served.{IsNotSpent}
@@ -45,6 +45,21 @@ pub record HasTakenOne (file : FileState) (hand : HandState) (snapshot : ClosedF
 pub record HasTaken (file : FileState) (hand : HandState) (snapshots : ℕ) (taken : List ClosedFile) : Type 0 where
   pub count : length taken ≡ snapshots
   pub each : All (HasTakenOne file hand) taken
+
+-- a hand that may make this many calls of a file that records
+pub record MayMake (file : FileState) (calls : ℕ) (hand : HandState) : Type 0 where
+  pub own : IsOwn file hand
+  pub records : file.recording ≡ true
+  pub enough : calls ≤ hand.view.left
+
+-- a hand that has made this many calls, and kept the act of each: it is its file's own still, with its share, and it, or
+-- one that was joined into it, took this many snapshots meanwhile
+pub record HasMade (file : FileState) (calls snapshots : ℕ) (old new : HandState) (taken : List ClosedFile) :
+    Type 0 where
+  pub own : IsOwn file new
+  pub share : share_of new ≡ share_of old
+  pub acts : length new.acts ≡ length old.acts + calls
+  pub took : HasTaken file new snapshots taken
 
 -- what a thread that was to make these calls comes back with: its hand of them, which has made all of them unless there
 -- is a fault, and a fault that is none for want of calls

@@ -5,8 +5,8 @@ ghost use Rattle.lh_shards.specs.Dividing.{AllHave};
 ghost use Rattle.lh_shards.specs.Hands.{AreOf};
 ghost use Rattle.lh_shards.specs.Own.{AllShare, AreOwn};
 ghost use Rattle.lhash.specs.Driving.{IsWorkersFault};
-ghost use Rattle.lhash.specs.ShardWorkers.{AreKept, AreLessened, ArePartOf, AreRecording, HaveMadeOne};
-ghost use Rattle.lhash.specs.ShardWorkers.{IsWorkedOnShards, acts_of};
+ghost use Rattle.lhash.specs.ShardWorkers.{AreKept, AreLessened, ArePartOf, AreRecording, HaveMadeAll, HaveMadeOne};
+ghost use Rattle.lhash.specs.ShardWorkers.{IsWorkedOnShards, MayMakeAll, acts_of};
 ghost use Rattle.lhash.specs.Workers.{places_from};
 
 use crate::drive::DriveFault;
@@ -197,32 +197,18 @@ pub fn work_in_threads<J: FileBrand + Send + Sync, R: Threads + Wait + Sync>(
     calls: &[Call],
     threads: usize,
 ) -> Result<Hands, DriveFault>
-    requires hands { AreOf shards.now hands }
-    requires own { AreOwn shards.now hands }
-    requires records { AreRecording shards.now }
+    requires hands { MayMakeAll shards.now (length calls.now) hands }
     requires threads { 0 < threads }
-    requires enough { AllHave (length calls.now) hands }
-    ensures of { IfOk result (AreOf shards.now) }
-    ensures own { IfOk result (AreOwn shards.now) }
-    ensures share { IfOk result (λ all. (others : ℕ) →
-        AllShare (others + length calls.now) hands → AllShare (others + length calls.now) all) }
-    ensures made { IfOk result (λ all. acts_of all ≡ acts_of hands + length calls.now) }
+    ensures made { IfOk result (HaveMadeAll shards.now (length calls.now) hands) }
     ensures err { IfErr result IsWorkersFault }
 {
     thread::scope(
         thread::scope_env(),
         rt,
         |scope| -> Result<Hands, DriveFault>
-            requires hands { AreOf shards.now hands }
-            requires own { AreOwn shards.now hands }
-            requires records { AreRecording shards.now }
+            requires hands { MayMakeAll shards.now (length calls.now) hands }
             requires threads { 0 < threads }
-            requires enough { AllHave (length calls.now) hands }
-            ensures of { IfOk result (AreOf shards.entry.now) }
-            ensures own { IfOk result (AreOwn shards.entry.now) }
-            ensures share { IfOk result (λ all. (others : ℕ) → AllShare (others + length calls.entry.now) hands →
-                AllShare (others + length calls.entry.now) all) }
-            ensures made { IfOk result (λ all. acts_of all ≡ acts_of hands + length calls.entry.now) }
+            ensures made { IfOk result (HaveMadeAll shards.entry.now (length calls.entry.now) hands) }
             ensures err { IfErr result IsWorkersFault }
         {
             let mut all = hands;

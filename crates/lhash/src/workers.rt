@@ -4,7 +4,8 @@ ghost use Rattle.std.specs.Prelude.{OnOk, OnErr, length, sum_by};
 ghost use Rattle.lh_file.specs.Calls.Served.{IsNotSpent};
 ghost use Rattle.lh_file.specs.History.Own.{IsOwn, share_of};
 ghost use Rattle.lhash.specs.Driving.{IsWorkersFault};
-ghost use Rattle.lhash.specs.Workers.{HasLookedOn, HasTaken, HasTakenOne, IsPartOf, IsWorked, KnowsOf, places_from};
+ghost use Rattle.lhash.specs.Workers.{HasLookedOn, HasMade, HasTaken, HasTakenOne, IsPartOf, IsWorked, KnowsOf};
+ghost use Rattle.lhash.specs.Workers.{MayMake, places_from};
 
 use crate::drive::DriveFault;
 use lh_bucket::{Answer, Call};
@@ -306,33 +307,24 @@ pub fn work_in_threads<G: Gate + Sync, J: FileBrand + Send + Sync, R: Threads + 
     threads: usize,
     snapshots: u32,
 ) -> Result<(Hand, Vec<Closed>), DriveFault>
-    requires hand { IsOwn file.now.state hand }
-    requires records { file.now.state.recording ≡ true }
+    requires hand { MayMake file.now.state (length calls.now) hand }
     requires threads { 0 < threads }
-    requires enough { length calls.now ≤ hand.view.left }
-    ensures own { IfOk result (λ all. IsOwn file.now.state all.0) }
-    ensures share { IfOk result (λ all. share_of all.0 ≡ share_of hand) }
-    ensures made { IfOk result (λ all. length all.0.acts ≡ length hand.acts + length calls.now) }
-    ensures taken { IfOk result (λ all. HasTaken file.now.state all.0 snapshots all.1.items) }
+    ensures made { IfOk result (λ all.
+        HasMade file.now.state (length calls.now) snapshots hand all.0 all.1.items) }
     ensures err { IfErr result IsWorkersFault }
 {
-    let progress = Progress {
+    let progress = &Progress {
         calls: calls.len() as u64,
         running: AtomicU64::new(0),
     };
-    let progress = &progress;
     thread::scope(
         thread::scope_env(),
         rt,
         |scope| -> Result<(Hand, Vec<Closed>), DriveFault>
-            requires hand { IsOwn file.now.state hand }
-            requires records { file.now.state.recording ≡ true }
+            requires hand { MayMake file.now.state (length calls.now) hand }
             requires threads { 0 < threads }
-            requires enough { length calls.now ≤ hand.view.left }
-            ensures own { IfOk result (λ all. IsOwn file.entry.now.state all.0) }
-            ensures share { IfOk result (λ all. share_of all.0 ≡ share_of hand) }
-            ensures made { IfOk result (λ all. length all.0.acts ≡ length hand.acts + length calls.entry.now) }
-            ensures taken { IfOk result (λ all. HasTaken file.entry.now.state all.0 snapshots all.1.items) }
+            ensures made { IfOk result (λ all.
+                HasMade file.entry.now.state (length calls.entry.now) snapshots hand all.0 all.1.items) }
             ensures err { IfErr result IsWorkersFault }
         {
             let mut all = hand;

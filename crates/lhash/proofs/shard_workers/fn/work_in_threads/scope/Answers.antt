@@ -2,7 +2,7 @@ use Rattle.std.proofs.Common.{◌≡◌, ◌∙◌, ◌+◌, ◌-◌, length, ap
 use Rattle.std.proofs.lemmas.Result.{IfOk-weaker}
 use Rattle.lh_shards.specs.Own.{AllShare}
 use Rattle.lhash.proofs.Places.{places_before, places_before-all, places_before-more, places_before-within}
-use Rattle.lhash.proofs.ShardHands.{have_fewer}
+use Rattle.lhash.proofs.ShardHands.{have_fewer, made_all}
 use Rattle.lhash.proofs.shard_workers.fn.work_in_threads.scope.Goals as goal
 
 pub divide-requires : goal.divide-requires
@@ -55,17 +55,17 @@ returns g c =
     let dealt =
     ap (λ first. places_before first c.captures.threads calls) last
     ∙ places_before-all c.captures.threads calls c.requires.threads in record {
-      of = c.join_all.ensures.of;
-      own = c.join_all.ensures.own;
-      share = IfOk-weaker c.join_all.result _ _
+      made = made_all c.captures.shards.now calls c.captures.hands c.join_all.result c.join_all.ensures.of
+          c.join_all.ensures.own
+          (IfOk-weaker c.join_all.result _ _
           (λ all joined others first.
           subst (λ n. AllShare (others + n) all) (c.loop-first.invariant.dealt ∙ dealt)
           (joined others
           (c.loop-first.invariant.share others
           (subst (λ n. AllShare (others + n) c.captures.hands) (sym (c.loop-first.invariant.dealt ∙ dealt)) first))))
-          c.join_all.ensures.share;
-      made = IfOk-weaker c.join_all.result _ _
+          c.join_all.ensures.share)
+          (IfOk-weaker c.join_all.result _ _
           (λ all made. omega (arith, made, c.loop-first.invariant.acts, c.loop-first.invariant.dealt, dealt))
-          c.join_all.ensures.made;
+          c.join_all.ensures.made);
       err = c.join_all.ensures.err;
     }

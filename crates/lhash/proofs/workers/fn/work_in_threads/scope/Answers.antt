@@ -46,7 +46,7 @@ take_snapshots-taken-requires g c =
               w.loop-first-test.true)
               (places_before-within (c.loop-first.first + 1) c.captures.threads (length c.captures.calls.now)
               c.requires.threads (omega (arith, w.loop-first-test.true)))
-              c.requires.enough w.calls_of_thread-share.ensures w.in-Err.ensures.too_few),
+              c.requires.hand.enough w.calls_of_thread-share.ensures w.in-Err.ensures.too_few),
         ),
       )
       | then-loop-first-test+in-Ok+in_default w ↦
@@ -116,30 +116,32 @@ returns g c =
           omega (arith, w.loop-first-test.false, c.loop-first.auto) in
           let dealt = ap (λ first. places_before first c.captures.threads (length c.captures.calls.now)) last
           ∙ places_before-all c.captures.threads (length c.captures.calls.now) c.requires.threads in record {
-            own = c.in_ok-all.ensures.own;
-            share =
-                omega (
-                  arith,
-                  c.in_ok-all.ensures.share,
-                  looked.share,
-                  ap share_of w.all-is,
-                  sums,
-                  c.loop-first.invariant.shares,
-                );
-            made =
-                omega (
-                  arith,
-                  c.in_ok-all.ensures.made,
-                  ap length looked.acts,
-                  ap (λ h. length h.acts) w.all-is,
-                  sums,
-                  ap length c.loop-first.invariant.acts,
-                  c.loop-first.invariant.dealt,
-                  dealt,
-                );
-            taken = record {
-              count = c.in_ok-taken.ensures.taken.count;
-              each = taken_kept _ _ _ _ c.in_ok-all.ensures.knows c.in_ok-taken.ensures.taken.each;
+            made = record {
+              own = c.in_ok-all.ensures.own;
+              share =
+                  omega (
+                    arith,
+                    c.in_ok-all.ensures.share,
+                    looked.share,
+                    ap share_of w.all-is,
+                    sums,
+                    c.loop-first.invariant.shares,
+                  );
+              acts =
+                  omega (
+                    arith,
+                    c.in_ok-all.ensures.made,
+                    ap length looked.acts,
+                    ap (λ h. length h.acts) w.all-is,
+                    sums,
+                    ap length c.loop-first.invariant.acts,
+                    c.loop-first.invariant.dealt,
+                    dealt,
+                  );
+              took = record {
+                count = c.in_ok-taken.ensures.taken.count;
+                each = taken_kept _ _ _ _ c.in_ok-all.ensures.knows c.in_ok-taken.ensures.taken.each;
+              };
             };
             err = tt;
           }
