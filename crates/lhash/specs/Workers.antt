@@ -52,8 +52,8 @@ pub record MayMake (file : FileState) (calls : ℕ) (hand : HandState) : Type 0 
   pub records : file.recording ≡ true
   pub enough : calls ≤ hand.view.left
 
--- a hand that has made this many calls, and kept the act of each: it is its file's own still, with its share, and it, or
--- one that was joined into it, took this many snapshots meanwhile
+-- a hand that has made this many calls, and kept the act of each: it is its file's own still, with its share, and it,
+-- or one that was joined into it, took this many snapshots meanwhile
 pub record HasMade (file : FileState) (calls snapshots : ℕ) (old new : HandState) (taken : List ClosedFile) :
     Type 0 where
   pub own : IsOwn file new

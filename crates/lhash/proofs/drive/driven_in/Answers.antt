@@ -9,7 +9,8 @@ pub returns-clause-ok : goal.returns-clause-ok
 returns-clause-ok g c =
     let acts = c.in_ok-closed.acts in
     let none = ap length c.in_ok-file.ensures.opened.acts in
-    let made = length-map acts (λ act. act.call) ∙ ap length c.in_ok-closed.ensures.acts ∙ c.in_ok-hand.ensures.made.acts in
+    let made =
+    length-map acts (λ act. act.call) ∙ ap length c.in_ok-closed.ensures.acts ∙ c.in_ok-hand.ensures.made.acts in
     IfOk-weaker c.settled.result _ _
     (λ d h.
     driven_as _ _ _ _ _ _ d (search rules) (omega (arith, made, none))
