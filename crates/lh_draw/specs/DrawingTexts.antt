@@ -8,7 +8,7 @@ use Rattle.lh_draw.specs.declared.elements.Title.{Title}
 use Rattle.lh_draw.specs.declared.elements.Legend.{Legend}
 use Rattle.lh_draw.specs.declared.elements.Caption.{Caption}
 use Rattle.lh_draw.specs.declared.elements.Plot.{Plot}
-use Rattle.lh_draw.specs.declared.bars.Part.{Part}
+use Rattle.lh_draw.specs.declared.bars.BarPart.{BarPart}
 use Rattle.lh_draw.specs.declared.bars.Bar.{Bar}
 use Rattle.lh_draw.specs.declared.bars.More.{More}
 use Rattle.lh_draw.specs.declared.bars.Cuts.{Cuts}
@@ -69,14 +69,14 @@ colour_of false true = codes "#0072b2"
 colour_of false false = codes "#b3d5e8"
 
 -- a rectangle on its foot
-unfoldable pub part_text : Part → List ℕ
+unfoldable pub part_text : BarPart → List ℕ
 part_text p =
     codes "<path fill='" ++ (colour_of p.is_next p.is_used ++ (codes "' d='M" ++ (decimal p.left ++ (codes " -" ++ (
     decimal p.foot ++ (codes "v-" ++ (decimal p.height ++ (codes "h" ++ (decimal p.width ++ (codes "v" ++ (
     decimal p.height ++ codes "z'/>")))))))))))
 
 -- a bar's rectangle of a height, for slots in use or free ones
-abbrev pub bar_part : Bar → ℕ → Bool → Part
+abbrev pub bar_part : Bar → ℕ → Bool → BarPart
 bar_part b height is_used = record {
   left = b.left;
   foot = b.foot;

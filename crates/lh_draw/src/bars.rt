@@ -20,7 +20,7 @@ fn colour_of(is_next: bool, is_used: bool) -> &'static str
 
 /// A part of a bar, which rises from its foot.
 #[derive(Clone, Copy)]
-struct Part {
+struct BarPart {
     left: u32,
     foot: u32,
     width: u32,
@@ -29,12 +29,12 @@ struct Part {
     is_used: bool,
 }
 
-impl fmt::Display for Part {
+impl fmt::Display for BarPart {
     ghost output = { λ part. Some (part_text part) };
 
     #[tactic(auto, unfolding(crate::specs::DrawingTexts::part_text))]
     fn fmt<W: fmt::Write>(&self, f: &mut fmt::Formatter<W>) -> fmt::Result {
-        let Part {
+        let BarPart {
             left,
             foot,
             width,
@@ -75,7 +75,7 @@ impl fmt::Display for Bar {
             used,
             is_next,
         } = *self;
-        let whole = Part {
+        let whole = BarPart {
             left,
             foot,
             width,
@@ -83,7 +83,7 @@ impl fmt::Display for Bar {
             is_next,
             is_used: false,
         };
-        let part = Part {
+        let part = BarPart {
             left,
             foot,
             width,

@@ -1,5 +1,5 @@
 -- The words of a closed file, the hand that closed it, and the buckets that it gathered
-use Rattle.std.specs.Prelude.{◌≡◌, ℕ, ◌+◌, ◌^◌, ◌≤◌, Bool, true, false, List, [], length, map}
+use Rattle.std.specs.Prelude.{◌≡◌, ℕ, ◌+◌, ◌^◌, ◌≤◌, Bool, true, false, List, [], length}
 use Rattle.std.specs.List.{IsDistinct}
 use Rattle.std.specs.Str.{bytes_eq}
 use mathlib.Core.Option.{some}
@@ -14,18 +14,14 @@ use Rattle.lh_settling.specs.ClosedFile.{ClosedFile}
 use Rattle.lh_settling.specs.SettleFault.{IsMissing}
 use Rattle.lh_settling.specs.Settled.{IsSettled}
 use Rattle.lh_settling.specs.declared.act.ActLine.{ActLine}
-use Rattle.lh_file.specs.FileState.{FileState}
-use Rattle.lh_file.specs.History.History.{History}
-use Rattle.lh_file.specs.History.Log.{lines_of}
+use Rattle.lh_words.specs.History.Log.{lines_of}
 use Rattle.lh_file.specs.Snapshots.Moments.{IsSnapshot}
 use Rattle.lh_file.specs.Words.HandState.{HandState}
-use Rattle.lh_file.specs.Words.Rule.{Each, IsRule}
-use Rattle.lh_file.specs.Words.Sums.{times, once_below}
-use Rattle.lh_file.specs.Words.Table.{shown}
-use Rattle.lh_file.specs.declared.words.numbers.FileWords.{FileWords}
-use Rattle.lh_file.specs.declared.words.seat_view.Entry.{Entry}
-use Rattle.lh_file.specs.declared.words.seat_view.SeatView.{SeatView}
-use Rattle.lh_file.specs.declared.words.view.View.{View}
+use Rattle.lh_words.specs.Rule.{Each, IsRule}
+use Rattle.lh_words.specs.Sums.{times, once_below}
+use Rattle.lh_words.specs.declared.numbers.FileWords.{FileWords}
+use Rattle.lh_words.specs.declared.seat_view.Entry.{Entry}
+use Rattle.lh_words.specs.declared.view.View.{View}
 
 -- the rule holds of these words and of some views, of which this is one
 abbrev pub RuleHolds : Settings → FileWords → View → Type 0
@@ -38,15 +34,6 @@ abbrev pub NoneIsLost : HandState → ℕ → Type 0
 NoneIsLost hand drawn =
     hand.recording ≡ true → hand.view.left + length hand.acts ≡ 2 ^ 63 →
     (x : ℕ) → times x (stamps_of hand.acts) ≡ once_below x drawn
-
--- the rule of a file holds of these words and of some seats, of which this is one
-pub record IsEnd (traced : Bool) (file : FileState) (words : FileWords) (seat : SeatView) : Type 0 where
-  pub seats : List SeatView
-  pub id : ℕ
-  pub here : get_elem? seats id ≡ some seat
-  pub config : file.listing.config ≡ file.config
-  pub rule : IsRule file.config.initial file.config.max words (map shown seats)
-  pub history : traced ≡ true → History file.listing words seats
 
 -- the first of these lists are the records of some buckets, each in the place of its number; no list has a key twice;
 -- and where they are clean the lists past those have no record

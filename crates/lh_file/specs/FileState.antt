@@ -5,7 +5,7 @@ use Rattle.lh_addr.specs.RootWord.{buckets_of}
 use Rattle.lh_addr.specs.Settings.{Settings}
 use Rattle.lh_bucket.specs.Listing.{Lists}
 use Rattle.lh_file.specs.Words.HandState.{HandState}
-use Rattle.lh_file.specs.Words.Views.{first_view}
+use Rattle.lh_words.specs.Views.{first_view}
 
 -- the table of its words, which shard it is, its configuration, whether acts are recorded, how many records it was
 -- opened with, and the listing that it was opened from
@@ -50,3 +50,10 @@ pub record IsOpened (config : Settings) (buckets : ℕ) (recording : Bool) (reco
   pub entries : hand.entries ≡ []
   pub logs : hand.logs ≡ []
   pub acts : hand.acts ≡ []
+
+-- the words of a file that was just opened from a listing, but for its hands
+pub record IsBegun (opening : Lists) (recording : Bool) (records : ℕ) (file : FileState) : Type 0 where
+  pub config_is : file.config ≡ opening.config
+  pub recording_is : file.recording ≡ recording
+  pub opening_is : file.opening ≡ records
+  pub listing_is : file.listing ≡ opening

@@ -1,7 +1,4 @@
--- The history of a traced file: a log of its acts, and what its buckets hold of what the log leaves
-pub mod Buckets
-pub mod History
-pub mod Log
+-- What callers know of the history of a traced file
+pub mod Entered
 pub mod Own
 pub mod RealTime
-pub mod Told

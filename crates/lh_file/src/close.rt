@@ -4,7 +4,7 @@ ghost use Rattle.std.specs.Prelude.{OnOk};
 ghost use Rattle.lh_file.specs.Closing.{NoneIsLost, AreGathered, HasHistory};
 ghost use Rattle.lh_file.specs.FileState.{IsOf};
 ghost use Rattle.lh_file.specs.HashFile.{IsClosing};
-ghost use Rattle.lh_file.specs.Words.Seats.{holder, with_token};
+ghost use Rattle.lh_words.specs.Seats.{holder, with_parts};
 
 use crate::buckets::brand::FileBrand;
 use crate::buckets::segments::Segments;
@@ -13,8 +13,6 @@ use crate::file::HashFile;
 use crate::gate::Gate;
 use crate::words::Words;
 use crate::words::hand::Hand;
-use crate::words::mode::Mode;
-use crate::words::seat_view::SeatView;
 use atomic_table::Seat;
 use lh_addr::RootWord;
 use lh_addr::laws::address_is_only_bucket;
@@ -22,6 +20,7 @@ use lh_bucket::{Memory, copied_pairs};
 use lh_page::Pair;
 use lh_settling::laws::{acts_have_an_order, full_buckets_are_placed};
 use lh_settling::{Acts, Closed};
+use lh_words::{Mode, SeatView};
 use std::alloc::Global;
 use std::sync::Wait;
 
@@ -49,7 +48,7 @@ impl Copies {
         ensures all { result ≡ true → self.now.whole ≡ length self.now.lists.items }
         ensures number { result ≡ true → slot.now.head.number ≡ self.now.whole }
         ensures taken { result ≡ true → seat.new.me
-            ≡ (with_token seat.old.me.0 (holder (slot.now ∷ [])), seat.old.me.1) }
+            ≡ (with_parts seat.old.me.0 (holder (slot.now ∷ [])), seat.old.me.1) }
         ensures same { result ≡ false → seat.new.me ≡ seat.old.me }
     {
         if self.whole as usize != self.lists.len() {

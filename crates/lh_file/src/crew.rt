@@ -4,7 +4,7 @@ ghost use Rattle.std.specs.Prelude.{IfOk, IfErr, OnOk, OnErr, length, sum_by};
 ghost use Rattle.lh_file.specs.FileState.{IsOf, MayBeJoined};
 ghost use Rattle.lh_file.specs.Words.Calls.{IsNotGiven};
 ghost use Rattle.lh_file.specs.Words.HandState.{AreJoined, IsBranch, IsSame, seeing};
-ghost use Rattle.lh_file.specs.Words.Views.{lessened};
+ghost use Rattle.lh_words.specs.Views.{lessened};
 
 use crate::buckets::brand::FileBrand;
 use crate::fault::{FileFault, JoinAllFault};
@@ -12,8 +12,8 @@ use crate::file::HashFile;
 use crate::gate::Gate;
 use crate::words::Words;
 use crate::words::hand::Hand;
-use crate::words::mode::Mode;
 use lh_bucket::Memory;
+use lh_words::Mode;
 
 /// How many acts some hands keep together, up to the greatest number.
 fn acts_of(hands: &[Hand]) -> usize

@@ -6,33 +6,21 @@ mod begin;
 mod borrowed;
 mod counts;
 mod end;
-mod halves;
 pub(crate) mod hand;
 mod history;
 pub(crate) mod load;
 mod looks;
-pub(crate) mod mode;
-pub(crate) mod numbers;
-mod offsets;
-mod plays;
 pub(crate) mod right;
 mod root;
-mod rule;
-pub(crate) mod seat_view;
 mod shares;
-pub(crate) mod traced_acts;
+mod traced_acts;
 mod traced_looks;
-pub(crate) mod view;
 
 use crate::words::hand::Hand;
-use crate::words::mode::{Mode, Untraced};
-use crate::words::numbers::FileWords;
-use crate::words::rule::RunningRule;
-use crate::words::seat_view::SeatView;
-use atomic_table::Table;
 use lh_addr::Config;
 use lh_bucket::{Listing, Memory};
 use lh_settling::ActLine;
+use lh_words::{FileWords, Mode, Untraced, WordTable};
 use std::alloc::Global;
 use std::marker::Model;
 
@@ -41,7 +29,7 @@ use std::marker::Model;
 /// traced.
 #[derive(Drop)]
 pub struct Words<M: Mode = Untraced> {
-    pub(crate) table: Table<(), SeatView, Listing, RunningRule<M>, Global>,
+    pub(crate) table: WordTable<M>,
     pub(crate) config: Config,
     pub(crate) recording: bool,
     pub(crate) opening: u64,

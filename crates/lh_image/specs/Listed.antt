@@ -6,7 +6,7 @@ use Rattle.lh_image.specs.declared.fault.ImageFault.TheVariants.{Magic, HeaderFi
 use Rattle.lh_image.specs.declared.fault.ImageFault.TheVariants.{Memory}
 use Rattle.lh_image.specs.declared.header.Header.{Header}
 use Rattle.lh_image.specs.declared.judge.page_checks.PageFaults.{PageFaults}
-use Rattle.lh_image.specs.declared.table.Entry.{Entry}
+use Rattle.lh_image.specs.declared.table.PageEntry.{PageEntry}
 use Rattle.lh_image.specs.Faults.{header_rows, first_fault_of}
 use Rattle.lh_image.specs.PageChecks.{AreNoted}
 use Rattle.lh_image.specs.Pages.{HaveCome}
@@ -15,14 +15,14 @@ use Rattle.lh_image.specs.Version.{page_bytes, version_of}
 use Rattle.lh_image.specs.View.{View, IsView, buckets, page_count, links}
 
 -- the bytes were read to their end, and are as many pages as their header says
-pub record IsRead (bytes : List ℕ) (header : Header) (entries : List Entry) (pairs : List Pair)
+pub record IsRead (bytes : List ℕ) (header : Header) (entries : List PageEntry) (pairs : List Pair)
     (faults : PageFaults) : Type 0 where
   pub come : HaveCome bytes header header.pages entries pairs faults
   pub faultless : first_fault_of (header_rows bytes) ≡ None
   pub size : length bytes ≡ page_bytes (version_of bytes) * header.pages
 
 -- all pages of a View were kept and looked at
-pub record IsViewKept (v : View) (entries : List Entry) (pairs : List Pair) (faults : PageFaults) : Type 0 where
+pub record IsViewKept (v : View) (entries : List PageEntry) (pairs : List Pair) (faults : PageFaults) : Type 0 where
   pub view : IsView v
   pub links : links_in entries (buckets v) ≡ links v
   pub records : (p : ℕ) → 1 ≤ p → p < page_count v → has_plain_head v p ≡ true → v.bad_slot p ≡ None →

@@ -6,7 +6,7 @@ use Rattle.lh_image.specs.declared.fault.ImageFault.{ImageFault}
 use Rattle.lh_image.specs.declared.fault.ImageFault.TheVariants.{Trailing, ReadFault}
 use Rattle.lh_image.specs.declared.header.Header.{Header}
 use Rattle.lh_image.specs.declared.judge.page_checks.PageFaults.{PageFaults}
-use Rattle.lh_image.specs.declared.table.Entry.{Entry}
+use Rattle.lh_image.specs.declared.table.PageEntry.{PageEntry}
 use Rattle.lh_image.specs.declared.table.Table.{Table}
 use Rattle.lh_image.specs.Filling.{IsCut}
 use Rattle.lh_image.specs.Layout.{header_of, view_of}
@@ -15,7 +15,7 @@ use Rattle.lh_image.specs.Table.{IsTable}
 use Rattle.lh_image.specs.Version.{page_bytes, version_of}
 
 -- the first n pages of these bytes came, the header's page among them
-pub record HaveCome (bytes : List ℕ) (header : Header) (n : ℕ) (entries : List Entry) (pairs : List Pair)
+pub record HaveCome (bytes : List ℕ) (header : Header) (n : ℕ) (entries : List PageEntry) (pairs : List Pair)
     (faults : PageFaults) : Type 0 where
   pub fields : header ≡ header_of bytes
   pub kept : IsTable (view_of bytes) n entries pairs
@@ -24,8 +24,8 @@ pub record HaveCome (bytes : List ℕ) (header : Header) (n : ℕ) (entries : Li
   pub each_byte : (i : ℕ) → i < page_bytes (version_of bytes) * n → slice_index bytes i < 256
 
 -- the first n pages came, and nothing behind them was read, or why they didn't come
-abbrev pub ReadsTo : {X : Type 0} → List ℕ → Header → ℕ → Result X ImageFault → List Entry → List Pair → PageFaults →
-    Option (List ℕ) → Type 0
+abbrev pub ReadsTo : {X : Type 0} → List ℕ → Header → ℕ → Result X ImageFault → List PageEntry → List Pair →
+    PageFaults → Option (List ℕ) → Type 0
 ReadsTo bytes header n (Ok x) entries pairs faults now =
     HaveCome bytes header n entries pairs faults × (now ≡ Some (drop (page_bytes (version_of bytes) * n) bytes))
 ReadsTo bytes header n (Err f) entries pairs faults now = IsCut bytes (page_bytes (version_of bytes) * n) f

@@ -5,35 +5,35 @@ use Rattle.lh_page.specs.declared.pair.Pair.{Pair}
 use Rattle.lh_page.specs.declared.fault.PageFault.{PageFault}
 use Rattle.lh_page.specs.declared.fault.PageFault.TheVariants.{Kind, Used, Slot}
 use Rattle.lh_page.specs.PageFields.{fault_of, pairs_of}
-use Rattle.lh_image.specs.declared.table.Entry.{Entry}
+use Rattle.lh_image.specs.declared.table.PageEntry.{PageEntry}
 use Rattle.lh_image.specs.Chains.{Links}
 use Rattle.lh_image.specs.declared.version.Version.{Version}
 use Rattle.lh_image.specs.Version.{format_of}
 use Rattle.lh_image.specs.View.{View, bucket, next}
 
 -- the header's place, and what stands past the end
-abbrev pub no_entry : Entry
+abbrev pub no_entry : PageEntry
 no_entry = record { bucket = 0; next = 0; start = 0; used = 0 }
 
-abbrev pub entry_at : List Entry → ℕ → Entry
+abbrev pub entry_at : List PageEntry → ℕ → PageEntry
 entry_at entries p = slice_index_or entries p no_entry
 
-unfoldable pub next_in : List Entry → ℕ → ℕ
+unfoldable pub next_in : List PageEntry → ℕ → ℕ
 next_in entries p = (entry_at entries p).next
 
-unfoldable pub bucket_in : List Entry → ℕ → ℕ
+unfoldable pub bucket_in : List PageEntry → ℕ → ℕ
 bucket_in entries p = (entry_at entries p).bucket
 
 -- the records of a page among those of all
-unfoldable pub page_records : List Entry → List Pair → ℕ → List Pair
+unfoldable pub page_records : List PageEntry → List Pair → ℕ → List Pair
 page_records entries pairs p = take (entry_at entries p).used (drop (entry_at entries p).start pairs)
 
 -- each page's records lie among those of all
-abbrev pub AreWithin : List Entry → List Pair → Type 0
+abbrev pub AreWithin : List PageEntry → List Pair → Type 0
 AreWithin entries pairs = (p : ℕ) → (entry_at entries p).start + (entry_at entries p).used ≤ length pairs
 
 -- where the pages lead
-abbrev pub links_in : List Entry → ℕ → Links
+abbrev pub links_in : List PageEntry → ℕ → Links
 links_in entries heads = record {
   next = next_in entries;
   bucket = bucket_in entries;
@@ -51,8 +51,8 @@ is_of_slot (Some Used) = false
 is_of_slot (Some (Slot i)) = true
 
 -- one page more: its records behind the others, unless the page has a fault
-pub record IsPushed (entries : List Entry) (pairs : List Pair) (new_entries : List Entry) (new_pairs : List Pair)
-    (own_bucket following : ℕ) (version : Version) (bytes : List ℕ) (room : ℕ) : Type 0 where
+pub record IsPushed (entries : List PageEntry) (pairs : List Pair) (new_entries : List PageEntry)
+    (new_pairs : List Pair) (own_bucket following : ℕ) (version : Version) (bytes : List ℕ) (room : ℕ) : Type 0 where
   pub added : List Pair
   pub appended : new_pairs ≡ pairs ++ added
   pub entered : new_entries
@@ -66,7 +66,7 @@ has_plain_head v p =
     && not (nat_lt v.header.config.capacity (v.head p).used)
 
 -- the first n pages came, the header's page among them
-pub record IsTable (v : View) (n : ℕ) (entries : List Entry) (pairs : List Pair) : Type 0 where
+pub record IsTable (v : View) (n : ℕ) (entries : List PageEntry) (pairs : List Pair) : Type 0 where
   pub size : length entries ≡ n
   pub next : (p : ℕ) → p < n → next_in entries p ≡ next v p
   pub bucket : (p : ℕ) → p < n → bucket_in entries p ≡ bucket v p

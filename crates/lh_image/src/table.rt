@@ -11,7 +11,7 @@ use std::alloc::Global;
 
 /// Where a page leads, and where its records stand among those of all pages.
 #[derive(Clone, Copy)]
-pub(crate) struct Entry {
+pub(crate) struct PageEntry {
     pub bucket: u32,
     /// The next page of the chain, 0 for none.
     pub next: u32,
@@ -22,7 +22,7 @@ pub(crate) struct Entry {
 /// The pages that came, by their numbers, and the records of all of them.
 #[derive(Drop)]
 pub(crate) struct Table {
-    pub entries: Vec<Entry>,
+    pub entries: Vec<PageEntry>,
     pub pairs: Vec<Pair>,
     // Room for the records of one page.
     page: Pairs,
@@ -47,7 +47,7 @@ impl Table {
         ensures fault { IfErr result (λ f. f ≡ ImageFault.Memory) }
     {
         let mut entries = Vec::new(alloc);
-        entries.push(Entry {
+        entries.push(PageEntry {
             bucket: 0,
             next: 0,
             start: 0,
@@ -88,7 +88,7 @@ impl Table {
             Err(PageFault::Slot(_)) => true,
             Err(_) => false,
         };
-        self.entries.push(Entry {
+        self.entries.push(PageEntry {
             bucket: head.bucket,
             next: head.next,
             start,

@@ -412,23 +412,42 @@ fn drive_asked(config: Config, matches: &ArgMatches<'_>) -> Request
     }
 }
 
+/// What a subcommand with the options of a file's configuration asks for, where the input doesn't begin with an image.
+fn file_asked(name: &str, matches: &ArgMatches<'_>) -> Request
+    requires named { IsFileCommand name.now }
+    requires settings { HasSettings (rows_of (found_of matches.now)) }
+    requires drive { name.now ≡ codes "drive" → HasDriveNumbers (rows_of (found_of matches.now)) }
+    requires image { name.now ≡ codes "build" → HasImage (rows_of (found_of matches.now)) }
+    requires serve { name.now ≡ codes "serve" → typed_in (rows_of (found_of matches.now)) (codes "from_image") ≡ false }
+    ensures value { asked_in name.now (rows_of (found_of matches.now)) ≡ Some result }
+    ensures servable { IsServable result }
+{
+    let Some(config) = config_of(matches) else {
+        return Request::MaxBelowInitial;
+    };
+    match name {
+        "commands" => Request::Commands(config),
+        "steps" => Request::Steps(config),
+        "build" => Request::Build(config, version_in(matches)),
+        "drive" => drive_asked(config, matches),
+        "replay" => Request::Replay(config),
+        "serve" => Request::Serve(config),
+        _ => unreachable!(),
+    }
+}
+
 /// What `serve` asks for.
 fn serve_asked(matches: &ArgMatches<'_>) -> Request
     requires { HasSettings (rows_of (found_of matches.now)) }
     ensures value { serve_asked_in (rows_of (found_of matches.now)) ≡ Some result }
     ensures servable { IsServable result }
 {
-    if is_typed(matches, "from_image") {
-        if is_setting_typed(matches) {
-            Request::SettingsBesideImage
-        } else {
-            Request::ServeImage
-        }
+    if !is_typed(matches, "from_image") {
+        file_asked("serve", matches)
+    } else if is_setting_typed(matches) {
+        Request::SettingsBesideImage
     } else {
-        match config_of(matches) {
-            Some(config) => Request::Serve(config),
-            None => Request::MaxBelowInitial,
-        }
+        Request::ServeImage
     }
 }
 
@@ -444,34 +463,14 @@ fn asked(name: &str, matches: &ArgMatches<'_>) -> Request
     ensures servable { IsServable result }
 {
     match name {
-        "commands" => match config_of(matches) {
-            Some(config) => Request::Commands(config),
-            None => Request::MaxBelowInitial,
-        },
-        "steps" => match config_of(matches) {
-            Some(config) => Request::Steps(config),
-            None => Request::MaxBelowInitial,
-        },
-        "build" => match config_of(matches) {
-            Some(config) => Request::Build(config, version_in(matches)),
-            None => Request::MaxBelowInitial,
-        },
         "check" => Request::Check,
         "dump" => Request::Dump,
         "draw" => Request::Draw,
         "migrate" => Request::Migrate,
         "query" => Request::Query,
         "apply" => Request::Apply(version_in(matches)),
-        "drive" => match config_of(matches) {
-            Some(config) => drive_asked(config, matches),
-            None => Request::MaxBelowInitial,
-        },
         "serve" => serve_asked(matches),
-        "replay" => match config_of(matches) {
-            Some(config) => Request::Replay(config),
-            None => Request::MaxBelowInitial,
-        },
-        _ => unreachable!(),
+        _ => file_asked(name, matches),
     }
 }
 

@@ -14,3 +14,4 @@ pub mod WrittenPages
 pub mod ReadPages
 pub mod ShownPages
 pub mod PageText
+pub mod Digits

@@ -9,3 +9,4 @@ pub mod Format
 pub mod PageTable
 pub mod PageFields
 pub mod PageLaws
+pub mod Texts

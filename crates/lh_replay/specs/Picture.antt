@@ -11,7 +11,7 @@ use Rattle.lh_draw.specs.declared.elements.Canvas.{Canvas}
 use Rattle.lh_replay.specs.Lanes.{lane_count, lane_of, rehashes, rows_until}
 use Rattle.lh_replay.specs.PictureTexts.{end_text, heading_text, picture_caption_text, step_text}
 use Rattle.lh_replay.specs.Sizes.{box_height, empty_height, lanes_left, lane_width, rows_top, row_height}
-use Rattle.lh_replay.specs.declared.elements.Caption.{Caption}
+use Rattle.lh_replay.specs.declared.elements.PictureCaption.{PictureCaption}
 use Rattle.lh_replay.specs.declared.elements.Heading.{Heading}
 use Rattle.lh_replay.specs.declared.elements.Step.{Step}
 use Rattle.lh_replay.specs.declared.shapes.Shape.{Shape}
@@ -25,7 +25,7 @@ picture_canvas_of events = record {
   height = empty_height + row_height * length events;
 }
 
-unfoldable pub caption_of : List Event → Caption
+unfoldable pub caption_of : List Event → PictureCaption
 caption_of events = record { steps = length events }
 
 unfoldable pub heading_of : List Event → ℕ → Heading

@@ -8,17 +8,17 @@ use Rattle.lh_core.specs.declared.event.Event.{Event}
 use Rattle.lh_core.specs.declared.event.Event.TheVariants as event
 use Rattle.lh_core.specs.Log.{Entry, if_accepted}
 use Rattle.lh_script.specs.StepTexts.{effect_text, refusal_text}
-use Rattle.lh_replay.specs.declared.elements.Caption.{Caption}
+use Rattle.lh_replay.specs.declared.elements.PictureCaption.{PictureCaption}
 use Rattle.lh_replay.specs.declared.elements.Heading.{Heading}
 use Rattle.lh_replay.specs.declared.elements.Step.{Step}
 use Rattle.lh_replay.specs.declared.shapes.HeldBox.{HeldBox}
 use Rattle.lh_replay.specs.declared.shapes.Rectangle.{Rectangle}
 use Rattle.lh_replay.specs.declared.shapes.Shape.{Shape}
 use Rattle.lh_replay.specs.declared.shapes.Shape.TheVariants as shape
-use Rattle.lh_replay.specs.declared.label.Label.{Label}
+use Rattle.lh_replay.specs.declared.label.EventLabel.{EventLabel}
 
 -- the picture's title and its description, and what its marks are
-unfoldable pub picture_caption_text : Caption → List ℕ
+unfoldable pub picture_caption_text : PictureCaption → List ℕ
 picture_caption_text c =
     codes "<title id='title'>Schedule of a linear hash file, steps " ++ (decimal c.steps ++
     codes
@@ -59,7 +59,7 @@ told_text (Ok effect) = effect_text effect
 told_text (Err refusal) = refusal_text refusal
 
 -- an event and what was told of it, a refusal in a colour of its own
-unfoldable pub label_text : Label → List ℕ
+unfoldable pub label_text : EventLabel → List ℕ
 label_text w =
     codes "<text x='8' y='16' fill='" ++ (if_accepted w.entry (codes "#333333") (codes "#b85000") ++ (codes "'>" ++ (
     event_word w.event ++ (codes ": " ++ (told_text w.entry ++ codes "</text>")))))

@@ -3,17 +3,17 @@ ghost use Rattle.std.specs.Prelude.{Some};
 ghost use Rattle.lh_replay.specs.PictureTexts.{end_text, heading_text, lane_name};
 ghost use Rattle.lh_replay.specs.PictureTexts.{picture_caption_text, step_text};
 
-use crate::label::Label;
+use crate::label::EventLabel;
 use crate::shapes::Shape;
 use std::fmt;
 
 /// The picture's title and its description, and two lines of text that say what its marks are, on a white ground.
 #[derive(Clone, Copy)]
-pub struct Caption {
+pub struct PictureCaption {
     pub steps: usize,
 }
 
-impl fmt::Display for Caption {
+impl fmt::Display for PictureCaption {
     ghost output = { λ caption. Some (picture_caption_text caption) };
 
     #[tactic(auto, unfolding(crate::specs::PictureTexts::picture_caption_text))]
@@ -73,7 +73,7 @@ pub struct Step {
     pub number: u128,
     pub top: u128,
     pub left: u32,
-    pub label: Label,
+    pub label: EventLabel,
     pub shape: Shape,
 }
 

@@ -57,17 +57,17 @@ impl fmt::Display for Told {
 
 /// An event and what was told of it, a refusal in a colour of its own.
 #[derive(Clone, Copy)]
-pub struct Label {
+pub struct EventLabel {
     pub event: Event,
     pub entry: Result<Effect, Refusal>,
 }
 
-impl fmt::Display for Label {
+impl fmt::Display for EventLabel {
     ghost output = { λ label. Some (label_text label) };
 
     #[tactic(auto, unfolding(crate::specs::PictureTexts::label_text))]
     fn fmt<W: fmt::Write>(&self, f: &mut fmt::Formatter<W>) -> fmt::Result {
-        let Label { event, entry } = *self;
+        let EventLabel { event, entry } = *self;
         let word = EventWord { event };
         let told = Told { entry };
         let ink = if entry.is_ok() { "#333333" } else { "#b85000" };

@@ -16,8 +16,8 @@ mod picture;
 mod shapes;
 mod sizes;
 
-pub use elements::{Caption, End, Heading, Step};
-pub use label::Label;
+pub use elements::{End, Heading, PictureCaption, Step};
+pub use label::EventLabel;
 pub use lanes::{lane_count, lane_of};
 pub use picture::{canvas_of, caption_of, heading_of, step_of};
 pub use shapes::Shape;

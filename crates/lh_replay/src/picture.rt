@@ -5,8 +5,8 @@ ghost use Rattle.lh_replay.specs.Picture.{caption_of, event_at, heading_of, pict
 ghost use Rattle.lh_replay.specs.Picture.{told_at};
 ghost use Rattle.lh_replay.specs.Sizes.{box_height, row_height};
 
-use crate::elements::{Caption, Heading, Step};
-use crate::label::Label;
+use crate::elements::{Heading, PictureCaption, Step};
+use crate::label::EventLabel;
 use crate::lanes::{lane_count, lane_of, rehashes, rows_until};
 use crate::shapes::Shape;
 use crate::sizes::{BOX_HEIGHT, EMPTY_HEIGHT, LANE_WIDTH, LANES_LEFT, ROW_HEIGHT, ROWS_TOP};
@@ -26,10 +26,10 @@ pub fn canvas_of(events: &[Event]) -> Canvas
 
 /// What the picture is of.
 #[tactic(auto, unfolding(crate::specs::Picture::caption_of))]
-pub fn caption_of(events: &[Event]) -> Caption
+pub fn caption_of(events: &[Event]) -> PictureCaption
     ensures { result ≡ caption_of events.now }
 {
-    Caption {
+    PictureCaption {
         steps: events.len(),
     }
 }
@@ -98,7 +98,7 @@ pub fn step_of(events: &[Event], entries: &[Result<Effect, Refusal>], row: usize
         number: row as u128 + 1,
         top: ROWS_TOP + ROW_HEIGHT * row as u128,
         left: LANES_LEFT + LANE_WIDTH * lane_of(&event),
-        label: Label {
+        label: EventLabel {
             event,
             entry: entries[row],
         },

@@ -1,6 +1,5 @@
 -- Lemmas by subject; beside them the proofs of each function, by its module
 pub mod Cutting
-pub mod Digits
 pub mod Pairs
 pub mod Scripts
 pub mod Splitting

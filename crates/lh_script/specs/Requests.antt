@@ -6,16 +6,16 @@ use Rattle.lh_script.specs.Operands.{◌>>=◌}
 use Rattle.lh_script.specs.Scripts.{Reading, unless_skipped}
 use Rattle.lh_script.specs.declared.fault.LineFault.{LineFault}
 use Rattle.lh_script.specs.declared.fault.LineFault.TheVariants.{WordCount}
-use Rattle.lh_script.specs.declared.requests.Request.{Request}
-use Rattle.lh_script.specs.declared.requests.Request.TheVariants as ask
+use Rattle.lh_script.specs.declared.requests.ClientRequest.{ClientRequest}
+use Rattle.lh_script.specs.declared.requests.ClientRequest.TheVariants as ask
 
 -- a request behind which no word stands
-unfoldable pub if_alone : Request → List (List ℕ) → Result Request LineFault
+unfoldable pub if_alone : ClientRequest → List (List ℕ) → Result ClientRequest LineFault
 if_alone request [] = Ok request
 if_alone request (word ∷ rest) = Err WordCount
 
 -- a request by the first word of its line and the words behind it
-unfoldable pub request_of : List ℕ → List (List ℕ) → Result Request LineFault
+unfoldable pub request_of : List ℕ → List (List ℕ) → Result ClientRequest LineFault
 request_of word rest =
     if is_word word (codes "buckets") then if_alone ask.Buckets rest
     else (if is_word word (codes "records") then if_alone ask.Records rest
@@ -23,5 +23,5 @@ request_of word rest =
     else (call_alone word rest >>= λ call. Ok (ask.Call call))))
 
 -- a line that isn't skipped is a request
-unfoldable pub request : Reading Request
+unfoldable pub request : Reading ClientRequest
 request words = unless_skipped request_of words

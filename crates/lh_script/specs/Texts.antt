@@ -1,14 +1,9 @@
 -- The texts that the program writes
 use Rattle.std.specs.Prelude.{ℕ, List, [], ◌∷◌, ◌++◌, flat_map, codes}
 use Rattle.std.specs.Fmt.{decimal}
-use Rattle.hex.specs.Hex.{encode_lower}
+use Rattle.lh_page.specs.Texts.{hexadecimal_text}
 use Rattle.lh_bucket.specs.declared.call.Reply.{Reply}
 use Rattle.lh_bucket.specs.declared.call.Reply.TheVariants.{Found, Absent, Inserted, Exists, Deleted, Replaced}
-
--- bytes as pairs of lower-case hexadecimal digits, or `-` for none
-abbrev pub hexadecimal_text : List ℕ → List ℕ
-hexadecimal_text [] = codes "-"
-hexadecimal_text (byte ∷ bytes) = encode_lower (byte ∷ bytes)
 
 abbrev pub reply_text : Reply → List ℕ
 reply_text (Found value) = codes "found " ++ hexadecimal_text value

@@ -23,7 +23,7 @@ mod steps;
 mod texts;
 
 pub use fault::{LineFault, ParseError, ScriptFault};
-pub use requests::{Request, cut_line, read_request};
+pub use requests::{ClientRequest, cut_line, read_request};
 pub use script::{MOST_BYTES, Statement, parse};
 pub use step_texts::{EffectText, EntryText, RefusalText};
-pub use texts::{KeyText, ReplyText, SizeText, ValueText};
+pub use texts::{ReplyText, SizeText};

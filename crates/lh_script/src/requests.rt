@@ -13,7 +13,7 @@ use memchr::memchr;
 
 /// What a client asks for.
 #[derive(Clone, Copy, Debug, PartialEq, Eq)]
-pub enum Request {
+pub enum ClientRequest {
     /// The reply to a call.
     Call(Call),
     /// The number of buckets.
@@ -26,7 +26,7 @@ pub enum Request {
 
 /// A request, where a text has no word.
 #[tactic(auto, unfolding(crate::specs::Requests::if_alone))]
-fn only(asked: Request, text: &[u8]) -> Result<Request, LineFault>
+fn only(asked: ClientRequest, text: &[u8]) -> Result<ClientRequest, LineFault>
     ensures { result ≡ if_alone asked (words text.now) }
 {
     if first_word(text).is_some() {
@@ -37,24 +37,24 @@ fn only(asked: Request, text: &[u8]) -> Result<Request, LineFault>
 
 /// The request of a line, by its first word and what stands behind it.
 #[tactic(auto, unfolding(crate::specs::Requests::request_of))]
-fn request_of_line(word: &[u8], rest: &[u8]) -> Result<Request, LineFault>
+fn request_of_line(word: &[u8], rest: &[u8]) -> Result<ClientRequest, LineFault>
     ensures { result ≡ request_of word.now (words rest.now) }
 {
     if is_name(word, b"buckets".as_slice()) {
-        only(Request::Buckets, rest)
+        only(ClientRequest::Buckets, rest)
     } else if is_name(word, b"records".as_slice()) {
-        only(Request::Records, rest)
+        only(ClientRequest::Records, rest)
     } else if is_name(word, b"image".as_slice()) {
-        only(Request::Image, rest)
+        only(ClientRequest::Image, rest)
     } else {
         let ((), call) = read_call(Ok(()), word, rest)?;
-        Ok(Request::Call(call))
+        Ok(ClientRequest::Call(call))
     }
 }
 
 /// What a line without its LF asks for, if anything. One CR at its end is dropped.
 #[tactic(auto, unfolding(crate::specs::Requests::request))]
-pub fn read_request(line: &[u8]) -> Result<Option<Request>, LineFault>
+pub fn read_request(line: &[u8]) -> Result<Option<ClientRequest>, LineFault>
     ensures { result ≡ request (words (without_last_cr line.now)) }
 {
     let Some((word, rest)) = statement_words(without_cr(line)) else {

@@ -15,7 +15,7 @@ use Rattle.lh_core.specs.State.{State, first}
 use Rattle.lh_core.specs.Serial.{IsAtRest, IsGivenUp, IsServedOn, size_after}
 use Rattle.lh_core.specs.World.{StandsFor, WorldSeen}
 use Rattle.lh_serving.specs.Answers.{AnswersCall, FileSeen, HoldsFile, file_of, first_file}
-use Rattle.lh_serving.specs.declared.answer.Answer.TheVariants as answer
+use Rattle.lh_serving.specs.declared.answer.LineAnswer.TheVariants as answer
 use Rattle.lh_serving.specs.declared.answer.Fault.TheVariants as fault
 
 -- the size of a file whose configuration and size are these

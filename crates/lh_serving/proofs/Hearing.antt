@@ -13,8 +13,8 @@ use Rattle.lh_serving.specs.Answers.{AnswersLine, FileSeen, HoldsFile, asked_by}
 use Rattle.lh_serving.specs.Conversations.{ConversationSeen, IsAt, answers_of, file_after, turn_lines}
 use Rattle.lh_serving.specs.Parts.{kept}
 use Rattle.lh_serving.specs.Texts.{image_text, answer_line}
-use Rattle.lh_script.specs.declared.requests.Request.{Request}
-use Rattle.lh_serving.specs.declared.answer.Answer.{Answer}
+use Rattle.lh_script.specs.declared.requests.ClientRequest.{ClientRequest}
+use Rattle.lh_serving.specs.declared.answer.LineAnswer.{LineAnswer}
 use Rattle.lh_serving.specs.declared.answer.Fault.{Fault}
 
 abbrev pub talk_of : WorldSeen → ℕ → Option (List ℕ) → List ℕ → Option Lists → ConversationSeen
@@ -74,7 +74,7 @@ behind answers waiting text image =
 -- a line has come to its end, and is answered
 pub answered : (start : FileSeen) (w x : WorldSeen) (n m : ℕ) (p q r : Option (List ℕ))
     (waiting new heard answers said : List ℕ) (old image : Option Lists)
-    (o : Result (Option Request) Fault) (a : Option Answer) → old ≡ None →
+    (o : Result (Option ClientRequest) Fault) (a : Option LineAnswer) → old ≡ None →
     IsAt start (talk_of w n p waiting old) heard answers →
     ((l : List ℕ) → p ≡ kept l → q ≡ kept (l ++ said)) → list_any is_lf said ≡ false →
     o ≡ asked_by q →

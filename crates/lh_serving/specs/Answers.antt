@@ -15,11 +15,11 @@ use Rattle.lh_image.specs.declared.version.Version.TheVariants.{Two}
 use Rattle.lh_script.specs.Lines.{without_last_cr, words}
 use Rattle.lh_script.specs.Requests.{request}
 use Rattle.lh_script.specs.declared.fault.LineFault.{LineFault}
-use Rattle.lh_script.specs.declared.requests.Request.{Request}
-use Rattle.lh_script.specs.declared.requests.Request.TheVariants as ask
+use Rattle.lh_script.specs.declared.requests.ClientRequest.{ClientRequest}
+use Rattle.lh_script.specs.declared.requests.ClientRequest.TheVariants as ask
 use Rattle.lh_serving.specs.Texts.{answer_line}
-use Rattle.lh_serving.specs.declared.answer.Answer.{Answer}
-use Rattle.lh_serving.specs.declared.answer.Answer.TheVariants as answer
+use Rattle.lh_serving.specs.declared.answer.LineAnswer.{LineAnswer}
+use Rattle.lh_serving.specs.declared.answer.LineAnswer.TheVariants as answer
 use Rattle.lh_serving.specs.declared.answer.Fault.{Fault}
 use Rattle.lh_serving.specs.declared.answer.Fault.TheVariants as fault
 
@@ -38,12 +38,12 @@ abbrev pub file_of : Lists → FileSeen
 file_of l = record { settings = l.config; map = records_of l; size = size l }
 
 -- a line that is no request is a fault
-abbrev pub in_line : Result (Option Request) LineFault → Result (Option Request) Fault
+abbrev pub in_line : Result (Option ClientRequest) LineFault → Result (Option ClientRequest) Fault
 in_line (Ok asked) = Ok asked
 in_line (Err f) = Err (fault.Line f)
 
 -- what a line asks for, by what is kept of it
-abbrev pub asked_by : Option (List ℕ) → Result (Option Request) Fault
+abbrev pub asked_by : Option (List ℕ) → Result (Option ClientRequest) Fault
 asked_by None = Err fault.TooLong
 asked_by (Some line) = in_line (request (words (without_last_cr line)))
 
@@ -60,7 +60,7 @@ abbrev pub MayWant : FileSeen → Call → Type 0
 MayWant file call = IsInsert call ⊎ (2 ^ 64 - 1 ≤ len file.map)
 
 -- how a call is answered: by the plain map's reply, or that memory ran out, and then nothing changes
-abbrev pub AnswersCall : FileSeen → Call → Answer → FileSeen → Type 0
+abbrev pub AnswersCall : FileSeen → Call → LineAnswer → FileSeen → Type 0
 AnswersCall file call (answer.Reply given) next = (given ≡ reply file.map call) × IsAfter file call next
 AnswersCall file call (answer.Fault fault.Memory) next = (next ≡ file) × MayWant file call
 AnswersCall file call _ next = ⊥
@@ -81,10 +81,10 @@ IsUnimaged file _ = ⊥
 
 -- the bytes that answer what a line asks for: nothing is answered by none, a fault by its name, and neither changes
 -- anything
-abbrev pub AnswersLine : FileSeen → Result (Option Request) Fault → List ℕ → FileSeen → Type 0
+abbrev pub AnswersLine : FileSeen → Result (Option ClientRequest) Fault → List ℕ → FileSeen → Type 0
 AnswersLine file (Ok None) said next = (said ≡ []) × (next ≡ file)
 AnswersLine file (Ok (Some (ask.Call call))) said next =
-    (a : Answer) × (said ≡ answer_line (Some a)) × AnswersCall file call a next
+    (a : LineAnswer) × (said ≡ answer_line (Some a)) × AnswersCall file call a next
 AnswersLine file (Ok (Some ask.Buckets)) said next =
     (said ≡ answer_line (Some (answer.Buckets file.size))) × (next ≡ file)
 AnswersLine file (Ok (Some ask.Records)) said next =

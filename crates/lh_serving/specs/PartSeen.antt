@@ -1,7 +1,7 @@
 -- A line that has come in part, as its bytes and a mark
 use Rattle.std.specs.Prelude.{ℕ, ◌≤◌, List, Option, None, Some, if◌then◌else◌, vec_capacity, vec_len}
 use Rattle.lh_serving.specs.Parts.{longest_line}
-use Rattle.lh_serving.specs.declared.part.Part.TheInside.{Inside}
+use Rattle.lh_serving.specs.declared.part.LinePart.TheInside.{Inside}
 
 -- its bytes, unless they are too many
 abbrev pub part_seen : Inside → Option (List ℕ)

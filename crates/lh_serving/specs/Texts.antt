@@ -7,8 +7,8 @@ use Rattle.lh_image.specs.Texts.{write_image_fault_text}
 use Rattle.lh_image.specs.declared.version.Version.TheVariants.{Two}
 use Rattle.lh_script.specs.FaultTexts.{line_fault_text}
 use Rattle.lh_script.specs.Texts.{line, reply_text, size_text}
-use Rattle.lh_serving.specs.declared.answer.Answer.{Answer}
-use Rattle.lh_serving.specs.declared.answer.Answer.TheVariants as answer
+use Rattle.lh_serving.specs.declared.answer.LineAnswer.{LineAnswer}
+use Rattle.lh_serving.specs.declared.answer.LineAnswer.TheVariants as answer
 use Rattle.lh_serving.specs.declared.answer.Fault.{Fault}
 use Rattle.lh_serving.specs.declared.answer.Fault.TheVariants as fault
 
@@ -20,7 +20,7 @@ fault_text fault.Memory = codes "no memory"
 fault_text (fault.Image f) = write_image_fault_text f
 
 -- an answer, without its LF
-abbrev pub answer_text : Answer → List ℕ
+abbrev pub answer_text : LineAnswer → List ℕ
 answer_text (answer.Reply reply) = reply_text reply
 answer_text (answer.Buckets buckets) = size_text buckets
 answer_text (answer.Records records) = codes "records " ++ decimal records
@@ -28,7 +28,7 @@ answer_text (answer.Image bytes) = codes "image " ++ decimal bytes
 answer_text (answer.Fault f) = codes "fault " ++ fault_text f
 
 -- an answer as a line, where there is one
-abbrev pub answer_line : Option Answer → List ℕ
+abbrev pub answer_line : Option LineAnswer → List ℕ
 answer_line None = []
 answer_line (Some a) = line (answer_text a)
 

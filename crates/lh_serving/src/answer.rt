@@ -23,7 +23,7 @@ pub enum Fault {
 
 /// The answer to a line.
 #[derive(Clone, Copy, Debug, PartialEq, Eq)]
-pub enum Answer {
+pub enum LineAnswer {
     /// The reply to a call.
     Reply(Reply),
     /// The number of buckets.
@@ -51,24 +51,24 @@ impl fmt::Display for Fault {
 
 /// An answer as one line of a text, without the line's end.
 #[derive(Clone, Copy)]
-pub struct AnswerText<'a>(pub &'a Answer);
+pub struct AnswerText<'a>(pub &'a LineAnswer);
 
 impl fmt::Display for AnswerText<'_> {
     ghost output = { λ text. Some (answer_text text.0.now) };
 
     fn fmt<W: fmt::Write>(&self, f: &mut fmt::Formatter<W>) -> fmt::Result {
         match self.0 {
-            Answer::Reply(reply) => write!(f, "{}", ReplyText(reply)),
-            Answer::Buckets(buckets) => write!(f, "{}", SizeText(*buckets)),
-            Answer::Records(records) => write!(f, "records {records}"),
-            Answer::Image(bytes) => write!(f, "image {bytes}"),
-            Answer::Fault(fault) => write!(f, "fault {fault}"),
+            LineAnswer::Reply(reply) => write!(f, "{}", ReplyText(reply)),
+            LineAnswer::Buckets(buckets) => write!(f, "{}", SizeText(*buckets)),
+            LineAnswer::Records(records) => write!(f, "records {records}"),
+            LineAnswer::Image(bytes) => write!(f, "image {bytes}"),
+            LineAnswer::Fault(fault) => write!(f, "fault {fault}"),
         }
     }
 }
 
 /// Adds an answer, if there is one, to those that wait.
-pub fn put(waiting: &mut String, answer: Option<Answer>) -> Result<(), Memory>
+pub fn put(waiting: &mut String, answer: Option<LineAnswer>) -> Result<(), Memory>
     ensures { OnOk result (string_bytes waiting.new ≡ string_bytes waiting.old ++ answer_line answer) }
 {
     let Some(answer) = answer else {

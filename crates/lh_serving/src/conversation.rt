@@ -6,12 +6,12 @@ ghost use Rattle.lh_serving.specs.Answers.{FileSeen, HoldsFile, asked_by, file_o
 ghost use Rattle.lh_serving.specs.Conversations.{IsAt, HasToldAll, pending};
 
 use crate::answer::{Fault, put};
-use crate::part::Part;
+use crate::part::LinePart;
 use crate::serving::answer_to;
 use lh_addr::Config;
 use lh_bucket::{Listing, Memory, PagedBucket};
 use lh_core::{World, count_before};
-use lh_script::{Request, cut_line, read_request};
+use lh_script::{ClientRequest, cut_line, read_request};
 use std::alloc::Global;
 use std::marker::Model;
 
@@ -24,7 +24,7 @@ const ROOM: usize = 66_000;
 pub struct Conversation {
     world: World<PagedBucket>,
     records: u64,
-    part: Part,
+    part: LinePart,
     waiting: String,
     image: Option<Listing>,
 }
@@ -42,7 +42,7 @@ impl Model for Conversation {
 }
 
 /// What a line asks for, by what is kept of it.
-fn asked(part: &Part) -> Result<Option<Request>, Fault>
+fn asked(part: &LinePart) -> Result<Option<ClientRequest>, Fault>
     ensures { result ≡ asked_by part.now }
 {
     let Some(line) = part.line() else {
@@ -62,7 +62,7 @@ impl Conversation {
             IfOk result (λ talk. IsAt start talk [] []) }
         ensures quiet { IfOk result HasToldAll }
     {
-        let part = Part::new(alloc)?;
+        let part = LinePart::new(alloc)?;
         let waiting = String::with_capacity(alloc, ROOM)?;
         Ok(Conversation {
             world,

@@ -15,6 +15,6 @@ mod conversation;
 mod part;
 mod serving;
 
-pub use answer::{Answer, AnswerText, Fault};
+pub use answer::{AnswerText, Fault, LineAnswer};
 pub use conversation::Conversation;
 pub use part::LONGEST_LINE;

@@ -10,12 +10,12 @@ pub const LONGEST_LINE: usize = 1_024;
 
 /// What has come of a line; of a line that is too long nothing is kept but that it is.
 #[derive(Drop)]
-pub struct Part {
+pub struct LinePart {
     bytes: Vec<u8>,
     is_too_long: bool,
 }
 
-impl Model for Part {
+impl Model for LinePart {
     ghost use Rattle.std.specs.Prelude.{ℕ, List, Option};
 
     ghost Value = { Option (List ℕ) };
@@ -27,12 +27,12 @@ impl Model for Part {
     ghost invariant = { HasLineRoom };
 }
 
-impl Part {
+impl LinePart {
     /// Nothing of a line. No part of a line takes memory later.
-    pub fn new(alloc: Global) -> Result<Part, AllocError>
+    pub fn new(alloc: Global) -> Result<LinePart, AllocError>
         ensures { IfOk result (λ part. part ≡ kept []) }
     {
-        Ok(Part {
+        Ok(LinePart {
             bytes: Vec::with_capacity(alloc, LONGEST_LINE)?,
             is_too_long: false,
         })

@@ -3,23 +3,23 @@ ghost use Rattle.std.specs.Prelude.{◌≡◌, ◌++◌, ℕ, IfErr, IfOk, None,
 ghost use Rattle.lh_core.specs.Serial.{IsAtRest};
 ghost use Rattle.lh_serving.specs.Answers.{AnswersLine, AnswersCall, FileSeen, IsImaged, IsUnimaged, HoldsFile};
 ghost use Rattle.lh_serving.specs.Texts.{image_text, answer_line};
-ghost use Rattle.lh_serving.specs.declared.answer.Answer.TheVariants as answer;
+ghost use Rattle.lh_serving.specs.declared.answer.LineAnswer.TheVariants as answer;
 
-use crate::answer::{Answer, Fault};
+use crate::answer::{Fault, LineAnswer};
 use lh_bucket::{Call, Listing, Memory, PagedBucket};
 use lh_core::World;
 use lh_image::image_len;
-use lh_script::Request;
+use lh_script::ClientRequest;
 
 /// What is said of a line: an answer, if it asks for anything, and behind that the image of a file, if it asks for one.
 #[derive(Drop)]
 pub struct Said {
-    pub answer: Option<Answer>,
+    pub answer: Option<LineAnswer>,
     pub image: Option<Listing>,
 }
 
 /// An answer that no image follows.
-fn only(answer: Answer) -> Said
+fn only(answer: LineAnswer) -> Said
     ensures { result ≡ record { answer = Some answer; image = None } }
 {
     Said {
@@ -29,7 +29,7 @@ fn only(answer: Answer) -> Said
 }
 
 /// Serves a call. Where there is no memory for it, nothing changes.
-fn serve_call(world: &mut World<PagedBucket>, records: &mut u64, call: Call) -> Answer
+fn serve_call(world: &mut World<PagedBucket>, records: &mut u64, call: Call) -> LineAnswer
     requires { IsAtRest world.old.state }
     ensures rest { IsAtRest world.new.state }
     ensures answered { (file : FileSeen) → HoldsFile world.old records.old file →
@@ -37,14 +37,14 @@ fn serve_call(world: &mut World<PagedBucket>, records: &mut u64, call: Call) -> 
 {
     let count = *records;
     if count == u64::MAX {
-        return Answer::Fault(Fault::Memory);
+        return LineAnswer::Fault(Fault::Memory);
     }
     match world.serve(call, count) {
         Ok((reply, now)) => {
             *records = now;
-            Answer::Reply(reply)
+            LineAnswer::Reply(reply)
         }
-        Err(Memory) => Answer::Fault(Fault::Memory),
+        Err(Memory) => LineAnswer::Fault(Fault::Memory),
     }
 }
 
@@ -68,7 +68,7 @@ fn imaged(world: &World<PagedBucket>) -> Result<(Listing, u64), Fault>
 pub fn answer_to(
     world: &mut World<PagedBucket>,
     records: &mut u64,
-    asked: Result<Option<Request>, Fault>,
+    asked: Result<Option<ClientRequest>, Fault>,
 ) -> Said
     requires { IsAtRest world.old.state }
     ensures rest { IsAtRest world.new.state }
@@ -81,16 +81,16 @@ pub fn answer_to(
             answer: None,
             image: None,
         },
-        Ok(Some(Request::Call(call))) => only(serve_call(world, records, call)),
-        Ok(Some(Request::Buckets)) => only(Answer::Buckets(world.root().buckets())),
-        Ok(Some(Request::Records)) => only(Answer::Records(*records)),
-        Ok(Some(Request::Image)) => match imaged(world) {
+        Ok(Some(ClientRequest::Call(call))) => only(serve_call(world, records, call)),
+        Ok(Some(ClientRequest::Buckets)) => only(LineAnswer::Buckets(world.root().buckets())),
+        Ok(Some(ClientRequest::Records)) => only(LineAnswer::Records(*records)),
+        Ok(Some(ClientRequest::Image)) => match imaged(world) {
             Ok((listing, len)) => Said {
-                answer: Some(Answer::Image(len)),
+                answer: Some(LineAnswer::Image(len)),
                 image: Some(listing),
             },
-            Err(fault) => only(Answer::Fault(fault)),
+            Err(fault) => only(LineAnswer::Fault(fault)),
         },
-        Err(fault) => only(Answer::Fault(fault)),
+        Err(fault) => only(LineAnswer::Fault(fault)),
     }
 }

@@ -2,9 +2,8 @@
 ghost use Rattle.std.specs.Prelude.{◌≡◌};
 
 use lh_bucket::{Memory, Reply as ReplyOf};
-use lh_page::Key;
+use lh_page::{Key, KeyText};
 use std::alloc::AllocError;
-use std::fmt;
 use thiserror::Error;
 
 /// Why a closed file is not settled: the first reason that holds, in this order.
@@ -50,18 +49,5 @@ impl From<Memory> for SettleFault {
 
     fn from(_error: Memory) -> Self {
         SettleFault::Memory
-    }
-}
-
-/// A key as pairs of lower-case hexadecimal digits.
-#[derive(Clone, Copy)]
-struct KeyText<'a>(&'a Key);
-
-impl fmt::Display for KeyText<'_> {
-    fn fmt<W: fmt::Write>(&self, f: &mut fmt::Formatter<W>) -> fmt::Result {
-        for byte in self.0.bytes() {
-            write!(f, "{byte:02x}")?;
-        }
-        Ok(())
     }
 }

@@ -5,7 +5,7 @@ use Rattle.std.specs.List.{slice_get}
 use Rattle.std.proofs.lemmas.Option.{same_Some, slice_get_within}
 use Rattle.lh_bucket.specs.Listing.{Lists, count_of}
 use Rattle.lh_file.specs.FileState.{FileState}
-use Rattle.lh_file.specs.Words.Dealing.{IsBegun}
+use Rattle.lh_file.specs.FileState.{IsBegun}
 use Rattle.lh_shards.specs.Openings.{AreBegun, AreBrandsOf, table_of, tables_of}
 use Rattle.lh_shards.proofs.Places.{at_push, there}
 

@@ -5,7 +5,7 @@ use Rattle.std.specs.List.{slice_get}
 use Rattle.std.proofs.lemmas.Option.{same_Some, slice_get_within, slice_get_read}
 use Rattle.lh_file.specs.FileState.{FileState}
 use Rattle.lh_file.specs.Words.HandState.{HandState, IsBranch}
-use Rattle.lh_file.specs.declared.words.view.View.{View}
+use Rattle.lh_words.specs.declared.view.View.{View}
 use Rattle.lh_shards.specs.Dividing.{HasGiven, EachPair}
 use Rattle.lh_shards.specs.Hands.{AreOf, AreAtHome, IsOfShard}
 use Rattle.lh_file.specs.HashFile.{Shared}

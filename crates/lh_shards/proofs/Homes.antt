@@ -9,7 +9,7 @@ use Rattle.lh_page.specs.declared.pair.Pair.{Pair}
 use Rattle.lh_bucket.specs.Listing.{Lists, PlaceFact, EachPlace, count_of, list_at, size}
 use Rattle.lh_file.specs.FileState.{FileState, IsOpened}
 use Rattle.lh_file.specs.Words.HandState.{HandState}
-use Rattle.lh_file.specs.declared.words.view.View.{View}
+use Rattle.lh_words.specs.declared.view.View.{View}
 use Rattle.lh_shards.specs.Hands.{AreOf, EachShard, ShardFact}
 use Rattle.lh_shards.specs.Opening.{IsHomeIn}
 use Rattle.lh_shards.proofs.OneShard.{idle_are_of}

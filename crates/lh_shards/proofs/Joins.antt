@@ -6,9 +6,9 @@ use Rattle.std.proofs.lemmas.Option.{slice_get_within}
 use Rattle.lh_bucket.specs.PlainMap.{key_of}
 use Rattle.lh_file.specs.FileState.{FileState}
 use Rattle.lh_file.specs.Words.HandState.{HandState, IsJoined, IsSame}
-use Rattle.lh_file.specs.Words.Views.{joined_views}
-use Rattle.lh_file.specs.declared.words.seat_view.Entry.{Entry}
-use Rattle.lh_file.specs.declared.words.view.View.{View}
+use Rattle.lh_words.specs.Views.{joined_views}
+use Rattle.lh_words.specs.declared.seat_view.Entry.{Entry}
+use Rattle.lh_words.specs.declared.view.View.{View}
 use Rattle.lh_settling.specs.declared.act.ActLine.{ActLine}
 use Rattle.lh_shards.specs.Hands.{AreAtHome, AreOf, IsOfShard}
 use Rattle.lh_shards.specs.Joining.{AreJoinedByShard, AreSame}

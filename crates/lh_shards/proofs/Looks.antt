@@ -10,7 +10,7 @@ use Rattle.lh_file.specs.Snapshots.Scans.{Scanning, HasVisited}
 use Rattle.lh_file.specs.Words.HandState.{HandState, knowing, told_of}
 use Rattle.lh_file.specs.declared.fault.FileFault.{FileFault}
 use Rattle.lh_file.specs.declared.snapshots.bucket_copy.BucketCopy.{BucketCopy}
-use Rattle.lh_file.specs.declared.words.seat_view.Entry.{Entry}
+use Rattle.lh_words.specs.declared.seat_view.Entry.{Entry}
 use Rattle.lh_shards.specs.Snapshots.{IsTaken}
 
 -- what a file promises of a snapshot, as one

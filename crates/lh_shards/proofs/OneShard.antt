@@ -18,7 +18,7 @@ use Rattle.lh_file.specs.Words.HandState.{HandState}
 use Rattle.lh_file.specs.Words.Recording.{kept_of}
 use Rattle.lh_settling.specs.declared.act.ActLine.{ActLine}
 use Rattle.lh_file.specs.declared.fault.FileFault.{FileFault}
-use Rattle.lh_file.specs.declared.words.view.View.{View}
+use Rattle.lh_words.specs.declared.view.View.{View}
 use Rattle.lh_shards.specs.Hands.{AreOf, AtShard, AtShardOf, AreAtHome, IsOfShard, ShardFact, EachShard}
 use Rattle.lh_shards.specs.Number.{home_of}
 use Rattle.lh_shards.specs.Told.{HasTold}

@@ -8,7 +8,7 @@ use Rattle.lh_bucket.specs.Listing.{Lists}
 use Rattle.lh_settling.specs.Settled.{IsSettled}
 use Rattle.lh_settling.specs.declared.act.ActLine.{ActLine}
 use Rattle.lh_file.specs.FileState.{FileState}
-use Rattle.lh_file.specs.History.Log.{lines_of}
+use Rattle.lh_words.specs.History.Log.{lines_of}
 use Rattle.lh_file.specs.Words.HandState.{HandState}
 use Rattle.lh_shards.specs.Closing.{IsClosedBy}
 use Rattle.lh_shards.specs.Settling.{AreSettled}

@@ -1,7 +1,7 @@
 -- Hands of all shards divided in two
 use Rattle.std.specs.Prelude.{◌≡◌, ℕ, ◌<◌, ◌≤◌, List, length, Result, IfOk, IfErr, OnOk, OnErr, Some, slice_get}
 use Rattle.lh_file.specs.Words.HandState.{HandState, seeing, IsBranch}
-use Rattle.lh_file.specs.Words.Views.{lessened}
+use Rattle.lh_words.specs.Views.{lessened}
 use Rattle.lh_shards.specs.declared.fault.SplitFault.{SplitFault}
 use Rattle.lh_shards.specs.declared.fault.SplitFault.TheVariants.{Spent, Memory}
 

@@ -1,7 +1,7 @@
 -- Hands of all shards joined
 use Rattle.std.specs.Prelude.{◌≡◌, ℕ, ◌<◌, ◌≤◌, List, length, Result, IfOk, IfErr, Some, slice_get}
 use Rattle.lh_file.specs.Words.HandState.{HandState, IsJoined, IsSame}
-use Rattle.lh_shards.specs.declared.fault.JoinFault.{JoinFault}
+use Rattle.lh_shards.specs.declared.fault.JoinShardsFault.{JoinShardsFault}
 
 -- a first hand and a second one of each shard are one
 pub record AreJoinedByShard (first second new : List HandState) : Type 0 where
@@ -36,7 +36,7 @@ pub record IsShort (first second : List HandState) (shard : ℕ) : Type 0 where
   pub short : one.room < length other.acts
 
 -- Hands that were to be joined
-pub record AreUnited (first second : List HandState) (result : Result (List HandState) JoinFault) : Type 0 where
+pub record AreUnited (first second : List HandState) (result : Result (List HandState) JoinShardsFault) : Type 0 where
   -- Each is one of two,
   pub ok : IfOk result (AreJoinedByShard first second)
   -- or all come back as they were, but that some first ones have more room.

@@ -3,7 +3,7 @@ use Rattle.std.specs.Prelude.{◌≡◌, ℕ, ◌-◌, ◌^◌, Bool, true, List
 use Rattle.lh_bucket.specs.Listing.{Lists, count_of, size}
 use Rattle.lh_file.specs.Buckets.Brands.{TableId, IsBrandOf, no_table}
 use Rattle.lh_file.specs.FileState.{FileState, IsOpened}
-use Rattle.lh_file.specs.Words.Dealing.{IsBegun}
+use Rattle.lh_file.specs.FileState.{IsBegun}
 use Rattle.lh_file.specs.Words.HandState.{HandState}
 use Rattle.lh_shards.specs.Hands.{AreOf, EachShard}
 

@@ -9,7 +9,7 @@ use Rattle.lh_file.specs.Snapshots.Moments.{IsSnapshot}
 use Rattle.lh_file.specs.Snapshots.Scans.{Scanning}
 use Rattle.lh_file.specs.Words.HandState.{HandState, knowing, told_of}
 use Rattle.lh_file.specs.declared.fault.FileFault.{FileFault}
-use Rattle.lh_file.specs.declared.words.seat_view.Entry.{Entry}
+use Rattle.lh_words.specs.declared.seat_view.Entry.{Entry}
 
 -- The file at one moment, no earlier than what the hand was told of, with no fewer buckets than the hand has seen. Of a
 -- traced file it holds just what a log of as many acts leaves, which the hand was told of.

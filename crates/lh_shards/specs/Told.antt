@@ -1,9 +1,9 @@
 -- What a hand is told of its shard's history
 use Rattle.std.specs.Prelude.{◌≡◌, ℕ, ◌≤◌, Bool, true, List}
 use Rattle.lh_file.specs.FileState.{FileState}
-use Rattle.lh_file.specs.History.Told.{IsTold}
+use Rattle.lh_words.specs.History.Told.{IsTold}
 use Rattle.lh_file.specs.Words.HandState.{HandState, told_of}
-use Rattle.lh_file.specs.declared.words.seat_view.Entry.{Entry}
+use Rattle.lh_words.specs.declared.seat_view.Entry.{Entry}
 
 -- The hand was told of this many acts of its file, no fewer than before. Of a traced file they are one legal history,
 -- in which the hand's own acts stand, and which goes on from all that the hand was told of.

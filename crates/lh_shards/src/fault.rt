@@ -54,7 +54,7 @@ impl From<Memory> for SplitFault {
 /// before it. All hands are as they were.
 #[derive(Debug, Drop, Error)]
 #[error("no memory in shard {shard}")]
-pub struct JoinFault {
+pub struct JoinShardsFault {
     pub shard: u32,
     pub first: Hands,
     pub second: Hands,

@@ -5,7 +5,7 @@ ghost use Rattle.lh_file.specs.Words.HandState.{IsJoined};
 ghost use Rattle.lh_shards.specs.Hands.{AreOf};
 ghost use Rattle.lh_shards.specs.Joining.{AllHaveRoom, AreJoinedByShard, AreSame, AreUnited, HaveRoomBefore, IsShort};
 
-use crate::fault::JoinFault;
+use crate::fault::JoinShardsFault;
 use crate::hands::Hands;
 use crate::shards::Shards;
 use lh_file::{FileBrand, Hand, HashFile, Mode, NoGate};
@@ -46,7 +46,7 @@ fn join<M: Mode, J: FileBrand>(file: &HashFile<NoGate, M, J>, first: Hand, secon
 impl<M: Mode, J: FileBrand> Shards<M, J> {
     /// Makes of two hands of each shard one: what they may do and what they did is added. Where there is no memory for
     /// the acts of a second hand, the first shard where that is so is named, and all hands come back as they were.
-    pub fn join_hands(&self, mut first: Hands, second: Hands) -> Result<Hands, JoinFault>
+    pub fn join_hands(&self, mut first: Hands, second: Hands) -> Result<Hands, JoinShardsFault>
         requires first { AreOf self.now first }
         requires second { AreOf self.now second }
         ensures united { AreUnited first second result }
@@ -59,7 +59,7 @@ impl<M: Mode, J: FileBrand> Shards<M, J> {
     {
         let _few = self.count();
         match make_room(&mut first, &second) {
-            Some(shard) => Err(JoinFault {
+            Some(shard) => Err(JoinShardsFault {
                 shard,
                 first,
                 second,

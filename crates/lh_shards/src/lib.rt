@@ -40,7 +40,7 @@ mod told;
 
 pub use closed::ClosedShards;
 pub use closed_shard::ClosedShard;
-pub use fault::{CreateFault, JoinFault, ListingsFault, OpenFault, ShardFault, SplitFault};
+pub use fault::{CreateFault, JoinShardsFault, ListingsFault, OpenFault, ShardFault, SplitFault};
 pub use hands::Hands;
 pub use listings::empty_listings;
 pub use number::{MOST_SHARDS, mixed, shard_of};

@@ -13,7 +13,8 @@ use Rattle.lh_core.specs.Log.{Entry}
 use Rattle.lh_page.specs.Limits.{longest_key, longest_value}
 use Rattle.lh_page.specs.declared.pair.Pair.{Pair}
 use Rattle.lh_script.specs.StepTexts.{effect_text, entry_text, two_numbers}
-use Rattle.lh_script.specs.Texts.{hexadecimal_text, line, reply_text, size_text}
+use Rattle.lh_page.specs.Texts.{hexadecimal_text}
+use Rattle.lh_script.specs.Texts.{line, reply_text, size_text}
 use Rattle.lh_subcommands.specs.Devices.{longest_output_line}
 use Rattle.lh_subcommands.specs.ImageTexts.{record_text}
 use Rattle.lh_subcommands.specs.LongestLine.{IsEffectInLimits, IsEntryInLimits, IsRecordInLimits, IsReplyInLimits}

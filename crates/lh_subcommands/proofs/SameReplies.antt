@@ -17,14 +17,14 @@ use Rattle.lh_script.specs.Requests.{if_alone, request, request_of}
 use Rattle.lh_script.specs.Scripts.{from_line, script}
 use Rattle.lh_script.specs.Texts.{commands_text, line, reply_text, size_text}
 use Rattle.lh_script.specs.declared.fault.LineFault.{LineFault}
-use Rattle.lh_script.specs.declared.requests.Request.{Request}
-use Rattle.lh_script.specs.declared.requests.Request.TheVariants as ask
+use Rattle.lh_script.specs.declared.requests.ClientRequest.{ClientRequest}
+use Rattle.lh_script.specs.declared.requests.ClientRequest.TheVariants as ask
 use Rattle.lh_serving.specs.Answers.{AnswersLine, AnswersCall, FileSeen, asked_by, in_line}
 use Rattle.lh_serving.specs.Conversations.{AreTurns, Turn, answers_of, file_after, turn_lines}
 use Rattle.lh_serving.specs.Parts.{kept, longest_line}
 use Rattle.lh_serving.specs.Texts.{answer_line}
-use Rattle.lh_serving.specs.declared.answer.Answer.{Answer}
-use Rattle.lh_serving.specs.declared.answer.Answer.TheVariants as answer
+use Rattle.lh_serving.specs.declared.answer.LineAnswer.{LineAnswer}
+use Rattle.lh_serving.specs.declared.answer.LineAnswer.TheVariants as answer
 use Rattle.lh_serving.specs.declared.answer.Fault.{Fault}
 use Rattle.lh_serving.specs.declared.answer.Fault.TheVariants as fault
 use Rattle.lh_subcommands.specs.Run.{commands_due, due, replies_text}
@@ -58,19 +58,20 @@ line_first (c ∷ d ∷ cs) zs h =
     ∙ no_cr (c == 13) (lines text) (onto c (lines text)) ∙ ap (onto c) (line_first (d ∷ cs) zs both.1)
 
 -- the call that a line asks for
-abbrev called : Result (Option Request) Fault → Option Call
+abbrev called : Result (Option ClientRequest) Fault → Option Call
 called (Ok (Some (ask.Call call))) = Some call
 called _ = None
 
 -- a word that is a request of its own, and no call, is none of the lines that the law speaks of
-alone : (asked : Request) (rest : List (List ℕ)) (said : List ℕ) → (IsCalled (Ok (Some asked)) said → ⊥) →
+alone : (asked : ClientRequest) (rest : List (List ℕ)) (said : List ℕ) → (IsCalled (Ok (Some asked)) said → ⊥) →
     IsCalled (in_line (if_alone asked rest >>= λ r. Ok (Some r))) said → ⊥
 unfolding if_alone
 alone asked [] said none h = none h
 alone asked (word ∷ rest) said none h = h
 
 -- what a line asks for, by what its first word is, and how the line reads as a call
-abbrev asked_as : Bool → Bool → Bool → Bool → List (List ℕ) → Result Call LineFault → Result (Option Request) LineFault
+abbrev asked_as : Bool → Bool → Bool → Bool → List (List ℕ) → Result Call LineFault →
+    Result (Option ClientRequest) LineFault
 asked_as comment buckets records image rest read =
     cond comment (Ok None) (cond buckets (if_alone ask.Buckets rest) (cond records (if_alone ask.Records rest)
     (cond image (if_alone ask.Image rest) (read >>= λ call. Ok (ask.Call call)))) >>= λ r. Ok (Some r))
@@ -125,15 +126,15 @@ abbrev reply_lines : List Reply → List ℕ
 reply_lines given = flat_map (λ reply. line (reply_text reply)) given
 
 -- the answer to a line is the reply to its call, if it has one, before those to the calls that follow
-answer_first : (file next : FileSeen) (asked : Result (Option Request) Fault) (said : List ℕ) (calls : List Call) →
-    IsCalled asked said → AnswersLine file asked said next →
+answer_first : (file next : FileSeen) (asked : Result (Option ClientRequest) Fault) (said : List ℕ)
+    (calls : List Call) → IsCalled asked said → AnswersLine file asked said next →
     said ++ reply_lines (replies next.map calls) ≡
     reply_lines (replies file.map (option_to_list (called asked) ++ calls))
 answer_first file next (Ok None) said calls is h =
     ap₂ (λ (x : List ℕ) (f : FileSeen). x ++ reply_lines (replies f.map calls)) h.0 h.1
 answer_first file next (Ok (Some (ask.Call call))) said calls is (a, text, h) = of_call a is text h
   where
-    of_call : (a : Answer) → IsCalled (Ok (Some (ask.Call call))) said → said ≡ answer_line (Some a) →
+    of_call : (a : LineAnswer) → IsCalled (Ok (Some (ask.Call call))) said → said ≡ answer_line (Some a) →
         AnswersCall file call a next →
         said ++ reply_lines (replies next.map calls) ≡ reply_lines (replies file.map (call ∷ calls))
     of_call (answer.Reply given) is text h =

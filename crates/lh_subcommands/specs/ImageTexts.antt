@@ -5,7 +5,8 @@ use Rattle.std.specs.List.{range_with_len}
 use Rattle.lh_page.specs.declared.pair.Pair.{Pair}
 use Rattle.lh_bucket.specs.Listing.{Lists, size, list_at}
 use Rattle.lh_image.specs.declared.census.Census.{Census}
-use Rattle.lh_script.specs.Texts.{line, hexadecimal_text}
+use Rattle.lh_page.specs.Texts.{hexadecimal_text}
+use Rattle.lh_script.specs.Texts.{line}
 
 -- a number behind its name, as a line
 abbrev pub number_line : List ℕ → ℕ → List ℕ

@@ -7,19 +7,19 @@ use Rattle.lh_core.specs.Serial.{size_from}
 use Rattle.lh_script.specs.Commands.{command}
 use Rattle.lh_script.specs.Scripts.{script}
 use Rattle.lh_script.specs.Texts.{line, size_text}
-use Rattle.lh_script.specs.declared.requests.Request.{Request}
-use Rattle.lh_script.specs.declared.requests.Request.TheVariants as ask
+use Rattle.lh_script.specs.declared.requests.ClientRequest.{ClientRequest}
+use Rattle.lh_script.specs.declared.requests.ClientRequest.TheVariants as ask
 use Rattle.lh_serving.specs.Answers.{asked_by, first_file}
 use Rattle.lh_serving.specs.Conversations.{IsAnswered, Turn}
 use Rattle.lh_serving.specs.Parts.{kept}
 use Rattle.lh_serving.specs.Texts.{answer_line}
-use Rattle.lh_serving.specs.declared.answer.Answer.TheVariants as answer
+use Rattle.lh_serving.specs.declared.answer.LineAnswer.TheVariants as answer
 use Rattle.lh_serving.specs.declared.answer.Fault.{Fault}
 use Rattle.lh_serving.specs.declared.answer.Fault.TheVariants as fault
 use Rattle.lh_subcommands.specs.Run.{commands_due}
 
 -- a line asks for nothing, or for a call for which memory didn't run out
-abbrev pub IsCalled : Result (Option Request) Fault → List ℕ → Type 0
+abbrev pub IsCalled : Result (Option ClientRequest) Fault → List ℕ → Type 0
 IsCalled (Ok None) said = Unit {0}
 IsCalled (Ok (Some (ask.Call call))) said = said ≢ answer_line (Some (answer.Fault fault.Memory))
 IsCalled _ said = ⊥

@@ -1,7 +1,7 @@
 -- How it reads that what threads did is not settled
 use Rattle.std.specs.Prelude.{ℕ, List, ◌++◌, codes}
 use Rattle.std.specs.Fmt.{decimal}
-use Rattle.lh_script.specs.Texts.{hexadecimal_text}
+use Rattle.lh_page.specs.Texts.{hexadecimal_text}
 use Rattle.lh_subcommands.specs.declared.unsettled.Unsettled.{Unsettled}
 use Rattle.lh_subcommands.specs.declared.unsettled.Unsettled.TheVariants.{SplitUnderWay, MissingStamp, Reply, Content}
 use Rattle.lh_subcommands.specs.declared.unsettled.Unsettled.TheVariants.{Placed, Call}

@@ -3,8 +3,7 @@ ghost use Rattle.std.specs.Prelude.{Some};
 ghost use Rattle.lh_subcommands.specs.ImageTexts.{check_text, record_text};
 
 use lh_image::Census;
-use lh_page::Pair;
-use lh_script::{KeyText, ValueText};
+use lh_page::{KeyText, Pair, ValueText};
 use std::fmt;
 
 /// A census as seven lines, each a name and a number.

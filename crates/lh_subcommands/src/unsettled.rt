@@ -2,8 +2,7 @@
 ghost use Rattle.std.specs.Prelude.{Some};
 ghost use Rattle.lh_subcommands.specs.Unsettled.{unsettled_text};
 
-use lh_page::Key;
-use lh_script::KeyText;
+use lh_page::{Key, KeyText};
 use std::fmt;
 
 /// Why what threads did to a file is not settled. Running out of memory is no such fault.

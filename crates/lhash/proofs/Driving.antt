@@ -17,7 +17,7 @@ use Rattle.lh_settling.specs.declared.act.ActLine.{ActLine}
 use Rattle.lh_settling.specs.declared.settle_fault.SettleFault.TheVariants as settle
 use Rattle.lh_file.specs.Closing.{NoneOutside, HasHistory}
 use Rattle.lh_file.specs.FileState.{FileState}
-use Rattle.lh_file.specs.History.Log.{lines_of}
+use Rattle.lh_words.specs.History.Log.{lines_of}
 use Rattle.lh_file.specs.Snapshots.Settled.{BeforeLaw, IsSettledFirst, SnapshotLaw}
 use Rattle.lh_file.specs.Words.HandState.{HandState}
 use Rattle.lh_script.specs.Commands.{command}

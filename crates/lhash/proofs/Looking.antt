@@ -10,7 +10,7 @@ use Rattle.lh_file.specs.History.Own.{IsOwn, share_of}
 use Rattle.lh_file.specs.Snapshots.Hands.{HasSurveyed}
 use Rattle.lh_file.specs.Snapshots.Moments.{IsSnapshot}
 use Rattle.lh_file.specs.Words.HandState.{HandState, IsJoined, knowing, told_of}
-use Rattle.lh_file.specs.declared.words.seat_view.Entry.{Entry}
+use Rattle.lh_words.specs.declared.seat_view.Entry.{Entry}
 use Rattle.lhash.specs.Workers.{HasLookedOn, HasTakenOne, KnowsOf}
 
 -- a hand that was told of more forgets nothing

@@ -17,13 +17,13 @@ use Rattle.lh_settling.specs.declared.act.ActLine.{ActLine}
 use Rattle.lh_file.specs.Calls.Served.{HasServed, IsNotSpent, Serves}
 use Rattle.lh_file.specs.Closing.{NoneOutside}
 use Rattle.lh_file.specs.FileState.{FileState}
-use Rattle.lh_file.specs.History.Log.{lines_of}
+use Rattle.lh_words.specs.History.Log.{lines_of}
 use Rattle.lh_file.specs.History.Own.{ServedLaw}
-use Rattle.lh_file.specs.History.Told.{HasEntered}
+use Rattle.lh_file.specs.History.Entered.{HasEntered}
 use Rattle.lh_file.specs.Words.HandState.{HandState, IsBranch}
 use Rattle.lh_file.specs.Words.Recording.{kept_of}
 use Rattle.lh_file.specs.declared.fault.FileFault.{FileFault}
-use Rattle.lh_file.specs.declared.words.view.View.{View}
+use Rattle.lh_words.specs.declared.view.View.{View}
 use Rattle.lh_shards.specs.Closing.{AreClosedBy}
 use Rattle.lh_shards.specs.Dividing.{AllHave, EachPair, HasGiven}
 use Rattle.lh_shards.specs.Hands.{AreOf, AtShardOf, IsCount}

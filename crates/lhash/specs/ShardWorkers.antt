@@ -6,7 +6,7 @@ use Rattle.lh_file.specs.Words.HandState.{HandState}
 use Rattle.lh_shards.specs.Dividing.{AllHave}
 use Rattle.lh_shards.specs.Hands.{AreOf}
 use Rattle.lh_shards.specs.Own.{AllShare, AreOwn}
-use Rattle.lhash.specs.declared.shard_workers.Worked.{Worked}
+use Rattle.lhash.specs.declared.shard_workers.WorkedHands.{WorkedHands}
 
 -- how many acts all these hands keep
 abbrev pub acts_of : List HandState → ℕ
@@ -59,7 +59,7 @@ pub record HaveMadeOne (old new : List HandState) : Type 0 where
 
 -- what a thread that was to make these calls comes back with: hands of the shards and their files' own, which have
 -- made all of them unless there is a fault, and a fault that is none for want of calls
-pub record IsWorkedOnShards (files : List FileState) (calls : ℕ) (worked : Worked) : Type 0 where
+pub record IsWorkedOnShards (files : List FileState) (calls : ℕ) (worked : WorkedHands) : Type 0 where
   pub of : AreOf files worked.hands
   pub own : AreOwn files worked.hands
   pub share : AllShare calls worked.hands

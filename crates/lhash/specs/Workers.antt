@@ -7,8 +7,8 @@ use Rattle.lh_file.specs.FileState.{FileState}
 use Rattle.lh_file.specs.History.Own.{IsOwn, share_of}
 use Rattle.lh_file.specs.Snapshots.Moments.{IsSnapshot}
 use Rattle.lh_file.specs.Words.HandState.{HandState}
-use Rattle.lh_file.specs.declared.words.seat_view.Entry.{Entry}
-use Rattle.lhash.specs.declared.workers.Worked.{Worked}
+use Rattle.lh_words.specs.declared.seat_view.Entry.{Entry}
+use Rattle.lhash.specs.declared.workers.WorkedHand.{WorkedHand}
 
 -- how many of the places `first`, `first + step`, and so on are below this number
 abbrev pub places_from : ℕ → ℕ → ℕ → ℕ
@@ -63,7 +63,7 @@ pub record HasMade (file : FileState) (calls snapshots : ℕ) (old new : HandSta
 
 -- what a thread that was to make these calls comes back with: its hand of them, which has made all of them unless there
 -- is a fault, and a fault that is none for want of calls
-pub record IsWorked (file : FileState) (calls : ℕ) (worked : Worked) : Type 0 where
+pub record IsWorked (file : FileState) (calls : ℕ) (worked : WorkedHand) : Type 0 where
   pub part : IsPartOf file calls worked.hand
   pub done : worked.fault ≡ None → worked.hand.view.left ≡ 0
   pub fault : IfSome worked.fault IsNotSpent

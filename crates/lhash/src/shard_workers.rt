@@ -23,7 +23,7 @@ use std::thread::{Promise, PromisedHandle, Threads};
 
 /// Hands that come back from a thread, and the fault of the call that ended its work, if one did.
 #[derive(Drop)]
-struct Worked {
+struct WorkedHands {
     hands: Hands,
     fault: Option<FileFault>,
 }
@@ -31,12 +31,12 @@ struct Worked {
 /// The hands that come back are those of these shards, and have made this number of calls, unless there is a fault,
 /// which is none for want of calls.
 #[derive(Clone, Copy)]
-struct Part<'a, J: FileBrand> {
+struct HandsPromise<'a, J: FileBrand> {
     shards: &'a Shards<Traced, J>,
     calls: u64,
 }
 
-impl<'a, J: FileBrand> Promise<Worked> for Part<'a, J> {
+impl<'a, J: FileBrand> Promise<WorkedHands> for HandsPromise<'a, J> {
     ghost kept_by = { λ part worked. IsWorkedOnShards part.shards.now part.calls worked };
 }
 
@@ -76,7 +76,7 @@ fn work<J: FileBrand, R: Wait>(
     calls: &[Call],
     first: usize,
     threads: usize,
-) -> Worked
+) -> WorkedHands
     requires part { ArePartOf shards.now (places_from first threads (length calls.now)) hands }
     requires records { AreRecording shards.now }
     requires threads { 0 < threads }
@@ -84,20 +84,20 @@ fn work<J: FileBrand, R: Wait>(
 {
     for place in (first..calls.len()).step_by(threads) {
         if let Err(fault) = make(rt, shards, &mut hands, &calls[place]) {
-            return Worked {
+            return WorkedHands {
                 hands,
                 fault: Some(fault),
             };
         }
     }
-    Worked { hands, fault: None }
+    WorkedHands { hands, fault: None }
 }
 
 /// Keeps a worker beside the others, or answers that there is no memory for it.
 fn keep<'a, J: FileBrand>(
     shards: &'a Shards<Traced, J>,
-    workers: &mut Vec<PromisedHandle<Worked, Part<'a, J>>>,
-    worker: PromisedHandle<Worked, Part<'a, J>>,
+    workers: &mut Vec<PromisedHandle<WorkedHands, HandsPromise<'a, J>>>,
+    worker: PromisedHandle<WorkedHands, HandsPromise<'a, J>>,
 ) -> bool
     requires others { All (λ worker. worker.promise.shards.now ≡ shards.now) workers.old.items }
     requires new { worker.promise.shards.now ≡ shards.now }
@@ -139,7 +139,7 @@ fn join<J: FileBrand, R: Threads + Wait>(
     rt: &R,
     shards: &Shards<Traced, J>,
     hands: Hands,
-    worker: PromisedHandle<Worked, Part<'_, J>>,
+    worker: PromisedHandle<WorkedHands, HandsPromise<'_, J>>,
 ) -> Result<Hands, DriveFault>
     requires hands { AreOf shards.now hands }
     requires own { AreOwn shards.now hands }
@@ -153,7 +153,7 @@ fn join<J: FileBrand, R: Threads + Wait>(
 {
     // Hands that are joined are their files' own, and have both shares.
     hands_keep_their_shares();
-    let Worked { hands: part, fault } = worker.join(rt);
+    let WorkedHands { hands: part, fault } = worker.join(rt);
     if let Some(fault) = fault {
         return Err(DriveFault::from(fault));
     }
@@ -168,7 +168,7 @@ fn join_all<J: FileBrand, R: Threads + Wait>(
     rt: &R,
     shards: &Shards<Traced, J>,
     mut hands: Hands,
-    workers: Vec<PromisedHandle<Worked, Part<'_, J>>>,
+    workers: Vec<PromisedHandle<WorkedHands, HandsPromise<'_, J>>>,
 ) -> Result<Hands, DriveFault>
     requires hands { AreOf shards.now hands }
     requires own { AreOwn shards.now hands }
@@ -217,11 +217,11 @@ pub fn work_in_threads<J: FileBrand + Send + Sync, R: Threads + Wait + Sync>(
                 let share = calls_of_thread(calls, first, threads) as u64;
                 let part = divide(shards, &mut all, share)?;
                 let Ok(worker) = scope.spawn_with(
-                    Part {
+                    HandsPromise {
                         shards,
                         calls: share,
                     },
-                    move || -> Worked
+                    move || -> WorkedHands
                         requires part { ArePartOf shards.now (places_from first threads (length calls.now)) part }
                         requires records { AreRecording shards.now }
                         requires threads { 0 < threads }

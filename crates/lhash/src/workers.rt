@@ -19,7 +19,7 @@ use std::thread::{Promise, PromisedHandle, Threads};
 
 /// A hand that comes back from a thread, and the fault of the call that ended its work, if one did.
 #[derive(Drop)]
-struct Worked {
+struct WorkedHand {
     hand: Hand,
     fault: Option<FileFault>,
 }
@@ -27,12 +27,12 @@ struct Worked {
 /// The hand that comes back is one of this file, hasn't the right to split, and made its calls out of this number: all
 /// of them, unless there is a fault, which is none for want of calls.
 #[derive(Clone, Copy)]
-struct Part<'a, G: Gate, J: FileBrand> {
+struct HandPromise<'a, G: Gate, J: FileBrand> {
     file: &'a HashFile<G, Traced, J>,
     calls: u64,
 }
 
-impl<'a, G: Gate, J: FileBrand> Promise<Worked> for Part<'a, G, J> {
+impl<'a, G: Gate, J: FileBrand> Promise<WorkedHand> for HandPromise<'a, G, J> {
     ghost kept_by = { λ part worked. IsWorked part.file.now.state part.calls worked };
 }
 
@@ -72,7 +72,7 @@ fn work<G: Gate, J: FileBrand, R: Wait>(
     calls: &[Call],
     first: usize,
     threads: usize,
-) -> Worked
+) -> WorkedHand
     requires part { IsPartOf file.now.state (share_of hand) hand }
     requires records { file.now.state.recording ≡ true }
     requires threads { 0 < threads }
@@ -81,13 +81,13 @@ fn work<G: Gate, J: FileBrand, R: Wait>(
 {
     for place in (first..calls.len()).step_by(threads) {
         if let Err(fault) = make(rt, file, &mut hand, &calls[place]) {
-            return Worked {
+            return WorkedHand {
                 hand,
                 fault: Some(fault),
             };
         }
     }
-    Worked { hand, fault: None }
+    WorkedHand { hand, fault: None }
 }
 
 /// How many calls of a script `work` makes.
@@ -101,8 +101,8 @@ pub(crate) fn calls_of_thread(calls: &[Call], first: usize, threads: usize) -> u
 /// Keeps a worker beside the others, or answers that there is no memory for it.
 fn keep<'a, G: Gate, J: FileBrand>(
     file: &'a HashFile<G, Traced, J>,
-    workers: &mut Vec<PromisedHandle<Worked, Part<'a, G, J>>>,
-    worker: PromisedHandle<Worked, Part<'a, G, J>>,
+    workers: &mut Vec<PromisedHandle<WorkedHand, HandPromise<'a, G, J>>>,
+    worker: PromisedHandle<WorkedHand, HandPromise<'a, G, J>>,
 ) -> bool
     requires others { All (λ worker. worker.promise.file.now.state ≡ file.now.state) workers.old.items }
     requires new { worker.promise.file.now.state ≡ file.now.state }
@@ -163,7 +163,7 @@ fn join<G: Gate, J: FileBrand, R: Threads + Wait>(
     file: &HashFile<G, Traced, J>,
     hand: Hand,
     did_nothing: bool,
-    worker: PromisedHandle<Worked, Part<'_, G, J>>,
+    worker: PromisedHandle<WorkedHand, HandPromise<'_, G, J>>,
 ) -> Result<Hand, DriveFault>
     requires hand { IsOwn file.now.state hand }
     requires worker { worker.promise.file.now.state ≡ file.now.state }
@@ -173,7 +173,7 @@ fn join<G: Gate, J: FileBrand, R: Threads + Wait>(
     ensures made { IfOk result (λ all. length all.acts ≡ length hand.acts + worker.entry.promise.calls) }
     ensures err { IfErr result IsWorkersFault }
 {
-    let Worked { hand: part, fault } = worker.join(rt);
+    let WorkedHand { hand: part, fault } = worker.join(rt);
     if let Some(fault) = fault {
         return Err(DriveFault::from(fault));
     }
@@ -189,7 +189,7 @@ fn join_all<G: Gate, J: FileBrand, R: Threads + Wait>(
     rt: &R,
     file: &HashFile<G, Traced, J>,
     mut hand: Hand,
-    workers: Vec<PromisedHandle<Worked, Part<'_, G, J>>>,
+    workers: Vec<PromisedHandle<WorkedHand, HandPromise<'_, G, J>>>,
 ) -> Result<Hand, DriveFault>
     requires hand { IsOwn file.now.state hand }
     requires workers { All (λ worker. worker.promise.file.now.state ≡ file.now.state) workers.items }
@@ -211,7 +211,7 @@ fn join_all<G: Gate, J: FileBrand, R: Threads + Wait>(
 
 /// How many calls a run has, and how many of its workers haven't ended.
 #[derive(Drop)]
-struct Progress {
+struct WorkersProgress {
     calls: u64,
     running: AtomicU64,
 }
@@ -222,7 +222,7 @@ fn await_acts<G: Gate, J: FileBrand, R: Wait>(
     rt: &R,
     file: &HashFile<G, Traced, J>,
     hand: &mut Hand,
-    progress: &Progress,
+    progress: &WorkersProgress,
     acts: u64,
 )
     requires { IsOwn file.now.state hand.old }
@@ -251,7 +251,7 @@ fn take_snapshot<G: Gate, J: FileBrand, R: Wait>(
     rt: &R,
     file: &HashFile<G, Traced, J>,
     hand: &mut Hand,
-    progress: &Progress,
+    progress: &WorkersProgress,
     due: u64,
 ) -> Result<Closed, DriveFault>
     requires { IsOwn file.now.state hand.old }
@@ -271,7 +271,7 @@ fn take_snapshots<G: Gate, J: FileBrand, R: Wait>(
     alloc: Global,
     file: &HashFile<G, Traced, J>,
     hand: &mut Hand,
-    progress: &Progress,
+    progress: &WorkersProgress,
     missing: Option<DriveFault>,
     snapshots: u32,
 ) -> Result<Vec<Closed>, DriveFault>
@@ -313,7 +313,7 @@ pub fn work_in_threads<G: Gate + Sync, J: FileBrand + Send + Sync, R: Threads + 
         HasMade file.now.state (length calls.now) snapshots hand all.0 all.1.items) }
     ensures err { IfErr result IsWorkersFault }
 {
-    let progress = &Progress {
+    let progress = &WorkersProgress {
         calls: calls.len() as u64,
         running: AtomicU64::new(0),
     };
@@ -341,8 +341,8 @@ pub fn work_in_threads<G: Gate + Sync, J: FileBrand + Send + Sync, R: Threads + 
                 };
                 progress.running.fetch_add(1, Ordering::SeqCst);
                 let Ok(worker) = scope.spawn_with(
-                    Part { file, calls: share },
-                    move || -> Worked
+                    HandPromise { file, calls: share },
+                    move || -> WorkedHand
                         requires part { IsPartOf file.now.state (share_of part) part }
                         requires records { file.now.state.recording ≡ true }
                         requires threads { 0 < threads }

@@ -2,8 +2,8 @@
 use Rattle.std.specs.Prelude.{◌≡◌, ◌++◌, ◌∷◌, [], List, false}
 use Rattle.lh_file.specs.FileState.{FileState}
 use Rattle.lh_file.specs.History.Own.{IsOwn}
-use Rattle.lh_file.specs.History.Told.{IsTold}
-use Rattle.lh_file.specs.declared.words.seat_view.Entry.{Entry}
+use Rattle.lh_words.specs.History.Told.{IsTold}
+use Rattle.lh_words.specs.declared.seat_view.Entry.{Entry}
 use Rattle.use_history.specs.declared.Booked.{Booked}
 
 -- The hand has no right to split; and the log that it was told of is a legal one, in which each of its acts stands at

@@ -13,21 +13,22 @@ use Rattle.lh_bucket.specs.PlainMap.{Records, found, reply, after, IsSearch}
 use Rattle.lh_bucket.specs.declared.call.Call.{Call}
 use Rattle.lh_bucket.specs.declared.call.Call.TheVariants.{Search, Insert, Delete, Replace}
 use Rattle.lh_bucket.specs.declared.verdict.Verdict.TheVariants.{Here}
-use Rattle.lh_file.specs.History.Buckets.{owns}
+use Rattle.lh_words.specs.History.Buckets.{owns}
 use Rattle.lh_bucket.specs.declared.call.Reply.{Reply}
 use Rattle.lh_file.specs.FileState.{FileState, IsOf}
-use Rattle.lh_file.specs.History.Log.{entry}
-use Rattle.lh_file.specs.History.Told.{HasEntered}
+use Rattle.lh_words.specs.History.Log.{entry}
+use Rattle.lh_file.specs.History.Entered.{HasEntered}
 use Rattle.lh_file.specs.Words.HandState.{HandState, IsSame, knowing, with_right}
-use Rattle.lh_file.specs.Words.Recording.{Acted, inserts_of, deletes_of, kept_of}
+use Rattle.lh_file.specs.Words.Recording.{Acted, kept_of}
+use Rattle.lh_words.specs.Counting.{inserts_of, deletes_of}
 use Rattle.lh_file.specs.Calls.Served.{KnowsMore, HasServed, IsNotSpent, Makes, Serves}
-use Rattle.lh_file.specs.Words.Views.{rooted, stamped_with}
+use Rattle.lh_words.specs.Views.{rooted, stamped_with}
 use Rattle.lh_file.specs.declared.fault.FileFault.{FileFault}
-use Rattle.lh_file.specs.declared.words.view.View.{View}
+use Rattle.lh_words.specs.declared.view.View.{View}
 
 -- a hand that nothing happened to
-pub looked_same : (h : HandState) → KnowsMore h h
-looked_same h =
+pub knows_same : (h : HandState) → KnowsMore h h
+knows_same h =
     record {
       known = h.view.known;
       rises = omega arith;
@@ -40,12 +41,12 @@ looked_same h =
     }
 
 -- a hand that is as it was knows no less
-pub looked_equal : (a b : HandState) → b ≡ a → KnowsMore a b
-looked_equal a b e = subst (KnowsMore a) (sym e) (looked_same a)
+pub knows_equal : (a b : HandState) → b ≡ a → KnowsMore a b
+knows_equal a b e = subst (KnowsMore a) (sym e) (knows_same a)
 
 -- nor does one that has more room, and else is as it was
-pub looked_room : (a b : HandState) → IsSame a b → KnowsMore a b
-looked_room a b same =
+pub knows_room : (a b : HandState) → IsSame a b → KnowsMore a b
+knows_room a b same =
     record {
       known = a.view.known;
       rises = omega arith;
@@ -58,8 +59,8 @@ looked_room a b same =
     }
 
 -- nor one that has only seen more buckets
-pub looked_knowing : (h : HandState) (n : ℕ) → h.view.known ≤ n → KnowsMore h (knowing h n)
-looked_knowing h n rises =
+pub knows_knowing : (h : HandState) (n : ℕ) → h.view.known ≤ n → KnowsMore h (knowing h n)
+knows_knowing h n rises =
     record {
       known = n;
       rises = rises;
@@ -72,8 +73,8 @@ looked_knowing h n rises =
     }
 
 -- two looks are one
-pub looked_twice : (a b c : HandState) → KnowsMore a b → KnowsMore b c → KnowsMore a c
-looked_twice a b c first second = record {
+pub knows_twice : (a b c : HandState) → KnowsMore a b → KnowsMore b c → KnowsMore a c
+knows_twice a b c first second = record {
   known = second.known;
   rises = let k = ap (λ (v : View). v.known) first.view in omega (arith, first.rises, second.rises, k);
   view = second.view ∙ ap (λ (v : View). rooted v second.known v.has_right) first.view;
@@ -85,9 +86,9 @@ looked_twice a b c first second = record {
 }
 
 -- the right was got and given up again
-pub looked_right : (a b : HandState) (n m : ℕ) → a.view.has_right ≡ false → a.view.known ≤ n → n ≤ m →
+pub knows_right : (a b : HandState) (n m : ℕ) → a.view.has_right ≡ false → a.view.known ≤ n → n ≤ m →
     b ≡ with_right (knowing (with_right (knowing a n) true) m) false → KnowsMore a b
-looked_right a b n m none rises more is = record {
+knows_right a b n m none rises more is = record {
   known = m;
   rises = omega (arith, rises, more);
   view = ap (λ (h : HandState). h.view) is ∙ ap (λ r. rooted a.view m r) (sym none);
@@ -99,9 +100,9 @@ looked_right a b n m none rises more is = record {
 }
 
 -- a look and then an act serve a call
-pub looked_then_acted : (a b c : HandState) (call : Call) (reply : Reply) → 1 ≤ a.view.left → KnowsMore a b →
+pub knows_then_acted : (a b c : HandState) (call : Call) (reply : Reply) → 1 ≤ a.view.left → KnowsMore a b →
     Acted b call reply c → HasServed a call reply c
-looked_then_acted a b c call reply enough looked (stamp, act) = record {
+knows_then_acted a b c call reply enough looked (stamp, act) = record {
   stamp = stamp;
   known = looked.known;
   newest = subst (All (λ x. x < stamp)) (ap (λ (v : View). v.stamps) looked.view) act.newest;
@@ -128,7 +129,7 @@ looked_then_acted a b c call reply enough looked (stamp, act) = record {
 -- a hand that made an act has made the call
 pub acted_served : (a c : HandState) (call : Call) (reply : Reply) → 1 ≤ a.view.left → Acted a call reply c →
     HasServed a call reply c
-acted_served a c call reply enough acted = looked_then_acted a a c call reply enough (looked_same a) acted
+acted_served a c call reply enough acted = knows_then_acted a a c call reply enough (knows_same a) acted
 
 -- a hand that made an act is one of the same file
 pub acted_of : (file : FileState) (a c : HandState) (call : Call) (reply : Reply) → IsOf file a → Acted a call reply c →
@@ -141,9 +142,9 @@ acted_of file a c call reply of (stamp, act) = record {
 }
 
 -- a call that was served, and then a look
-pub served_then_looked : (a b c : HandState) (call : Call) (reply : Reply) → HasServed a call reply b → KnowsMore b c →
+pub served_then_knows : (a b c : HandState) (call : Call) (reply : Reply) → HasServed a call reply b → KnowsMore b c →
     HasServed a call reply c
-served_then_looked a b c call reply served looked = record {
+served_then_knows a b c call reply served looked = record {
   stamp = served.stamp;
   known = looked.known;
   newest = served.newest;
@@ -157,9 +158,9 @@ served_then_looked a b c call reply served looked = record {
 }
 
 -- a look before a call that was served
-pub looked_then_served : (a b c : HandState) (call : Call) (reply : Reply) → KnowsMore a b → HasServed b call reply c →
+pub knows_then_served : (a b c : HandState) (call : Call) (reply : Reply) → KnowsMore a b → HasServed b call reply c →
     HasServed a call reply c
-looked_then_served a b c call reply looked served = record {
+knows_then_served a b c call reply looked served = record {
   stamp = served.stamp;
   known = served.known;
   newest = subst (All (λ x. x < served.stamp)) (ap (λ (v : View). v.stamps) looked.view) served.newest;
@@ -190,13 +191,13 @@ may_call : (a b : HandState) → KnowsMore a b → 1 ≤ b.view.left → 1 ≤ a
 may_call a b looked left = let l = ap (λ (v : View). v.left) looked.view in omega (arith, left, l)
 
 -- a look, and then an answer or a fault that left the hand as it was, are what a call promises
-pub looked_then_serves : (file : FileState) (a b c : HandState) (asked : Call) (r : Result Answered FileFault) →
+pub knows_then_serves : (file : FileState) (a b c : HandState) (asked : Call) (r : Result Answered FileFault) →
     KnowsMore a b → 1 ≤ b.view.left →
     IfOk r (λ x. x.call ≡ asked) → IfOk r (λ x. HasServed b x.call x.reply c) → IsOf file c → OnErr r (c ≡ b) →
     IfErr r IsNotSpent → Serves file a asked r c
-looked_then_serves file a b c asked (Ok x) looked left call served of same fault = record {
+knows_then_serves file a b c asked (Ok x) looked left call served of same fault = record {
   call = call;
-  served = looked_then_served a b c x.call x.reply looked served;
+  served = knows_then_served a b c x.call x.reply looked served;
   spent = (
     (λ is. absurd (subst (λ (r : Result Answered FileFault). OnErr r ⊥) is tt)),
     (λ none. let may = may_call a b looked left in absurd (omega (arith, may, none))),
@@ -205,7 +206,7 @@ looked_then_serves file a b c asked (Ok x) looked left call served of same fault
   err = tt;
   of = of;
 }
-looked_then_serves file a b c asked (Err f) looked left call served of same fault = record {
+knows_then_serves file a b c asked (Err f) looked left call served of same fault = record {
   call = tt;
   served = tt;
   spent = (
@@ -219,12 +220,12 @@ looked_then_serves file a b c asked (Err f) looked left call served of same faul
 
 module _ {T : Type 0} where
   -- a look, and then a result or a fault that left the hand as it was, are what a call without an answer promises
-  pub looked_then_makes : (file : FileState) (a b c : HandState) (call : Call) (r : Result T FileFault)
+  pub knows_then_makes : (file : FileState) (a b c : HandState) (call : Call) (r : Result T FileFault)
       (reply_in : T → Reply) → KnowsMore a b → 1 ≤ b.view.left →
       IfOk r (λ t. HasServed b call (reply_in t) c) → IsOf file c → OnErr r (c ≡ b) → IfErr r IsNotSpent →
       Makes file a call r reply_in c
-  looked_then_makes file a b c call (Ok t) reply_in looked left served of same fault = record {
-    served = looked_then_served a b c call (reply_in t) looked served;
+  knows_then_makes file a b c call (Ok t) reply_in looked left served of same fault = record {
+    served = knows_then_served a b c call (reply_in t) looked served;
     spent = (
       (λ is. absurd (subst (λ (r : Result T FileFault). OnErr r ⊥) is tt)),
       (λ none. let may = may_call a b looked left in absurd (omega (arith, may, none))),
@@ -233,7 +234,7 @@ module _ {T : Type 0} where
     err = tt;
     of = of;
   }
-  looked_then_makes file a b c call (Err f) reply_in looked left served of same fault = record {
+  knows_then_makes file a b c call (Err f) reply_in looked left served of same fault = record {
     served = tt;
     spent = (
       (λ is. absurd (subst (λ (r : Result T FileFault). IfErr r IsNotSpent) is fault)),
@@ -282,9 +283,9 @@ module _ {T U : Type 0} where
   }
 
 -- an act that was entered between two looks is entered
-pub looked_then_entered : (outside : Bool) (a b c : HandState) (call : Call) (reply : Reply) → KnowsMore a b →
+pub knows_then_entered : (outside : Bool) (a b c : HandState) (call : Call) (reply : Reply) → KnowsMore a b →
     HasEntered outside b call reply c → HasEntered outside a call reply c
-looked_then_entered outside a b c call reply looked (stamp, above, entered, drawn) = (
+knows_then_entered outside a b c call reply looked (stamp, above, entered, drawn) = (
   stamp,
   (let f = ap (λ (v : View). v.floor) looked.view in omega arith),
   entered ∙ ap (λ es. es ++ entry outside stamp call reply ∷ []) looked.entries,
@@ -292,9 +293,9 @@ looked_then_entered outside a b c call reply looked (stamp, above, entered, draw
 )
 
 -- an act that was entered stays so when the hand sees more buckets
-pub entered_then_looked : (outside : Bool) (a b c : HandState) (call : Call) (reply : Reply) →
+pub entered_then_knows : (outside : Bool) (a b c : HandState) (call : Call) (reply : Reply) →
     HasEntered outside a call reply b → KnowsMore b c → HasEntered outside a call reply c
-entered_then_looked outside a b c call reply (stamp, above, entered, drawn) looked =
+entered_then_knows outside a b c call reply (stamp, above, entered, drawn) looked =
     (stamp, above, looked.entries ∙ entered, ap (λ (v : View). v.stamps) looked.view ∙ drawn)
 
 -- a bucket at which a call is owns the call's key

@@ -30,27 +30,30 @@ use Rattle.lh_settling.specs.Acts.{stamps_of, calls_of, replies_of, IsInOrder}
 use Rattle.lh_settling.specs.Laws.{OrderLaw, FilledLaw}
 use Rattle.lh_settling.specs.Settled.{map_in, HoldsMap, IsSettled}
 use Rattle.lh_settling.specs.declared.act.ActLine.{ActLine}
-use Rattle.lh_file.specs.Closing.{IsEnd, AreGathered, NoneOutside, HasHistory}
+use Rattle.lh_words.specs.Table.{IsEnd}
+use Rattle.lh_file.specs.Closing.{AreGathered, NoneOutside, HasHistory}
 use Rattle.lh_file.specs.FileState.{FileState}
-use Rattle.lh_file.specs.History.Buckets.{belongs, Mirrors, IsPlacedIn}
-use Rattle.lh_file.specs.History.History.{moves_in}
-use Rattle.lh_file.specs.History.Log.{passed, left_after, IsLegalLog, lines_of, stamps_in, StandsIn}
+use Rattle.lh_words.specs.History.Buckets.{belongs, Mirrors, IsPlacedIn}
+use Rattle.lh_words.specs.History.History.{moves_in}
+use Rattle.lh_words.specs.History.Log.{passed, left_after, IsLegalLog, lines_of, stamps_in, StandsIn}
 use Rattle.lh_file.specs.Snapshots.Moments.{IsSnapshot}
 use Rattle.lh_file.specs.Words.Hand.{hand_state_of, IsHand}
 use Rattle.lh_file.specs.Words.HandState.{HandState}
-use Rattle.lh_file.specs.Words.Rule.{Each, rights_of}
-use Rattle.lh_file.specs.Words.Sums.{total, times, once_below}
-use Rattle.lh_file.specs.Words.Table.{shown}
+use Rattle.lh_words.specs.Rule.{Each, rights_of}
+use Rattle.lh_words.specs.Sums.{total, times, once_below}
+use Rattle.lh_words.specs.Table.{shown}
 use Rattle.lh_file.specs.declared.words.hand.Hand.TheInside as hand
-use Rattle.lh_file.specs.declared.words.numbers.FileWords.{FileWords}
-use Rattle.lh_file.specs.declared.words.seat_view.Entry.{Entry}
-use Rattle.lh_file.specs.declared.words.seat_view.SeatView.{SeatView}
-use Rattle.lh_file.specs.declared.words.view.View.{View}
-use Rattle.lh_file.proofs.OfHistory.Logs.{stamps_of-lines}
-use Rattle.lh_file.proofs.OfHistory.Opening.{back_at, total-map, addressed}
+use Rattle.lh_words.specs.declared.numbers.FileWords.{FileWords}
+use Rattle.lh_words.specs.declared.seat_view.Entry.{Entry}
+use Rattle.lh_words.specs.declared.seat_view.SeatView.{SeatView}
+use Rattle.lh_words.specs.declared.view.View.{View}
+use Rattle.lh_words.specs.History.LogLaws.{stamps_of-lines}
+use Rattle.lh_words.specs.EachLaws.{back_at}
+use Rattle.lh_words.specs.SumLaws.{total-map}
+use Rattle.lh_words.specs.History.BucketLaws.{addressed}
 use Rattle.lh_file.proofs.OfHistory.NoneMissing.{no_act, all_drawn}
 use Rattle.lh_file.proofs.OfWords.LastWords.{rule_of, none-lost}
-use Rattle.lh_file.proofs.OfWords.Lists.{total-le, term_le}
+use Rattle.lh_words.specs.SumLaws.{total-le, term_le}
 
 module _ {A : Type 0} where
   -- lists read at a place
@@ -251,7 +254,7 @@ home law N S m p i pos least at number held =
     ∙ ap (eqb (address N S (code_of key))) number)
 
 -- while the root word is even no split has moved
-nobody : (file : FileState) (last : FileWords) (d : SeatView) (e : IsEnd true file last d) → last.root % 2 ≡ 0 →
+nobody : (file : FileState) (last : FileWords) (d : SeatView) (e : IsEnd true file.listing last d) → last.root % 2 ≡ 0 →
     total moves_in e.seats ≡ 0
 nobody file last d e whole =
     let h = e.history refl in let g = total-le moves_in (λ (u : SeatView). rights_of u.view) e.seats h.movers in
@@ -260,18 +263,19 @@ nobody file last d e whole =
 -- a traced file that was closed with all buckets gathered holds what its log leaves, whoever made the acts
 leaves : AddressLaw → FilledLaw →
     (file : FileState) (last : FileWords) (d : SeatView) (lists : List (List Pair)) (whole : ℕ)
-    (clean gathered : Bool) → 1 ≤ file.config.initial → (e : IsEnd true file last d) → last.root % 2 ≡ 0
+    (clean gathered : Bool) → 1 ≤ file.config.initial → file.listing.config ≡ file.config
+    → (e : IsEnd true file.listing last d) → last.root % 2 ≡ 0
     → AreGathered d.parts lists whole clean → clean ≡ true → whole ≡ buckets_of last.root
     → IsSnapshot file.listing
     (record { config = file.config; root = last.root; stamps = last.stamps; lists = lists; gathered = gathered })
     d.entries d.logs (e.history refl).log
-leaves law placed file last d lists whole clean gathered pos e even g tidy all =
+leaves law placed file last d lists whole clean gathered pos config e even g tidy all =
     let h = e.history refl in
     let N : ℕ = file.config.initial in
     let S : ℕ = buckets_of last.root in
     let m : Records = map_in file.listing in
-    let least : N ≤ S = e.rule.least in
-    let same : file.listing.config.initial ≡ N = ap (λ (s : Settings). s.initial) e.config in
+    let same : file.listing.config.initial ≡ N = ap (λ (s : Settings). s.initial) config in
+    let least : N ≤ S = subst (λ n. n ≤ S) same e.rule.least in
     let at : (p : Seen) (i : ℕ) → get_elem? d.parts i ≡ some p → IsPlacedIn N S p = λ p i here.
     subst (λ x. IsPlacedIn x S p) same
     (subst (λ x. IsPlacedIn file.listing.config.initial x p) (let z = nobody file last d e even in omega arith)
@@ -289,7 +293,7 @@ leaves law placed file last d lists whole clean gathered pos e even g tidy all =
 
 -- where all its calls are at home and no act was outside, it is settled
 settles : OrderLaw → (file : FileState) (last : FileWords) (d : SeatView) (lists : List (List Pair)) (gathered : Bool) →
-    (e : IsEnd true file last d) → last.root % 2 ≡ 0
+    file.listing.config ≡ file.config → (e : IsEnd true file.listing last d) → last.root % 2 ≡ 0
     → NoneOutside d.entries → d.view.left + length d.view.stamps ≡ 2 ^ 63
     → IsSnapshot file.listing
     (record { config = file.config; root = last.root; stamps = last.stamps; lists = lists; gathered = gathered })
@@ -298,11 +302,11 @@ settles : OrderLaw → (file : FileState) (last : FileWords) (d : SeatView) (lis
     (record { config = file.config; root = last.root; stamps = last.stamps; lists = lists; gathered = gathered })
     (lines_of d.entries) (lines_of (e.history refl).log)
     × NoneOutside (e.history refl).log
-settles order_of file last d lists gathered e even none full held =
+settles order_of file last d lists gathered config e even none full held =
     let h = e.history refl in let m : Records = map_in file.listing in
     let once : (x : ℕ) → times x (stamps_in d.entries) ≡ once_below x last.stamps = λ x.
     ap (times x) (sym (h.stamped e.id d e.here))
-    ∙ none-lost file.config last d.view (rule_of true file last d d.view e refl) full x in
+    ∙ none-lost file.config last d.view (rule_of true file last d d.view config e refl) full x in
     let ord = ordered order_of h.log d.entries last.stamps h.size_is (h.stand e.id d e.here) none once in
     let simple = plain m h.log ord.2 h.legal in (
       record {
@@ -324,8 +328,8 @@ settles order_of file last d lists gathered e even none full held =
 
 -- the acts that a hand keeps are its entries, also where the file doesn't record and no stamp was drawn
 kept_lines : (traced : Bool) (file : FileState) (last : FileWords) (h : hand.Inside) → IsHand h → (b : Bool) →
-    h.recording ≡ b → h.seat.me.0.view.left + length h.acts.items ≡ 2 ^ 63 → (d : SeatView) → IsEnd traced file last d →
-    d.view ≡ h.seat.me.0.view
+    h.recording ≡ b → h.seat.me.0.view.left + length h.acts.items ≡ 2 ^ 63 → (d : SeatView) →
+    IsEnd traced file.listing last d → d.view ≡ h.seat.me.0.view
     → h.acts.items ≡ lines_of h.seat.me.0.entries
 kept_lines traced file last h is true on full d e same = is.recorded on
 kept_lines traced file last h is false off full d e same =
@@ -378,15 +382,16 @@ pub closes : AddressLaw → OrderLaw → FilledLaw →
     (traced : Bool) (file : FileState) (last : FileWords) (h : hand.Inside) (H : HandState) (d : SeatView)
     (lists : List (List Pair)) (whole : ℕ) (clean gathered : Bool) → hand_state_of h ≡ H → IsHand h →
     d ≡ record (h.seat.me.0) { parts = d.parts }
-    → 1 ≤ file.config.initial → IsEnd traced file last d → AreGathered d.parts lists whole clean → clean ≡ true →
-    whole ≡ buckets_of last.root
+    → 1 ≤ file.config.initial → file.listing.config ≡ file.config → IsEnd traced file.listing last d →
+    AreGathered d.parts lists whole clean → clean ≡ true → whole ≡ buckets_of last.root
     → traced ≡ true → last.root % 2 ≡ 0
     → HasHistory file.listing
     (record { config = file.config; root = last.root; stamps = last.stamps; lists = lists; gathered = gathered })
     h.acts.items H
-closes law order_of placed traced file last h H d lists whole clean gathered seen is kept pos e g tidy all on even =
+closes law order_of placed traced file last h H d lists whole clean gathered seen is kept pos config e g tidy all on
+    even =
     let own = h.seat.me.0 in
-    let ends : IsEnd true file last d = subst (λ (b : Bool). IsEnd b file last d) on e in
+    let ends : IsEnd true file.listing last d = subst (λ (b : Bool). IsEnd b file.listing last d) on e in
     let log : List Entry = (ends.history refl).log in
     let view : d.view ≡ own.view = ap (λ (x : SeatView). x.view) kept in
     let entries : d.entries ≡ own.entries = ap (λ (x : SeatView). x.entries) kept in
@@ -399,7 +404,7 @@ closes law order_of placed traced file last h H d lists whole clean gathered see
       lists = lists;
       gathered = gathered;
     }) d.entries d.logs log =
-    leaves law placed file last d lists whole clean gathered pos ends even g tidy all in (
+    leaves law placed file last d lists whole clean gathered pos config ends even g tidy all in (
       log,
       subst
           (λ es.
@@ -444,5 +449,5 @@ closes law order_of placed traced file last h H d lists whole clean gathered see
             lists = lists;
             gathered = gathered;
           }) ls (lines_of log) × NoneOutside log) (ap lines_of entries ∙ sym lines)
-          (settles order_of file last d lists gathered ends even apart home held),
+          (settles order_of file last d lists gathered config ends even apart home held),
     )

@@ -13,8 +13,8 @@ use Rattle.lh_bucket.specs.declared.call.Reply.TheVariants.{Absent}
 use Rattle.lh_settling.specs.Acts.{stamps_of, IsInOrder}
 use Rattle.lh_settling.specs.declared.act.ActLine.{ActLine}
 use Rattle.lh_file.specs.Closing.{NoneMissingLaw}
-use Rattle.lh_file.specs.Words.Sums.{times, once_below}
-use Rattle.lh_file.proofs.OfWords.Lists.{times-cons, once-yes, once-no, once-more, same-yes}
+use Rattle.lh_words.specs.Sums.{times, once_below}
+use Rattle.lh_words.specs.SumLaws.{times-cons, once-yes, once-no, once-more, same-yes}
 
 -- what is read past the last act
 abbrev pub no_act : ActLine

@@ -4,14 +4,14 @@ use Rattle.std.proofs.Common.{subst, arith}
 use Rattle.std.proofs.Math.Nat.{mod-lt}
 use Rattle.lh_addr.specs.Growth.{hash_at, HashRises}
 use Rattle.lh_addr.specs.declared.aim.Aim.{Aim}
-use Rattle.lh_file.specs.History.Buckets.{bit}
+use Rattle.lh_words.specs.History.Buckets.{bit}
 use Rattle.lh_file.specs.FileState.{FileState}
 use Rattle.lh_file.specs.Snapshots.Scans.{Scanning, leads, times_aimed, HasScanned}
 use Rattle.lh_file.specs.Words.HandState.{HandState}
 use Rattle.lh_file.specs.declared.snapshots.bucket_copy.BucketCopy.{BucketCopy}
-use Rattle.lh_file.specs.Words.Sums.{total, times, once_below}
-use Rattle.lh_file.proofs.OfHistory.Halves.{split_at}
-use Rattle.lh_file.proofs.OfWords.Lists.{total-cons, total-append, once-yes, once-more}
+use Rattle.lh_words.specs.Sums.{total, times, once_below}
+use Rattle.lh_words.specs.History.BucketLaws.{split_at}
+use Rattle.lh_words.specs.SumLaws.{total-cons, total-append, once-yes, once-more}
 
 abbrev pub at_level : ℕ → ℕ → Aim
 at_level level bucket = record { level = level; bucket = bucket }

@@ -10,7 +10,7 @@ use Rattle.atomic_table.proofs.Lists.{at_longer}
 use Rattle.lh_addr.specs.Settings.{Settings}
 use Rattle.lh_bucket.specs.Bucket.{Seen, IsKept}
 use Rattle.lh_file.specs.Snapshots.Held.{head_in, AreBucketsOf}
-use Rattle.lh_file.specs.Words.Rule.{Each}
+use Rattle.lh_words.specs.Rule.{Each}
 
 module _ {V : Type 0} (f : V → Seen) (vs : List V) (n : ℕ) (v : V) (below : n < length vs)
     (is : v ≡ get_or vs n v) where

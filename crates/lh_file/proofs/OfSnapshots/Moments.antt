@@ -24,13 +24,13 @@ use Rattle.lh_settling.specs.ClosedFile.{ClosedFile, IsWhole}
 use Rattle.lh_settling.specs.Contents.{ArePlaced}
 use Rattle.lh_settling.specs.Laws.{FilledLaw}
 use Rattle.lh_settling.specs.Settled.{map_in}
-use Rattle.lh_file.specs.History.Buckets.{Mirrors, IsPlacedIn}
-use Rattle.lh_file.specs.History.Log.{left_after}
-use Rattle.lh_file.specs.History.Told.{IsSurveyed}
+use Rattle.lh_words.specs.History.Buckets.{Mirrors, IsPlacedIn}
+use Rattle.lh_words.specs.History.Log.{left_after}
+use Rattle.lh_words.specs.History.Told.{IsSurveyed}
 use Rattle.lh_file.specs.Snapshots.Moments.{IsSnapshot}
 use Rattle.lh_file.specs.Snapshots.Held.{head_in, AreBucketsOf}
-use Rattle.lh_file.specs.Words.Rule.{Each}
-use Rattle.lh_file.specs.declared.words.seat_view.Entry.{Entry}
+use Rattle.lh_words.specs.Rule.{Each}
+use Rattle.lh_words.specs.declared.seat_view.Entry.{Entry}
 use Rattle.lh_file.proofs.OfHistory.Closing.{home, index_past, some_at, no_key}
 
 -- the lists of a row of buckets

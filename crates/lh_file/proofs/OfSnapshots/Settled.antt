@@ -17,13 +17,13 @@ use Rattle.lh_settling.specs.Laws.{HistoryLaw, OrderLaw}
 use Rattle.lh_settling.specs.Settled.{map_in, HoldsMap, IsSettled}
 use Rattle.lh_settling.specs.declared.act.ActLine.{ActLine}
 use Rattle.lh_file.specs.Closing.{NoneOutside}
-use Rattle.lh_file.specs.History.Log.{lines_of, Begins}
+use Rattle.lh_words.specs.History.Log.{lines_of, Begins}
 use Rattle.lh_file.specs.Snapshots.Settled.{BeforeLaw, SnapshotLaw}
-use Rattle.lh_file.specs.Words.Sums.{times, once_below}
-use Rattle.lh_file.specs.declared.words.seat_view.Entry.{Entry}
+use Rattle.lh_words.specs.Sums.{times, once_below}
+use Rattle.lh_words.specs.declared.seat_view.Entry.{Entry}
 use Rattle.lh_file.proofs.OfHistory.Closing.{below_end, plain, same_rows, read_at, there_at, stamp_read}
 use Rattle.lh_file.proofs.OfHistory.NoneMissing.{no_act, times-map, all_drawn}
-use Rattle.lh_file.proofs.OfWords.Lists.{times-cons, once-yes, once-no, once-more, same-no}
+use Rattle.lh_words.specs.SumLaws.{times-cons, once-yes, once-no, once-more, same-no}
 
 -- how often a stamp stands among the acts before
 abbrev Before : ℕ → ActLine → List ActLine → ℕ → ℕ

@@ -4,9 +4,9 @@ use Rattle.std.specs.Prelude.{fold}
 use Rattle.lh_settling.specs.declared.act.ActLine.{ActLine}
 use Rattle.lh_file.specs.FileState.{FileState, IsOf}
 use Rattle.lh_file.specs.Words.HandState.{HandState, IsSame, united}
-use Rattle.lh_file.specs.Words.Views.{joined_views}
-use Rattle.lh_file.specs.declared.words.seat_view.Entry.{Entry}
-use Rattle.lh_file.specs.declared.words.view.View.{View}
+use Rattle.lh_words.specs.Views.{joined_views}
+use Rattle.lh_words.specs.declared.seat_view.Entry.{Entry}
+use Rattle.lh_words.specs.declared.view.View.{View}
 
 -- as it was, twice
 pub same_then : (a b c : HandState) → IsSame a b → IsSame b c → IsSame a c

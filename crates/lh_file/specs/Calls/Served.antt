@@ -5,8 +5,9 @@ use Rattle.lh_bucket.specs.declared.call.Call.{Call}
 use Rattle.lh_bucket.specs.declared.call.Reply.{Reply}
 use Rattle.lh_file.specs.FileState.{FileState, IsOf}
 use Rattle.lh_file.specs.Words.HandState.{HandState}
-use Rattle.lh_file.specs.Words.Recording.{inserts_of, deletes_of, kept_of}
-use Rattle.lh_file.specs.Words.Views.{rooted}
+use Rattle.lh_words.specs.Counting.{inserts_of, deletes_of}
+use Rattle.lh_file.specs.Words.Recording.{kept_of}
+use Rattle.lh_words.specs.Views.{rooted}
 use Rattle.lh_file.specs.declared.fault.FileFault.{FileFault}
 use Rattle.lh_file.specs.declared.fault.FileFault.TheVariants.{Spent, Memory, Defect}
 

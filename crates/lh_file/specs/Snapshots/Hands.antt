@@ -1,7 +1,7 @@
 -- What a look at the records of a file leaves of the hand that looks
 use Rattle.std.specs.Prelude.{◌≡◌, ℕ, ◌≤◌, ◌⊎◌, List}
 use Rattle.lh_file.specs.Words.HandState.{HandState, knowing, told_of}
-use Rattle.lh_file.specs.declared.words.seat_view.Entry.{Entry}
+use Rattle.lh_words.specs.declared.seat_view.Entry.{Entry}
 
 -- The hand is as it was, but that it may have seen more buckets, and may have been told of a log of no fewer acts: it
 -- drew no stamp, and its calls, its right to split and its acts are as before.

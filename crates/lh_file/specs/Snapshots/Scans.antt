@@ -6,13 +6,13 @@ use Rattle.lh_addr.specs.Settings.{Settings}
 use Rattle.lh_addr.specs.declared.aim.Aim.{Aim}
 use Rattle.lh_bucket.specs.Bucket.{Seen, IsKept}
 use Rattle.lh_file.specs.FileState.{FileState}
-use Rattle.lh_file.specs.History.Buckets.{bit}
-use Rattle.lh_file.specs.History.Told.{IsSurveyed}
+use Rattle.lh_words.specs.History.Buckets.{bit}
+use Rattle.lh_words.specs.History.Told.{IsSurveyed}
 use Rattle.lh_file.specs.Words.HandState.{HandState, told_of}
-use Rattle.lh_file.specs.Words.Rule.{Each}
-use Rattle.lh_file.specs.Words.Sums.{total}
+use Rattle.lh_words.specs.Rule.{Each}
+use Rattle.lh_words.specs.Sums.{total}
 use Rattle.lh_file.specs.declared.snapshots.bucket_copy.BucketCopy.{BucketCopy}
-use Rattle.lh_file.specs.declared.words.seat_view.Entry.{Entry}
+use Rattle.lh_words.specs.declared.seat_view.Entry.{Entry}
 
 -- whether a code is one of an aim's: it leads to the aim's bucket at the aim's level
 abbrev pub leads : ℕ → ℕ → Aim → Bool

@@ -8,7 +8,7 @@ use Rattle.lh_settling.specs.declared.act.ActLine.{ActLine}
 use Rattle.lh_file.specs.Closing.{NoneOutside, HasHistory}
 use Rattle.lh_file.specs.Snapshots.Moments.{IsSnapshot}
 use Rattle.lh_file.specs.Words.HandState.{HandState}
-use Rattle.lh_file.specs.declared.words.seat_view.Entry.{Entry}
+use Rattle.lh_words.specs.declared.seat_view.Entry.{Entry}
 
 -- The acts that came before the snapshot are settled with it, and their history is the first part of this one.
 abbrev pub IsSettledFirst : Lists → ClosedFile → List ActLine → List ActLine → Type 0

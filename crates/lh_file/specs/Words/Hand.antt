@@ -1,8 +1,8 @@
 -- What a hand's fields are
 use Rattle.std.specs.Prelude.{◌≡◌, ◌+◌, ◌-◌, ◌<◌, ◌≤◌, true, false, [], vec_len, vec_capacity}
-use Rattle.lh_file.specs.History.Log.{lines_of, stamps_in}
+use Rattle.lh_words.specs.History.Log.{lines_of, stamps_in}
 use Rattle.lh_file.specs.Words.HandState.{HandState}
-use Rattle.lh_file.specs.Words.Rule.{rights_of}
+use Rattle.lh_words.specs.Rule.{rights_of}
 use Rattle.lh_file.specs.declared.words.hand.Hand.TheInside.{Inside}
 
 -- what contracts see of the fields

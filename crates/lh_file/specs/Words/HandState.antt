@@ -2,9 +2,9 @@
 use Rattle.std.specs.Prelude.{◌≡◌, ℕ, Bool, List, [], ◌∷◌, ◌++◌, fold}
 use Rattle.atomic_table.specs.Seated.{TableId}
 use Rattle.lh_settling.specs.declared.act.ActLine.{ActLine}
-use Rattle.lh_file.specs.Words.Views.{rooted, floored, branch, joined_views}
-use Rattle.lh_file.specs.declared.words.seat_view.Entry.{Entry}
-use Rattle.lh_file.specs.declared.words.view.View.{View}
+use Rattle.lh_words.specs.Views.{rooted, floored, branch, joined_views}
+use Rattle.lh_words.specs.declared.seat_view.Entry.{Entry}
+use Rattle.lh_words.specs.declared.view.View.{View}
 
 -- the table that a hand belongs to, what the rule knows of it, whether its file records, what the rule knows of its
 -- acts, the logs that it was told of, the acts that it keeps, and for how many more it has room

@@ -2,36 +2,9 @@
 use Rattle.std.specs.Prelude.{◌≡◌, ℕ, ◌+◌, ◌-◌, ◌<◌, Bool, true, false, List, [], ◌∷◌, ◌++◌, length, All}
 use Rattle.lh_bucket.specs.declared.call.Call.{Call}
 use Rattle.lh_bucket.specs.declared.call.Reply.{Reply}
-use Rattle.lh_bucket.specs.declared.call.Reply.TheVariants.{Found, Absent, Inserted, Exists, Deleted, Replaced}
 use Rattle.lh_settling.specs.declared.act.ActLine.{ActLine}
+use Rattle.lh_words.specs.Counting.{inserts_of, deletes_of}
 use Rattle.lh_file.specs.Words.HandState.{HandState}
-use Rattle.lh_file.specs.Words.Seats.{with_view}
-use Rattle.lh_file.specs.declared.words.seat_view.SeatView.{SeatView}
-
--- how many records an act with this reply added
-abbrev pub inserts_of : Reply → ℕ
-inserts_of (Found value) = 0
-inserts_of Absent = 0
-inserts_of Inserted = 1
-inserts_of Exists = 0
-inserts_of Deleted = 0
-inserts_of Replaced = 0
-
--- how many records an act with this reply removed
-abbrev pub deletes_of : Reply → ℕ
-deletes_of (Found value) = 0
-deletes_of Absent = 0
-deletes_of Inserted = 0
-deletes_of Exists = 0
-deletes_of Deleted = 1
-deletes_of Replaced = 0
-
--- the seat counted the reply of an act
-abbrev pub with_counts : Reply → SeatView → SeatView
-with_counts reply seat = with_view seat (record (seat.view) {
-  inserted = seat.view.inserted + inserts_of reply;
-  deleted = seat.view.deleted + deletes_of reply;
-})
 
 -- what is kept of an act: its line where the file records, else nothing
 abbrev pub kept_of : Bool → ActLine → List ActLine

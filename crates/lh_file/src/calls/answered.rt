@@ -3,7 +3,7 @@ ghost use Rattle.std.specs.Prelude.{◌≡◌, true, false, IfOk};
 ghost use Rattle.lh_bucket.specs.declared.call.Call.TheVariants as call;
 ghost use Rattle.lh_file.specs.Calls.Served.{Serves};
 ghost use Rattle.lh_file.specs.FileState.{IsOf};
-ghost use Rattle.lh_file.specs.History.Told.{HasEntered};
+ghost use Rattle.lh_file.specs.History.Entered.{HasEntered};
 
 use crate::buckets::brand::FileBrand;
 use crate::calls::coded::Coded;
@@ -11,9 +11,9 @@ use crate::fault::FileFault;
 use crate::file::HashFile;
 use crate::gate::Gate;
 use crate::words::hand::Hand;
-use crate::words::mode::Mode;
 use lh_bucket::{Answer, Change};
 use lh_page::Value;
+use lh_words::Mode;
 use std::sync::Wait;
 
 impl<G: Gate, M: Mode, J: FileBrand> HashFile<G, M, J> {

@@ -10,7 +10,7 @@ ghost use Rattle.lh_page.specs.Limits.{IsValue};
 ghost use Rattle.lh_file.specs.Calls.Lean.{read_reply, put_reply, set_reply, remove_reply, LendsTo};
 ghost use Rattle.lh_file.specs.Calls.Served.{Makes};
 ghost use Rattle.lh_file.specs.FileState.{IsOf};
-ghost use Rattle.lh_file.specs.History.Told.{HasEntered};
+ghost use Rattle.lh_file.specs.History.Entered.{HasEntered};
 
 use crate::buckets::brand::FileBrand;
 use crate::calls::coded::Coded;
@@ -18,9 +18,9 @@ use crate::fault::FileFault;
 use crate::file::HashFile;
 use crate::gate::Gate;
 use crate::words::hand::Hand;
-use crate::words::mode::Mode;
 use lh_bucket::{Change, ChangeReply, PagedBucket};
 use lh_page::Value;
+use lh_words::Mode;
 use std::sync::Wait;
 
 /// Lends the value of the record at a place to a closure, if there is a record: what that returns.

@@ -3,10 +3,10 @@ ghost use Rattle.std.specs.Prelude.{◌≡◌, ◌<◌, ◌≤◌, true, List, [
 ghost use Rattle.std.specs.Sync.RwLock.{read_guard_value};
 ghost use Rattle.lh_addr.specs.Limits.{most_buckets};
 ghost use Rattle.lh_file.specs.Calls.Served.{IsNotSpent};
-ghost use Rattle.lh_file.specs.History.Told.{IsSurveyed};
+ghost use Rattle.lh_words.specs.History.Told.{IsSurveyed};
 ghost use Rattle.lh_file.specs.Snapshots.Held.{AreBucketsOf, reaches, is_outgrown};
-ghost use Rattle.lh_file.specs.Words.Seats.{partless, told_seat};
-ghost use Rattle.lh_file.specs.declared.words.seat_view.Entry.{Entry};
+ghost use Rattle.lh_words.specs.Seats.{partless, told_seat};
+ghost use Rattle.lh_words.specs.declared.seat_view.Entry.{Entry};
 
 use crate::buckets::brand::FileBrand;
 use crate::buckets::segments::Segments;
@@ -15,12 +15,11 @@ use crate::calls::aim::defect;
 use crate::calls::split::is_numbered;
 use crate::fault::FileFault;
 use crate::words::Words;
-use crate::words::mode::Mode;
-use crate::words::seat_view::SeatView;
 use atomic_table::Seat;
 use lh_addr::Config;
 use lh_bucket::{Bucket, Memory, copied_pairs};
 use lh_page::Pair;
+use lh_words::{Mode, SeatView};
 use std::alloc::Global;
 use std::sync::{RwLockReadGuard, Wait};
 
@@ -175,10 +174,10 @@ impl<M: Mode> Words<M> {
             seat.old.me.0.entries seat.old.me.0.logs (map read_guard_value guards.now) log) }
     {
         if !M::keeps_history() {
-            return (self.survey(seat), guards.len());
+            return (self.table.survey(seat), guards.len());
         }
         let count = self.borrow_seats(rt, seat, guards);
-        let acts = self.survey(seat);
+        let acts = self.table.survey(seat);
         self.return_seats(seat, &guards[..count]);
         (acts, count)
     }

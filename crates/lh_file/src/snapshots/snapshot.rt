@@ -6,7 +6,7 @@ ghost use Rattle.lh_file.specs.FileState.{IsOf};
 ghost use Rattle.lh_file.specs.Snapshots.Hands.{HasSurveyed};
 ghost use Rattle.lh_file.specs.Snapshots.Moments.{IsSnapshot};
 ghost use Rattle.lh_file.specs.Words.HandState.{knowing, told_of};
-ghost use Rattle.lh_file.specs.declared.words.seat_view.Entry.{Entry};
+ghost use Rattle.lh_words.specs.declared.seat_view.Entry.{Entry};
 ghost use Rattle.lh_settling.specs.ClosedFile.{IsWhole};
 
 use crate::buckets::brand::FileBrand;
@@ -16,12 +16,12 @@ use crate::file::HashFile;
 use crate::gate::{Gate, Point};
 use crate::snapshots::held::{check_held, copied_held};
 use crate::words::hand::Hand;
-use crate::words::mode::Mode;
 use lh_addr::RootWord;
 use lh_addr::laws::address_is_only_bucket;
 use lh_bucket::laws::records_make_a_map;
 use lh_settling::Closed;
 use lh_settling::laws::full_buckets_are_placed;
+use lh_words::Mode;
 use std::sync::Wait;
 
 impl<G: Gate, M: Mode, J: FileBrand> HashFile<G, M, J> {

@@ -3,10 +3,10 @@ ghost use Rattle.std.specs.Prelude.{◌≡◌, ◌<◌, ◌≤◌, true, [], ◌
 ghost use Rattle.lh_bucket.specs.Bucket.{IsKept};
 ghost use Rattle.lh_file.specs.Calls.Served.{IsNotSpent};
 ghost use Rattle.lh_file.specs.FileState.{IsOf};
-ghost use Rattle.lh_file.specs.History.Told.{IsSurveyed};
+ghost use Rattle.lh_words.specs.History.Told.{IsSurveyed};
 ghost use Rattle.lh_file.specs.Snapshots.Scans.{bucket_of, HasVisited};
-ghost use Rattle.lh_file.specs.Words.Seats.{told_seat};
-ghost use Rattle.lh_file.specs.declared.words.seat_view.Entry.{Entry};
+ghost use Rattle.lh_words.specs.Seats.{told_seat};
+ghost use Rattle.lh_words.specs.declared.seat_view.Entry.{Entry};
 
 use crate::buckets::brand::FileBrand;
 use crate::buckets::slot::Slot;
@@ -17,11 +17,10 @@ use crate::file::HashFile;
 use crate::gate::{Gate, Point};
 use crate::snapshots::bucket_copy::BucketCopy;
 use crate::words::hand::Hand;
-use crate::words::mode::Mode;
-use crate::words::seat_view::SeatView;
 use atomic_table::Seat;
 use lh_addr::Aim;
 use lh_bucket::{Bucket, copied_pairs};
+use lh_words::{Mode, SeatView};
 use std::sync::Wait;
 
 impl<G: Gate, M: Mode, J: FileBrand> HashFile<G, M, J> {
@@ -48,13 +47,13 @@ impl<G: Gate, M: Mode, J: FileBrand> HashFile<G, M, J> {
     {
         let words = &self.words;
         if !M::keeps_history() {
-            return Ok(words.survey(seat));
+            return Ok(words.table.survey(seat));
         }
         if !words.borrow_seat(rt, seat, slot) {
             let bucket = slot.bucket();
             return Err(defect(bucket.number(), level, bucket));
         }
-        let stamps = words.survey(seat);
+        let stamps = words.table.survey(seat);
         words.return_seat(seat, slot);
         Ok(stamps)
     }

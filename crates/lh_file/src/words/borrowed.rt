@@ -4,15 +4,13 @@ ghost use Rattle.std.specs.Prelude.{◌≡◌, true, false, [], ◌∷◌};
 use crate::buckets::brand::FileBrand;
 use crate::buckets::slot::Slot;
 use crate::words::Words;
-use crate::words::mode::Mode;
-use crate::words::seat_view::SeatView;
-use crate::words::traced_acts::{give_back, taken};
 use atomic_table::Seat;
+use lh_words::{Mode, SeatView, give_back, taken};
 use std::sync::Wait;
 
 impl<M: Mode> Words<M> {
-    ghost use Rattle.lh_file.specs.Words.Dealing.{dealt_seat, first_bucket_of};
-    ghost use Rattle.lh_file.specs.Words.Seats.{holder, with_token};
+    ghost use Rattle.lh_words.specs.Dealing.{dealt_seat, first_bucket_of};
+    ghost use Rattle.lh_words.specs.Seats.{holder, with_parts};
 
     /// Takes in the seat of a bucket of a traced file, whose lock the caller has: whether the bucket has one of this
     /// file's.
@@ -26,7 +24,7 @@ impl<M: Mode> Words<M> {
         requires brand { self.now.table ≡ J.tables self.now.shard }
         ensures at { seat.new.table_id ≡ seat.old.table_id }
         ensures taken { result ≡ true → seat.new.me
-            ≡ (with_token seat.old.me.0 (holder (slot.now ∷ [])), seat.old.me.1) }
+            ≡ (with_parts seat.old.me.0 (holder (slot.now ∷ [])), seat.old.me.1) }
         ensures same { result ≡ false → seat.new.me ≡ seat.old.me }
     {
         let Slot {
@@ -36,7 +34,7 @@ impl<M: Mode> Words<M> {
         } = slot;
         match bucket_seat {
             Some(own) if own.shard == self.shard => {
-                self.take_in(seat, taken(rt, &own.perch), bucket);
+                self.table.take_in(seat, taken(rt, &own.perch), bucket);
                 true
             }
             _ => false,
@@ -51,7 +49,7 @@ impl<M: Mode> Words<M> {
         ensures at { seat.new.table_id ≡ seat.old.table_id }
         ensures left { seat.new.me ≡ (dealt_seat seat.old.me.0, seat.old.me.1) }
     {
-        let bucket_seat = self.deal_out(seat);
+        let bucket_seat = self.table.deal_out(seat);
         let Slot {
             bucket: _,
             seat: place,

@@ -13,7 +13,7 @@ use Rattle.lh_page.specs.declared.pair.Pair.{Pair}
 use Rattle.lh_page.specs.Records.{keys_of}
 use Rattle.lh_image.specs.declared.fault.ImageFault.TheVariants.{Misfit}
 use Rattle.lh_image.specs.declared.judge.page_checks.PageFaults.{PageFaults}
-use Rattle.lh_image.specs.declared.table.Entry.{Entry}
+use Rattle.lh_image.specs.declared.table.PageEntry.{PageEntry}
 use Rattle.lh_image.specs.Chains.{stands_in, IsPath}
 use Rattle.lh_image.specs.Faults.{has_misfit, least, misfits, is_at_home, keys_before, page_fault}
 use Rattle.lh_image.specs.Image.{listing_of}
@@ -51,7 +51,7 @@ map_same f g a (suc n) same =
 abbrev pub AreChains : View → List (Vec ℕ Global) → Type 0
 AreChains v chains = map (λ (c : Vec ℕ Global). c.items) chains ≡ map (chain_of v) (range_with_len 0 (buckets v))
 
-module _ (v : View) (entries : List Entry) (pairs : List Pair) (faults : PageFaults)
+module _ (v : View) (entries : List PageEntry) (pairs : List Pair) (faults : PageFaults)
     (fine : AreFine v entries pairs faults) where
   -- the test of a page says what the search finds
   tests_are : (i : ℕ) → i < buckets v →

@@ -11,7 +11,7 @@ use Rattle.lh_image.specs.declared.fault.ImageFault.{ImageFault}
 use Rattle.lh_image.specs.declared.fault.ImageFault.TheVariants.{Kind, BucketNumber, Level, Used, Slot, Misfit}
 use Rattle.lh_image.specs.declared.fault.ImageFault.TheVariants.{ReadFault, Memory}
 use Rattle.lh_image.specs.declared.judge.page_checks.PageFaults.{PageFaults}
-use Rattle.lh_image.specs.declared.table.Entry.{Entry}
+use Rattle.lh_image.specs.declared.table.PageEntry.{PageEntry}
 use Rattle.lh_image.specs.Faults.{at_head, bad_kind, bad_bucket, bad_level, bad_used, bad_total, bad_used_at}
 use Rattle.lh_image.specs.Faults.{has_bad_slot, has_misfit, least, where_so, head_rows, link_rows, record_rows}
 use Rattle.lh_image.specs.Faults.{page_fault, first_fault_of}
@@ -96,8 +96,8 @@ due_told Memory o answer due then_err = tt
 due_told ReadFault o answer due then_err = tt
 due_told f o answer due then_err = told f answer (then_err due)
 
-module _ (v : View) (entries : List Entry) (pairs : List Pair) (faults : PageFaults) (some : buckets v < page_count v)
-    (kept : IsViewKept v entries pairs faults) where
+module _ (v : View) (entries : List PageEntry) (pairs : List Pair) (faults : PageFaults)
+    (some : buckets v < page_count v) (kept : IsViewKept v entries pairs faults) where
   heads_are : first_fault_of (head_rows v) ≡ first_fault_of (noted_rows faults (record_count v))
   unfolding numbers bad_total
   heads_are =

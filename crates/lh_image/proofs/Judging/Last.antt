@@ -10,7 +10,7 @@ use Rattle.std.proofs.lemmas.List.Folds.{list_any-append}
 use Rattle.lh_page.specs.declared.pair.Pair.{Pair}
 use Rattle.lh_image.specs.declared.fault.ImageFault.TheVariants.{Next, Twice, Never, Slot}
 use Rattle.lh_image.specs.declared.judge.page_checks.PageFaults.{PageFaults}
-use Rattle.lh_image.specs.declared.table.Entry.{Entry}
+use Rattle.lh_image.specs.declared.table.PageEntry.{PageEntry}
 use Rattle.lh_image.specs.Chains.{stands_in, IsCovered}
 use Rattle.lh_image.specs.Faults.{bad_next, named_twice, on_no_chain, has_bad_slot, link_rows, first_fault_of}
 use Rattle.lh_image.specs.Listed.{IsViewKept}
@@ -26,7 +26,7 @@ use Rattle.lh_image.proofs.Faults.Sound.{row_clean}
 use Rattle.lh_image.proofs.Paths.Walks.{covered_chains}
 
 -- what is known behind the slots, where nothing was at fault
-pub record AreFine (v : View) (entries : List Entry) (pairs : List Pair) (faults : PageFaults) : Type 0 where
+pub record AreFine (v : View) (entries : List PageEntry) (pairs : List Pair) (faults : PageFaults) : Type 0 where
   pub some : buckets v < page_count v
   pub kept : IsViewKept v entries pairs faults
   pub heads : None ≡ first_fault_of (noted_rows faults (record_count v))
@@ -37,7 +37,7 @@ none_of : (o : Option ℕ) → is_some o ≡ false → o ≡ None
 none_of None e = refl
 none_of (Some i) e = absurd cc
 
-module _ (v : View) (entries : List Entry) (pairs : List Pair) (faults : PageFaults)
+module _ (v : View) (entries : List PageEntry) (pairs : List Pair) (faults : PageFaults)
     (fine : AreFine v entries pairs faults) where
   -- where nothing was at fault, the chains are paths, and each page stands on that of its bucket
   pub covered : IsCovered (next v) (bucket v) (buckets v) (page_count v) (chain_of v)
@@ -71,7 +71,7 @@ flat_same f g (x ∷ xs) same =
     flat_map-cons f x xs ∙ ap (λ ys. ys ++ flat_map f xs) here ∙ ap (λ ys. g x ++ ys) rest ∙ sym (flat_map-cons g x xs)
 
 -- the records that were kept along a chain are those that the View shows
-pub chain_records_same : (v : View) (entries : List Entry) (pairs : List Pair) (faults : PageFaults) →
+pub chain_records_same : (v : View) (entries : List PageEntry) (pairs : List Pair) (faults : PageFaults) →
     AreFine v entries pairs faults → (i : ℕ) → i < buckets v →
     flat_map (page_records entries pairs) (chain_of v i) ≡ flat_map v.records (chain_of v i)
 chain_records_same v entries pairs faults fine i less =

@@ -21,7 +21,7 @@ use Rattle.lh_image.specs.declared.fault.ImageFault.{ImageFault}
 use Rattle.lh_image.specs.declared.fault.ImageFault.TheVariants.{ReadFault, Memory, Twice}
 use Rattle.lh_image.specs.declared.header.Header.{Header}
 use Rattle.lh_image.specs.declared.judge.page_checks.PageFaults.{PageFaults}
-use Rattle.lh_image.specs.declared.table.Entry.{Entry}
+use Rattle.lh_image.specs.declared.table.PageEntry.{PageEntry}
 use Rattle.lh_image.specs.declared.checked.index.PageIndex.{PageIndex}
 use Rattle.lh_image.specs.Checked.{AreIndexed, IsIndexed, code_mark, no_index}
 use Rattle.lh_image.specs.Faults.{bad_used, first_fault_of, has_bad_slot, image_fault}
@@ -46,7 +46,7 @@ use Rattle.lh_image.proofs.OfReading.Whole.{AnswersView, exact_is, image_is}
 
 -- ---- what was checked
 
-read_is : (bytes : List ℕ) (header : Header) (root : Extent) (entries : List Entry) (pairs : List Pair)
+read_is : (bytes : List ℕ) (header : Header) (root : Extent) (entries : List PageEntry) (pairs : List Pair)
     (faults : PageFaults) → IsOpenedImage bytes header root → HaveCome bytes header header.pages entries pairs faults →
     IsRead bytes header entries pairs faults
 read_is bytes header root entries pairs faults o come = record { come = come; faultless = o.faultless; size = o.size }
@@ -65,7 +65,7 @@ memory_or bytes Memory late due = tt
 memory_or bytes ReadFault late due = absurd late
 memory_or bytes f late due = fault_from bytes f due
 
-module _ (bytes : List ℕ) (header : Header) (root : Extent) (entries : List Entry) (pairs : List Pair)
+module _ (bytes : List ℕ) (header : Header) (root : Extent) (entries : List PageEntry) (pairs : List Pair)
     (faults : PageFaults) (o : IsOpenedImage bytes header root)
     (come : HaveCome bytes header header.pages entries pairs faults) where
   -- a fault that the pages of opened bytes are answered with is the first of the bytes, or out of memory

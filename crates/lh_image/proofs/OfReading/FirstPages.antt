@@ -3,7 +3,7 @@ use Rattle.std.proofs.Common.{◌≡◌, ℕ, zero, suc, List, [], ◌∷◌, Op
 use Rattle.lh_page.specs.declared.pair.Pair.{Pair}
 use Rattle.lh_image.specs.declared.header.Header.{Header}
 use Rattle.lh_image.specs.declared.judge.page_checks.PageFaults.{PageFaults}
-use Rattle.lh_image.specs.declared.table.Entry.{Entry}
+use Rattle.lh_image.specs.declared.table.PageEntry.{PageEntry}
 use Rattle.lh_image.specs.Header.{HasHeader}
 use Rattle.lh_image.specs.Layout.{view_of}
 use Rattle.lh_image.specs.Pages.{HaveCome}
@@ -14,11 +14,11 @@ first_entry zero = refl
 first_entry (suc p) = refl
 
 -- with the header's entry alone, each page's records lie among those of all
-pub within_first : (entries : List Entry) (pairs : List Pair) → entries ≡ no_entry ∷ [] → AreWithin entries pairs
+pub within_first : (entries : List PageEntry) (pairs : List Pair) → entries ≡ no_entry ∷ [] → AreWithin entries pairs
 within_first entries pairs e p = rw (e, first_entry p) (omega arith)
 
 -- where a header was read without a fault, its page came, with its entry alone and nothing noted
-pub come_first : (bytes : List ℕ) (header : Header) (entries : List Entry) (pairs : List Pair) (faults : PageFaults)
+pub come_first : (bytes : List ℕ) (header : Header) (entries : List PageEntry) (pairs : List Pair) (faults : PageFaults)
     (now : Option (List ℕ)) → entries ≡ no_entry ∷ [] →
     faults ≡ record { kind = None; bucket = None; level = None; used = None; slot = None; sum = 0 } →
     HasHeader header bytes now → HaveCome bytes header 1 entries pairs faults

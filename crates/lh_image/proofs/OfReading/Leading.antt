@@ -17,7 +17,7 @@ use Rattle.lh_image.specs.declared.fault.ImageFault.TheVariants.{Magic, HeaderFi
 use Rattle.lh_image.specs.declared.fault.ImageFault.TheVariants.{Memory}
 use Rattle.lh_image.specs.declared.header.Header.{Header}
 use Rattle.lh_image.specs.declared.judge.page_checks.PageFaults.{PageFaults}
-use Rattle.lh_image.specs.declared.table.Entry.{Entry}
+use Rattle.lh_image.specs.declared.table.PageEntry.{PageEntry}
 use Rattle.lh_image.specs.Faults.{at_head, bad_kind, bad_bucket, bad_used, field_rows, first_fault_of, has_header}
 use Rattle.lh_image.specs.Faults.{has_trailing, header_rows, image_fault, is_short, no_magic, page_rows, size_rows}
 use Rattle.lh_image.specs.Faults.{where_so}
@@ -258,7 +258,7 @@ module _ (v w : View) (n : ℕ) (alike : AreAlike v w n) where
   slot_alike : (p : ℕ) → p < n → known_bad_slot w p ≡ known_bad_slot v p
   slot_alike p low = rw (plain_alike p low, alike.bad_slot p low) refl
 
-  table_alike : (entries : List Entry) (pairs : List Pair) → IsTable w n entries pairs → IsTable v n entries pairs
+  table_alike : (entries : List PageEntry) (pairs : List Pair) → IsTable w n entries pairs → IsTable v n entries pairs
   table_alike entries pairs t = record {
     size = t.size;
     next = λ p low. t.next p low ∙ sym (ap (λ (h : PageHead). h.next) (alike.head p low));
@@ -290,7 +290,7 @@ module _ (v w : View) (n : ℕ) (alike : AreAlike v w n) where
 
 -- ---- the answer
 
-module _ (bytes : List ℕ) (header : Header) (entries : List Entry) (pairs : List Pair) (faults : PageFaults)
+module _ (bytes : List ℕ) (header : Header) (entries : List PageEntry) (pairs : List Pair) (faults : PageFaults)
     (mid : Option (List ℕ)) (some : 1 ≤ header.pages) (has : HasHeader header bytes mid)
     (come : HaveCome bytes header header.pages entries pairs faults) where
   image_size : page_bytes (version_of bytes) * header.pages ≡ leading_size bytes
@@ -326,14 +326,14 @@ module _ (bytes : List ℕ) (header : Header) (entries : List Entry) (pairs : Li
       }
 
 -- where all pages came, and the rest was left
-abbrev pub CameBefore : Option (List ℕ) → Option (List ℕ) → Header → List Entry → List Pair → PageFaults → Type 0
+abbrev pub CameBefore : Option (List ℕ) → Option (List ℕ) → Header → List PageEntry → List Pair → PageFaults → Type 0
 CameBefore mid last header entries pairs faults =
     (bytes : List ℕ) → HasHeader header bytes mid →
     HaveCome bytes header header.pages entries pairs faults
     × (last ≡ Some (drop (page_bytes (version_of bytes) * header.pages) bytes))
 
-module _ (mid last : Option (List ℕ)) (header : Header) (entries : List Entry) (pairs : List Pair) (faults : PageFaults)
-    (result : Result Lists ImageFault) (some : 1 ≤ header.pages)
+module _ (mid last : Option (List ℕ)) (header : Header) (entries : List PageEntry) (pairs : List Pair)
+    (faults : PageFaults) (result : Result Lists ImageFault) (some : 1 ≤ header.pages)
     (read : CameBefore mid last header entries pairs faults) where
   -- where all pages came, the answer to their View is the one that is due of the image alone
   pub answered : (old : Option (List ℕ)) → IfSome old (λ bytes. HasHeader header bytes mid) →
@@ -367,7 +367,7 @@ unfolding following
 rest_is bytes last size e is = e ∙ ap (λ n. Some (drop n bytes)) is
 
 -- where all pages came, what is left is what follows the image, or what a late fault leaves
-pub left : (old mid last : Option (List ℕ)) (header : Header) (entries : List Entry) (pairs : List Pair)
+pub left : (old mid last : Option (List ℕ)) (header : Header) (entries : List PageEntry) (pairs : List Pair)
     (faults : PageFaults) (result : Result Lists ImageFault) → 1 ≤ header.pages →
     CameBefore mid last header entries pairs faults →
     IfSome old (λ bytes. HasHeader header bytes mid) → IfErr result IsLate →

@@ -18,7 +18,7 @@ use Rattle.lh_image.specs.declared.fault.ImageFault.TheVariants.{Memory}
 use Rattle.lh_image.specs.declared.header.Header.{Header}
 use Rattle.lh_image.specs.declared.judge.page_checks.PageFaults.{PageFaults}
 use Rattle.lh_image.specs.declared.version.Version.{Version}
-use Rattle.lh_image.specs.declared.table.Entry.{Entry}
+use Rattle.lh_image.specs.declared.table.PageEntry.{PageEntry}
 use Rattle.lh_image.specs.Faults.{at_head, bad_kind, bad_bucket, bad_used}
 use Rattle.lh_image.specs.Layout.{header_of, page, view_of}
 use Rattle.lh_image.specs.PageChecks.{AreNoted, known_bad_level, known_bad_slot, noted, seen}
@@ -96,20 +96,21 @@ kept_slice start n xs ys within =
 added_slice : (xs ys : List Pair) → take (length ys) (drop (length xs) (xs ++ ys)) ≡ ys
 added_slice xs ys = rw (drop_at xs ys (length xs) refl) (take_all (length ys) ys (omega arith))
 
-entry_before : (entries : List Entry) (e : Entry) (p : ℕ) → p < length entries →
+entry_before : (entries : List PageEntry) (e : PageEntry) (p : ℕ) → p < length entries →
     entry_at (entries ++ e ∷ []) p ≡ entry_at entries p
 entry_before entries e p within = get_or_append_left entries (e ∷ []) no_entry p within
 
-entry_last : (entries : List Entry) (e : Entry) (n : ℕ) → length entries ≡ n → entry_at (entries ++ e ∷ []) n ≡ e
+entry_last : (entries : List PageEntry) (e : PageEntry) (n : ℕ) → length entries ≡ n →
+    entry_at (entries ++ e ∷ []) n ≡ e
 entry_last entries e n size = get_or_at entries e [] no_entry n size
 
 -- after one page more, each page's records lie among those of all
-pub within_more : (entries new_entries : List Entry) (pairs new_pairs : List Pair) (own following : ℕ)
+pub within_more : (entries new_entries : List PageEntry) (pairs new_pairs : List Pair) (own following : ℕ)
     (version : Version) (bytes : List ℕ) (room : ℕ) → AreWithin entries pairs →
     IsPushed entries pairs new_entries new_pairs own following version bytes room → AreWithin new_entries new_pairs
 within_more entries new_entries pairs new_pairs own following version bytes room within pushed p =
     let added : List Pair = pushed.added in
-    let last : Entry = record { bucket = own; next = following; start = length pairs; used = length added } in
+    let last : PageEntry = record { bucket = own; next = following; start = length pairs; used = length added } in
     let size : length new_pairs ≡ length pairs + length added = ap length pushed.appended ∙ length-append pairs added in
     rw pushed.entered (elim (cases_order p (length entries)) [
       | inl same ↦ let is : entry_at (entries ++ last ∷ []) p ≡ last =
@@ -121,15 +122,16 @@ within_more entries new_entries pairs new_pairs own following version bytes room
     ])
 
 -- the table after one page more, whose records are those of a View where nothing is wrong with them
-table_more : (v : View) (n : ℕ) (entries new_entries : List Entry) (pairs added : List Pair) (head : PageHead) → 1 ≤ n →
-    head ≡ v.head n → AreWithin entries pairs →
+table_more : (v : View) (n : ℕ) (entries new_entries : List PageEntry) (pairs added : List Pair) (head : PageHead) →
+    1 ≤ n → head ≡ v.head n → AreWithin entries pairs →
     new_entries ≡
     entries ++ record { bucket = head.bucket; next = head.next; start = length pairs; used = length added } ∷ [] →
     (has_plain_head v n ≡ true → v.bad_slot n ≡ None → added ≡ v.records n) → IsTable v n entries pairs →
     IsTable v (n + 1) new_entries (pairs ++ added)
 unfolding next_in bucket_in page_records
 table_more v n entries new_entries pairs added head low shows within entered sound table =
-    let last : Entry = record { bucket = head.bucket; next = head.next; start = length pairs; used = length added } in
+    let last : PageEntry =
+    record { bucket = head.bucket; next = head.next; start = length pairs; used = length added } in
     let here : entry_at new_entries n ≡ last = rw entered (entry_last entries last n table.size) in
     let before : (p : ℕ) → p < n → entry_at new_entries p ≡ entry_at entries p =
     λ p less. rw entered (entry_before entries last p (omega (arith, table.size))) in
@@ -202,7 +204,7 @@ own_sound bytes n low plain none =
 -- ---- all of it
 
 -- where the next page was read, kept and noted, one page more came
-pub come_more : (bytes : List ℕ) (header : Header) (n : ℕ) (entries new_entries : List Entry)
+pub come_more : (bytes : List ℕ) (header : Header) (n : ℕ) (entries new_entries : List PageEntry)
     (pairs new_pairs : List Pair) (faults : PageFaults) (head : PageHead) (bad : Bool) (buffer : List ℕ) →
     1 ≤ n → buffer ≡ page bytes n → head ≡ head_of buffer →
     bad ≡ is_of_slot (fault_of (format_of header.version) buffer header.config.capacity) →
@@ -253,7 +255,7 @@ come_more bytes header n entries new_entries pairs new_pairs faults head bad buf
 
 -- one page more was read, or there was no memory for it
 pub reads_more : {X : Type 0} (bytes : List ℕ) (header : Header) (n : ℕ) (result : Result X ImageFault)
-    (entries : List Entry) (pairs : List Pair) (faults : PageFaults) (now : Option (List ℕ)) →
+    (entries : List PageEntry) (pairs : List Pair) (faults : PageFaults) (now : Option (List ℕ)) →
     OnOk result (HaveCome bytes header n entries pairs faults) →
     IfErr result (λ f. f ≡ Memory) → now ≡ Some (drop (page_bytes (version_of bytes) * n) bytes) →
     ReadsTo bytes header n result entries pairs faults now

@@ -16,7 +16,7 @@ use Rattle.lh_image.specs.declared.fault.ImageFault.{ImageFault}
 use Rattle.lh_image.specs.declared.fault.ImageFault.TheVariants.{Short, Trailing, ReadFault, Memory}
 use Rattle.lh_image.specs.declared.header.Header.{Header}
 use Rattle.lh_image.specs.declared.judge.page_checks.PageFaults.{PageFaults}
-use Rattle.lh_image.specs.declared.table.Entry.{Entry}
+use Rattle.lh_image.specs.declared.table.PageEntry.{PageEntry}
 use Rattle.lh_image.specs.Faults.{header_rows, size_rows, page_rows, first_fault_of, page_fault, image_fault, is_short}
 use Rattle.lh_image.specs.Faults.{has_trailing}
 use Rattle.lh_image.specs.Header.{HasHeader}
@@ -126,7 +126,7 @@ end_left (Some bytes) mid last now header f all no_end =
 -- ---- as many as there are
 
 -- where all pages came and nothing was left behind them, the bytes were read to their end
-pub all_read : (bytes : List ℕ) (mid last now : Option (List ℕ)) (header : Header) (entries : List Entry)
+pub all_read : (bytes : List ℕ) (mid last now : Option (List ℕ)) (header : Header) (entries : List PageEntry)
     (pairs : List Pair) (faults : PageFaults) → HasHeader header bytes mid →
     HaveCome bytes header header.pages entries pairs faults →
     last ≡ Some (drop (page_bytes (version_of bytes) * header.pages) bytes) →
@@ -141,7 +141,7 @@ all_read bytes mid last now header entries pairs faults has come left ended =
     }
 
 -- where all pages came, the bytes have as many, and what stands behind the pages is left
-pub have_all : (old mid last : Option (List ℕ)) (header : Header) (entries : List Entry) (pairs : List Pair)
+pub have_all : (old mid last : Option (List ℕ)) (header : Header) (entries : List PageEntry) (pairs : List Pair)
     (faults : PageFaults) → IfSome old (λ bytes. HasHeader header bytes mid) →
     ((bytes : List ℕ) → HasHeader header bytes mid →
     HaveCome bytes header header.pages entries pairs faults
@@ -152,7 +152,7 @@ have_all (Some bytes) mid last header entries pairs faults has read =
     let all = read bytes has in (has, all.0.enough, all.1)
 
 -- the pages that the header tells of are all there is, so their View decides
-judged_is : (bytes : List ℕ) (header : Header) (entries : List Entry) (pairs : List Pair) (faults : PageFaults) →
+judged_is : (bytes : List ℕ) (header : Header) (entries : List PageEntry) (pairs : List Pair) (faults : PageFaults) →
     1 ≤ header.pages → IsRead bytes header entries pairs faults → reading_of bytes ≡ judged (view_of bytes)
 unfolding is_short has_trailing image_fault page_fault first_fault_of reading_of
 judged_is bytes header entries pairs faults some read =
@@ -181,7 +181,7 @@ past_end bytes p past =
       | inr other ↦ rw (next, bucket, ne_eqb p 0 other, empty) (refl, refl)
     ]
 
-kept_is : (bytes : List ℕ) (header : Header) (entries : List Entry) (pairs : List Pair) (faults : PageFaults) →
+kept_is : (bytes : List ℕ) (header : Header) (entries : List PageEntry) (pairs : List Pair) (faults : PageFaults) →
     IsRead bytes header entries pairs faults → IsViewKept (view_of bytes) entries pairs faults
 unfolding next_in bucket_in
 kept_is bytes header entries pairs faults read =
@@ -210,13 +210,13 @@ kept_is bytes header entries pairs faults read =
     }
 
 -- the answer to the View of the bytes
-abbrev pub AnswersView : Header → List Entry → List Pair → PageFaults → Result Lists ImageFault → Type 0
+abbrev pub AnswersView : Header → List PageEntry → List Pair → PageFaults → Result Lists ImageFault → Type 0
 AnswersView header entries pairs faults result =
     (v : View) → v.header ≡ header → IsViewKept v entries pairs faults →
     IsDueAnswer (λ listing l. listing ≡ l) result (judged v)
 
 -- where the bytes were read to their end, the answer to their View is the one that is due
-pub exact_is : (bytes : List ℕ) (header : Header) (entries : List Entry) (pairs : List Pair) (faults : PageFaults)
+pub exact_is : (bytes : List ℕ) (header : Header) (entries : List PageEntry) (pairs : List Pair) (faults : PageFaults)
     (result : Result Lists ImageFault) → 1 ≤ header.pages → IsRead bytes header entries pairs faults →
     AnswersView header entries pairs faults result → IsDueAnswer (λ listing l. listing ≡ l) result (reading_of bytes)
 exact_is bytes header entries pairs faults result some read exact =
@@ -225,7 +225,7 @@ exact_is bytes header entries pairs faults result some read exact =
     (kept_is bytes header entries pairs faults read))
 
 -- where all pages came and nothing was left behind them, the answer to their View is the one that is due
-pub answered : (old mid last now : Option (List ℕ)) (header : Header) (entries : List Entry) (pairs : List Pair)
+pub answered : (old mid last now : Option (List ℕ)) (header : Header) (entries : List PageEntry) (pairs : List Pair)
     (faults : PageFaults) (result : Result Lists ImageFault) → 1 ≤ header.pages →
     IfSome old (λ bytes. HasHeader header bytes mid) →
     ((bytes : List ℕ) → HasHeader header bytes mid →
@@ -251,7 +251,7 @@ whole_from : (bytes : List ℕ) (l : Lists) → reading_of bytes ≡ Ok l →
 unfolding reading_of
 whole_from bytes l e = no_fault_from (image_fault bytes) (view_of bytes) l e
 
-each_byte_of : (bytes : List ℕ) (header : Header) (entries : List Entry) (pairs : List Pair) (faults : PageFaults) →
+each_byte_of : (bytes : List ℕ) (header : Header) (entries : List PageEntry) (pairs : List Pair) (faults : PageFaults) →
     IsRead bytes header entries pairs faults → AreBytes bytes
 each_byte_of bytes header entries pairs faults read i =
     elim (cases_lt i (page_bytes (version_of bytes) * header.pages)) [
@@ -261,7 +261,7 @@ each_byte_of bytes header entries pairs faults read i =
     ]
 
 -- bytes that were read to their end are an image of the listing that is answered
-pub image_is : (bytes : List ℕ) (header : Header) (entries : List Entry) (pairs : List Pair) (faults : PageFaults)
+pub image_is : (bytes : List ℕ) (header : Header) (entries : List PageEntry) (pairs : List Pair) (faults : PageFaults)
     (result : Result Lists ImageFault) → ImageLaw → 1 ≤ header.pages → IsRead bytes header entries pairs faults →
     AnswersView header entries pairs faults result → IfOk result (λ listing. IsImage bytes listing)
 image_is bytes header entries pairs faults (Err f) law some read exact = tt
@@ -271,7 +271,7 @@ image_is bytes header entries pairs faults (Ok x) law some read exact =
     (law bytes x (each_byte_of bytes header entries pairs faults read)).1 (whole.0, answer.2 ∙ sym whole.1)
 
 -- the same of bytes whose pages all came, with nothing left behind them
-pub image_read : (old mid last now : Option (List ℕ)) (header : Header) (entries : List Entry) (pairs : List Pair)
+pub image_read : (old mid last now : Option (List ℕ)) (header : Header) (entries : List PageEntry) (pairs : List Pair)
     (faults : PageFaults) (result : Result Lists ImageFault) → ImageLaw → 1 ≤ header.pages →
     IfSome old (λ bytes. HasHeader header bytes mid) →
     ((bytes : List ℕ) → HasHeader header bytes mid →

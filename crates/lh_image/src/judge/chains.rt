@@ -10,11 +10,11 @@ ghost use Rattle.lh_image.specs.Layout.{most_pages};
 
 use crate::fault::ImageFault;
 use crate::judge::links::next_of;
-use crate::table::Entry;
+use crate::table::PageEntry;
 use std::alloc::Global;
 
 /// The pages that come from a page by following `next`.
-fn chain_from(alloc: Global, entries: &[Entry], first: u32) -> Result<Vec<u32>, ImageFault>
+fn chain_from(alloc: Global, entries: &[PageEntry], first: u32) -> Result<Vec<u32>, ImageFault>
     ensures ok { IfOk result (λ v. v.items ≡ pages_from (next_in entries.now) (length entries.now) first) }
     ensures fault { IfErr result (λ f. f ≡ ImageFault.Memory) }
 {
@@ -33,7 +33,7 @@ fn chain_from(alloc: Global, entries: &[Entry], first: u32) -> Result<Vec<u32>, 
 /// The chain of each bucket. No page is on two of them, so they have no more pages than the file.
 pub(crate) fn all_chains(
     alloc: Global,
-    entries: &[Entry],
+    entries: &[PageEntry],
     buckets: u32,
 ) -> Result<Vec<Vec<u32>>, ImageFault>
     requires few { buckets ≤ most_buckets }

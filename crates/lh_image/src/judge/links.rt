@@ -6,12 +6,12 @@ ghost use Rattle.lh_image.specs.Table.{links_in, next_in};
 ghost use Rattle.lh_image.specs.Layout.{most_pages};
 
 use crate::fault::ImageFault;
-use crate::table::Entry;
+use crate::table::PageEntry;
 use std::alloc::Global;
 
 /// Whether a page's next one is no overflow page of its bucket.
 #[tactic(auto, unfolding(crate::specs::Faults::bad_next, crate::specs::Table::next_in, crate::specs::Table::bucket_in))]
-fn has_bad_next(entries: &[Entry], buckets: u32, page: u32) -> bool
+fn has_bad_next(entries: &[PageEntry], buckets: u32, page: u32) -> bool
     requires { page < length entries.now }
     ensures { result ≡ bad_next (links_in entries.now buckets) page }
 {
@@ -26,7 +26,7 @@ fn has_bad_next(entries: &[Entry], buckets: u32, page: u32) -> bool
 
 /// The least page whose next one is no overflow page of its bucket.
 #[tactic(auto, unfolding(crate::specs::View::numbers))]
-pub(crate) fn least_bad_next(entries: &[Entry], buckets: u32) -> Option<u32>
+pub(crate) fn least_bad_next(entries: &[PageEntry], buckets: u32) -> Option<u32>
     requires { length entries.now ≤ most_pages }
     ensures { result ≡ least (length entries.now) (bad_next (links_in entries.now buckets)) }
 {
@@ -35,7 +35,7 @@ pub(crate) fn least_bad_next(entries: &[Entry], buckets: u32) -> Option<u32>
 
 /// The page that follows a page, 0 for none.
 #[tactic(auto, unfolding(crate::specs::Table::next_in))]
-pub(crate) fn next_of(entries: &[Entry], page: usize) -> u32
+pub(crate) fn next_of(entries: &[PageEntry], page: usize) -> u32
     ensures { result ≡ next_in entries.now page }
 {
     if page < entries.len() {
@@ -46,7 +46,7 @@ pub(crate) fn next_of(entries: &[Entry], page: usize) -> u32
 }
 
 /// How many pages name each page.
-fn count_names(alloc: Global, entries: &[Entry]) -> Result<Vec<u32>, ImageFault>
+fn count_names(alloc: Global, entries: &[PageEntry]) -> Result<Vec<u32>, ImageFault>
     requires { length entries.now ≤ most_pages }
     ensures size { IfOk result (λ v. length v.items ≡ length entries.now) }
     ensures counts { IfOk result (λ v. (p : ℕ) → p < length entries.now →
@@ -72,7 +72,10 @@ fn least_of_two(counts: &[u32]) -> Option<u32>
 }
 
 /// The least page that two pages or more name.
-pub(crate) fn least_named_twice(alloc: Global, entries: &[Entry]) -> Result<Option<u32>, ImageFault>
+pub(crate) fn least_named_twice(
+    alloc: Global,
+    entries: &[PageEntry],
+) -> Result<Option<u32>, ImageFault>
     requires { length entries.now ≤ most_pages }
     ensures least { (buckets : ℕ) → IfOk result (λ r.
         r ≡ least (length entries.now) (named_twice (links_in entries.now buckets))) }

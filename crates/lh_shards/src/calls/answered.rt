@@ -3,7 +3,7 @@
 ghost use Rattle.std.specs.Prelude.{◌≡◌, true, false, IfOk};
 ghost use Rattle.lh_bucket.specs.declared.call.Call.TheVariants as call;
 ghost use Rattle.lh_file.specs.Calls.Served.{Serves};
-ghost use Rattle.lh_file.specs.History.Told.{HasEntered};
+ghost use Rattle.lh_file.specs.History.Entered.{HasEntered};
 ghost use Rattle.lh_shards.specs.Hands.{AreOf, AtShardOf};
 
 use crate::hands::Hands;

@@ -11,7 +11,7 @@ use lh_bucket::Listing;
 use lh_file::{BucketCopy, FileBrand, FileFault, History, Memory, SettleFault};
 use lh_page::{Key, Value};
 use lh_shards::{
-    ClosedShards, CreateFault, Hands, JoinFault, OpenFault, Openings, ShardFault, ShardScan,
+    ClosedShards, CreateFault, Hands, JoinShardsFault, OpenFault, Openings, ShardFault, ShardScan,
     Shards, SplitFault, empty_listings,
 };
 use std::alloc::Global;
@@ -91,7 +91,7 @@ fn joined_again(shards: &Shards, first: Hands, second: Hands) -> Option<Hands>
     requires second { AreOf shards.now second }
     ensures { IfSome result (AreOf shards.now) }
 {
-    let JoinFault {
+    let JoinShardsFault {
         shard,
         first,
         second,

@@ -3,32 +3,32 @@ use Rattle.std.proofs.Common.{subst, ◌∙◌}
 use Rattle.std.specs.Prelude.{Result}
 use Rattle.lh_addr.specs.Extent.{Extent}
 use Rattle.lh_core.specs.World.{WorldSeen}
-use Rattle.lh_script.specs.declared.requests.Request.{Request}
-use Rattle.lh_script.specs.declared.requests.Request.TheVariants as ask
+use Rattle.lh_script.specs.declared.requests.ClientRequest.{ClientRequest}
+use Rattle.lh_script.specs.declared.requests.ClientRequest.TheVariants as ask
 use Rattle.lh_serving.specs.Answers.{AnswersLine, FileSeen, HoldsFile}
 use Rattle.lh_serving.specs.Texts.{image_text, answer_line}
-use Rattle.lh_serving.specs.declared.answer.Answer.{Answer}
-use Rattle.lh_serving.specs.declared.answer.Answer.TheVariants as answer
+use Rattle.lh_serving.specs.declared.answer.LineAnswer.{LineAnswer}
+use Rattle.lh_serving.specs.declared.answer.LineAnswer.TheVariants as answer
 use Rattle.lh_serving.specs.declared.answer.Fault.{Fault}
 use Rattle.lh_serving.specs.declared.serving.Said.{Said}
 use Rattle.lh_serving.proofs.serving.answer_to.Goals as goal
 
 -- an answer, and the file that it leaves, by what was asked
-abbrev Leaves : FileSeen → List ℕ → WorldSeen → ℕ → Result (Option Request) Fault → Type 0
+abbrev Leaves : FileSeen → List ℕ → WorldSeen → ℕ → Result (Option ClientRequest) Fault → Type 0
 Leaves file said w n asked = (next : FileSeen) × AnswersLine file asked said next × HoldsFile w n next
 
 -- an answer that no image follows
-only_said : (s : Said) (a : Answer) → s ≡ record { answer = Some a; image = None } →
+only_said : (s : Said) (a : LineAnswer) → s ≡ record { answer = Some a; image = None } →
     answer_line s.answer ++ image_text s.image ≡ answer_line (Some a)
 only_said s a e = ap (λ (s : Said). answer_line s.answer ++ image_text s.image) e ∙ append-nil (answer_line (Some a))
 
-only_leaves : (file : FileSeen) (s : Said) (a : Answer) (w : WorldSeen) (n : ℕ)
-    (asked : Result (Option Request) Fault) → s ≡ record { answer = Some a; image = None } →
+only_leaves : (file : FileSeen) (s : Said) (a : LineAnswer) (w : WorldSeen) (n : ℕ)
+    (asked : Result (Option ClientRequest) Fault) → s ≡ record { answer = Some a; image = None } →
     Leaves file (answer_line (Some a)) w n asked → Leaves file (answer_line s.answer ++ image_text s.image) w n asked
 only_leaves file s a w n asked e h = subst (λ said. Leaves file said w n asked) (sym (only_said s a e)) h
 
-asked_some : {a : Result (Option Request) Fault} {o : Option Request} {r t : Request} → a ≡ Ok o → o ≡ Some r → r ≡ t →
-    a ≡ Ok (Some t)
+asked_some : {a : Result (Option ClientRequest) Fault} {o : Option ClientRequest} {r t : ClientRequest} → a ≡ Ok o →
+    o ≡ Some r → r ≡ t → a ≡ Ok (Some t)
 asked_some e f g = e ∙ ap (λ x. Ok x) (f ∙ ap (λ x. Some x) g)
 
 pub returns-in-Ok-None-clause-answered : goal.returns-in-Ok-None-clause-answered

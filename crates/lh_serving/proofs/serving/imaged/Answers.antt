@@ -2,7 +2,7 @@ use Rattle.std.proofs.Common.{ℕ, ◌++◌, Some, ap}
 use Rattle.lh_image.specs.Canonical.{canonical}
 use Rattle.lh_image.specs.declared.version.Version.TheVariants.{Two}
 use Rattle.lh_serving.specs.Texts.{answer_line}
-use Rattle.lh_serving.specs.declared.answer.Answer.TheVariants as answer
+use Rattle.lh_serving.specs.declared.answer.LineAnswer.TheVariants as answer
 use Rattle.lh_serving.proofs.CallsServed.{copied}
 use Rattle.lh_serving.proofs.serving.imaged.Goals as goal
 

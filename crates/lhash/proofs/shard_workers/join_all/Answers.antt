@@ -6,8 +6,8 @@ use Rattle.std.proofs.lemmas.List.Sums.{sum_by-cons}
 use Rattle.std.specs.Vec.Iter.{into_iter_items}
 use Rattle.lh_shards.specs.Own.{AllShare}
 use Rattle.std.specs.declared.thread.PromisedHandle.{PromisedHandle}
-use Rattle.lhash.specs.declared.shard_workers.Part.{Part}
-use Rattle.lhash.specs.declared.shard_workers.Worked.{Worked}
+use Rattle.lhash.specs.declared.shard_workers.HandsPromise.{HandsPromise}
+use Rattle.lhash.specs.declared.shard_workers.WorkedHands.{WorkedHands}
 use Rattle.lhash.specs.ShardWorkers.{acts_of}
 use Rattle.lhash.proofs.shard_workers.join_all.Goals as goal
 
@@ -22,7 +22,7 @@ loop-worker-init g c = record {
 
 pub loop-worker-preserved : goal.loop-worker-preserved
 loop-worker-preserved g c =
-    let Handle = PromisedHandle Worked (Part g.row.J.Denot) in
+    let Handle = PromisedHandle WorkedHands (HandsPromise g.row.J.Denot) in
     let met = λ (worker : Handle). worker.promise.shards.now ≡ c.args.shards.now in
     let calls = λ (worker : Handle). worker.promise.calls in
     let e : into_iter_items c.loop-worker.worker-iterator ≡ c.in-Some.worker ∷ into_iter_items c.next.new.self =
@@ -44,7 +44,7 @@ loop-worker-preserved g c =
 
 pub returns-clause-share : goal.returns-clause-share
 returns-clause-share g c n all =
-    let calls = λ (worker : PromisedHandle Worked (Part g.row.J.Denot)). worker.promise.calls in
+    let calls = λ (worker : PromisedHandle WorkedHands (HandsPromise g.row.J.Denot)). worker.promise.calls in
     let before = c.loop-worker.invariant.share n all in
     let made : acts_of c.loop-worker.hands ≡ acts_of c.args.hands + sum_by calls c.args.workers.items =
     grind (arith, common_steps) in

@@ -4,13 +4,13 @@ use Rattle.std.proofs.lemmas.List.Elements.{All-tail}
 use Rattle.std.proofs.lemmas.List.Sums.{sum_by-cons}
 use Rattle.std.specs.Vec.Iter.{into_iter_items}
 use Rattle.std.specs.declared.thread.PromisedHandle.{PromisedHandle}
-use Rattle.lhash.specs.declared.workers.Part.{Part}
-use Rattle.lhash.specs.declared.workers.Worked.{Worked}
+use Rattle.lhash.specs.declared.workers.HandPromise.{HandPromise}
+use Rattle.lhash.specs.declared.workers.WorkedHand.{WorkedHand}
 use Rattle.lhash.proofs.workers.join_all.Goals as goal
 
 pub loop-worker-preserved : goal.loop-worker-preserved
 loop-worker-preserved g c =
-    let Handle = PromisedHandle Worked (Part g.row.G.Denot g.row.J.Denot) in
+    let Handle = PromisedHandle WorkedHand (HandPromise g.row.G.Denot g.row.J.Denot) in
     let met = λ (worker : Handle). worker.promise.file.now.state ≡ c.args.file.now.state in
     let calls = λ (worker : Handle). worker.promise.calls in
     let e : into_iter_items c.loop-worker.worker-iterator ≡ c.in-Some.worker ∷ into_iter_items c.next.new.self =

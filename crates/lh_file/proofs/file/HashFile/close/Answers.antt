@@ -8,7 +8,7 @@ use Rattle.lh_file.specs.Closing.{NoneIsLost, RuleHolds, HasHistory}
 use Rattle.lh_file.specs.FileState.{FileState}
 use Rattle.lh_file.specs.HashFile.{Shared}
 use Rattle.lh_file.specs.Words.HandState.{HandState}
-use Rattle.lh_file.specs.Words.Plays.{Seated}
+use Rattle.lh_words.specs.Plays.{Seated}
 use Rattle.lh_file.proofs.OfHistory.Closing.{closes}
 use Rattle.lh_file.proofs.OfWords.LastWords.{rule_of, none-lost-of}
 use Rattle.lh_file.proofs.file.HashFile.close.Goals as goal
@@ -24,7 +24,7 @@ returns-clause-closed g c = record {
   stamps = ap (λ (f : ClosedFile). f.stamps) c.ended-closed.ensures;
   rule = subst (λ (s : Shared). RuleHolds s.state.config c.end-last.result c.args.hand.view) c.self.view_is
       (rule_of g.M.Mode.traced c.self.inside.words c.end-last.result c.copied.new.seat.me.0 c.args.hand.view
-      c.end-last.ensures
+      c.end-last.ensures.config c.end-last.ensures.end
       (ap (λ (m : Seated). m.0.view) c.copied.ensures.kept ∙ ap (λ (h : HandState). h.view) c.hand.view_is));
 }
 
@@ -33,7 +33,8 @@ returns-clause-none_is_lost g c =
     subst (NoneIsLost c.args.hand) (sym (ap (λ (f : ClosedFile). f.stamps) c.ended-closed.ensures))
     (subst (λ (h : HandState). NoneIsLost h c.end-last.result.stamps) c.hand.view_is
     (none-lost-of g.M.Mode.traced c.self.inside.words c.end-last.result c.hand.inside c.copied.new.seat.me.0
-    c.hand.invariant (ap (λ (m : Seated). m.0.view) c.copied.ensures.kept) c.end-last.ensures))
+    c.hand.invariant (ap (λ (m : Seated). m.0.view) c.copied.ensures.kept) c.end-last.ensures.config
+    c.end-last.ensures.end))
 
 pub returns-clause-history : goal.returns-clause-history
 returns-clause-history g c on all even =
@@ -73,4 +74,5 @@ returns-clause-history g c on all even =
     c.if-clean.gathered
     c.hand.view_is c.hand.invariant (ap (λ (m : Seated). m.0) c.copied.ensures.kept)
     (subst (λ (s : Settings). 1 ≤ s.initial) c.self.invariant.config c.self.invariant.in_range.initial.0)
-    c.end-last.ensures c.in_ok-lists.ensures.gathered whole.0 whole.1 on (sym (ap (λ n. n % 2) root) ∙ even))))
+    c.end-last.ensures.config c.end-last.ensures.end c.in_ok-lists.ensures.gathered whole.0 whole.1 on
+    (sym (ap (λ n. n % 2) root) ∙ even))))

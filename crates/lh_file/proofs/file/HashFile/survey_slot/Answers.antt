@@ -1,9 +1,10 @@
 use Rattle.std.proofs.Common.{[], ◌∷◌, ◌++◌, List, refl, sym, ap, ◌∙◌}
 use Rattle.lh_bucket.specs.Bucket.{Seen}
+use Rattle.lh_file.specs.FileState.{FileState}
 use Rattle.lh_file.specs.HashFile.{Shared}
-use Rattle.lh_file.specs.Words.Dealing.{dealt_seat, other_buckets_of}
-use Rattle.lh_file.specs.Words.Plays.{Seated}
-use Rattle.lh_file.specs.Words.Seats.{told_seat}
+use Rattle.lh_words.specs.Dealing.{dealt_seat, other_buckets_of}
+use Rattle.lh_words.specs.Plays.{Seated}
+use Rattle.lh_words.specs.Seats.{told_seat}
 use Rattle.lh_file.proofs.OfSnapshots.Moments.{surveyed_as}
 use Rattle.lh_file.proofs.file.HashFile.survey_slot.Goals as goal
 
@@ -25,7 +26,10 @@ returns-clause-told g c =
           ∙ ap (λ (ps : List Seen). (record (told_seat stamps told.0 old.0) { parts = ps }, old.1))
           (sym c.requires.bucketless),
       λ on.
-          surveyed_as _ _ _ _ _ _ _ _ _ _ told.0 (ap (λ (s : Shared). s.state.listing) c.self.view_is) refl
+          surveyed_as _ _ _ _ _ _ _ _ _ _ told.0
+          (ap (λ (f : FileState). f.listing) c.words.view_is
+          ∙ ap (λ (s : Shared). s.state.listing) c.self.view_is)
+          refl
           (ap (λ (m : Seated). m.0.entries) joined) (ap (λ (m : Seated). m.0.logs) joined)
           (ap (λ (m : Seated). m.0.parts) joined
           ∙ ap (λ (ps : List Seen). ps ++ c.args.slot.now ∷ []) c.requires.bucketless) (told.2 on),

@@ -3,10 +3,10 @@ use Rattle.std.proofs.Math.Nat.{mod-eq_of_lt}
 use Rattle.std.proofs.lemmas.Nat.{pow_below, mul-le}
 use Rattle.lh_addr.specs.declared.aim.Aim.{Aim}
 use Rattle.lh_file.specs.Snapshots.Scans.{times_aimed, IsWithin}
-use Rattle.lh_file.specs.Words.Rule.{Each}
-use Rattle.lh_file.specs.Words.Sums.{total}
+use Rattle.lh_words.specs.Rule.{Each}
+use Rattle.lh_words.specs.Sums.{total}
 use Rattle.lh_file.proofs.OfBuckets.Levels.{size_doubles}
-use Rattle.lh_file.proofs.OfHistory.Rows.{each_snoc}
+use Rattle.lh_words.specs.EachLaws.{each_snoc}
 use Rattle.lh_file.proofs.OfSnapshots.Aims.{at_level, aimed-snoc, raised, room_of, ahead-snoc, halves}
 use Rattle.lh_file.proofs.snapshots.scan.push_raised.Goals as goal
 

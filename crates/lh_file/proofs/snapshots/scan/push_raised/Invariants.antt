@@ -1,8 +1,8 @@
 use Rattle.std.proofs.Common.{◌≡◌, ℕ, ◌+◌, ◌-◌, ◌*◌, ◌^◌, ◌<◌, ◌≤◌, vec_len, vec_capacity}
-use Rattle.lh_file.specs.History.Buckets.{bit}
+use Rattle.lh_words.specs.History.Buckets.{bit}
 use Rattle.lh_file.specs.Snapshots.Scans.{leads, times_aimed, IsWithin}
-use Rattle.lh_file.specs.Words.Rule.{Each}
-use Rattle.lh_file.specs.Words.Sums.{total}
+use Rattle.lh_words.specs.Rule.{Each}
+use Rattle.lh_words.specs.Sums.{total}
 use Rattle.lh_addr.specs.declared.aim.Aim.{Aim}
 use Rattle.lh_file.proofs.snapshots.scan.push_raised.Given as goal
 

@@ -3,14 +3,14 @@ use Rattle.lh_bucket.specs.Bucket.{content}
 use Rattle.lh_bucket.specs.PagedBucket.{found_at}
 use Rattle.lh_bucket.specs.declared.call.Call.TheVariants.{Search}
 use Rattle.lh_file.specs.Words.HandState.{HandState}
-use Rattle.lh_file.specs.Words.Plays.{Seated}
-use Rattle.lh_file.specs.Words.Recording.{inserts_of, deletes_of}
+use Rattle.lh_words.specs.Plays.{Seated}
+use Rattle.lh_words.specs.Counting.{inserts_of, deletes_of}
 use Rattle.lh_file.proofs.OfCalls.Serving.{uncounted, stamped_same}
 use Rattle.lh_file.proofs.words.Words.enter_look.Goals as goal
 
 pub returns-then-self-clause-acted : goal.returns-then-self-clause-acted
 returns-then-self-clause-acted g c =
-    let stamp = c.draw_look_with_seat-stamp.result in
+    let stamp = c.draw_search_with_seat-stamp.result in
     let given = found_at c.args.bucket.now.pairs c.find-place.result in
     let is = c.find-place.ensures.found in
     let none = uncounted (content c.args.bucket.now) (Search c.args.key.now) refl in (
@@ -18,8 +18,8 @@ returns-then-self-clause-acted g c =
       record {
         newest =
             subst (All (λ x. x < stamp)) (ap (λ (h : HandState). h.view.stamps) c.hand.view_is)
-            c.draw_look_with_seat-stamp.ensures.newest;
-        view = ap (λ (m : Seated). m.0.view) c.draw_look_with_seat-stamp.ensures.acted
+            c.draw_search_with_seat-stamp.ensures.newest;
+        view = ap (λ (m : Seated). m.0.view) c.draw_search_with_seat-stamp.ensures.acted
             ∙ stamped_same c.hand.inside.seat.me.0.view stamp (inserts_of given) (deletes_of given)
             (ap inserts_of is ∙ none.0) (ap deletes_of is ∙ none.1)
             ∙ ap
@@ -32,7 +32,7 @@ returns-then-self-clause-acted g c =
             })
             c.hand.view_is;
         logs =
-            ap (λ (m : Seated). m.0.logs) c.draw_look_with_seat-stamp.ensures.acted
+            ap (λ (m : Seated). m.0.logs) c.draw_search_with_seat-stamp.ensures.acted
             ∙ ap (λ (h : HandState). h.logs) c.hand.view_is;
         acts = search rules;
         room = search rules;
@@ -43,7 +43,7 @@ returns-then-self-clause-acted g c =
 
 pub returns-else-self-clause-acted : goal.returns-else-self-clause-acted
 returns-else-self-clause-acted g c =
-    let stamp = c.draw_look_with_seat-stamp.result in
+    let stamp = c.draw_search_with_seat-stamp.result in
     let given = found_at c.args.bucket.now.pairs c.find-place.result in
     let is = c.find-place.ensures.found in
     let none = uncounted (content c.args.bucket.now) (Search c.args.key.now) refl in (
@@ -51,8 +51,8 @@ returns-else-self-clause-acted g c =
       record {
         newest =
             subst (All (λ x. x < stamp)) (ap (λ (h : HandState). h.view.stamps) c.hand.view_is)
-            c.draw_look_with_seat-stamp.ensures.newest;
-        view = ap (λ (m : Seated). m.0.view) c.draw_look_with_seat-stamp.ensures.acted
+            c.draw_search_with_seat-stamp.ensures.newest;
+        view = ap (λ (m : Seated). m.0.view) c.draw_search_with_seat-stamp.ensures.acted
             ∙ stamped_same c.hand.inside.seat.me.0.view stamp (inserts_of given) (deletes_of given)
             (ap inserts_of is ∙ none.0) (ap deletes_of is ∙ none.1)
             ∙ ap
@@ -65,7 +65,7 @@ returns-else-self-clause-acted g c =
             })
             c.hand.view_is;
         logs =
-            ap (λ (m : Seated). m.0.logs) c.draw_look_with_seat-stamp.ensures.acted
+            ap (λ (m : Seated). m.0.logs) c.draw_search_with_seat-stamp.ensures.acted
             ∙ ap (λ (h : HandState). h.logs) c.hand.view_is;
         acts = search rules;
         room = search rules;
@@ -76,18 +76,18 @@ returns-else-self-clause-acted g c =
 
 pub returns-then-self-clause-entered : goal.returns-then-self-clause-entered
 returns-then-self-clause-entered g c = (
-  c.draw_look_with_seat-stamp.result,
+  c.draw_search_with_seat-stamp.result,
   search rules,
   search rules,
-  ap (λ (m : Seated). m.0.view.stamps) c.draw_look_with_seat-stamp.ensures.acted
-      ∙ ap (λ (h : HandState). h.view.stamps ++ c.draw_look_with_seat-stamp.result ∷ []) c.hand.view_is,
+  ap (λ (m : Seated). m.0.view.stamps) c.draw_search_with_seat-stamp.ensures.acted
+      ∙ ap (λ (h : HandState). h.view.stamps ++ c.draw_search_with_seat-stamp.result ∷ []) c.hand.view_is,
 )
 
 pub returns-else-self-clause-entered : goal.returns-else-self-clause-entered
 returns-else-self-clause-entered g c = (
-  c.draw_look_with_seat-stamp.result,
+  c.draw_search_with_seat-stamp.result,
   search rules,
   search rules,
-  ap (λ (m : Seated). m.0.view.stamps) c.draw_look_with_seat-stamp.ensures.acted
-      ∙ ap (λ (h : HandState). h.view.stamps ++ c.draw_look_with_seat-stamp.result ∷ []) c.hand.view_is,
+  ap (λ (m : Seated). m.0.view.stamps) c.draw_search_with_seat-stamp.ensures.acted
+      ∙ ap (λ (h : HandState). h.view.stamps ++ c.draw_search_with_seat-stamp.result ∷ []) c.hand.view_is,
 )

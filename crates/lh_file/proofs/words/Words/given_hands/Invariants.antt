@@ -1,7 +1,7 @@
 use Rattle.std.proofs.Common.{◌≡◌, ◌*◌, ◌≤◌, All, length}
 use Rattle.std.specs.Vec.{vec_len, vec_capacity}
 use Rattle.lh_file.specs.Words.HandState.{IsBranch, seeing}
-use Rattle.lh_file.specs.Words.Views.{lessened}
+use Rattle.lh_words.specs.Views.{lessened}
 use Rattle.lh_file.proofs.words.Words.given_hands.Given as goal
 
 abbrev pub invariant-loop-thread : goal.invariant-loop-thread

@@ -1,8 +1,8 @@
 use Rattle.std.proofs.Common.{[], ◌∷◌, List, sym, ap, ◌∙◌}
 use Rattle.std.specs.Sync.RwLock.{read_guard_value}
 use Rattle.lh_bucket.specs.Bucket.{Seen}
-use Rattle.lh_file.specs.Words.Dealing.{first_bucket_of, other_buckets_of, dealt_seat}
-use Rattle.lh_file.specs.Words.Plays.{Seated}
+use Rattle.lh_words.specs.Dealing.{first_bucket_of, other_buckets_of, dealt_seat}
+use Rattle.lh_words.specs.Plays.{Seated}
 use Rattle.lh_file.proofs.OfSnapshots.Held.{row_left}
 use Rattle.lh_file.proofs.words.Words.return_seats.Goals as goal
 

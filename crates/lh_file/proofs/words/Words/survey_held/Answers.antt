@@ -1,7 +1,7 @@
 use Rattle.std.proofs.Common.{ap, ◌∙◌}
 use Rattle.std.specs.Sync.RwLock.{read_guard_value}
 use Rattle.std.proofs.lemmas.List.{take-map}
-use Rattle.lh_file.specs.Words.Plays.{Seated}
+use Rattle.lh_words.specs.Plays.{Seated}
 use Rattle.lh_file.proofs.words.Words.survey_held.Goals as goal
 
 pub return_seats-requires-clause-parts : goal.return_seats-requires-clause-parts

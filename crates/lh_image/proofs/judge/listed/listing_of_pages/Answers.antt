@@ -7,7 +7,7 @@ use Rattle.lh_bucket.specs.Listing.{Lists, IsListing}
 use Rattle.lh_page.specs.declared.pair.Pair.{Pair}
 use Rattle.lh_image.specs.declared.header.Header.{Header}
 use Rattle.lh_image.specs.declared.judge.page_checks.PageFaults.{PageFaults}
-use Rattle.lh_image.specs.declared.table.Entry.{Entry}
+use Rattle.lh_image.specs.declared.table.PageEntry.{PageEntry}
 use Rattle.lh_image.specs.Chains.{Links, chain}
 use Rattle.lh_image.specs.Faults.{link_rows, first_fault_of}
 use Rattle.lh_image.specs.Image.{listing_of}
@@ -21,7 +21,7 @@ use Rattle.lh_image.proofs.Judging.Last.{AreFine, covered}
 use Rattle.lh_image.proofs.judge.listed.listing_of_pages.Goals as goal
 
 -- the links and the chains of what was kept are those of the View
-links_are : (v : View) (entries : List Entry) (header : Header) (pairs : List Pair) (faults : PageFaults) →
+links_are : (v : View) (entries : List PageEntry) (header : Header) (pairs : List Pair) (faults : PageFaults) →
     v.header ≡ header → IsViewKept v entries pairs faults → links_in entries header.buckets ≡ links v
 links_are v entries header pairs faults same kept = rw (← same) kept.links
 
@@ -79,7 +79,7 @@ least_misfit-requires-clause-few c =
 
 pub returns-in-Ok-clause-exact : goal.returns-in-Ok-clause-exact
 returns-in-Ok-clause-exact c v same kept =
-    let entries : List Entry = c.args.table.now.entries.items in
+    let entries : List PageEntry = c.args.table.now.entries.items in
     let linked = links_are v entries c.args.header.now c.args.table.now.pairs.items c.args.faults.now same kept in
     let fine : AreFine v entries c.args.table.now.pairs.items c.args.faults.now = record {
       some = rw same (omega (arith, c.requires.in_range.enough));
@@ -105,7 +105,7 @@ returns-in-Ok-clause-exact c v same kept =
 
 pub returns-in-Some-clause-exact : goal.returns-in-Some-clause-exact
 returns-in-Some-clause-exact c v same kept =
-    let entries : List Entry = c.args.table.now.entries.items in
+    let entries : List PageEntry = c.args.table.now.entries.items in
     let linked = links_are v entries c.args.header.now c.args.table.now.pairs.items c.args.faults.now same kept in
     let fine : AreFine v entries c.args.table.now.pairs.items c.args.faults.now = record {
       some = rw same (omega (arith, c.requires.in_range.enough));

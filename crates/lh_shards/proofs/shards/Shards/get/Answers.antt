@@ -2,7 +2,7 @@
 use Rattle.std.proofs.Common.{ℕ, List, IfOk, false, ap, ◌∙◌, subst, length, lit<}
 use Rattle.lh_bucket.specs.PlainMap.{found}
 use Rattle.lh_bucket.specs.declared.call.Call.TheVariants.{Search}
-use Rattle.lh_file.specs.History.Told.{HasEntered}
+use Rattle.lh_file.specs.History.Entered.{HasEntered}
 use Rattle.lh_shards.specs.Number.{home_of, shard_of}
 use Rattle.lh_shards.proofs.OneShard.{at_shard, ready, of_made}
 use Rattle.lh_shards.proofs.shards.Shards.get.Goals as goal

@@ -3,10 +3,10 @@ use Rattle.std.proofs.Common.{subst, arith}
 use Rattle.std.specs.Option.{option_to_list}
 use Rattle.std.proofs.lemmas.Nat.{pow_pos}
 use Rattle.lh_addr.specs.declared.aim.Aim.{Aim}
-use Rattle.lh_file.specs.History.Buckets.{bit}
+use Rattle.lh_words.specs.History.Buckets.{bit}
 use Rattle.lh_file.specs.Snapshots.Scans.{IsWithin, Scanning, leads, times_aimed, ahead, HasMet}
-use Rattle.lh_file.specs.Words.Rule.{Each}
-use Rattle.lh_file.specs.Words.Sums.{total}
+use Rattle.lh_words.specs.Rule.{Each}
+use Rattle.lh_words.specs.Sums.{total}
 use Rattle.lh_file.proofs.OfSnapshots.Aims.{at_level, aimed-snoc, room_of, ahead-snoc}
 use Rattle.lh_file.proofs.OfSnapshots.Held.{each_end, each_front}
 use Rattle.lh_file.proofs.snapshots.scan.Scan.next.Goals as goal

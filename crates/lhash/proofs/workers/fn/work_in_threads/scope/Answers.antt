@@ -7,8 +7,8 @@ use Rattle.lhash.proofs.Places.{places_before, places_before-all, places_before-
 use Rattle.lhash.proofs.Looking.{taken_kept}
 use Rattle.lhash.specs.Driving.{IsWorkersFault}
 use Rattle.lhash.specs.declared.drive.DriveFault.{DriveFault}
-use Rattle.lhash.specs.declared.workers.Part.{Part}
-use Rattle.lhash.specs.declared.workers.Worked.{Worked}
+use Rattle.lhash.specs.declared.workers.HandPromise.{HandPromise}
+use Rattle.lhash.specs.declared.workers.WorkedHand.{WorkedHand}
 use Rattle.lhash.proofs.workers.fn.work_in_threads.scope.Goals.{else-loop-first-test, then-loop-first-test+in-Err}
 use Rattle.lhash.proofs.workers.fn.work_in_threads.scope.Goals.{then-loop-first-test+in-Ok+in_default}
 use Rattle.lhash.proofs.workers.fn.work_in_threads.scope.Goals.{then-loop-first-test+in-Ok+in-Ok-spawn_with+then-not-keep}
@@ -58,7 +58,7 @@ take_snapshots-taken-requires g c =
 pub join_all-requires : goal.join_all-requires
 join_all-requires g c =
     let met =
-    λ (worker : PromisedHandle Worked (Part g.row.G.Denot g.row.J.Denot)).
+    λ (worker : PromisedHandle WorkedHand (HandPromise g.row.G.Denot g.row.J.Denot)).
     worker.promise.file.now.state ≡ c.captures.file.now.state in
     elim c.loop-first-test.branch [
       | else-loop-first-test w ↦ (
@@ -107,7 +107,8 @@ none_is {fault} missing none is =
 
 pub returns : goal.returns
 returns g c =
-    let calls = λ (worker : PromisedHandle Worked (Part g.row.G.Denot g.row.J.Denot)). worker.promise.calls in
+    let calls =
+    λ (worker : PromisedHandle WorkedHand (HandPromise g.row.G.Denot g.row.J.Denot)). worker.promise.calls in
     elim c.loop-first-test.branch [
       | else-loop-first-test w ↦
           let looked = c.take_snapshots-taken.ensures.hand in

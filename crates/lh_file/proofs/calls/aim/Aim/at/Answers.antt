@@ -1,4 +1,0 @@
-use Rattle.lh_file.proofs.calls.aim.Aim.at.Goals as goal
-
-pub returns-clause-level : goal.returns-clause-level
-returns-clause-level c = cc

@@ -1,0 +1,2 @@
+pub mod OfHistory
+pub mod OfWords

@@ -1,0 +1,13 @@
+pub mod Counting
+pub mod Dealing
+pub mod EachLaws
+pub mod History
+pub mod Plays
+pub mod Rule
+pub mod RuleLaws
+pub mod Seats
+pub mod SumLaws
+pub mod Sums
+pub mod Table
+pub mod TableState
+pub mod Views
