@@ -1,4 +1,4 @@
-"""The wrong bodies of crates/*/must-fail: which there are, and what each makes of its crate's files.
+"""The wrong bodies of crates/*/wrong-bodies: which there are, and what each makes of its crate's files.
 
 An edit names a file and then pairs of an old and a new text. Each old text stands in the file once, when the pairs before
 it are done, and the file is another one at the end.
@@ -11,7 +11,7 @@ TOP = pathlib.Path(__file__).resolve().parent.parent
 
 def edits():
     """The files of all wrong bodies."""
-    return sorted(TOP.glob("crates/*/must-fail/*.edit"))
+    return sorted(TOP.glob("crates/*/wrong-bodies/*.edit"))
 
 
 def made(edit):

@@ -20,6 +20,10 @@ most_load = 200
 abbrev pub most_buckets : ℕ
 most_buckets = 65536
 
+-- the greatest level: that of a file that began with 1 bucket and has the most
+abbrev pub most_level : ℕ
+most_level = 16
+
 -- a file begins with 1 bucket or more
 abbrev pub IsInitial : ℕ → Type 0
 IsInitial initial = (1 ≤ initial) × (initial ≤ most_initial)

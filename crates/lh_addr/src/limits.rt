@@ -15,6 +15,9 @@ pub const MAX_LOAD: u32 = 200;
 
 pub const MAX_BUCKETS: u32 = 65_536;
 
+/// The greatest level: that of a file that began with 1 bucket and has [`MAX_BUCKETS`].
+pub const MAX_LEVEL: u8 = 16;
+
 pub const DEFAULT_INITIAL: u32 = 1;
 
 pub const DEFAULT_CAPACITY: u32 = 14;

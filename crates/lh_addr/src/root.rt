@@ -1,7 +1,7 @@
 //! The root of a file: how far it has grown, and what follows of addresses and levels.
 ghost use Rattle.std.specs.Prelude.{◌≡◌, ◌+◌, ◌*◌, ◌<◌, ◌≤◌, ◌↔◌, ◌^◌, IsSome, IfSome};
 ghost use Rattle.lh_addr.specs.Extent.{IsExtent};
-ghost use Rattle.lh_addr.specs.Limits.{most_buckets};
+ghost use Rattle.lh_addr.specs.Limits.{most_buckets, most_level};
 ghost use Rattle.lh_addr.specs.Root.{StoresLevel};
 
 use crate::aim::Aim;
@@ -106,7 +106,7 @@ impl Root {
     /// The level: how often all the buckets that the file began with have been split.
     pub fn level(&self) -> u8
         ensures value { result ≡ level self.now.initial self.now.buckets }
-        ensures at_most_16 { result ≤ 16 }
+        ensures low { result ≤ most_level }
     {
         self.level
     }
@@ -123,7 +123,7 @@ impl Root {
     fn full_size(&self) -> u32
         ensures value { result ≡ self.now.initial * 2 ^ level self.now.initial self.now.buckets }
         ensures fits { result ≤ self.now.buckets }
-        ensures room { result < most_buckets → level self.now.initial self.now.buckets < 16 }
+        ensures room { result < most_buckets → level self.now.initial self.now.buckets < most_level }
         ensures extent { IsExtent self.now }
     {
         self.initial << self.level
@@ -160,7 +160,7 @@ impl Root {
     pub fn level_of(&self, bucket: u32) -> u8
         requires { bucket < self.now.buckets }
         ensures value { result ≡ level_of self.now.initial self.now.buckets bucket }
-        ensures at_most_16 { result ≤ 16 }
+        ensures low { result ≤ most_level }
     {
         if bucket < self.pointer() || bucket >= self.full_size() {
             self.level + 1
@@ -173,7 +173,7 @@ impl Root {
     pub fn aim(&self, code: u64) -> Aim
         ensures bucket { result.bucket ≡ address self.now.initial self.now.buckets code }
         ensures level { result.level ≡ level_of self.now.initial self.now.buckets result.bucket }
-        ensures at_most_16 { result.level ≤ 16 }
+        ensures low { result.level ≤ most_level }
         ensures within { result.bucket < self.now.buckets }
     {
         let bucket = self.address(code);

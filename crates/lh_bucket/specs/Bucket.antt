@@ -7,7 +7,7 @@ use Rattle.std.specs.Str.{bytes_eq}
 use Rattle.std.specs.FinMap.{contains_key}
 use Rattle.lh_addr.specs.Fnv.{code_of}
 use Rattle.lh_addr.specs.Growth.{hash_at}
-use Rattle.lh_addr.specs.Limits.{IsInitial, IsCapacity}
+use Rattle.lh_addr.specs.Limits.{IsInitial, IsCapacity, most_level}
 use Rattle.lh_page.specs.declared.pair.Pair.{Pair}
 use Rattle.lh_page.specs.Records.{keys_of}
 use Rattle.lh_bucket.specs.declared.call.Call.{Call}
@@ -39,7 +39,7 @@ content bucket = map_of bucket.pairs
 abbrev pub HasOwnKeys : Head → List Pair → Option ℕ → Type 0
 HasOwnKeys head pairs None = pairs ≡ []
 HasOwnKeys head pairs (Some level) =
-    (level ≤ 16)
+    (level ≤ most_level)
     × ((key : List ℕ) → IsTrue (contains_key (map_of pairs) key) →
     hash_at head.initial level (code_of key) ≡ head.number)
 
@@ -82,7 +82,7 @@ stays old key = leads_to old.initial (raised_level old) old.number key
 pub record CanSplit (old new : Head) : Type 0 where
   pub level : ℕ
   pub filled : old.level ≡ Some level
-  pub below : level < 16
+  pub below : level < most_level
   pub unfilled : new.level ≡ None
   pub number : new.number ≡ old.number + old.initial * 2 ^ level
   pub initial : new.initial ≡ old.initial

@@ -4,7 +4,7 @@ ghost use Rattle.std.specs.Prelude.{OnErr};
 ghost use Rattle.std.specs.Option.{ForSome};
 ghost use Rattle.std.specs.FinMap.{retain_keys};
 ghost use Rattle.lh_addr.specs.Fnv.{code_of};
-ghost use Rattle.lh_addr.specs.Limits.{IsInitial, IsCapacity};
+ghost use Rattle.lh_addr.specs.Limits.{IsInitial, IsCapacity, most_level};
 ghost use Rattle.lh_bucket.specs.declared.call.Reply.TheVariants.{Inserted};
 ghost use Rattle.lh_bucket.specs.declared.verdict.Verdict.TheVariants.{Here};
 ghost use Rattle.lh_bucket.specs.Bucket.{Seen, IsKept, CanSplit, content, verdict, answer, raised, stays};
@@ -39,7 +39,7 @@ pub trait Bucket: Drop {
     ) -> Result<Self, Memory>
         requires initial { IsInitial initial }
         requires capacity { IsCapacity capacity }
-        requires level { ForSome level (λ l. (l ≤ 16) × (number < initial * 2 ^ l)) }
+        requires level { ForSome level (λ l. (l ≤ most_level) × (number < initial * 2 ^ l)) }
         ensures { IfOk result (λ b. seen b ≡ record {
           head = record { number = number; initial = initial; capacity = capacity; level = level };
           pairs = [];
@@ -73,19 +73,19 @@ pub trait Bucket: Drop {
 
     /// What the bucket says to a call whose key has the code `c` and that looks for it at level `k`.
     fn compare(&self, c: u64, k: u8) -> Verdict
-        requires { k ≤ 16 }
+        requires { k ≤ most_level }
         ensures { result ≡ verdict (seen self.now).head c k };
 
     /// Answers a search that met the verdict `Here` at level `k`.
     fn look(&self, call: &Call, k: u8) -> Answer
         requires search { IsSearch call.now }
-        requires low { k ≤ 16 }
+        requires low { k ≤ most_level }
         requires here { verdict (seen self.now).head (code_of (key_of call.now)) k ≡ Here }
         ensures { result ≡ answer (seen self.now) call.now k };
 
     /// Serves a call that met the verdict `Here` at level `k`.
     fn serve(&mut self, call: &Call, k: u8) -> Result<Answer, Memory>
-        requires low { k ≤ 16 }
+        requires low { k ≤ most_level }
         requires here { verdict (seen self.old).head (code_of (key_of call.now)) k ≡ Here }
         ensures answer { IfOk result (λ a. a ≡ answer (seen self.old) call.now k) }
         ensures head { (seen self.new).head ≡ (seen self.old).head }

@@ -1,6 +1,6 @@
 //! The keys that a split sends away.
 ghost use Rattle.std.specs.Prelude.{◌≤◌};
-ghost use Rattle.lh_addr.specs.Limits.{IsInitial};
+ghost use Rattle.lh_addr.specs.Limits.{IsInitial, most_level};
 
 use lh_addr::{fnv1a, hash_at};
 use lh_page::{Key, KeySet};
@@ -12,7 +12,7 @@ pub(crate) struct Leaving {
     pub(crate) level: u8,
     pub(crate) number: u32,
     ghost initial_in_range: { IsInitial initial },
-    ghost level_in_range: { level ≤ 16 },
+    ghost level_in_range: { level ≤ most_level },
 }
 
 impl KeySet for Leaving {

@@ -3,6 +3,7 @@ ghost use Rattle.std.specs.Prelude.{not, ◌≡◌, ◌≤◌, IsOk, IfOk, OnOk,
 ghost use Rattle.std.specs.List.{filter};
 ghost use Rattle.std.specs.FinMap.{get, retain_keys};
 ghost use Rattle.lh_addr.specs.Fnv.{code_of};
+ghost use Rattle.lh_addr.specs.Limits.{most_level};
 ghost use Rattle.lh_bucket.specs.declared.call.Call.TheVariants.{Search, Insert, Delete, Replace};
 ghost use Rattle.lh_bucket.specs.declared.call.Reply.TheVariants.{Inserted};
 ghost use Rattle.lh_bucket.specs.declared.verdict.Verdict.TheVariants.{Here};
@@ -72,7 +73,7 @@ impl PagedBucket {
     ) -> Result<PagedBucket, Memory>
         requires initial { IsInitial initial }
         requires capacity { IsCapacity capacity }
-        requires level { level ≤ 16 }
+        requires level { level ≤ most_level }
         requires number { number < initial * 2 ^ level }
         requires distinct { IsDistinct bytes_eq (keys_of pairs.now) }
         requires home { (place : ℕ) → place < length pairs.now →
@@ -103,7 +104,7 @@ impl PagedBucket {
     /// The home of a code that met the verdict `Here` at level `k`.
     #[inline]
     pub fn home(&self, code: u64, k: u8) -> Home
-        requires low { k ≤ 16 }
+        requires low { k ≤ most_level }
         requires here { verdict self.now.head code k ≡ Here }
         ensures { result ≡ record {
           code = code;
@@ -139,7 +140,7 @@ impl PagedBucket {
     // Inlined with what it calls, so that nothing is done for the other changes.
     #[inline(always)]
     pub fn change(&mut self, change: Change<'_>, k: u8) -> Result<ChangeReply, Memory>
-        requires low { k ≤ 16 }
+        requires low { k ≤ most_level }
         requires here { verdict self.old.head (code_of (key_of (call_of change))) k ≡ Here }
         ensures reply { IfOk result (λ r. reply_of r ≡ reply (content self.old) (call_of change.entry)) }
         ensures head { self.new.head ≡ self.old.head }
@@ -287,7 +288,7 @@ impl Bucket for PagedBucket {
     // Inlined with what it calls, so that an answer is made where its caller has room for it.
     #[inline(always)]
     fn serve(&mut self, call: &Call, k: u8) -> Result<Answer, Memory>
-        requires low { k ≤ 16 }
+        requires low { k ≤ most_level }
         requires here { verdict self.old.head (code_of (key_of call.now)) k ≡ Here }
         ensures answer { IfOk result (λ a. a ≡ answer self.old call.now k) }
         ensures head { self.new.head ≡ self.old.head }

@@ -1,7 +1,7 @@
 //! Whether a bucket is the one that a call looks for.
 ghost use Rattle.std.specs.Prelude.{◌≡◌, ◌≤◌};
 ghost use Rattle.std.specs.Option.{ForSome};
-ghost use Rattle.lh_addr.specs.Limits.{IsInitial};
+ghost use Rattle.lh_addr.specs.Limits.{IsInitial, most_level};
 ghost use Rattle.lh_bucket.specs.Verdict.{verdict_of};
 
 use lh_addr::hash_at;
@@ -22,8 +22,8 @@ pub enum Verdict {
 #[tactic(auto, unfolding(crate::specs::Verdict::verdict_of))]
 pub(crate) fn verdict_of(number: u32, initial: u32, level: Option<u8>, c: u64, k: u8) -> Verdict
     requires initial { IsInitial initial }
-    requires low { k ≤ 16 }
-    requires level { ForSome level (λ l. l ≤ 16) }
+    requires low { k ≤ most_level }
+    requires level { ForSome level (λ l. l ≤ most_level) }
     ensures { result ≡ verdict_of number initial level c k }
 {
     if hash_at(initial, k, c) != number {

@@ -2,6 +2,7 @@
 use Rattle.std.specs.Prelude.{◌≡◌, ℕ, ◌<◌, ◌≤◌, List, Some, Result, Ok, Err, slice_get}
 use Rattle.lh_addr.specs.Fnv.{code_of}
 use Rattle.lh_addr.specs.Growth.{IsAim, level_of}
+use Rattle.lh_addr.specs.Limits.{most_level}
 use Rattle.lh_addr.specs.Settings.{IsInRange}
 use Rattle.lh_bucket.specs.Bucket.{Seen}
 use Rattle.lh_bucket.specs.Call.{key_of}
@@ -58,14 +59,14 @@ IsQuiet _ = Unit {0}
 
 -- a call at the bucket that it aims at, at the bucket's level
 pub record IsAimed (c : Control) (act : Act) : Type 0 where
-  pub low : act.level ≤ 16
+  pub low : act.level ≤ most_level
   pub aim : IsAim c.config.initial c.filled.buckets (code_of (key_of act.call.now)) act.level act.bucket
   pub level : act.level ≡ level_of c.config.initial c.filled.buckets act.bucket
 
 -- the act of a worker: its call, at the level that it came with, which is the bucket's
 pub record IsActOf (c : Control) (worker : ℕ) (act : Act) : Type 0 where
   pub there : worker < 16
-  pub low : act.level ≤ 16
+  pub low : act.level ≤ most_level
   pub held : slice_get c.workers worker ≡ Some (Holding act.call.now act.level act.bucket)
   pub aim : IsAim c.config.initial c.filled.buckets (code_of (key_of act.call.now)) act.level act.bucket
   pub level : act.level ≡ level_of c.config.initial c.filled.buckets act.bucket

@@ -1,6 +1,7 @@
 //! The part of a world that the rules of the steps speak of: all but its buckets.
 ghost use Rattle.std.specs.Prelude.{◌≡◌, ◌<◌, ◌≤◌, ◌||◌};
 ghost use Rattle.std.specs.List.{list_any};
+ghost use Rattle.lh_addr.specs.Limits.{most_level};
 ghost use Rattle.lh_core.specs.State.{local_level};
 ghost use Rattle.lh_core.specs.Holds.{holds, holds_alone, split_holds, is_held, is_held_alone, is_barred};
 ghost use Rattle.lh_core.specs.Control.{IsControl, control_state};
@@ -113,7 +114,7 @@ impl Control {
         requires control { IsControl self.now }
         requires filled { bucket < self.now.filled.buckets }
         ensures value { result ≡ local_level self.now.config (control_state self.now) bucket }
-        ensures at_most_16 { result ≤ 16 }
+        ensures low { result ≤ most_level }
     {
         self.filled.level_of(bucket)
     }

@@ -1,5 +1,6 @@
 //! The parts of a drawing, made of what is counted of a file.
 ghost use Rattle.std.specs.Prelude.{◌≡◌, ◌+◌, ◌*◌, ◌/◌, ◌^◌, ◌<◌, ◌≤◌, IfSome, min};
+ghost use Rattle.lh_addr.specs.Limits.{most_level};
 ghost use Rattle.lh_bucket.specs.Listing.{IsListing, list_at, size};
 ghost use Rattle.lh_draw.specs.Columns.{chain_length, column_count, is_next_level, whole_tally};
 ghost use Rattle.lh_draw.specs.Drawing.{canvas_of, cuts_of, filling_of, floor_of, group_bar, label_count, label_of};
@@ -94,7 +95,7 @@ pub fn title_of(listing: &Listing, tally: &Tally) -> Title
 /// The level above the file's, where buckets have it: bucket 0 is the first that a split gives it to.
 fn level_above(listing: &Listing) -> Option<u8>
     ensures value { result ≡ level_above listing.now }
-    ensures most { IfSome result (λ level. level ≤ 16) }
+    ensures most { IfSome result (λ level. level ≤ most_level) }
 {
     let first = listing.root().level_of(0);
     if is_next_level(listing, 0) {
@@ -107,7 +108,7 @@ fn level_above(listing: &Listing) -> Option<u8>
 /// The legend of a drawing.
 pub fn legend_of(listing: &Listing) -> Legend
     ensures value { result ≡ legend_of listing.now }
-    ensures most { IfSome result.next (λ level. level ≤ 16) }
+    ensures most { IfSome result.next (λ level. level ≤ most_level) }
 {
     let level = listing.root().level();
     Legend {

@@ -1,7 +1,7 @@
 -- What of a file a scan has still to visit
 use Rattle.std.specs.Prelude.{◌≡◌, ℕ, ◌+◌, ◌-◌, ◌*◌, ◌^◌, ◌<◌, ◌≤◌, ◌==◌, Bool, true, List, [], ◌∷◌, Some}
 use Rattle.lh_addr.specs.Growth.{hash_at}
-use Rattle.lh_addr.specs.Limits.{IsInitial}
+use Rattle.lh_addr.specs.Limits.{IsInitial, most_level}
 use Rattle.lh_addr.specs.Settings.{Settings}
 use Rattle.lh_addr.specs.declared.aim.Aim.{Aim}
 use Rattle.lh_bucket.specs.Bucket.{Seen, IsKept}
@@ -24,7 +24,7 @@ times_aimed initial code aims = total (λ aim. bit (leads initial code aim)) aim
 
 -- an aim that some code has, at a level that a file may have
 pub record IsWithin (initial : ℕ) (aim : Aim) : Type 0 where
-  pub low : aim.level ≤ 16
+  pub low : aim.level ≤ most_level
   pub reached : aim.bucket < initial * 2 ^ aim.level
 
 -- the number of buckets that the file began with, and the aims of the codes that weren't met yet
@@ -69,7 +69,7 @@ HasMet old aim new =
 
 -- how many buckets a scan has still to visit at most: those of its aims, were each split up to the highest level
 abbrev pub ahead : Scanning → ℕ
-ahead scan = total (λ aim. 2 ^ (16 - aim.level)) scan.aims
+ahead scan = total (λ aim. 2 ^ (most_level - aim.level)) scan.aims
 
 -- A scan went on by these copies, each taken in its turn, and met their codes.
 abbrev pub HasScanned : Bool → FileState → Scanning → HandState → List BucketCopy → Scanning → HandState → Type 0

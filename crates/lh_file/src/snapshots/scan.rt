@@ -2,7 +2,7 @@
 ghost use Rattle.std.specs.Prelude.{◌≡◌, ℕ, ◌+◌, ◌-◌, ◌*◌, ◌^◌, ◌<◌, ◌≤◌, [], List, None, vec_len, vec_capacity, IfOk};
 ghost use Rattle.std.specs.Prelude.{IfErr, OnOk, OnErr, IfSome};
 ghost use Rattle.std.specs.List.{FoldsTo};
-ghost use Rattle.lh_addr.specs.Limits.{IsInitial};
+ghost use Rattle.lh_addr.specs.Limits.{IsInitial, most_level};
 ghost use Rattle.lh_file.specs.Calls.Served.{IsNotSpent};
 ghost use Rattle.lh_file.specs.FileState.{IsOf};
 ghost use Rattle.lh_words.specs.History.Buckets.{bit};
@@ -19,6 +19,7 @@ use crate::snapshots::bucket_copy::BucketCopy;
 use crate::words::hand::Hand;
 use lh_addr::Aim;
 use lh_addr::laws::hashes_are_nested;
+use lh_addr::limits::MAX_LEVEL;
 use lh_bucket::Memory;
 use lh_words::Mode;
 use std::alloc::Global;
@@ -68,7 +69,7 @@ fn first_aims(alloc: Global, first: u32) -> Result<Vec<Aim>, Memory>
 /// Puts the aims of those codes behind the others that leave a bucket between two of its levels.
 fn push_raised(aims: &mut Vec<Aim>, first: u32, bucket: u32, from: u8, to: u8)
     requires first { IsInitial first }
-    requires low { to ≤ 16 }
+    requires low { to ≤ most_level }
     requires rises { from ≤ to }
     requires reached { bucket < first * 2 ^ from }
     requires room { vec_len aims.old + (to - from) ≤ vec_capacity aims.old }
@@ -76,8 +77,8 @@ fn push_raised(aims: &mut Vec<Aim>, first: u32, bucket: u32, from: u8, to: u8)
     ensures all { (code : ℕ) →
         times_aimed first code aims.new.items + bit (leads first code (record { level = to; bucket = bucket }))
         ≡ times_aimed first code aims.old.items + bit (leads first code (record { level = from; bucket = bucket })) }
-    ensures ahead { total (λ aim. 2 ^ (16 - aim.level)) aims.new.items + 2 ^ (16 - to)
-        ≡ total (λ aim. 2 ^ (16 - aim.level)) aims.old.items + 2 ^ (16 - from) }
+    ensures ahead { total (λ aim. 2 ^ (most_level - aim.level)) aims.new.items + 2 ^ (most_level - to)
+        ≡ total (λ aim. 2 ^ (most_level - aim.level)) aims.old.items + 2 ^ (most_level - from) }
     ensures within { Each aims.new.items (IsWithin first) }
 {
     // Its law: a code that leads to a bucket leads one level up to the bucket, or to one that is the level's size
@@ -128,7 +129,7 @@ impl Scan {
             return Ok(None);
         };
         // A bucket that was split since, up to the highest level, leaves this many aims.
-        if self.aims.try_reserve(16).is_err() {
+        if self.aims.try_reserve(MAX_LEVEL as usize).is_err() {
             return Err(FileFault::Memory);
         }
         let copy = file.visit(rt, hand, aim)?;

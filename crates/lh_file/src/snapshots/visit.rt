@@ -1,5 +1,6 @@
 //! Visits to single buckets.
 ghost use Rattle.std.specs.Prelude.{◌≡◌, ◌<◌, ◌≤◌, true, [], ◌∷◌, List, IfOk, IfErr, OnErr};
+ghost use Rattle.lh_addr.specs.Limits.{most_level};
 ghost use Rattle.lh_bucket.specs.Bucket.{IsKept};
 ghost use Rattle.lh_file.specs.Calls.Served.{IsNotSpent};
 ghost use Rattle.lh_file.specs.FileState.{IsOf};
@@ -72,7 +73,7 @@ impl<G: Gate, M: Mode, J: FileBrand> HashFile<G, M, J> {
         ensures at { seat.new.table_id ≡ seat.old.table_id }
         ensures bucket { IfOk result (λ copy. copy.aim.bucket ≡ aim.bucket) }
         ensures rises { IfOk result (λ copy. aim.level ≤ copy.aim.level) }
-        ensures low { IfOk result (λ copy. copy.aim.level ≤ 16) }
+        ensures low { IfOk result (λ copy. copy.aim.level ≤ most_level) }
         ensures kept { IfOk result (λ copy. IsKept (bucket_of self.now.state.config copy)) }
         ensures after { IfOk result (λ copy. seat.old.me.0.view.floor ≤ copy.stamps) }
         ensures told { IfOk result (λ copy. (log : List Entry)
@@ -110,7 +111,7 @@ impl<G: Gate, M: Mode, J: FileBrand> HashFile<G, M, J> {
         requires of { IsOf self.now.state hand.old }
         ensures bucket { IfOk result (λ copy. copy.aim.bucket ≡ aim.bucket) }
         ensures rises { IfOk result (λ copy. aim.level ≤ copy.aim.level) }
-        ensures low { IfOk result (λ copy. copy.aim.level ≤ 16) }
+        ensures low { IfOk result (λ copy. copy.aim.level ≤ most_level) }
         ensures visited { IfOk result (λ copy. HasVisited M.traced self.now.state hand.old copy hand.new) }
         ensures err { OnErr result (hand.new ≡ hand.old) }
         ensures fault { IfErr result IsNotSpent }

@@ -21,7 +21,7 @@ returns-then-buckets-initial c =
     record {
       extent_is = record { initial = (omega arith, omega arith); buckets = (omega arith, omega arith) };
       level_is = level.is;
-      at_most_16 = omega (
+      low = omega (
         arith,
         level_below c.args.initial (c.ilog2.result - c.ilog2-2.result - 1) 17 (omega arith)
             (omega (arith, level.fits)),
@@ -41,7 +41,7 @@ returns-else-buckets-initial c =
     record {
       extent_is = record { initial = (omega arith, omega arith); buckets = (omega arith, omega arith) };
       level_is = level.is;
-      at_most_16 = omega (
+      low = omega (
         arith,
         level_below c.args.initial (c.ilog2.result - c.ilog2-2.result) 17 (omega arith)
             (omega (arith, level.fits)),
