@@ -1,34 +1,47 @@
 //! What the single atomic steps of a file's words cost.
 ghost use Rattle.std.specs.Prelude.{◌≡◌, All, IfOk};
+ghost use Rattle.lh_addr.specs.Fnv.{code_of};
+ghost use Rattle.lh_bucket.specs.Bucket.{verdict};
+ghost use Rattle.lh_bucket.specs.PlainMap.{key_of};
+ghost use Rattle.lh_bucket.specs.declared.verdict.Verdict.TheVariants.{Here};
 ghost use Rattle.lh_file.specs.FileState.{IsOf};
 
 use crate::meter::Stopwatch;
 use crate::order::Order;
 use crate::units::Each;
-use anyhow::{Result, bail};
-use lh_addr::Config;
-use lh_bucket::{Change, ChangeReply};
-use lh_file::{Hand, Right, Words};
+use crate::workloads::empty_file;
+use anyhow::Result;
+use lh_addr::fnv1a;
+use lh_bucket::{Bucket, Call, PagedBucket, Verdict};
+use lh_file::{Hand, HashFile, NoGate, Right, parts};
 use lh_page::Key;
+use std::alloc::Global;
 use std::rt::Clock;
 use std::sync::Wait;
 use std::thread;
 use std::thread::Threads;
 use std::time::CpuClock;
 
-/// A kind of step, and whether it did what it was to do.
+/// A kind of step, and whether it did what it was to do. The bucket is the thread's own, and the call may be made at it.
 trait Kind {
-    fn take(words: &Words, hand: &mut Hand, key: &Key) -> bool
-        requires { IsOf words.now hand.old }
-        ensures { IsOf words.now hand.new };
+    fn take(file: &HashFile<NoGate>, hand: &mut Hand, bucket: &mut PagedBucket, call: &Call) -> bool
+        requires of { IsOf file.now.state hand.old }
+        requires here { verdict bucket.old.head (code_of (key_of call.now)) 0 ≡ Here }
+        ensures of { IsOf file.now.state hand.new }
+        ensures head { bucket.new.head ≡ bucket.old.head };
 }
 
 /// A look at the size.
 struct Look;
 
 impl Kind for Look {
-    fn take(words: &Words, hand: &mut Hand, _key: &Key) -> bool {
-        words.buckets(hand) != 0
+    fn take(
+        file: &HashFile<NoGate>,
+        hand: &mut Hand,
+        _bucket: &mut PagedBucket,
+        _call: &Call,
+    ) -> bool {
+        file.buckets(hand) != 0
     }
 }
 
@@ -36,39 +49,55 @@ impl Kind for Look {
 struct Claim;
 
 impl Kind for Claim {
-    fn take(words: &Words, hand: &mut Hand, _key: &Key) -> bool {
+    fn take(
+        file: &HashFile<NoGate>,
+        hand: &mut Hand,
+        _bucket: &mut PagedBucket,
+        _call: &Call,
+    ) -> bool {
         if hand.has_right() {
             return false;
         }
-        let Right::Got { old: _, new: _ } = words.try_split_right(hand) else {
+        let Right::Got { old: _, new: _ } = file.try_split_right(hand) else {
             return false;
         };
-        words.drop_right(hand);
+        file.drop_right(hand);
         true
     }
 }
 
-/// The drawing of a stamp.
+/// The drawing of a stamp, for a delete that finds no record in the bucket.
 struct Stamp;
 
 impl Kind for Stamp {
-    fn take(words: &Words, hand: &mut Hand, key: &Key) -> bool {
-        if hand.left() == 0 || words.make_room(hand).is_err() {
+    fn take(
+        file: &HashFile<NoGate>,
+        hand: &mut Hand,
+        bucket: &mut PagedBucket,
+        call: &Call,
+    ) -> bool {
+        if hand.left() == 0 || parts::make_room(file, hand).is_err() {
             return false;
         }
-        words.record_act(hand, Change::Delete(key), ChangeReply::Absent);
-        true
+        parts::act_on(file, bucket, hand, call, 0).is_ok()
     }
 }
 
 /// Takes this many steps, and answers how many did what they were to do.
 #[inline(never)]
-fn repeat<K: Kind>(words: &Words, mut hand: Hand, key: Key, steps: u64) -> u64
-    requires { IsOf words.now hand }
+fn repeat<K: Kind>(
+    file: &HashFile<NoGate>,
+    mut hand: Hand,
+    bucket: &mut PagedBucket,
+    call: &Call,
+    steps: u64,
+) -> u64
+    requires of { IsOf file.now.state hand }
+    requires here { verdict bucket.old.head (code_of (key_of call.now)) 0 ≡ Here }
 {
     let mut done = 0u64;
     for _ in 0..steps {
-        if K::take(words, &mut hand, &key) {
+        if K::take(file, &mut hand, bucket, call) {
             done = done.wrapping_add(1);
         }
     }
@@ -83,30 +112,45 @@ enum Name {
     Stamp,
 }
 
-/// Takes this many steps of a kind.
-fn repeat_named(words: &Words, hand: Hand, key: Key, steps: u64, name: Name) -> u64
-    requires { IsOf words.now hand }
+/// Takes this many steps of a kind, with an empty bucket that no other thread has.
+fn repeat_named(
+    alloc: Global,
+    file: &HashFile<NoGate>,
+    hand: Hand,
+    key: Key,
+    steps: u64,
+    name: Name,
+) -> u64
+    requires { IsOf file.now.state hand }
 {
+    let Ok(mut bucket) = PagedBucket::make(alloc, 1, 14, 0, Some(0)) else {
+        return 0;
+    };
+    // Each key is at home in the bucket of a file of one.
+    let Verdict::Here = bucket.compare(fnv1a(key.bytes()), 0) else {
+        return 0;
+    };
+    let call = Call::Delete(key);
     match name {
-        Name::Look => repeat::<Look>(words, hand, key, steps),
-        Name::Claim => repeat::<Claim>(words, hand, key, steps),
-        Name::Stamp => repeat::<Stamp>(words, hand, key, steps),
+        Name::Look => repeat::<Look>(file, hand, &mut bucket, &call, steps),
+        Name::Claim => repeat::<Claim>(file, hand, &mut bucket, &call, steps),
+        Name::Stamp => repeat::<Stamp>(file, hand, &mut bucket, &call, steps),
     }
 }
 
 /// As many hands as there are threads.
 fn hands_of<R: AllocGlobal>(
     rt: &R,
-    words: &Words,
+    file: &HashFile<NoGate>,
     mut hand: Hand,
     threads: u64,
 ) -> Result<Vec<Hand>>
-    requires { IsOf words.now hand }
-    ensures { IfOk result (λ hands. All (λ hand. IsOf words.now hand) hands.items) }
+    requires { IsOf file.now.state hand }
+    ensures { IfOk result (λ hands. All (λ hand. IsOf file.now.state hand) hands.items) }
 {
     let mut hands = Vec::new(rt.alloc());
     for _ in 0..threads {
-        hands.push(words.split_hand(&mut hand, 1 << 40)?)?;
+        hands.push(file.split_hand(&mut hand, 1 << 40)?)?;
     }
     Ok(hands)
 }
@@ -116,20 +160,18 @@ fn run<R>(rt: &R, order: &Order, name: Name, text: &str) -> Result<()>
 where
     R: Threads + Wait + Sync + Clock + CpuClock + Print + AllocGlobal,
 {
-    let Ok(config) = Config::new(1, 14, 100, 65_536) else {
-        bail!("no such configuration");
-    };
+    let alloc = rt.alloc();
     let key = Key::new(b"a")?;
-    let (words, hand) = Words::create(rt.alloc(), config, false)?;
-    let hands = hands_of(rt, &words, hand, order.threads)?;
-    let (file, steps) = (&words, order.records);
+    let (file, hand) = empty_file(alloc, false)?;
+    let hands = hands_of(rt, &file, hand, order.threads)?;
+    let (file, steps) = (&file, order.records);
     let watch = Stopwatch::start(rt)?;
     let done = thread::map_vec(
         rt,
         hands,
         &|hand: Hand| -> u64
-            requires { IsOf file.now hand }
-        { repeat_named(file, hand, key, steps, name) },
+            requires { IsOf file.now.state hand }
+        { repeat_named(alloc, file, hand, key, steps, name) },
     )?;
     let spent = watch.stop(rt)?;
     let done = done.iter().fold(0u64, |sum, part| sum.wrapping_add(*part));

@@ -5,6 +5,7 @@ ghost use Rattle.lh_bucket.specs.PlainMap.{after};
 
 use lh_addr::fnv1a;
 use lh_bucket::{Answer, Bucket, Call, Memory, Reply, Verdict};
+use lh_expect::expect_eq;
 use lh_page::{Key, Pair, Value};
 use std::alloc::Global;
 use std::test::Fail;
@@ -76,9 +77,9 @@ fn calls_are_of_kinds(rt: HostRuntime) -> Result<(), Fail> {
     let insert = Call::Insert(record.key, record.value);
     let delete = Call::Delete(record.key);
     let replace = Call::Replace(record.key, record.value);
-    assert_eq!(rt; (search.is_search(), search.is_insert()), (true, false));
-    assert_eq!(rt; (insert.is_search(), insert.is_insert()), (false, true));
-    assert_eq!(rt; (delete.is_search(), delete.is_insert()), (false, false));
-    assert_eq!(rt; (replace.is_search(), replace.is_insert()), (false, false));
+    expect_eq!(rt; (search.is_search(), search.is_insert()), (true, false));
+    expect_eq!(rt; (insert.is_search(), insert.is_insert()), (false, true));
+    expect_eq!(rt; (delete.is_search(), delete.is_insert()), (false, false));
+    expect_eq!(rt; (replace.is_search(), replace.is_insert()), (false, false));
     Ok(())
 }

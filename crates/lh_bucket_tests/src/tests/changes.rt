@@ -8,6 +8,7 @@ use lh_addr::fnv1a;
 use lh_bucket::{
     Answer, Bucket, Call, Change, ChangeReply, Home, Memory, PagedBucket, Reply, Verdict,
 };
+use lh_expect::{expect, expect_eq, expect_ne};
 use lh_page::{Key, Pair, Value};
 use std::process::Abort;
 use std::test::Fail;
@@ -54,13 +55,13 @@ fn reply_to(rt: &impl Abort, bucket: &mut PagedBucket, change: Change<'_>) -> Re
     let answer = match change_here(bucket, change) {
         Ok(answer) => answer,
         Err(Memory) => {
-            assert_eq!(rt; bucket.len(), count);
-            assert_eq!(rt; bucket.find(change.key()), None);
+            expect_eq!(rt; bucket.len(), count);
+            expect_eq!(rt; bucket.find(change.key()), None);
             change_here(bucket, change)?
         }
     };
     let answer = answer.ok_or("not the bucket")?;
-    assert_eq!(rt; answer.call(), change.call());
+    expect_eq!(rt; answer.call(), change.call());
     Ok(answer.reply())
 }
 
@@ -70,7 +71,7 @@ fn expect_reply(
     change: Change<'_>,
     reply: Reply,
 ) -> Result<(), Fail> {
-    assert_eq!(rt; reply_to(rt, bucket, change)?, reply);
+    expect_eq!(rt; reply_to(rt, bucket, change)?, reply);
     Ok(())
 }
 
@@ -82,9 +83,9 @@ fn expect_found(
     reply: Reply,
 ) -> Result<(), Fail> {
     let met = search_here(bucket, key).ok_or("not the bucket")?;
-    assert_eq!(rt; met.call(), Call::Search(*key));
-    assert_eq!(rt; met.reply(), reply);
-    assert_eq!(rt; (met.bucket(), met.level(), met.initial()), (0, 0, 1));
+    expect_eq!(rt; met.call(), Call::Search(*key));
+    expect_eq!(rt; met.reply(), reply);
+    expect_eq!(rt; (met.bucket(), met.level(), met.initial()), (0, 0, 1));
     Ok(())
 }
 
@@ -99,7 +100,7 @@ fn a_paged_bucket_serves_changes(rt: HostRuntime) -> Result<(), Fail> {
     let delete = Change::Delete(&key);
     expect_reply(&rt, &mut bucket, delete, Reply::Absent)?;
     expect_reply(&rt, &mut bucket, replace, Reply::Absent)?;
-    assert_eq!(rt; bucket.len(), 0);
+    expect_eq!(rt; bucket.len(), 0);
     expect_reply(&rt, &mut bucket, insert, Reply::Inserted)?;
     expect_reply(&rt, &mut bucket, again, Reply::Exists)?;
     expect_found(&rt, &bucket, &key, Reply::Found(value))?;
@@ -122,8 +123,8 @@ fn a_home_names_its_bucket(rt: HostRuntime) -> Result<(), Fail> {
     let bucket = PagedBucket::make(rt.alloc(), 1, 2, 0, Some(0))?;
     let code = fnv1a(b"a");
     let home = home_here(&bucket, code).ok_or("not the bucket")?;
-    assert_eq!(rt; home.code(), code);
-    assert_eq!(rt; (home.bucket(), home.level(), home.initial()), (0, 0, 1));
+    expect_eq!(rt; home.code(), code);
+    expect_eq!(rt; (home.bucket(), home.level(), home.initial()), (0, 0, 1));
     Ok(())
 }
 
@@ -131,11 +132,11 @@ fn a_home_names_its_bucket(rt: HostRuntime) -> Result<(), Fail> {
 fn calls_are_changes(rt: HostRuntime) -> Result<(), Fail> {
     let a = pair(b"a", b"1")?;
     let insert = Call::Insert(a.key, a.value);
-    assert!(rt; Change::of_call(&Call::Search(a.key)).is_none());
+    expect!(rt; Change::of_call(&Call::Search(a.key)).is_none());
     let change = Change::of_call(&insert).ok_or("a search")?;
-    assert_eq!(rt; change.key(), &a.key);
-    assert_eq!(rt; change.call(), insert);
-    assert_eq!(rt; ChangeReply::Exists.reply(), Reply::Exists);
-    assert_ne!(rt; ChangeReply::Exists, ChangeReply::Inserted);
+    expect_eq!(rt; change.key(), &a.key);
+    expect_eq!(rt; change.call(), insert);
+    expect_eq!(rt; ChangeReply::Exists.reply(), Reply::Exists);
+    expect_ne!(rt; ChangeReply::Exists, ChangeReply::Inserted);
     Ok(())
 }

@@ -6,6 +6,7 @@ use super::calls::{keys_of, pair};
 use lh_addr::laws::{address_is_only_bucket, levels_reach_their_buckets};
 use lh_addr::{Config, Root};
 use lh_bucket::{Bucket, Listing, ListingFault, PagedBucket};
+use lh_expect::expect_eq;
 use lh_page::Pair;
 use std::alloc::Global;
 use std::test::Fail;
@@ -48,7 +49,7 @@ fn each_fault_has_its_text(rt: HostRuntime) -> Result<(), Fail> {
         (ListingFault::Memory, "no memory"),
     ];
     for (fault, text) in texts {
-        assert_eq!(rt; fault.to_string(rt.alloc())?.as_str(), text);
+        expect_eq!(rt; fault.to_string(rt.alloc())?.as_str(), text);
     }
     Ok(())
 }
@@ -64,15 +65,15 @@ fn listings_name_their_first_fault(rt: HostRuntime) -> Result<(), Fail> {
         bucket: 0,
         place: 1,
     });
-    assert_eq!(rt; fault_of(alloc, 0, &[])?, Some(ListingFault::Shape));
-    assert_eq!(rt;
+    expect_eq!(rt; fault_of(alloc, 0, &[])?, Some(ListingFault::Shape));
+    expect_eq!(rt;
         fault_of(alloc, 5, &[b"", b"", b"", b"", b""])?,
         Some(ListingFault::Shape)
     );
-    assert_eq!(rt; fault_of(alloc, 2, &[b"a"])?, Some(ListingFault::Shape));
-    assert_eq!(rt; fault_of(alloc, 2, &[b"", b"a"])?, misplaced);
-    assert_eq!(rt; fault_of(alloc, 2, &[b"aa", b""])?, twice);
-    assert_eq!(rt; fault_of(alloc, 2, &[b"aa", b"a"])?, misplaced);
+    expect_eq!(rt; fault_of(alloc, 2, &[b"a"])?, Some(ListingFault::Shape));
+    expect_eq!(rt; fault_of(alloc, 2, &[b"", b"a"])?, misplaced);
+    expect_eq!(rt; fault_of(alloc, 2, &[b"aa", b""])?, twice);
+    expect_eq!(rt; fault_of(alloc, 2, &[b"aa", b"a"])?, misplaced);
     Ok(())
 }
 
@@ -81,17 +82,17 @@ fn listings_give_their_lists(rt: HostRuntime) -> Result<(), Fail> {
     let alloc = rt.alloc();
     let config = Config::new(2, 14, 100, 4).ok().ok_or("config")?;
     let empty = Listing::empty(alloc, config)?;
-    assert_eq!(rt; empty.buckets(), 2);
-    assert_eq!(rt; empty.len(), 0);
+    expect_eq!(rt; empty.buckets(), 2);
+    expect_eq!(rt; empty.len(), 0);
     let widest = Config::new(256, 14, 100, 256).ok().ok_or("config")?;
-    assert_eq!(rt; Listing::empty(alloc, widest)?.buckets(), 256);
+    expect_eq!(rt; Listing::empty(alloc, widest)?.buckets(), 256);
     let listing = Listing::new(alloc, config, 2, lists_of(alloc, &[b"ca", b"b"])?)?;
-    assert_eq!(rt; listing.config(), config);
-    assert_eq!(rt; listing.buckets(), 2);
-    assert_eq!(rt; Some(listing.root()), Root::new(2, 2));
-    assert_eq!(rt; listing.len(), 3);
-    assert_eq!(rt; listing.len_of(0), 2);
-    assert_eq!(rt; listing.pair_at(0, 1), pair(b"a", b"1")?);
+    expect_eq!(rt; listing.config(), config);
+    expect_eq!(rt; listing.buckets(), 2);
+    expect_eq!(rt; Some(listing.root()), Root::new(2, 2));
+    expect_eq!(rt; listing.len(), 3);
+    expect_eq!(rt; listing.len_of(0), 2);
+    expect_eq!(rt; listing.pair_at(0, 1), pair(b"a", b"1")?);
     Ok(())
 }
 
@@ -119,10 +120,10 @@ fn a_bucket_is_filled_with_a_list(rt: HostRuntime) -> Result<(), Fail> {
     let alloc = rt.alloc();
     let config = Config::new(2, 14, 100, 4).ok().ok_or("config")?;
     let listing = Listing::new(alloc, config, 2, lists_of(alloc, &[b"ca", b"b"])?)?;
-    assert_eq!(rt; listing.pairs_of(0).len(), 2);
+    expect_eq!(rt; listing.pairs_of(0).len(), 2);
     let bucket = bucket_of(alloc, &listing, 0)?;
-    assert_eq!(rt; keys_of(alloc, &bucket)?.as_slice(), b"ca".as_slice());
-    assert_eq!(rt; (bucket.number(), bucket.level()), (0, Some(0)));
+    expect_eq!(rt; keys_of(alloc, &bucket)?.as_slice(), b"ca".as_slice());
+    expect_eq!(rt; (bucket.number(), bucket.level()), (0, Some(0)));
     Ok(())
 }
 
@@ -144,11 +145,11 @@ fn long_lists_are_listings(rt: HostRuntime) -> Result<(), Fail> {
     let alloc = rt.alloc();
     let config = Config::new(1, 1, 100, 1).ok().ok_or("config")?;
     let listing = Listing::new(alloc, config, 1, long_list(alloc, 99)?)?;
-    assert_eq!(rt; listing.len(), 100);
-    assert_eq!(rt; listing.buckets(), 1);
+    expect_eq!(rt; listing.len(), 100);
+    expect_eq!(rt; listing.buckets(), 1);
     let bucket = bucket_of(alloc, &listing, 0)?;
-    assert_eq!(rt; bucket.len(), 100);
-    assert_eq!(rt;
+    expect_eq!(rt; bucket.len(), 100);
+    expect_eq!(rt;
         Listing::new(alloc, config, 1, long_list(alloc, 0)?).err(),
         Some(ListingFault::Twice {
             bucket: 0,

@@ -5,6 +5,7 @@ ghost use Rattle.lh_bucket.specs.Bucket.{CanSplit};
 use super::calls::{pair, reply_of, serve_here};
 use lh_addr::Config;
 use lh_bucket::{Bucket, Call, Listing, ListingFault, Memory, PagedBucket, PlainBucket, Reply};
+use lh_expect::{expect, expect_eq};
 use lh_page::Pair;
 use std::alloc::Global;
 use std::process::Abort;
@@ -12,10 +13,10 @@ use std::test::Fail;
 
 /// The bucket has the records of these letters in this order, each with a 1 as its value.
 fn expect_records<B: Bucket>(rt: &impl Abort, bucket: &B, letters: &[u8]) -> Result<(), Fail> {
-    assert_eq!(rt; bucket.len(), letters.len());
+    expect_eq!(rt; bucket.len(), letters.len());
     for (place, letter) in letters.iter().enumerate() {
-        assert!(rt; place < bucket.len());
-        assert_eq!(rt; bucket.pair_at(place), pair(&[*letter], b"1")?);
+        expect!(rt; place < bucket.len());
+        expect_eq!(rt; bucket.pair_at(place), pair(&[*letter], b"1")?);
     }
     Ok(())
 }
@@ -33,12 +34,12 @@ fn insert_again<B: Bucket>(
     let call = Call::Insert(record.key, record.value);
     match serve_here(bucket, &call, 0) {
         Ok(answer) => {
-            assert_eq!(rt; answer.ok_or("not the bucket")?.reply(), Reply::Inserted);
+            expect_eq!(rt; answer.ok_or("not the bucket")?.reply(), Reply::Inserted);
         }
         Err(Memory) => {
             expect_records(rt, bucket, letters)?;
-            assert_eq!(rt; reply_of(bucket, Call::Search(record.key))?, Reply::Absent);
-            assert_eq!(rt; reply_of(bucket, call)?, Reply::Inserted);
+            expect_eq!(rt; reply_of(bucket, Call::Search(record.key))?, Reply::Absent);
+            expect_eq!(rt; reply_of(bucket, call)?, Reply::Inserted);
         }
     }
     Ok(())
@@ -59,7 +60,7 @@ fn split_again<B: Bucket>(
         Err(Memory) => {
             expect_records(rt, old, letters)?;
             expect_records(rt, new, b"")?;
-            assert_eq!(rt; (old.level(), new.level()), (Some(0), None));
+            expect_eq!(rt; (old.level(), new.level()), (Some(0), None));
             old.split_into(new)?;
             Ok(())
         }
@@ -76,7 +77,7 @@ fn growth_may_be_refused<B: Bucket>(rt: &impl Abort, alloc: Global) -> Result<()
     split_again(rt, &mut old, &mut new, letters)?;
     expect_records(rt, &old, b"acegi")?;
     expect_records(rt, &new, b"bdfhj")?;
-    assert_eq!(rt; (old.level(), new.level()), (Some(1), Some(1)));
+    expect_eq!(rt; (old.level(), new.level()), (Some(1), Some(1)));
     Ok(())
 }
 
@@ -127,13 +128,13 @@ fn refused_growth_of_a_listing_is_told(rt: HostRuntime) -> Result<(), Fail> {
     let (bucket, place) = (1, 1);
     let misplaced = Err(ListingFault::Misplaced { bucket, place });
     let alloc = rt.alloc();
-    assert_eq!(rt; listed_again(alloc, config, &[a, c], &[b]), Ok(3));
-    assert_eq!(rt; listed_again(alloc, config, &[a, c, a], &[b]), twice);
-    assert_eq!(rt; listed_again(alloc, config, &[a, c], &[b, a]), misplaced);
+    expect_eq!(rt; listed_again(alloc, config, &[a, c], &[b]), Ok(3));
+    expect_eq!(rt; listed_again(alloc, config, &[a, c, a], &[b]), twice);
+    expect_eq!(rt; listed_again(alloc, config, &[a, c], &[b, a]), misplaced);
     let empty = match Listing::empty(alloc, config) {
         Ok(listing) => listing,
         Err(Memory) => Listing::empty(alloc, config)?,
     };
-    assert_eq!(rt; (empty.buckets(), empty.len()), (1, 0));
+    expect_eq!(rt; (empty.buckets(), empty.len()), (1, 0));
     Ok(())
 }

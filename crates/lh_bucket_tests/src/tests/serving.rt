@@ -6,6 +6,7 @@ ghost use Rattle.lh_bucket.specs.Bucket.{answer};
 use super::calls::{fill, keys_of, pair, reply_of};
 use lh_addr::fnv1a;
 use lh_bucket::{Answer, Bucket, Call, PagedBucket, PlainBucket, Reply, Verdict};
+use lh_expect::expect_eq;
 use lh_page::{Key, Value};
 use std::alloc::Global;
 use std::process::Abort;
@@ -17,13 +18,13 @@ fn bucket_compares_levels<B: Bucket>(rt: &impl Abort, alloc: Global) -> Result<(
     let unfilled = B::make(alloc, 1, 14, 0, None)?;
     let a = fnv1a(b"a");
     let h = fnv1a(b"h");
-    assert_eq!(rt; high.compare(h, 0), Verdict::Next { k: 1, bucket: 1 });
-    assert_eq!(rt; high.compare(h, 1), Verdict::Defect);
-    assert_eq!(rt; high.compare(a, 2), Verdict::Here);
-    assert_eq!(rt; low.compare(a, 0), Verdict::Here);
-    assert_eq!(rt; low.compare(a, 1), Verdict::Defect);
-    assert_eq!(rt; unfilled.compare(a, 0), Verdict::Defect);
-    assert_eq!(rt; unfilled.level(), None);
+    expect_eq!(rt; high.compare(h, 0), Verdict::Next { k: 1, bucket: 1 });
+    expect_eq!(rt; high.compare(h, 1), Verdict::Defect);
+    expect_eq!(rt; high.compare(a, 2), Verdict::Here);
+    expect_eq!(rt; low.compare(a, 0), Verdict::Here);
+    expect_eq!(rt; low.compare(a, 1), Verdict::Defect);
+    expect_eq!(rt; unfilled.compare(a, 0), Verdict::Defect);
+    expect_eq!(rt; unfilled.level(), None);
     Ok(())
 }
 
@@ -37,31 +38,31 @@ fn bucket_serves_calls<B: Bucket>(rt: &impl Abort, alloc: Global) -> Result<(), 
     let mut bucket = B::make(alloc, 1, 2, 0, Some(0))?;
     let a = pair(b"a", b"1")?;
     let other = Value::new(b"2")?;
-    assert_eq!(rt; reply_of(&mut bucket, Call::Delete(a.key))?, Reply::Absent);
-    assert_eq!(rt;
+    expect_eq!(rt; reply_of(&mut bucket, Call::Delete(a.key))?, Reply::Absent);
+    expect_eq!(rt;
         reply_of(&mut bucket, Call::Insert(a.key, a.value))?,
         Reply::Inserted
     );
-    assert_eq!(rt;
+    expect_eq!(rt;
         reply_of(&mut bucket, Call::Insert(a.key, other))?,
         Reply::Exists
     );
-    assert_eq!(rt;
+    expect_eq!(rt;
         reply_of(&mut bucket, Call::Search(a.key))?,
         Reply::Found(a.value)
     );
-    assert_eq!(rt; bucket.len(), 1);
+    expect_eq!(rt; bucket.len(), 1);
     fill(&mut bucket, b"bcdefg", 0)?;
     for key in b"abcdefg" {
         let again = Call::Insert(Key::new(&[*key])?, other);
-        assert_eq!(rt; reply_of(&mut bucket, again)?, Reply::Exists);
+        expect_eq!(rt; reply_of(&mut bucket, again)?, Reply::Exists);
     }
-    assert_eq!(rt; bucket.len(), 7);
-    assert_eq!(rt; reply_of(&mut bucket, Call::Delete(a.key))?, Reply::Deleted);
-    assert_eq!(rt; reply_of(&mut bucket, Call::Search(a.key))?, Reply::Absent);
-    assert_eq!(rt; bucket.number(), 0);
-    assert_eq!(rt; bucket.initial(), 1);
-    assert_eq!(rt; bucket.capacity(), 2);
+    expect_eq!(rt; bucket.len(), 7);
+    expect_eq!(rt; reply_of(&mut bucket, Call::Delete(a.key))?, Reply::Deleted);
+    expect_eq!(rt; reply_of(&mut bucket, Call::Search(a.key))?, Reply::Absent);
+    expect_eq!(rt; bucket.number(), 0);
+    expect_eq!(rt; bucket.initial(), 1);
+    expect_eq!(rt; bucket.capacity(), 2);
     Ok(())
 }
 
@@ -75,26 +76,26 @@ fn bucket_replaces_values<B: Bucket>(rt: &impl Abort, alloc: Global) -> Result<(
     let mut bucket = B::make(alloc, 1, 1, 0, Some(0))?;
     let b = pair(b"b", b"a longer value")?;
     let replace = Call::Replace(b.key, b.value);
-    assert_eq!(rt; reply_of(&mut bucket, replace)?, Reply::Absent);
-    assert_eq!(rt; bucket.len(), 0);
+    expect_eq!(rt; reply_of(&mut bucket, replace)?, Reply::Absent);
+    expect_eq!(rt; bucket.len(), 0);
     fill(&mut bucket, b"abc", 0)?;
-    assert_eq!(rt; reply_of(&mut bucket, replace)?, Reply::Replaced);
-    assert_eq!(rt;
+    expect_eq!(rt; reply_of(&mut bucket, replace)?, Reply::Replaced);
+    expect_eq!(rt;
         reply_of(&mut bucket, Call::Search(b.key))?,
         Reply::Found(b.value)
     );
-    assert_eq!(rt; keys_of(alloc, &bucket)?.as_slice(), b"abc".as_slice());
+    expect_eq!(rt; keys_of(alloc, &bucket)?.as_slice(), b"abc".as_slice());
     let empty = Value::new(b"")?;
-    assert_eq!(rt;
+    expect_eq!(rt;
         reply_of(&mut bucket, Call::Replace(b.key, empty))?,
         Reply::Replaced
     );
-    assert_eq!(rt;
+    expect_eq!(rt;
         reply_of(&mut bucket, Call::Search(b.key))?,
         Reply::Found(empty)
     );
     let a = pair(b"a", b"a")?;
-    assert_eq!(rt;
+    expect_eq!(rt;
         reply_of(&mut bucket, Call::Search(a.key))?,
         Reply::Found(a.value)
     );
@@ -122,11 +123,11 @@ fn look_answers_a_search<B: Bucket>(rt: &impl Abort, alloc: Global) -> Result<()
     fill(&mut bucket, b"ab", 0)?;
     let record = pair(b"b", b"b")?;
     let answer = look_here(&bucket, record.key).ok_or("not the bucket")?;
-    assert_eq!(rt; answer.call(), Call::Search(record.key));
-    assert_eq!(rt; answer.reply(), Reply::Found(record.value));
-    assert_eq!(rt; answer.bucket(), 0);
-    assert_eq!(rt; answer.level(), 0);
-    assert_eq!(rt; answer.initial(), 1);
+    expect_eq!(rt; answer.call(), Call::Search(record.key));
+    expect_eq!(rt; answer.reply(), Reply::Found(record.value));
+    expect_eq!(rt; answer.bucket(), 0);
+    expect_eq!(rt; answer.level(), 0);
+    expect_eq!(rt; answer.initial(), 1);
     Ok(())
 }
 

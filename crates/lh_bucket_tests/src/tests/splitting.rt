@@ -1,6 +1,7 @@
 //! Which records a split sends where, and in what order.
 use super::calls::{fill, keys_of, pair, serve_here};
 use lh_bucket::{Bucket, Call, PagedBucket, PlainBucket};
+use lh_expect::expect_eq;
 use lh_page::Key;
 use std::alloc::Global;
 use std::process::Abort;
@@ -11,10 +12,10 @@ fn split_divides_three_keys<B: Bucket>(rt: &impl Abort, alloc: Global) -> Result
     let mut new = B::make(alloc, 1, 14, 1, None)?;
     fill(&mut old, b"abc", 0)?;
     old.split_into(&mut new)?;
-    assert_eq!(rt; keys_of(alloc, &old)?.as_slice(), b"ac".as_slice());
-    assert_eq!(rt; keys_of(alloc, &new)?.as_slice(), b"b".as_slice());
-    assert_eq!(rt; old.level(), Some(1));
-    assert_eq!(rt; new.level(), Some(1));
+    expect_eq!(rt; keys_of(alloc, &old)?.as_slice(), b"ac".as_slice());
+    expect_eq!(rt; keys_of(alloc, &new)?.as_slice(), b"b".as_slice());
+    expect_eq!(rt; old.level(), Some(1));
+    expect_eq!(rt; new.level(), Some(1));
     Ok(())
 }
 
@@ -38,13 +39,13 @@ fn places_after_a_split<B: Bucket>(alloc: Global) -> Result<(Vec<u8>, Vec<u8>, V
 #[test]
 fn places_keep_their_order(rt: HostRuntime) -> Result<(), Fail> {
     let (before, stay, gone) = places_after_a_split::<PagedBucket>(rt.alloc())?;
-    assert_eq!(rt; before.as_slice(), b"dcegb".as_slice());
-    assert_eq!(rt; stay.as_slice(), b"ceg".as_slice());
-    assert_eq!(rt; gone.as_slice(), b"db".as_slice());
+    expect_eq!(rt; before.as_slice(), b"dcegb".as_slice());
+    expect_eq!(rt; stay.as_slice(), b"ceg".as_slice());
+    expect_eq!(rt; gone.as_slice(), b"db".as_slice());
     let (before, stay, gone) = places_after_a_split::<PlainBucket>(rt.alloc())?;
-    assert_eq!(rt; before.as_slice(), b"bcdeg".as_slice());
-    assert_eq!(rt; stay.as_slice(), b"ceg".as_slice());
-    assert_eq!(rt; gone.as_slice(), b"bd".as_slice());
+    expect_eq!(rt; before.as_slice(), b"bcdeg".as_slice());
+    expect_eq!(rt; stay.as_slice(), b"ceg".as_slice());
+    expect_eq!(rt; gone.as_slice(), b"bd".as_slice());
     Ok(())
 }
 
@@ -57,9 +58,9 @@ fn split_divides_many_records<B: Bucket>(rt: &impl Abort, alloc: Global) -> Resu
         let call = Call::Insert(record.key, record.value);
         serve_here(&mut old, &call, 0)?.ok_or("not the bucket")?;
     }
-    assert_eq!(rt; old.len(), 1000);
+    expect_eq!(rt; old.len(), 1000);
     old.split_into(&mut new)?;
-    assert_eq!(rt; (old.len(), new.len()), (500, 500));
+    expect_eq!(rt; (old.len(), new.len()), (500, 500));
     Ok(())
 }
 

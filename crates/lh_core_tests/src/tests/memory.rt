@@ -7,6 +7,7 @@ use lh_core::{
     Effect, Event, Ran, Refusal, SerialRan, SplitState, WorkerState, World, run, serial,
     serial_from,
 };
+use lh_expect::{expect, expect_eq};
 use lh_page::Value;
 use std::alloc::Global;
 use std::process::Abort;
@@ -46,15 +47,15 @@ fn expect_effects(rt: &impl Abort, entries: &[Result<Effect, Refusal>], dues: &[
     for entry in entries {
         match entry {
             Ok(effect) => {
-                assert_eq!(rt; dues.get(count).copied(), Some(*effect));
+                expect_eq!(rt; dues.get(count).copied(), Some(*effect));
                 count = count.saturating_add(1);
             }
             Err(refusal) => {
-                assert!(rt; *refusal == Refusal::Memory || *refusal == Refusal::WrongState);
+                expect!(rt; *refusal == Refusal::Memory || *refusal == Refusal::WrongState);
             }
         }
     }
-    assert_eq!(rt; count, dues.len());
+    expect_eq!(rt; count, dues.len());
 }
 
 /// An act and a move of records come twice: refused out of memory they are accepted then, and else they are done.
@@ -88,10 +89,10 @@ fn a_run_goes_on<B: Bucket>(rt: &impl Abort, alloc: Global) -> Result<(), Fail> 
         Effect::Point { buckets: 2 },
     ];
     let Ran { entries, world } = run_again::<B>(alloc, small()?, &events)?;
-    assert_eq!(rt; entries.len(), 12);
+    expect_eq!(rt; entries.len(), 12);
     expect_effects(rt, entries.as_slice(), &effects);
-    assert_eq!(rt; world.root().buckets(), 2);
-    assert_eq!(rt; listed_again(&world)?.len(), 1);
+    expect_eq!(rt; world.root().buckets(), 2);
+    expect_eq!(rt; listed_again(&world)?.len(), 1);
     Ok(())
 }
 
@@ -131,7 +132,7 @@ fn step_again<B: Bucket>(
     match world.step(*event) {
         Err(Refusal::Memory) => {
             let after = seen_of(world);
-            assert!(rt; after == before);
+            expect!(rt; after == before);
             world.step(*event)
         }
         entry => entry,
@@ -148,7 +149,7 @@ fn steps_go_on<B: Bucket>(rt: &impl Abort, alloc: Global) -> Result<(), Fail> {
             step_again(rt, &mut world, event)?;
         }
         let answered = step_again(rt, &mut world, &Event::Act(0))?;
-        assert_eq!(rt; answered, Effect::Answered(Reply::Inserted));
+        expect_eq!(rt; answered, Effect::Answered(Reply::Inserted));
         step_again(rt, &mut world, &Event::Release(0))?;
     }
     let split = [
@@ -168,8 +169,8 @@ fn steps_go_on<B: Bucket>(rt: &impl Abort, alloc: Global) -> Result<(), Fail> {
         splitter: SplitState::Idle,
         records: 8,
     };
-    assert_eq!(rt; seen_of(&world), due);
-    assert_eq!(rt; listed_again(&world)?.len(), 8);
+    expect_eq!(rt; seen_of(&world), due);
+    expect_eq!(rt; listed_again(&world)?.len(), 8);
     Ok(())
 }
 
@@ -207,9 +208,9 @@ fn calls_are_served<B: Bucket>(rt: &impl Abort, alloc: Global) -> Result<(), Fai
         Reply::Found(Value::new(b"2")?),
     ];
     let ran = serial_again::<B>(alloc, config, &calls)?;
-    assert_eq!(rt; ran.replies.as_slice(), replies.as_slice());
-    assert_eq!(rt; ran.world.root().buckets(), 3);
-    assert_eq!(rt; listed_again(&ran.world)?.len(), 3);
+    expect_eq!(rt; ran.replies.as_slice(), replies.as_slice());
+    expect_eq!(rt; ran.world.root().buckets(), 3);
+    expect_eq!(rt; listed_again(&ran.world)?.len(), 3);
     Ok(())
 }
 
@@ -244,8 +245,8 @@ fn refused_growth_ends_calls_on_a_listing(rt: HostRuntime) -> Result<(), Fail> {
         Reply::Found(Value::new(b"1")?),
     ];
     let ran = serial_from_again(alloc, &listing, &calls)?;
-    assert_eq!(rt; ran.replies.as_slice(), replies.as_slice());
-    assert_eq!(rt; ran.world.root().buckets(), 3);
-    assert_eq!(rt; listed_again(&ran.world)?.len(), 3);
+    expect_eq!(rt; ran.replies.as_slice(), replies.as_slice());
+    expect_eq!(rt; ran.world.root().buckets(), 3);
+    expect_eq!(rt; listed_again(&ran.world)?.len(), 3);
     Ok(())
 }

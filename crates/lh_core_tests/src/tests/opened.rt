@@ -3,6 +3,7 @@ use super::calls::{delete, insert, search};
 use lh_addr::Config;
 use lh_bucket::{Call, Listing, PagedBucket, Reply};
 use lh_core::{SerialRan, SplitState, WorkerState, World, serial, serial_from};
+use lh_expect::expect_eq;
 use lh_page::Value;
 use std::alloc::Global;
 use std::process::Abort;
@@ -22,10 +23,10 @@ fn calls(alloc: Global) -> Result<Vec<Call>, Fail> {
 
 /// Both listings have the same lists, in the same order.
 fn are_same(rt: &impl Abort, one: &Listing, other: &Listing) {
-    assert_eq!(rt; one.config(), other.config());
-    assert_eq!(rt; one.buckets(), other.buckets());
+    expect_eq!(rt; one.config(), other.config());
+    expect_eq!(rt; one.buckets(), other.buckets());
     for bucket in 0..one.buckets() {
-        assert_eq!(rt; one.pairs_of(bucket), other.pairs_of(bucket));
+        expect_eq!(rt; one.pairs_of(bucket), other.pairs_of(bucket));
     }
 }
 
@@ -36,14 +37,14 @@ fn a_file_goes_on_from_a_listing(rt: HostRuntime) -> Result<(), Fail> {
     let config = Config::new(1, 2, 100, 65536)?;
     let calls = calls(alloc)?;
     let whole = serial::<PagedBucket>(alloc, config, calls.as_slice())?;
-    assert_eq!(rt; whole.replies.len(), calls.len());
+    expect_eq!(rt; whole.replies.len(), calls.len());
     for cut in 0..=calls.len() {
         let (first, second) = calls.as_slice().split_at(cut);
         let before = serial::<PagedBucket>(alloc, config, first)?
             .world
             .listing()?;
         let SerialRan { replies, world } = serial_from(alloc, &before, second)?;
-        assert_eq!(rt; replies.as_slice(), &whole.replies.as_slice()[cut..]);
+        expect_eq!(rt; replies.as_slice(), &whole.replies.as_slice()[cut..]);
         are_same(&rt, &world.listing()?, &whole.world.listing()?);
     }
     Ok(())
@@ -58,10 +59,10 @@ fn a_world_is_opened_from_a_listing(rt: HostRuntime) -> Result<(), Fail> {
         .world
         .listing()?;
     let world = World::open_from(alloc, &before)?;
-    assert_eq!(rt; world.root().buckets(), before.buckets());
-    assert_eq!(rt; world.filled(), before.buckets());
-    assert_eq!(rt; world.worker(15), WorkerState::Idle);
-    assert_eq!(rt; world.splitter(), SplitState::Idle);
+    expect_eq!(rt; world.root().buckets(), before.buckets());
+    expect_eq!(rt; world.filled(), before.buckets());
+    expect_eq!(rt; world.worker(15), WorkerState::Idle);
+    expect_eq!(rt; world.splitter(), SplitState::Idle);
     are_same(&rt, &world.listing()?, &before);
     Ok(())
 }
@@ -80,12 +81,12 @@ fn records_of_a_listing_count_for_the_load(rt: HostRuntime) -> Result<(), Fail> 
     let before = serial::<PagedBucket>(alloc, config, &four)?
         .world
         .listing()?;
-    assert_eq!(rt; before.buckets(), 2);
+    expect_eq!(rt; before.buckets(), 2);
     let ran = serial_from(alloc, &before, &[insert(b"a", b"5")?, search(b"a")?])?;
     let found = Reply::Found(Value::new(b"1")?);
-    assert_eq!(rt; ran.replies.as_slice(), [Reply::Exists, found].as_slice());
-    assert_eq!(rt; ran.world.root().buckets(), 2);
+    expect_eq!(rt; ran.replies.as_slice(), [Reply::Exists, found].as_slice());
+    expect_eq!(rt; ran.world.root().buckets(), 2);
     let ran = serial_from(alloc, &before, &[insert(b"e", b"5")?])?;
-    assert_eq!(rt; ran.world.root().buckets(), 3);
+    expect_eq!(rt; ran.world.root().buckets(), 3);
     Ok(())
 }

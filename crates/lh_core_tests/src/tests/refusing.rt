@@ -2,6 +2,7 @@
 use super::calls::{insert, search, small};
 use lh_bucket::{Answer, Bucket, Call, Listing, Memory, PagedBucket, Reply, Verdict};
 use lh_core::{Effect, Event, Ran, Refusal, SplitState, WorkerState, World, run, serial};
+use lh_expect::{expect, expect_eq};
 use lh_page::Pair;
 use std::alloc::Global;
 use std::process::Abort;
@@ -146,9 +147,9 @@ fn a_run_tells_of_refused_memory_and_goes_on(rt: HostRuntime) -> Result<(), Fail
         due.push(entry)?;
     }
     let Ran { entries, world } = run::<Refusing>(rt.alloc(), small()?, events.as_slice())?;
-    assert_eq!(rt; entries.as_slice(), due.as_slice());
-    assert_eq!(rt; world.root().buckets(), 2);
-    assert_eq!(rt; listed(&world)?.len(), 1);
+    expect_eq!(rt; entries.as_slice(), due.as_slice());
+    expect_eq!(rt; world.root().buckets(), 2);
+    expect_eq!(rt; listed(&world)?.len(), 1);
     Ok(())
 }
 
@@ -164,19 +165,19 @@ fn a_refused_step_leaves_the_world_as_it_was(rt: HostRuntime) -> Result<(), Fail
     ];
     take_all(&mut world, events.as_slice())?;
     let holding = WorkerState::Holding(call, 0, 0);
-    assert_eq!(rt; world.worker(3), holding);
-    assert_eq!(rt; world.step(Event::Act(3)), Err(Refusal::Memory));
-    assert_eq!(rt; world.worker(3), holding);
-    assert_eq!(rt; records_in(&world), 0);
+    expect_eq!(rt; world.worker(3), holding);
+    expect_eq!(rt; world.step(Event::Act(3)), Err(Refusal::Memory));
+    expect_eq!(rt; world.worker(3), holding);
+    expect_eq!(rt; records_in(&world), 0);
     let events = [Event::Act(3), Event::Release(3), Event::SplitLock];
     take_all(&mut world, events.as_slice())?;
     let locked = world.splitter();
-    assert_eq!(rt; world.step(Event::SplitMove), Err(Refusal::Memory));
-    assert!(rt; world.splitter() == locked && locked != SplitState::Idle);
-    assert_eq!(rt; (world.filled(), world.root().buckets()), (1, 1));
-    assert_eq!(rt; records_in(&world), 1);
+    expect_eq!(rt; world.step(Event::SplitMove), Err(Refusal::Memory));
+    expect!(rt; world.splitter() == locked && locked != SplitState::Idle);
+    expect_eq!(rt; (world.filled(), world.root().buckets()), (1, 1));
+    expect_eq!(rt; records_in(&world), 1);
     take_all(&mut world, [Event::SplitMove].as_slice())?;
-    assert_eq!(rt; world.filled(), 2);
+    expect_eq!(rt; world.filled(), 2);
     Ok(())
 }
 
@@ -184,12 +185,12 @@ fn a_refused_step_leaves_the_world_as_it_was(rt: HostRuntime) -> Result<(), Fail
 fn calls_one_after_another_end_without_memory(rt: HostRuntime) -> Result<(), Fail> {
     let key = search(b"a")?;
     let ran = serial::<Refusing>(rt.alloc(), small()?, &[key, key])?;
-    assert_eq!(rt;
+    expect_eq!(rt;
         ran.replies.as_slice(),
         [Reply::Absent, Reply::Absent].as_slice()
     );
     let calls = [insert(b"a", b"1")?];
-    assert!(rt; serial::<Refusing>(rt.alloc(), small()?, &calls).is_err());
+    expect!(rt; serial::<Refusing>(rt.alloc(), small()?, &calls).is_err());
     Ok(())
 }
 
@@ -202,11 +203,11 @@ fn is_listed_whatever_a_worker_does<B: Bucket>(
     let records = u64::from(worker);
     let call = Event::Call(worker, insert(&key, b"1")?);
     take_all(world, [call, Event::Read(worker)].as_slice())?;
-    assert_eq!(rt; listed(world)?.len(), records);
+    expect_eq!(rt; listed(world)?.len(), records);
     take_all(world, [Event::Lock(worker)].as_slice())?;
-    assert_eq!(rt; listed(world)?.len(), records);
+    expect_eq!(rt; listed(world)?.len(), records);
     take_all(world, [Event::Act(worker)].as_slice())?;
-    assert_eq!(rt; listed(world)?.len(), records.saturating_add(1));
+    expect_eq!(rt; listed(world)?.len(), records.saturating_add(1));
     let events = [Event::Release(worker), Event::Call(worker, search(&key)?)];
     take_all(world, events.as_slice())
 }
@@ -218,7 +219,7 @@ fn is_listed_whatever_its_workers_do<B: Bucket>(
     for worker in 0..16 {
         is_listed_whatever_a_worker_does(rt, &mut world, worker)?;
     }
-    assert_eq!(rt; listed(&world)?.len(), 16);
+    expect_eq!(rt; listed(&world)?.len(), 16);
     Ok(())
 }
 

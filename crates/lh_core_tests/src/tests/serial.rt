@@ -3,6 +3,7 @@ use super::calls::{delete, insert, search, small};
 use lh_addr::Config;
 use lh_bucket::{Bucket, Call, PagedBucket, PlainBucket, Reply};
 use lh_core::{SerialRan, serial};
+use lh_expect::expect_eq;
 use lh_page::Value;
 use std::alloc::Global;
 use std::test::Fail;
@@ -37,9 +38,9 @@ fn serial_answers_as_a_map(rt: HostRuntime) -> Result<(), Fail> {
     ];
     let (plain, _) = replies_of::<PlainBucket>(rt.alloc(), small()?, &calls)?;
     let (paged, size) = replies_of::<PagedBucket>(rt.alloc(), small()?, &calls)?;
-    assert_eq!(rt; plain.as_slice(), want.as_slice());
-    assert_eq!(rt; paged.as_slice(), want.as_slice());
-    assert_eq!(rt; size, 1);
+    expect_eq!(rt; plain.as_slice(), want.as_slice());
+    expect_eq!(rt; paged.as_slice(), want.as_slice());
+    expect_eq!(rt; size, 1);
     Ok(())
 }
 
@@ -70,15 +71,15 @@ fn a_file_grows_past_the_threshold_and_not_at_it(rt: HostRuntime) -> Result<(), 
     let full = Config::new(1, 2, 100, 65536)?;
     let fuller = Config::new(1, 2, 200, 65536)?;
     let alloc = rt.alloc();
-    assert_eq!(rt;
+    expect_eq!(rt;
         lengths_of::<PlainBucket>(alloc, full, &calls)?.as_slice(),
         [2, 2, 1].as_slice()
     );
-    assert_eq!(rt;
+    expect_eq!(rt;
         lengths_of::<PagedBucket>(alloc, full, &calls)?.as_slice(),
         [2, 2, 1].as_slice()
     );
-    assert_eq!(rt; replies_of::<PagedBucket>(alloc, fuller, &calls)?.1, 2);
+    expect_eq!(rt; replies_of::<PagedBucket>(alloc, fuller, &calls)?.1, 2);
     Ok(())
 }
 
@@ -98,7 +99,7 @@ fn buckets_hold_their_records_in_order(rt: HostRuntime) -> Result<(), Fail> {
             keys.push((i, bucket.pair_at(place).key.bytes()[0]))?;
         }
     }
-    assert_eq!(rt;
+    expect_eq!(rt;
         keys.as_slice(),
         [(0, b'a'), (0, b'c'), (1, b'b')].as_slice()
     );
@@ -122,9 +123,9 @@ fn after_forty<B: Bucket>(alloc: Global, max: u32) -> Result<(usize, u32, u64), 
 #[test]
 fn many_calls_are_served(rt: HostRuntime) -> Result<(), Fail> {
     let alloc = rt.alloc();
-    assert_eq!(rt; after_forty::<PlainBucket>(alloc, 65536)?, (40, 40, 40));
-    assert_eq!(rt; after_forty::<PagedBucket>(alloc, 65536)?, (40, 40, 40));
-    assert_eq!(rt; after_forty::<PlainBucket>(alloc, 2)?, (40, 2, 40));
-    assert_eq!(rt; after_forty::<PagedBucket>(alloc, 2)?, (40, 2, 40));
+    expect_eq!(rt; after_forty::<PlainBucket>(alloc, 65536)?, (40, 40, 40));
+    expect_eq!(rt; after_forty::<PagedBucket>(alloc, 65536)?, (40, 40, 40));
+    expect_eq!(rt; after_forty::<PlainBucket>(alloc, 2)?, (40, 2, 40));
+    expect_eq!(rt; after_forty::<PagedBucket>(alloc, 2)?, (40, 2, 40));
     Ok(())
 }

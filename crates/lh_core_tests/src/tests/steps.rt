@@ -3,6 +3,7 @@ use super::calls::{insert, search, small};
 use lh_addr::Config;
 use lh_bucket::{Bucket, PagedBucket, PlainBucket, Reply};
 use lh_core::{Effect, Event, Ran, Refusal, SplitState, WorkerState, World, run};
+use lh_expect::{expect, expect_eq};
 use lh_page::Value;
 use std::alloc::Global;
 use std::process::Abort;
@@ -17,7 +18,7 @@ fn entries_are<B: Bucket>(
     want: &[Result<Effect, Refusal>],
 ) -> Result<World<B>, Fail> {
     let Ran { entries, world } = run::<B>(alloc, config, events)?;
-    assert_eq!(rt; entries.as_slice(), want);
+    expect_eq!(rt; entries.as_slice(), want);
     Ok(world)
 }
 
@@ -76,10 +77,10 @@ fn an_old_root_by_one_split<B: Bucket>(rt: &impl Abort, alloc: Global) -> Result
         Ok(Effect::Released),
     ];
     let world = entries_are::<B>(rt, alloc, small()?, &events, &want)?;
-    assert_eq!(rt; world.root().buckets(), 2);
-    assert_eq!(rt; world.filled(), 2);
-    assert_eq!(rt; world.splitter(), SplitState::Idle);
-    assert_eq!(rt; world.worker(0), WorkerState::Idle);
+    expect_eq!(rt; world.root().buckets(), 2);
+    expect_eq!(rt; world.filled(), 2);
+    expect_eq!(rt; world.splitter(), SplitState::Idle);
+    expect_eq!(rt; world.worker(0), WorkerState::Idle);
     Ok(())
 }
 
@@ -237,7 +238,7 @@ fn inserts_go_on_beside_a_split<B: Bucket>(rt: &impl Abort, alloc: Global) -> Re
     ];
     for (event, worker, letter) in &steps {
         world.step(*event)?;
-        assert_eq!(rt; inserted(&mut world, *worker, *letter)?, answered);
+        expect_eq!(rt; inserted(&mut world, *worker, *letter)?, answered);
         world.step(Event::Release(*worker))?;
     }
     let events = [
@@ -250,7 +251,7 @@ fn inserts_go_on_beside_a_split<B: Bucket>(rt: &impl Abort, alloc: Global) -> Re
     for event in &events {
         world.step(*event)?;
     }
-    assert_eq!(rt; world.step(Event::Act(14)), Ok(answered));
+    expect_eq!(rt; world.step(Event::Act(14)), Ok(answered));
     Ok(())
 }
 
@@ -269,9 +270,9 @@ fn a_long_run<B: Bucket>(rt: &impl Abort, alloc: Global) -> Result<(), Fail> {
         events.push(Event::SplitDrop)?;
     }
     let Ran { entries, world } = run::<B>(alloc, config, events.as_slice())?;
-    assert_eq!(rt; entries.len(), 6000);
-    assert!(rt; entries.iter().all(|entry| entry.is_ok()));
-    assert_eq!(rt; (world.root().buckets(), world.filled()), (256, 256));
+    expect_eq!(rt; entries.len(), 6000);
+    expect!(rt; entries.iter().all(|entry| entry.is_ok()));
+    expect_eq!(rt; (world.root().buckets(), world.filled()), (256, 256));
     Ok(())
 }
 
@@ -294,14 +295,14 @@ fn a_held_bucket_is_alone_held<B: Bucket>(rt: &impl Abort, alloc: Global) -> Res
     ] {
         world.step(event)?;
     }
-    assert_eq!(rt;
+    expect_eq!(rt;
         world.step(Event::SplitMove),
         Ok(Effect::Moved { old: 0, new: 2 })
     );
     world.step(Event::SplitRelease)?;
     world.step(Event::SplitPoint)?;
-    assert_eq!(rt; world.step(Event::Act(0)), Ok(answered));
-    assert_eq!(rt; inserted(&mut world, 1, b'a')?, answered);
+    expect_eq!(rt; world.step(Event::Act(0)), Ok(answered));
+    expect_eq!(rt; inserted(&mut world, 1, b'a')?, answered);
     Ok(())
 }
 
@@ -314,7 +315,7 @@ fn steps_go_on_beside_a_held_bucket(rt: HostRuntime) -> Result<(), Fail> {
 #[test]
 fn a_file_may_begin_with_three_buckets(rt: HostRuntime) -> Result<(), Fail> {
     let config = Config::new(3, 1, 100, 4)?;
-    assert_eq!(rt; World::<PlainBucket>::new(rt.alloc(), config)?.filled(), 3);
-    assert_eq!(rt; World::<PagedBucket>::new(rt.alloc(), config)?.filled(), 3);
+    expect_eq!(rt; World::<PlainBucket>::new(rt.alloc(), config)?.filled(), 3);
+    expect_eq!(rt; World::<PagedBucket>::new(rt.alloc(), config)?.filled(), 3);
     Ok(())
 }

@@ -1,5 +1,6 @@
 //! The texts of refusals.
 use lh_core::Refusal;
+use lh_expect::expect_eq;
 use std::test::Fail;
 
 #[test]
@@ -14,7 +15,7 @@ fn each_refusal_has_its_text(rt: HostRuntime) -> Result<(), Fail> {
         (Refusal::Memory, "no memory"),
     ];
     for (refusal, text) in texts {
-        assert_eq!(rt; refusal.to_string(rt.alloc())?.as_str(), text);
+        expect_eq!(rt; refusal.to_string(rt.alloc())?.as_str(), text);
     }
     Ok(())
 }

@@ -2,6 +2,7 @@
 
 use super::settling::{AE, BD, C, closed, config};
 use lh_bucket::{Listing, ListingFault};
+use lh_expect::{expect, expect_eq};
 use lh_file::Closed;
 use std::alloc::Global;
 use std::test::Fail;
@@ -20,9 +21,9 @@ fn told(file: &Closed) -> (u32, u64, u64, bool) {
 #[test]
 fn a_closed_file_tells_what_it_has(rt: HostRuntime) -> Result<(), Fail> {
     let open = closed(rt.alloc(), 7, 9, &[AE, BD, C, &[]])?;
-    assert_eq!(rt; told(&open), (3, 9, 5, true));
+    expect_eq!(rt; told(&open), (3, 9, 5, true));
     let whole = closed(rt.alloc(), 6, 9, &[])?;
-    assert_eq!(rt; told(&whole), (3, 9, 0, false));
+    expect_eq!(rt; told(&whole), (3, 9, 0, false));
     Ok(())
 }
 
@@ -43,16 +44,16 @@ fn has_size(listing: &Listing, buckets: u32, records: u64) -> Result<bool, Fail>
 
 #[test]
 fn a_closed_file_has_a_listing(rt: HostRuntime) -> Result<(), Fail> {
-    assert!(rt; has_size(&listed(rt.alloc(), &[AE, BD, C, &[]])??, 3, 5)?);
-    assert!(rt; has_size(&listed(rt.alloc(), &[AE, BD, C])??, 3, 5)?);
+    expect!(rt; has_size(&listed(rt.alloc(), &[AE, BD, C, &[]])??, 3, 5)?);
+    expect!(rt; has_size(&listed(rt.alloc(), &[AE, BD, C])??, 3, 5)?);
     Ok(())
 }
 
 #[test]
 fn a_closed_file_becomes_its_listing(rt: HostRuntime) -> Result<(), Fail> {
-    assert!(rt; has_size(&moved(rt.alloc(), &[AE, BD, C, &[]])??, 3, 5)?);
+    expect!(rt; has_size(&moved(rt.alloc(), &[AE, BD, C, &[]])??, 3, 5)?);
     let fault = moved(rt.alloc(), &[AE, BD])?.err();
-    assert_eq!(rt; fault, Some(ListingFault::Shape));
+    expect_eq!(rt; fault, Some(ListingFault::Shape));
     Ok(())
 }
 
@@ -63,8 +64,8 @@ fn a_closed_file_tells_the_fault_of_its_listing(rt: HostRuntime) -> Result<(), F
         place: 0,
     };
     let shape = listed(rt.alloc(), &[AE, BD])?.err();
-    assert_eq!(rt; shape, Some(ListingFault::Shape));
+    expect_eq!(rt; shape, Some(ListingFault::Shape));
     let place = listed(rt.alloc(), &[AE, C, BD])?.err();
-    assert_eq!(rt; place, Some(misplaced));
+    expect_eq!(rt; place, Some(misplaced));
     Ok(())
 }

@@ -1,6 +1,7 @@
 //! Calls by a key with its code.
 use lh_addr::Config;
 use lh_bucket::Reply;
+use lh_expect::expect_eq;
 use lh_file::{CodedKey, HashFile};
 use lh_page::{Key, Value};
 use std::test::Fail;
@@ -10,23 +11,23 @@ fn answers_take_a_key_with_its_code(rt: HostRuntime) -> Result<(), Fail> {
     let (file, mut hand) = HashFile::new(rt.alloc(), Config::default())?;
     let (key, value) = (Key::new(b"key")?, Value::new(b"value")?);
     let coded = CodedKey::new(key);
-    assert_eq!(rt;
+    expect_eq!(rt;
         file.insert(&rt, &mut hand, coded, value)?.reply(),
         Reply::Inserted
     );
-    assert_eq!(rt;
+    expect_eq!(rt;
         file.search(&rt, &mut hand, key)?.reply(),
         Reply::Found(value)
     );
-    assert_eq!(rt;
+    expect_eq!(rt;
         file.replace(&rt, &mut hand, coded, Value::empty())?.reply(),
         Reply::Replaced
     );
-    assert_eq!(rt;
+    expect_eq!(rt;
         file.search(&rt, &mut hand, coded)?.reply(),
         Reply::Found(Value::empty())
     );
-    assert_eq!(rt; file.delete(&rt, &mut hand, coded)?.reply(), Reply::Deleted);
-    assert_eq!(rt; file.search(&rt, &mut hand, key)?.reply(), Reply::Absent);
+    expect_eq!(rt; file.delete(&rt, &mut hand, coded)?.reply(), Reply::Deleted);
+    expect_eq!(rt; file.search(&rt, &mut hand, key)?.reply(), Reply::Absent);
     Ok(())
 }

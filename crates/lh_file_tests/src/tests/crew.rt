@@ -5,6 +5,7 @@ ghost use Rattle.lh_file.specs.FileState.{IsOf, MayBeJoined};
 use super::made::made;
 use lh_addr::Config;
 use lh_bucket::Listing;
+use lh_expect::expect_eq;
 use lh_file::{FileFault, Hand, HashFile, JoinAllFault, NoGate, settle};
 use lh_page::{Key, Value};
 use std::sync::Wait;
@@ -95,11 +96,11 @@ fn threads_work_with_hands_of_their_own(rt: HostRuntime) -> Result<(), Fail> {
     let config = Config::new(1, 2, 100, 65536)?;
     let (file, hand) = made(alloc, config, NoGate)?;
     let hand = added_in_threads(&rt, &file, hand, 8)?;
-    assert_eq!(rt; hand.left(), (1 << 63) - 208);
+    expect_eq!(rt; hand.left(), (1 << 63) - 208);
     let (closed, acts) = file.close(&rt, hand)?;
-    assert_eq!(rt; (closed.records(), acts.len()), (208, 208));
+    expect_eq!(rt; (closed.records(), acts.len()), (208, 208));
     let history = settle(alloc, &Listing::empty(alloc, config)?, &closed, &acts)?;
-    assert_eq!(rt; history.len(), 208);
+    expect_eq!(rt; history.len(), 208);
     Ok(())
 }
 
@@ -108,15 +109,15 @@ fn a_hand_is_split_only_into_the_calls_that_it_has(rt: HostRuntime) -> Result<()
     let config = Config::new(1, 2, 100, 65536)?;
     let (file, mut first) = made(rt.alloc(), config, NoGate)?;
     let mut hand = file.split_hand(&mut first, 10)?;
-    assert_eq!(rt; file.split_hands(&mut hand, 0, 20)?.len(), 0);
-    assert_eq!(rt; hand.left(), 10);
+    expect_eq!(rt; file.split_hands(&mut hand, 0, 20)?.len(), 0);
+    expect_eq!(rt; hand.left(), 10);
     let refused = file.split_hands(&mut hand, 3, 4).err();
-    assert_eq!(rt; refused, Some(FileFault::Spent { left: 10 }));
+    expect_eq!(rt; refused, Some(FileFault::Spent { left: 10 }));
     let refused = file.split_hands(&mut hand, u32::MAX, u64::MAX).err();
-    assert_eq!(rt; refused, Some(FileFault::Spent { left: 10 }));
-    assert_eq!(rt; hand.left(), 10);
+    expect_eq!(rt; refused, Some(FileFault::Spent { left: 10 }));
+    expect_eq!(rt; hand.left(), 10);
     let hands = file.split_hands(&mut hand, 2, 5)?;
-    assert_eq!(rt; (hands.len(), hands[0].left(), hands[1].left()), (2, 5, 5));
-    assert_eq!(rt; hand.left(), 0);
+    expect_eq!(rt; (hands.len(), hands[0].left(), hands[1].left()), (2, 5, 5));
+    expect_eq!(rt; hand.left(), 0);
     Ok(())
 }

@@ -6,6 +6,7 @@ use super::made::{closed_by, joined, made, second_of};
 use super::play::settled_acts;
 use lh_addr::Config;
 use lh_bucket::Reply;
+use lh_expect::{expect, expect_eq};
 use lh_file::{Gate, Hand, HashFile, Point};
 use lh_page::{Key, Value};
 use std::alloc::Global;
@@ -212,7 +213,7 @@ fn crowded<R: Threads + Wait + Sync>(
 fn eight_threads_insert_replace_and_find_a_thousand_records(rt: HostRuntime) -> Result<(), Fail> {
     let config = Config::new(1, 1, 100, 65536)?;
     let left = crowded(&rt, rt.alloc(), config, Keys::Own).ok_or("a call went wrong")?;
-    assert_eq!(rt; left, (1000, 3000));
+    expect_eq!(rt; left, (1000, 3000));
     Ok(())
 }
 
@@ -223,7 +224,7 @@ fn eight_threads_insert_find_and_delete_three_records(rt: HostRuntime) -> Result
     let (records, settled) = crowded(&rt, rt.alloc(), config, Keys::Shared).ok_or(
         "a call went wrong",
     )?;
-    assert!(rt; records <= 3);
-    assert_eq!(rt; settled, 3000);
+    expect!(rt; records <= 3);
+    expect_eq!(rt; settled, 3000);
     Ok(())
 }

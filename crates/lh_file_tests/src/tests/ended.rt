@@ -6,6 +6,7 @@ use super::play::beside;
 use super::stage::Progress;
 use super::tasks::{Task, Told, one};
 use lh_addr::Config;
+use lh_expect::expect_eq;
 use lh_file::{Hand, HashFile, NoGate};
 use std::sync::Wait;
 use std::test::Fail;
@@ -37,6 +38,6 @@ fn a_record_outlives_the_thread_of_its_writer(rt: HostRuntime) -> Result<(), Fai
     let (file, mut first) = made(rt.alloc(), config, NoGate)?;
     let second = second_of(&file, &mut first, 10).ok_or("no second hand")?;
     let told = told_after(&rt, &file, first, second).ok_or("a thread was refused")?;
-    assert_eq!(rt; told, Told::Found);
+    expect_eq!(rt; told, Told::Found);
     Ok(())
 }

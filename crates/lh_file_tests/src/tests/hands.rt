@@ -1,25 +1,19 @@
 //! Hands of one thread: the right to split, sizes, acts and their counts, and running out of memory.
-ghost use Rattle.std.specs.Prelude.{◌≡◌, ◌≤◌, true, false, IfOk, OnOk};
+ghost use Rattle.std.specs.Prelude.{◌≡◌, ◌≤◌, true, OnOk};
 ghost use Rattle.lh_file.specs.FileState.{IsOf};
 
+use super::made::{file_of, join_again, split_once};
+use super::opened::records;
+use super::settling::act;
 use lh_addr::Config;
-use lh_bucket::{Call, Change, ChangeReply, Reply};
-use lh_file::{ActLine, FileFault, FileWords, Hand, JoinFault, Load, Memory, Right, Words};
+use lh_bucket::{Call, Listing, Reply};
+use lh_expect::{expect, expect_eq};
+use lh_file::{Acts, FileFault, Hand, HashFile, Load, NoGate, Right, parts};
 use lh_page::{Key, Value};
 use std::alloc::Global;
 use std::process::Abort;
+use std::sync::Wait;
 use std::test::Fail;
-
-/// A file of one bucket, which may have `max`, with its first hand. It is asked for once more where memory was refused.
-pub fn file_of(alloc: Global, max: u32, recording: bool) -> Result<(Words, Hand), Fail>
-    ensures { IfOk result (λ made. IsOf made.0 made.1) }
-{
-    let config = Config::new(1, 14, 100, max)?;
-    match Words::create(alloc, config, recording) {
-        Ok(made) => Ok(made),
-        Err(Memory) => Ok(Words::create(alloc, config, recording)?),
-    }
-}
 
 fn insert(key: &[u8]) -> Result<Call, Fail> {
     Ok(Call::Insert(Key::new(key)?, Value::new(b"1")?))
@@ -34,66 +28,69 @@ fn replace(key: &[u8]) -> Result<Call, Fail> {
 }
 
 /// Makes room for an act, which may be refused once: then the hand is as it was.
-fn make_room(rt: &impl Abort, file: &Words, hand: &mut Hand) -> Result<(), Fail>
-    requires { IsOf file.now hand.old }
-    ensures of { IsOf file.now hand.new }
-    ensures room { OnOk result (file.now.recording ≡ true → 1 ≤ hand.new.room) }
+fn make_room(rt: &impl Abort, file: &HashFile<NoGate>, hand: &mut Hand) -> Result<(), Fail>
+    requires { IsOf file.now.state hand.old }
+    ensures of { IsOf file.now.state hand.new }
+    ensures room { OnOk result (file.now.state.recording ≡ true → 1 ≤ hand.new.room) }
 {
     let left = hand.left();
-    if file.make_room(hand).is_err() {
-        assert_eq!(rt; hand.left(), left);
-        file.make_room(hand)?;
+    if parts::make_room(file, hand).is_err() {
+        expect_eq!(rt; hand.left(), left);
+        parts::make_room(file, hand)?;
     }
     Ok(())
 }
 
-/// Notes an act.
-fn note(
-    rt: &impl Abort,
-    file: &Words,
+/// Makes a call.
+fn call<R: Wait>(
+    rt: &R,
+    file: &HashFile<NoGate>,
     hand: &mut Hand,
-    call: Call,
-    reply: ChangeReply,
-) -> Result<u64, Fail>
-    requires { IsOf file.now hand.old }
-    ensures { IsOf file.now hand.new }
+    call: &Call,
+) -> Result<Reply, FileFault>
+    requires { IsOf file.now.state hand.old }
+    ensures { IsOf file.now.state hand.new }
+{
+    let answer = match *call {
+        Call::Insert(key, value) => file.insert(rt, hand, key, value),
+        Call::Search(key) => file.search(rt, hand, key),
+        Call::Delete(key) => file.delete(rt, hand, key),
+        Call::Replace(key, value) => file.replace(rt, hand, key, value),
+    };
+    Ok(answer?.reply())
+}
+
+/// Makes a call that takes one of those that the hand has left, and which may be refused once: then the hand has as
+/// many as before.
+fn note<R: Wait + Abort>(
+    rt: &R,
+    file: &HashFile<NoGate>,
+    hand: &mut Hand,
+    change: &Call,
+) -> Result<Reply, Fail>
+    requires { IsOf file.now.state hand.old }
+    ensures { IsOf file.now.state hand.new }
 {
     make_room(rt, file, hand)?;
     let left = hand.left();
-    assert!(rt; left >= 1);
-    let change = Change::of_call(&call).ok_or("a search")?;
-    let stamp = file.record_act(hand, change, reply);
-    assert_eq!(rt; hand.left(), left - 1);
-    Ok(stamp)
-}
-
-/// Joins two hands, where the memory may be refused once: then both are as they were.
-fn join(rt: &impl Abort, file: &Words, first: Hand, second: Hand) -> Result<Hand, Fail>
-    requires first { IsOf file.now first }
-    requires second { IsOf file.now second }
-    requires right { second.view.has_right ≡ false }
-    ensures { IfOk result (IsOf file.now) }
-{
-    let (left, right) = (first.left(), first.has_right());
-    let more = second.left();
-    match file.join_hands(first, second) {
-        Ok(hand) => Ok(hand),
-        Err(JoinFault { first, second }) => {
-            assert_eq!(rt; first.left(), left);
-            assert_eq!(rt; first.has_right(), right);
-            assert_eq!(rt; second.left(), more);
-            Ok(file.join_hands(first, second)?)
+    let reply = match call(rt, file, hand, change) {
+        Err(FileFault::Memory) => {
+            expect_eq!(rt; hand.left(), left);
+            call(rt, file, hand, change)?
         }
-    }
+        answer => answer?,
+    };
+    expect_eq!(rt; hand.left(), left.wrapping_sub(1));
+    Ok(reply)
 }
 
 /// The answers to two hands that ask for the right: the first, the second, and the first again, and once
 /// the first has dropped it, the second.
-fn rights(file: &Words, first: &mut Hand, second: &mut Hand) -> [Right; 4]
-    requires first { IsOf file.now first.old }
-    requires second { IsOf file.now second.old }
-    ensures first { IsOf file.now first.new }
-    ensures second { IsOf file.now second.new }
+fn rights(file: &HashFile<NoGate>, first: &mut Hand, second: &mut Hand) -> [Right; 4]
+    requires first { IsOf file.now.state first.old }
+    requires second { IsOf file.now.state second.old }
+    ensures first { IsOf file.now.state first.new }
+    ensures second { IsOf file.now.state second.new }
 {
     let got = file.try_split_right(first);
     let busy = file.try_split_right(second);
@@ -106,64 +103,78 @@ fn rights(file: &Words, first: &mut Hand, second: &mut Hand) -> [Right; 4]
 
 #[test]
 fn one_hand_at_a_time_has_the_right(rt: HostRuntime) -> Result<(), Fail> {
-    let (file, mut first) = file_of(rt.alloc(), 65536, true)?;
+    let (file, mut first) = file_of(rt.alloc(), 65536)?;
     let mut second = file.split_hand(&mut first, 10)?;
     let told = rights(&file, &mut first, &mut second);
     let got = Right::Got { old: 0, new: 1 };
     let busy = Right::Busy { seen: 3 };
-    assert_eq!(rt; told, [got, busy, busy, got]);
-    assert_eq!(rt; (first.has_right(), second.has_right()), (false, true));
+    expect_eq!(rt; told, [got, busy, busy, got]);
+    expect_eq!(rt; (first.has_right(), second.has_right()), (false, true));
     Ok(())
 }
 
 #[test]
 fn a_file_is_closed_with_the_right(rt: HostRuntime) -> Result<(), Fail> {
-    let (file, mut first) = file_of(rt.alloc(), 65536, true)?;
+    let (file, mut first) = file_of(rt.alloc(), 65536)?;
     let second = file.split_hand(&mut first, 10)?;
     file.try_split_right(&mut first);
-    let all = join(&rt, &file, first, second)?;
-    assert!(rt; all.has_right());
-    let (words, acts) = file.close(all);
-    let open = FileWords {
-        root: 3,
-        stamps: 0,
-        inserts: 0,
-        deletes: 0,
-    };
-    assert_eq!(rt; words, open);
-    assert_eq!(rt; acts.len(), 0);
+    let mut all = join_again(&file, first, second)?;
+    expect!(rt; all.has_right());
+    let load = file.load(&mut all);
+    expect_eq!(rt; (load.inserted, load.deleted), (0, 0));
+    let (closed, acts) = file.close(&rt, all)?;
+    expect_eq!(rt;
+        (closed.buckets(), closed.split_open(), closed.stamps()),
+        (1, true, 0)
+    );
+    expect_eq!(rt; acts.len(), 0);
     Ok(())
 }
 
 #[test]
 fn a_full_file_gives_no_right(rt: HostRuntime) -> Result<(), Fail> {
-    let (file, mut hand) = file_of(rt.alloc(), 1, true)?;
-    assert_eq!(rt; file.try_split_right(&mut hand), Right::Full);
-    assert!(rt; !hand.has_right());
-    assert_eq!(rt; file.buckets(&mut hand), 1);
+    let (file, mut hand) = file_of(rt.alloc(), 1)?;
+    expect_eq!(rt; file.try_split_right(&mut hand), Right::Full);
+    expect!(rt; !hand.has_right());
+    expect_eq!(rt; file.buckets(&mut hand), 1);
     Ok(())
 }
 
 /// Three splits of a file that began with one bucket.
+fn split_thrice<R: Wait + Abort>(
+    rt: &R,
+    file: &HashFile<NoGate>,
+    hand: &mut Hand,
+) -> Result<(), Fail>
+    requires { IsOf file.now.state hand.old }
+    ensures { IsOf file.now.state hand.new }
+{
+    for (old, new) in [(0, 1), (0, 2), (1, 3)] {
+        expect_eq!(rt; file.try_split_right(hand), Right::Got { old, new });
+        expect!(rt; hand.has_right());
+        file.split(rt, hand)?;
+        expect_eq!(rt; file.buckets(hand), new + 1);
+    }
+    Ok(())
+}
+
 #[test]
 fn the_pointer_goes_on(rt: HostRuntime) -> Result<(), Fail> {
-    let (file, mut hand) = file_of(rt.alloc(), 4, false)?;
-    for (old, new) in [(0, 1), (0, 2), (1, 3)] {
-        assert_eq!(rt; file.try_split_right(&mut hand), Right::Got { old, new });
-        assert!(rt; hand.has_right());
-        file.point(&mut hand);
-        assert_eq!(rt; file.buckets(&mut hand), new + 1);
-    }
-    assert_eq!(rt; file.try_split_right(&mut hand), Right::Full);
+    let (file, mut hand) = file_of(rt.alloc(), 4)?;
+    split_thrice(&rt, &file, &mut hand)?;
+    expect_eq!(rt; file.try_split_right(&mut hand), Right::Full);
     Ok(())
 }
 
 /// Divides a hand in three: gives 10 of its calls to a second, which is refused 11 for a third and then
 /// gives all its 10. Answers the refusal, how many calls the second had after it, and how many each has in
 /// the end.
-fn divided(file: &Words, first: &mut Hand) -> Result<(Option<FileFault>, u64, [u64; 3]), FileFault>
-    requires { IsOf file.now first.old }
-    ensures { IsOf file.now first.new }
+fn divided(
+    file: &HashFile<NoGate>,
+    first: &mut Hand,
+) -> Result<(Option<FileFault>, u64, [u64; 3]), FileFault>
+    requires { IsOf file.now.state first.old }
+    ensures { IsOf file.now.state first.new }
 {
     let mut second = file.split_hand(first, 10)?;
     let refused = file.split_hand(&mut second, 11).err();
@@ -174,35 +185,32 @@ fn divided(file: &Words, first: &mut Hand) -> Result<(Option<FileFault>, u64, [u
 
 #[test]
 fn a_hand_gives_no_more_than_it_has(rt: HostRuntime) -> Result<(), Fail> {
-    let (file, mut first) = file_of(rt.alloc(), 8, true)?;
+    let (file, mut first) = file_of(rt.alloc(), 8)?;
     let (refused, kept, left) = divided(&file, &mut first)?;
-    assert_eq!(rt; refused, Some(FileFault::Spent { left: 10 }));
-    assert_eq!(rt; (kept, left), (10, [(1 << 63) - 10, 0, 10]));
+    expect_eq!(rt; refused, Some(FileFault::Spent { left: 10 }));
+    expect_eq!(rt; (kept, left), (10, [(1 << 63) - 10, 0, 10]));
     Ok(())
 }
 
 /// What a second hand sees of what the first does: the size after a split, and an insert.
-fn seen_by_second(
-    rt: &impl Abort,
-    file: &Words,
+fn seen_by_second<R: Wait + Abort>(
+    rt: &R,
+    file: &HashFile<NoGate>,
     first: &mut Hand,
     second: &mut Hand,
 ) -> Result<(u32, Load), Fail>
-    requires first { IsOf file.now first.old }
-    requires second { IsOf file.now second.old }
+    requires first { IsOf file.now.state first.old }
+    requires second { IsOf file.now.state second.old }
 {
-    file.try_split_right(first);
-    if first.has_right() {
-        file.point(first);
-    }
+    split_once(rt, file, first);
     let size = file.buckets(second);
-    note(rt, file, first, insert(b"a")?, ChangeReply::Inserted)?;
+    note(rt, file, first, &insert(b"a")?)?;
     Ok((size, file.load(second)))
 }
 
 #[test]
 fn hands_see_what_others_did(rt: HostRuntime) -> Result<(), Fail> {
-    let (file, mut first) = file_of(rt.alloc(), 8, true)?;
+    let (file, mut first) = file_of(rt.alloc(), 8)?;
     let mut second = file.split_hand(&mut first, 10)?;
     let load = Load {
         opening: 0,
@@ -210,98 +218,116 @@ fn hands_see_what_others_did(rt: HostRuntime) -> Result<(), Fail> {
         deleted: 0,
     };
     let seen = seen_by_second(&rt, &file, &mut first, &mut second)?;
-    assert_eq!(rt; seen, (2, load));
+    expect_eq!(rt; seen, (2, load));
     Ok(())
+}
+
+/// The records of seven letters in five buckets of a file that began with three.
+fn seven_letters(alloc: Global) -> Result<Listing, Fail> {
+    let mut lists = Vec::new(alloc);
+    for letters in [b"ce".as_slice(), b"bd", b"g", b"f", b"a"] {
+        lists.push(records(alloc, letters)?)?;
+    }
+    Ok(Listing::new(alloc, Config::new(3, 14, 100, 65536)?, 5, lists)?)
 }
 
 #[test]
 fn a_file_opens_as_it_was(rt: HostRuntime) -> Result<(), Fail> {
-    let config = Config::new(3, 14, 100, 65536)?;
-    let (file, mut hand) = Words::open(rt.alloc(), config, 5, false, 7)?;
-    assert_eq!(rt; file.buckets(&mut hand), 5);
-    assert_eq!(rt; (hand.left(), hand.has_right()), (1 << 63, false));
+    let listing = seven_letters(rt.alloc())?;
+    let (file, mut hand) = HashFile::open_from(rt.alloc(), &listing, false, NoGate)?;
+    expect_eq!(rt; file.buckets(&mut hand), 5);
+    expect_eq!(rt; (hand.left(), hand.has_right()), (1 << 63, false));
     let load = Load {
         opening: 7,
         inserted: 0,
         deleted: 0,
     };
-    assert_eq!(rt; file.load(&mut hand), load);
-    assert_eq!(rt;
+    expect_eq!(rt; file.load(&mut hand), load);
+    expect_eq!(rt;
         file.try_split_right(&mut hand),
         Right::Got { old: 2, new: 5 }
     );
     Ok(())
 }
 
-/// The stamps of five acts of two hands, the second's first: a delete that misses, an insert, one that
+/// The replies to five calls of two hands, the second's first: a delete that misses, an insert, one that
 /// meets its key, a replace, and a delete.
-fn five_acts(
-    rt: &impl Abort,
-    file: &Words,
+fn five_acts<R: Wait + Abort>(
+    rt: &R,
+    file: &HashFile<NoGate>,
     first: &mut Hand,
     second: &mut Hand,
-) -> Result<[u64; 5], Fail>
-    requires first { IsOf file.now first.old }
-    requires second { IsOf file.now second.old }
-    ensures first { IsOf file.now first.new }
-    ensures second { IsOf file.now second.new }
+) -> Result<[Reply; 5], Fail>
+    requires first { IsOf file.now.state first.old }
+    requires second { IsOf file.now.state second.old }
+    ensures first { IsOf file.now.state first.new }
+    ensures second { IsOf file.now.state second.new }
 {
     let (a, gone) = (insert(b"a")?, delete(b"a")?);
-    let missed = note(rt, file, second, gone, ChangeReply::Absent)?;
-    let inserted = note(rt, file, first, a, ChangeReply::Inserted)?;
-    let met = note(rt, file, second, a, ChangeReply::Exists)?;
-    let replaced = note(rt, file, first, replace(b"a")?, ChangeReply::Replaced)?;
-    let deleted = note(rt, file, second, gone, ChangeReply::Deleted)?;
+    let missed = note(rt, file, second, &gone)?;
+    let inserted = note(rt, file, first, &a)?;
+    let met = note(rt, file, second, &a)?;
+    let replaced = note(rt, file, first, &replace(b"a")?)?;
+    let deleted = note(rt, file, second, &gone)?;
     Ok([missed, inserted, met, replaced, deleted])
 }
 
 /// Whether these are those acts, the first hand's before the second's.
-fn are_five_acts(acts: &[ActLine]) -> Result<bool, Fail> {
+fn are_five_acts(acts: &Acts) -> Result<bool, Fail> {
     let (a, gone) = (insert(b"a")?, delete(b"a")?);
     let kept = [
-        (1, a, Reply::Inserted),
-        (3, replace(b"a")?, Reply::Replaced),
-        (0, gone, Reply::Absent),
-        (2, a, Reply::Exists),
-        (4, gone, Reply::Deleted),
+        act(1, a, Reply::Inserted),
+        act(3, replace(b"a")?, Reply::Replaced),
+        act(0, gone, Reply::Absent),
+        act(2, a, Reply::Exists),
+        act(4, gone, Reply::Deleted),
     ];
-    Ok(
-        acts == kept
-            .map(|(stamp, call, reply)| ActLine { stamp, call, reply })
-            .as_slice(),
-    )
+    for (i, line) in kept.iter().enumerate() {
+        if i >= acts.len() || acts.at(i) != *line {
+            return Ok(false);
+        }
+    }
+    Ok(acts.len() == kept.len())
 }
 
 #[test]
 fn acts_are_counted_and_kept(rt: HostRuntime) -> Result<(), Fail> {
-    let (file, mut first) = file_of(rt.alloc(), 8, true)?;
+    let (file, mut first) = file_of(rt.alloc(), 8)?;
     let mut second = file.split_hand(&mut first, 10)?;
-    let stamps = five_acts(&rt, &file, &mut first, &mut second)?;
-    assert_eq!(rt; stamps, [0, 1, 2, 3, 4]);
-    assert!(rt; !second.has_right());
-    let all = join(&rt, &file, first, second)?;
-    assert_eq!(rt; all.left(), (1 << 63) - 5);
-    let (words, acts) = file.close(all);
-    let closed = FileWords {
-        root: 2,
-        stamps: 5,
-        inserts: 1,
-        deletes: 1,
-    };
-    assert_eq!(rt; words, closed);
-    assert!(rt; are_five_acts(&acts)?);
+    let replies = five_acts(&rt, &file, &mut first, &mut second)?;
+    let due = [
+        Reply::Absent,
+        Reply::Inserted,
+        Reply::Exists,
+        Reply::Replaced,
+        Reply::Deleted,
+    ];
+    expect_eq!(rt; replies, due);
+    expect!(rt; !second.has_right());
+    let mut all = join_again(&file, first, second)?;
+    expect_eq!(rt; all.left(), (1 << 63) - 5);
+    let load = file.load(&mut all);
+    expect_eq!(rt; (load.inserted, load.deleted), (1, 1));
+    let (closed, acts) = file.close(&rt, all)?;
+    expect_eq!(rt;
+        (closed.buckets(), closed.split_open(), closed.stamps()),
+        (1, false, 5)
+    );
+    expect!(rt; are_five_acts(&acts)?);
     Ok(())
 }
 
 #[test]
 fn acts_of_a_file_that_does_not_record_are_counted(rt: HostRuntime) -> Result<(), Fail> {
-    let (file, mut hand) = file_of(rt.alloc(), 8, false)?;
-    assert_eq!(rt;
-        note(&rt, &file, &mut hand, insert(b"a")?, ChangeReply::Inserted)?,
-        0
+    let (file, mut hand) = HashFile::new(rt.alloc(), Config::new(1, 14, 100, 8)?)?;
+    expect_eq!(rt;
+        note(&rt, &file, &mut hand, &insert(b"a")?)?,
+        Reply::Inserted
     );
-    let (words, acts) = file.close(hand);
-    assert_eq!(rt; (words.stamps, words.inserts, words.deletes), (1, 1, 0));
-    assert_eq!(rt; acts.len(), 0);
+    let load = file.load(&mut hand);
+    expect_eq!(rt; (load.inserted, load.deleted), (1, 0));
+    let (closed, acts) = file.close(&rt, hand)?;
+    expect_eq!(rt; closed.stamps(), 1);
+    expect_eq!(rt; acts.len(), 0);
     Ok(())
 }

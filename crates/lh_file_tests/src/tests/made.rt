@@ -1,12 +1,15 @@
 //! Files and hands of tests. Their contracts say no more than that a hand is one of its file, so that what
 //! uses them is quickly proved.
-ghost use Rattle.std.specs.Prelude.{IfOk, IfSome};
+ghost use Rattle.std.specs.Prelude.{◌≡◌, false, IfOk, IfErr, IfSome};
 ghost use Rattle.lh_file.specs.FileState.{IsOf};
 
 use lh_addr::Config;
-use lh_file::{Acts, Closed, FileBrand, Gate, Hand, HashFile, Memory, Mode, Right};
+use lh_file::{
+    Acts, Closed, FileBrand, Gate, Hand, HashFile, JoinFault, Memory, Mode, NoGate, Right,
+};
 use std::alloc::Global;
 use std::sync::Wait;
+use std::test::Fail;
 
 /// An empty file that records, with its first hand.
 pub(crate) fn made<G: Gate + Drop>(
@@ -17,6 +20,23 @@ pub(crate) fn made<G: Gate + Drop>(
     ensures { IfOk result (λ made. IsOf made.0.state made.1) }
 {
     HashFile::create(alloc, config, true, gate)
+}
+
+/// The same without a gate, asked for once more where memory was refused.
+pub(crate) fn made_again(alloc: Global, config: Config) -> Result<(HashFile<NoGate>, Hand), Memory>
+    ensures { IfOk result (λ made. IsOf made.0.state made.1) }
+{
+    match made(alloc, config, NoGate) {
+        Err(Memory) => made(alloc, config, NoGate),
+        answer => answer,
+    }
+}
+
+/// Such a file that begins with one bucket and may have `max`.
+pub(crate) fn file_of(alloc: Global, max: u32) -> Result<(HashFile<NoGate>, Hand), Fail>
+    ensures { IfOk result (λ made. IsOf made.0.state made.1) }
+{
+    Ok(made_again(alloc, Config::new(1, 14, 100, max)?)?)
 }
 
 /// A second hand, which may make this many of the calls of the first.
@@ -43,6 +63,29 @@ pub(crate) fn split_once<G: Gate, M: Mode, J: FileBrand, R: Wait>(
     false
 }
 
+/// One hand of two, asked for once more where memory was refused: both are as they were then.
+pub(crate) fn join_again<G: Gate>(
+    file: &HashFile<G>,
+    first: Hand,
+    second: Hand,
+) -> Result<Hand, JoinFault>
+    requires first { IsOf file.now.state first }
+    requires second { IsOf file.now.state second }
+    requires right { second.view.has_right ≡ false }
+    ensures ok { IfOk result (IsOf file.now.state) }
+    ensures fault { IfErr result (λ fault. IsOf file.now.state fault.first) }
+{
+    let before = (first.left(), first.has_right(), second.left());
+    let JoinFault { first, second } = match file.join_hands(first, second) {
+        Ok(hand) => return Ok(hand),
+        Err(fault) => fault,
+    };
+    if (first.left(), first.has_right(), second.left()) != before {
+        return Err(JoinFault { first, second });
+    }
+    file.join_hands(first, second)
+}
+
 /// One hand of two, unless the second has the right to split or there is no memory.
 pub(crate) fn joined<G: Gate>(file: &HashFile<G>, first: Hand, second: Hand) -> Option<Hand>
     requires first { IsOf file.now.state first }
@@ -52,7 +95,7 @@ pub(crate) fn joined<G: Gate>(file: &HashFile<G>, first: Hand, second: Hand) -> 
     if second.has_right() {
         return None;
     }
-    file.join_hands(first, second).ok()
+    join_again(file, first, second).ok()
 }
 
 /// The file closed, unless there is no memory.

@@ -4,6 +4,7 @@ use super::tasks::{Task, Told};
 use super::turns::{Ended, Turn, play_in_turn};
 use lh_addr::Config;
 use lh_bucket::Listing;
+use lh_expect::{expect, expect_eq};
 use lh_file::Right;
 use lh_page::{Key, Pair, Value};
 use std::alloc::Global;
@@ -11,7 +12,7 @@ use std::sync::Wait;
 use std::test::Fail;
 
 /// A record of each letter, in their order, with a 1 as its value.
-fn records(alloc: Global, letters: &[u8]) -> Result<Vec<Pair>, Fail> {
+pub(crate) fn records(alloc: Global, letters: &[u8]) -> Result<Vec<Pair>, Fail> {
     let mut pairs = Vec::new(alloc);
     for &letter in letters {
         pairs.push(Pair {
@@ -61,18 +62,18 @@ fn used<R: Wait>(rt: &R, alloc: Global) -> Result<Ended, Fail> {
 #[test]
 fn two_hands_use_an_opened_file(rt: HostRuntime) -> Result<(), Fail> {
     let ended = used(&rt, rt.alloc())?;
-    assert_eq!(rt; ended.wrong, None);
-    assert_eq!(rt; ended.settled, Ok(2));
-    assert_eq!(rt; ended.closed.records(), 7);
+    expect_eq!(rt; ended.wrong, None);
+    expect_eq!(rt; ended.settled, Ok(2));
+    expect_eq!(rt; ended.closed.records(), 7);
     Ok(())
 }
 
 #[test]
 fn an_opened_file_is_listed(rt: HostRuntime) -> Result<(), Fail> {
     let after = used(&rt, rt.alloc())?.closed.listing()?;
-    assert_eq!(rt; after.buckets(), 4);
-    assert!(rt; has_letters(&after, 0, b"ae") && has_letters(&after, 1, b"bf"));
-    assert!(rt; has_letters(&after, 2, b"cg") && has_letters(&after, 3, b"d"));
+    expect_eq!(rt; after.buckets(), 4);
+    expect!(rt; has_letters(&after, 0, b"ae") && has_letters(&after, 1, b"bf"));
+    expect!(rt; has_letters(&after, 2, b"cg") && has_letters(&after, 3, b"d"));
     Ok(())
 }
 
@@ -99,7 +100,7 @@ fn reopened<R: Wait>(rt: &R, alloc: Global, listing: &Listing) -> Result<Listing
 fn a_file_is_opened_with_a_long_chain(rt: HostRuntime) -> Result<(), Fail> {
     let listing = long_chain(rt.alloc(), 500)?;
     let after = reopened(&rt, rt.alloc(), &listing)?;
-    assert_eq!(rt; (after.buckets(), after.len()), (1, 500));
+    expect_eq!(rt; (after.buckets(), after.len()), (1, 500));
     Ok(())
 }
 
@@ -108,7 +109,7 @@ fn a_file_may_begin_with_256_buckets(rt: HostRuntime) -> Result<(), Fail> {
     let config = Config::new(256, 24, 10, 65536)?;
     let listing = Listing::empty(rt.alloc(), config)?;
     let after = reopened(&rt, rt.alloc(), &listing)?;
-    assert_eq!(rt;
+    expect_eq!(rt;
         (after.config(), after.buckets(), after.len()),
         (config, 256, 0)
     );
@@ -136,9 +137,9 @@ const IN_THE_GREATEST: [Turn; 5] = [
 fn a_file_of_the_greatest_size_is_served(rt: HostRuntime) -> Result<(), Fail> {
     let listing = greatest(rt.alloc())?;
     let ended = play_in_turn(&rt, rt.alloc(), &listing, &IN_THE_GREATEST).ok_or("no memory")?;
-    assert_eq!(rt; ended.wrong, None);
-    assert_eq!(rt; ended.settled, Ok(4));
-    assert_eq!(rt;
+    expect_eq!(rt; ended.wrong, None);
+    expect_eq!(rt; ended.settled, Ok(4));
+    expect_eq!(rt;
         (ended.closed.buckets(), ended.closed.records()),
         (65_536, 0)
     );

@@ -4,6 +4,7 @@ use super::tasks::{BUSY, FIRST_RIGHT, FOURTH_RIGHT, SECOND_RIGHT, THIRD_RIGHT, T
 use super::turns::{Turn, perform_in_turn, play_in_turn};
 use lh_addr::Config;
 use lh_bucket::Listing;
+use lh_expect::expect_eq;
 use lh_file::{FileFault, HashFile, NoGate, Right, SettleFault};
 use std::test::Fail;
 
@@ -59,9 +60,9 @@ const PAST_THE_LOAD: [Turn; 9] = [
 fn a_replace_asks_for_no_split(rt: HostRuntime) -> Result<(), Fail> {
     let listing = Listing::empty(rt.alloc(), Config::new(1, 1, 100, 65536)?)?;
     let ended = play_in_turn(&rt, rt.alloc(), &listing, &PAST_THE_LOAD).ok_or("no memory")?;
-    assert_eq!(rt; ended.wrong, None);
-    assert_eq!(rt; ended.closed.buckets(), 2);
-    assert_eq!(rt; ended.settled, Ok(5));
+    expect_eq!(rt; ended.wrong, None);
+    expect_eq!(rt; ended.closed.buckets(), 2);
+    expect_eq!(rt; ended.settled, Ok(5));
     Ok(())
 }
 
@@ -89,8 +90,8 @@ const ONE_SPLIT_AN_INSERT: [Turn; 15] = [
 fn an_insert_makes_one_split_at_most(rt: HostRuntime) -> Result<(), Fail> {
     let listing = Listing::empty(rt.alloc(), Config::new(1, 1, 100, 65536)?)?;
     let ended = play_in_turn(&rt, rt.alloc(), &listing, &ONE_SPLIT_AN_INSERT).ok_or("no memory")?;
-    assert_eq!(rt; ended.wrong, None);
-    assert_eq!(rt; ended.settled, Ok(8));
+    expect_eq!(rt; ended.wrong, None);
+    expect_eq!(rt; ended.settled, Ok(8));
     Ok(())
 }
 
@@ -111,8 +112,8 @@ const DELETED_IN_TURN: [Turn; 9] = [
 fn a_deleted_record_asks_for_no_split(rt: HostRuntime) -> Result<(), Fail> {
     let listing = Listing::empty(rt.alloc(), Config::new(1, 1, 100, 65536)?)?;
     let ended = play_in_turn(&rt, rt.alloc(), &listing, &DELETED_IN_TURN).ok_or("no memory")?;
-    assert_eq!(rt; ended.wrong, None);
-    assert_eq!(rt; ended.settled, Ok(6));
+    expect_eq!(rt; ended.wrong, None);
+    expect_eq!(rt; ended.settled, Ok(6));
     Ok(())
 }
 
@@ -159,8 +160,8 @@ fn a_hand_gives_no_more_calls_than_it_has(rt: HostRuntime) -> Result<(), Fail> {
     let (file, mut first) = HashFile::create(rt.alloc(), config, false, NoGate)?;
     let mut second = file.split_hand(&mut first, 10)?;
     let refused = file.split_hand(&mut second, 11).err();
-    assert_eq!(rt; refused, Some(FileFault::Spent { left: 10 }));
-    assert_eq!(rt; second.left(), 10);
+    expect_eq!(rt; refused, Some(FileFault::Spent { left: 10 }));
+    expect_eq!(rt; second.left(), 10);
     Ok(())
 }
 

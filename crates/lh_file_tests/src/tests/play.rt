@@ -7,6 +7,7 @@ use super::stage::{Hold, Log, Progress, Stage};
 use super::tasks::{OfFile, Task, Told, Worked, work};
 use lh_addr::Config;
 use lh_bucket::Listing;
+use lh_expect::{expect, expect_eq};
 use lh_file::{Acts, Closed, Gate, Hand, HashFile, Point, settle};
 use std::alloc::Global;
 use std::process::Abort;
@@ -186,7 +187,7 @@ pub(crate) fn perform<R: Threads + Wait + Sync + Abort>(
         buckets: scene.buckets,
         acts: Some(scene.acts),
     };
-    assert_eq!(rt; outcome, due);
-    assert!(rt; log.ends_with(scene.points));
+    expect_eq!(rt; outcome, due);
+    expect!(rt; log.ends_with(scene.points));
     Ok(())
 }

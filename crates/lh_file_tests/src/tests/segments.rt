@@ -7,6 +7,7 @@ use super::tasks::{FIRST_RIGHT, SECOND_RIGHT, THIRD_RIGHT, Task, Told};
 use super::turns::{Turn, perform_in_turn};
 use lh_addr::Config;
 use lh_bucket::Listing;
+use lh_expect::{expect, expect_eq};
 use lh_file::{Hand, HashFile, Memory, NoGate, Segment, parts};
 use std::alloc::Global;
 use std::sync::Wait;
@@ -39,7 +40,7 @@ fn a_segment_is_seen_once_a_split_has_made_it(rt: HostRuntime) -> Result<(), Fai
     let config = Config::new(1, 14, 100, 65536)?;
     let (file, mut hand) = made(rt.alloc(), config, NoGate)?;
     let seen = sights(&rt, &file, &mut hand).ok_or("a split failed")?;
-    assert_eq!(rt; seen, [false, false, true, true]);
+    expect_eq!(rt; seen, [false, false, true, true]);
     Ok(())
 }
 
@@ -68,7 +69,7 @@ fn seen_twice<'a, R: Wait>(
 fn a_segment_stays_the_same(rt: HostRuntime) -> Result<(), Fail> {
     let config = Config::new(1, 14, 100, 65536)?;
     let (file, mut hand) = made(rt.alloc(), config, NoGate)?;
-    assert!(rt; seen_twice(&rt, &file, &mut hand).is_some());
+    expect!(rt; seen_twice(&rt, &file, &mut hand).is_some());
     Ok(())
 }
 
@@ -94,7 +95,7 @@ fn an_opened_file_has_the_segments_of_its_buckets(rt: HostRuntime) -> Result<(),
     let listing = three_buckets(rt.alloc())?;
     let (file, mut hand) = opened(rt.alloc(), &listing)?;
     let seen = sights(&rt, &file, &mut hand).ok_or("a split failed")?;
-    assert_eq!(rt; seen, [true, true, true, true]);
+    expect_eq!(rt; seen, [true, true, true, true]);
     Ok(())
 }
 

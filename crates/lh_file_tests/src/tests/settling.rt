@@ -2,6 +2,7 @@
 
 use lh_addr::Config;
 use lh_bucket::{Call, Listing, Reply};
+use lh_expect::{expect, expect_eq};
 use lh_file::{ActLine, Acts, Closed, History, SettleFault, settle};
 use lh_page::{Key, Pair, Value};
 use std::alloc::Global;
@@ -136,9 +137,9 @@ fn is_insert(line: &ActLine, stamp: usize) -> Result<bool, Fail> {
 #[test]
 fn acts_are_settled_in_the_order_of_their_stamps(rt: HostRuntime) -> Result<(), Fail> {
     let history = history_of(rt.alloc(), 6, &[AE, BD, C, &[]], &[3, 0, 4, 2, 1])?;
-    assert_eq!(rt; history.len(), 5);
+    expect_eq!(rt; history.len(), 5);
     for stamp in 0..history.len() {
-        assert!(rt; is_insert(&history.at(stamp), stamp)?);
+        expect!(rt; is_insert(&history.at(stamp), stamp)?);
     }
     Ok(())
 }
@@ -146,8 +147,8 @@ fn acts_are_settled_in_the_order_of_their_stamps(rt: HostRuntime) -> Result<(), 
 #[test]
 fn acts_stand_as_they_were_kept(rt: HostRuntime) -> Result<(), Fail> {
     let acts = inserts(rt.alloc(), &[3, 0, 4, 2, 1])?;
-    assert_eq!(rt; acts.len(), 5);
-    assert!(rt; acts.len() > 0 && is_insert(&acts.at(0), 3)?);
+    expect_eq!(rt; acts.len(), 5);
+    expect!(rt; acts.len() > 0 && is_insert(&acts.at(0), 3)?);
     Ok(())
 }
 
@@ -182,7 +183,7 @@ const ORDERS: [[u64; 4]; 24] = [
 fn every_order_of_acts_is_settled(rt: HostRuntime) -> Result<(), Fail> {
     for order in &ORDERS {
         let history = history_of(rt.alloc(), 6, &[&[(b'a', b'a')], BD, C], order)?;
-        assert_eq!(rt; history.len(), 4);
+        expect_eq!(rt; history.len(), 4);
     }
     Ok(())
 }
@@ -227,15 +228,15 @@ fn a_history_begins_with_the_opening(rt: HostRuntime) -> Result<(), Fail> {
         given,
         due,
     };
-    assert_eq!(rt;
+    expect_eq!(rt;
         mixed_settled(alloc, &[(b'a', b'1')], &[(b'a', b'4')])?,
         Ok(8)
     );
-    assert_eq!(rt;
+    expect_eq!(rt;
         mixed_settled(alloc, &[(b'a', b'1')], &[(b'a', b'1')])?,
         Err(stray)
     );
-    assert_eq!(rt; mixed_settled(alloc, &[], &[(b'a', b'4')])?, Err(wrong));
+    expect_eq!(rt; mixed_settled(alloc, &[], &[(b'a', b'4')])?, Err(wrong));
     Ok(())
 }
 
@@ -244,11 +245,11 @@ fn a_history_begins_with_the_opening(rt: HostRuntime) -> Result<(), Fail> {
 fn records_are_compared_with_what_replaces_left(rt: HostRuntime) -> Result<(), Fail> {
     let alloc = rt.alloc();
     let opened: &[(u8, u8)] = &[(b'a', b'1')];
-    assert_eq!(rt;
+    expect_eq!(rt;
         mixed_settled(alloc, opened, &[(b'a', b'2')])?,
         Err(SettleFault::Content(key(b'a')?))
     );
-    assert_eq!(rt;
+    expect_eq!(rt;
         mixed_settled(alloc, opened, &[(b'a', b'4'), (b'b', b'5')])?,
         Err(SettleFault::Content(key(b'b')?))
     );

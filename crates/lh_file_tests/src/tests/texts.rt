@@ -1,6 +1,7 @@
 //! The texts of faults.
 
-use super::hands::file_of;
+use super::made::file_of;
+use lh_expect::{expect, expect_eq};
 use lh_file::{FileFault, JoinFault, Memory};
 use std::alloc::AllocError;
 use std::fmt::Display;
@@ -27,28 +28,28 @@ fn prints_faults(rt: HostRuntime) -> Result<(), Fail> {
         found_bucket: 3,
         found_level: None,
     };
-    assert!(rt; prints(&rt, &defect, "bucket 3 at level 2 is not there")?);
-    assert!(rt; prints(&rt, &FileFault::Spent { left: 10 }, "10 calls left")?);
-    assert!(rt; prints(&rt, &FileFault::from(Memory), "no memory")?);
+    expect!(rt; prints(&rt, &defect, "bucket 3 at level 2 is not there")?);
+    expect!(rt; prints(&rt, &FileFault::Spent { left: 10 }, "10 calls left")?);
+    expect!(rt; prints(&rt, &FileFault::from(Memory), "no memory")?);
     Ok(())
 }
 
 #[test]
 fn prints_a_hand(rt: HostRuntime) -> Result<(), Fail> {
-    let (file, mut first) = file_of(rt.alloc(), 8, true)?;
+    let (file, mut first) = file_of(rt.alloc(), 8)?;
     let second = file.split_hand(&mut first, 10)?;
     let text = match format!(in rt.alloc(); "{second:?}") {
         Ok(text) => text,
         Err(AllocError) => format!(in rt.alloc(); "{second:?}")?,
     };
-    assert_eq!(rt; text.as_str(), "Hand(10 left)");
+    expect_eq!(rt; text.as_str(), "Hand(10 left)");
     Ok(())
 }
 
 #[test]
 fn prints_faults_of_joins(rt: HostRuntime) -> Result<(), Fail> {
-    let (file, mut first) = file_of(rt.alloc(), 8, true)?;
+    let (file, mut first) = file_of(rt.alloc(), 8)?;
     let second = file.split_hand(&mut first, 10)?;
-    assert!(rt; prints(&rt, &JoinFault { first, second }, "no memory")?);
+    expect!(rt; prints(&rt, &JoinFault { first, second }, "no memory")?);
     Ok(())
 }

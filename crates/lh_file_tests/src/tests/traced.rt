@@ -7,6 +7,7 @@ use super::made::{made, split_once};
 use super::stage::{Log, Progress, Stage};
 use lh_addr::Config;
 use lh_bucket::{Listing, Reply};
+use lh_expect::{expect, expect_eq};
 use lh_file::{FileBrand, Gate, Hand, HashFile, Mode, Opening, Point};
 use lh_page::{Key, Value};
 use std::marker::Brand;
@@ -136,8 +137,8 @@ fn calls_of_an_untraced_file_pass_these_points(rt: HostRuntime) -> Result<(), Fa
         log: &log,
     };
     let (file, hand) = made(rt.alloc(), Config::new(1, 2, 100, 65536)?, gate)?;
-    assert_eq!(rt; told(&rt, &file, hand), Some(due()?));
-    assert!(rt; log.is_just(&POINTS));
+    expect_eq!(rt; told(&rt, &file, hand), Some(due()?));
+    expect!(rt; log.is_just(&POINTS));
     Ok(())
 }
 
@@ -152,6 +153,6 @@ fn calls_of_a_traced_file_pass_the_same_points(rt: HostRuntime) -> Result<(), Fa
     let listing = Listing::empty(rt.alloc(), Config::new(1, 2, 100, 65536)?)?;
     let opening = Opening::of(rt.alloc(), &listing, true, gate)?;
     assert_eq!(rt; told_of::<Brand, _>(&rt, opening), Some(due()?));
-    assert!(rt; log.is_just(&POINTS));
+    expect!(rt; log.is_just(&POINTS));
     Ok(())
 }

@@ -7,6 +7,7 @@ use super::stage::Progress;
 use super::tasks::{Task, Told, one};
 use lh_addr::Config;
 use lh_bucket::Listing;
+use lh_expect::expect_eq;
 use lh_file::{Acts, Closed, Gate, Hand, HashFile, NoGate, SettleFault, settle};
 use std::alloc::Global;
 use std::process::Abort;
@@ -110,7 +111,7 @@ pub(crate) fn perform_in_turn<R: Wait + Abort>(
 ) -> Result<(), Fail> {
     let listing = Listing::empty(alloc, Config::new(1, 14, 100, max)?)?;
     let ended = play_in_turn(rt, alloc, &listing, turns).ok_or("no memory")?;
-    assert_eq!(rt; ended.wrong, None);
-    assert_eq!(rt; ended.settled, settled);
+    expect_eq!(rt; ended.wrong, None);
+    expect_eq!(rt; ended.settled, settled);
     Ok(())
 }

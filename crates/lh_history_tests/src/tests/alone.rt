@@ -6,6 +6,7 @@ ghost use Rattle.lh_file.specs.FileState.{IsOf};
 use super::ended::{Ended, File, close};
 use lh_addr::Config;
 use lh_bucket::{Listing, Reply};
+use lh_expect::{expect, expect_eq};
 use lh_file::{FileBrand, Hand, HashFile, NoGate, Opening};
 use lh_page::{Key, Value};
 use std::alloc::Global;
@@ -62,7 +63,7 @@ fn a_traced_file_closes_with_its_history(rt: HostRuntime) -> Result<(), Fail> {
         records: 50,
         settled: Some(150),
     };
-    assert_eq!(rt; ended, due);
+    expect_eq!(rt; ended, due);
     Ok(())
 }
 
@@ -79,7 +80,7 @@ fn a_traced_file_need_not_record(rt: HostRuntime) -> Result<(), Fail> {
         records: 50,
         settled: None,
     };
-    assert_eq!(rt; ended, due);
+    expect_eq!(rt; ended, due);
     Ok(())
 }
 
@@ -135,7 +136,7 @@ fn a_traced_file_tells_what_is_missing(rt: HostRuntime) -> Result<(), Fail> {
         records: 1,
         settled: None,
     };
-    assert_eq!(rt; ended, due);
+    expect_eq!(rt; ended, due);
     Ok(())
 }
 
@@ -144,7 +145,7 @@ fn an_untraced_file_is_not_gathered(rt: HostRuntime) -> Result<(), Fail> {
     let config = Config::new(1, 2, 100, 65536)?;
     let (file, hand) = HashFile::create(rt.alloc(), config, true, NoGate)?;
     let (closed, _) = file.close(&rt, hand)?;
-    assert!(rt; !closed.gathered());
+    expect!(rt; !closed.gathered());
     Ok(())
 }
 
@@ -157,6 +158,6 @@ fn an_opening_may_be_left(rt: HostRuntime) -> Result<(), Fail> {
     drop(opening);
     let (file, hand) = HashFile::open_from(alloc, &listing, true, NoGate)?;
     let (closed, _) = file.close(&rt, hand)?;
-    assert_eq!(rt; (closed.buckets(), closed.records()), (1, 0));
+    expect_eq!(rt; (closed.buckets(), closed.records()), (1, 0));
     Ok(())
 }

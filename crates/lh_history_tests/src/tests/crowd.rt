@@ -7,6 +7,7 @@ ghost use Rattle.lh_history_tests.specs.Crowds.{IsFree};
 use super::ended::{Ended, File, close};
 use lh_addr::Config;
 use lh_bucket::{Call, Listing};
+use lh_expect::{expect, expect_eq};
 use lh_file::{FileBrand, Gate, Hand, Opening, Point, Right};
 use lh_page::{Key, Value};
 use std::alloc::Global;
@@ -214,8 +215,8 @@ fn eight_threads_leave_one_history_a_hundred_times(rt: HostRuntime) -> Result<()
             records: ended.records,
             settled: Some(16_000),
         };
-        assert_eq!(rt; ended, due);
-        assert!(rt; ended.records <= 50);
+        expect_eq!(rt; ended, due);
+        expect!(rt; ended.records <= 50);
     }
     Ok(())
 }

@@ -6,6 +6,7 @@ ghost use Rattle.lh_file.specs.FileState.{IsOf};
 use super::ended::{Ended, File, close};
 use lh_addr::Config;
 use lh_bucket::{Listing, Reply};
+use lh_expect::expect_eq;
 use lh_file::{FileBrand, FileFault, Hand, NoGate, Opening};
 use lh_page::{Key, Value};
 use std::alloc::Global;
@@ -115,7 +116,7 @@ fn refused_growth_of_a_traced_file_is_told(rt: HostRuntime) -> Result<(), Fail> 
         settled: Some(10),
     };
     match made {
-        Outcome::Closed(ended) => assert_eq!(rt; ended, due),
+        Outcome::Closed(ended) => expect_eq!(rt; ended, due),
         Outcome::Gone => return Err(Fail::from("refused twice")),
         Outcome::Wrong => return Err(Fail::from("a call went wrong")),
     }

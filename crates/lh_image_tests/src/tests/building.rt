@@ -2,6 +2,7 @@
 use crate::tests::streams::reader_of;
 use lh_addr::{Config, Root, fnv1a};
 use lh_bucket::Listing;
+use lh_expect::{expect, expect_eq};
 use lh_image::*;
 use lh_page::{Key, Pair, Value};
 use std::alloc::Global;
@@ -187,12 +188,12 @@ pub(crate) fn shown(alloc: Global, listing: &Listing, bucket: u32) -> Result<Vec
 
 /// Two listings are the same.
 pub(crate) fn expect_same(rt: &impl Abort, found: &Listing, wanted: &Listing) {
-    assert_eq!(rt; found.config(), wanted.config());
-    assert!(rt; found.buckets() == wanted.buckets());
+    expect_eq!(rt; found.config(), wanted.config());
+    expect!(rt; found.buckets() == wanted.buckets());
     for bucket in 0..wanted.buckets() {
-        assert!(rt; found.len_of(bucket) == wanted.len_of(bucket));
+        expect!(rt; found.len_of(bucket) == wanted.len_of(bucket));
         for place in 0..wanted.len_of(bucket) {
-            assert_eq!(rt; found.pair_at(bucket, place), wanted.pair_at(bucket, place));
+            expect_eq!(rt; found.pair_at(bucket, place), wanted.pair_at(bucket, place));
         }
     }
 }

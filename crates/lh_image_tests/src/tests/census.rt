@@ -2,6 +2,7 @@
 use crate::tests::building::{empty_image, three_buckets_image, two_pages_image};
 use crate::tests::pages::{VERSION_1, falling_chain};
 use crate::tests::streams::reader_of;
+use lh_expect::expect;
 use lh_image::*;
 use std::alloc::Global;
 use std::process::Abort;
@@ -22,7 +23,7 @@ pub(crate) fn expect_census(rt: &impl Abort, alloc: Global, bytes: &[u8], wanted
             found = check_image(alloc, &mut reader_of(bytes, most));
         }
         assert_eq!(rt; found, Ok(wanted), "{most}");
-        assert!(rt; reader.longest <= page);
+        expect!(rt; reader.longest <= page);
     }
 }
 

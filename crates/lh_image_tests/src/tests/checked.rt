@@ -7,6 +7,7 @@ use crate::tests::pages::{VERSION_1, VERSION_2, falling_chain, four_pages, set, 
 use crate::tests::streams::Sink;
 use crate::tests::version_2::{three_buckets_image_2, two_pages_image_2};
 use lh_bucket::Listing;
+use lh_expect::{expect, expect_eq};
 use lh_image::*;
 use lh_page::{Key, Value};
 use std::alloc::{AllocGlobal, Global};
@@ -26,12 +27,12 @@ fn checked(alloc: Global, bytes: &[u8]) -> Result<CheckedImage<'_>, ImageFault> 
 /// The key has this value, copied and lent.
 fn expect_value(rt: &impl Abort, image: &CheckedImage<'_>, key: &Key, value: &[u8]) {
     match image.find(key) {
-        Some(found) => assert_eq!(rt; found.bytes(), value),
-        None => assert!(rt; false),
+        Some(found) => expect_eq!(rt; found.bytes(), value),
+        None => expect!(rt; false),
     }
     match image.find_bytes(key) {
-        Some(found) => assert_eq!(rt; found, value),
-        None => assert!(rt; false),
+        Some(found) => expect_eq!(rt; found, value),
+        None => expect!(rt; false),
     }
 }
 
@@ -43,10 +44,10 @@ fn expect_listing(
     absent: &[&[u8]],
 ) -> Result<(), Fail> {
     let image = checked(rt.alloc(), bytes)?;
-    assert_eq!(rt; image.config(), listing.config());
-    assert!(rt; image.buckets() == listing.buckets());
-    assert!(rt; image.len() == listing.len());
-    assert!(rt; image.is_empty() == (listing.len() == 0));
+    expect_eq!(rt; image.config(), listing.config());
+    expect!(rt; image.buckets() == listing.buckets());
+    expect!(rt; image.len() == listing.len());
+    expect!(rt; image.is_empty() == (listing.len() == 0));
     for bucket in 0..listing.buckets() {
         for place in 0..listing.len_of(bucket) {
             let pair = listing.pair_at(bucket, place);
@@ -55,8 +56,8 @@ fn expect_listing(
     }
     for key in absent {
         let key = Key::new(*key)?;
-        assert_eq!(rt; image.find(&key), None);
-        assert!(rt; image.find_bytes(&key).is_none());
+        expect_eq!(rt; image.find(&key), None);
+        expect!(rt; image.find_bytes(&key).is_none());
     }
     Ok(())
 }
@@ -68,10 +69,10 @@ fn expect_both(
     absent: &[&[u8]],
 ) -> Result<(), Fail> {
     let mut sink = Sink::new(rt.alloc(), usize::MAX, 0);
-    assert_eq!(rt; write_image(listing, &mut sink), Ok(()));
+    expect_eq!(rt; write_image(listing, &mut sink), Ok(()));
     expect_listing(rt, sink.bytes.as_slice(), listing, absent)?;
     let mut sink = Sink::new(rt.alloc(), usize::MAX, 0);
-    assert_eq!(rt; write_image_v1(listing, &mut sink), Ok(()));
+    expect_eq!(rt; write_image_v1(listing, &mut sink), Ok(()));
     expect_listing(rt, sink.bytes.as_slice(), listing, absent)
 }
 
@@ -117,7 +118,7 @@ fn longest_records(rt: HostRuntime) -> Result<(), Fail> {
     records.push(pair(&[7; 55], &[])?)?;
     let listing = listing_of(alloc, [1, 24, 100, 1], 1, &records)?;
     let mut sink = Sink::new(alloc, usize::MAX, 0);
-    assert_eq!(rt; write_image(&listing, &mut sink), Ok(()));
+    expect_eq!(rt; write_image(&listing, &mut sink), Ok(()));
     let absent = [[7; 54].as_slice(), &last, &[8; 56]];
     expect_listing(&rt, sink.bytes.as_slice(), &listing, &absent)
 }
@@ -129,12 +130,12 @@ fn falling_chains(rt: HostRuntime) -> Result<(), Fail> {
     let image = checked(rt.alloc(), &bytes)?;
     for page in 1..=30_u32 {
         let found = image.find(&Key::new(&page.to_be_bytes())?);
-        assert_eq!(rt; found, Some(Value::empty()));
+        expect_eq!(rt; found, Some(Value::empty()));
     }
-    assert_eq!(rt; image.find(&Key::new(b"\0\0\0\x1f")?), None);
+    expect_eq!(rt; image.find(&Key::new(b"\0\0\0\x1f")?), None);
     let bytes = four_pages(rt.alloc(), &VERSION_1)?;
     let image = checked(rt.alloc(), &bytes)?;
-    assert_eq!(rt; image.find(&Key::new(b"g")?), Some(Value::new(b"7")?));
+    expect_eq!(rt; image.find(&Key::new(b"g")?), Some(Value::new(b"7")?));
     Ok(())
 }
 
@@ -203,14 +204,14 @@ fn faults_that_no_look_up_meets(rt: HostRuntime) -> Result<(), Fail> {
     let mut bytes = two_pages_image_2(rt.alloc())?;
     set(&mut bytes, 8193, 0);
     let found = Image::open(&bytes)?.find(&Key::new(b"a")?);
-    assert_eq!(rt; found, Ok(Some(Value::new(b"1")?)));
-    assert_eq!(rt;
+    expect_eq!(rt; found, Ok(Some(Value::new(b"1")?)));
+    expect_eq!(rt;
         checked(rt.alloc(), &bytes).err(),
         Some(ImageFault::Used(0))
     );
     let mut bytes = three_buckets_image(rt.alloc())?;
     set(&mut bytes, 4095, 1);
-    assert_eq!(rt;
+    expect_eq!(rt;
         checked(rt.alloc(), &bytes).err(),
         Some(ImageFault::Slot(3))
     );

@@ -2,6 +2,7 @@
 use crate::tests::building::{read_again, three_buckets_image, two_pages_image};
 use crate::tests::pages::{VERSION_1, falling_chain, four_pages, set, two_buckets};
 use crate::tests::streams::reader_of;
+use lh_expect::expect_eq;
 use lh_image::*;
 use std::alloc::Global;
 use std::process::Abort;
@@ -66,8 +67,8 @@ fn beginnings(rt: HostRuntime) -> Result<(), Fail> {
     bytes.push(0)?;
     let mut reader = reader_of(&bytes, 4095);
     let fault = read_image(alloc, &mut reader).err();
-    assert_eq!(rt; fault, Some(ImageFault::Trailing));
-    assert_eq!(rt; reader.bytes.len(), 1);
+    expect_eq!(rt; fault, Some(ImageFault::Trailing));
+    expect_eq!(rt; reader.bytes.len(), 1);
     Ok(())
 }
 
@@ -147,7 +148,7 @@ fn page_faults(rt: HostRuntime) -> Result<(), Fail> {
 #[test]
 fn chain_faults(rt: HostRuntime) -> Result<(), Fail> {
     let bytes = two_pages_image(rt.alloc())?;
-    assert_eq!(rt; bytes.len(), 3072);
+    expect_eq!(rt; bytes.len(), 3072);
     expect_faults(
         &rt,
         rt.alloc(),

@@ -3,6 +3,7 @@ use crate::tests::faults::{expect_fault, expect_faults, fault_of};
 use crate::tests::pages::{VERSION_2, falling_chain, four_pages, set, two_buckets};
 use crate::tests::streams::reader_of;
 use crate::tests::version_2::{three_buckets_image_2, two_pages_image_2};
+use lh_expect::expect_eq;
 use lh_image::*;
 use std::test::Fail;
 
@@ -29,8 +30,8 @@ fn beginnings(rt: HostRuntime) -> Result<(), Fail> {
     bytes.push(0)?;
     let mut reader = reader_of(&bytes, usize::MAX);
     let fault = read_image(alloc, &mut reader).err();
-    assert_eq!(rt; fault, Some(ImageFault::Trailing));
-    assert_eq!(rt; reader.bytes.len(), 1);
+    expect_eq!(rt; fault, Some(ImageFault::Trailing));
+    expect_eq!(rt; reader.bytes.len(), 1);
     Ok(())
 }
 
@@ -73,7 +74,7 @@ fn header_faults(rt: HostRuntime) -> Result<(), Fail> {
     )?;
     // a page may have room for more records than in version 1
     set(&mut bytes, 8, 24);
-    assert_eq!(rt; fault_of(rt.alloc(), &bytes), None);
+    expect_eq!(rt; fault_of(rt.alloc(), &bytes), None);
     let mut alone = Vec::new(rt.alloc());
     alone.extend_from_slice(&bytes[..4096.min(bytes.len())])?;
     let changes = [(24, 255), (25, 255), (26, 255), (27, 255)];

@@ -6,6 +6,7 @@ use crate::tests::pages::set;
 use crate::tests::streams::reader_of;
 use crate::tests::version_2::{three_buckets_image_2, two_pages_image_2};
 use lh_bucket::Listing;
+use lh_expect::expect_eq;
 use lh_image::*;
 use std::alloc::{AllocGlobal, Global};
 use std::process::Abort;
@@ -26,7 +27,7 @@ fn expect_left(
         let mut reader = reader_of(&bytes, most);
         let listing = read_leading_image(alloc, &mut reader)?;
         expect_same(rt, &listing, wanted);
-        assert_eq!(rt; reader.bytes, behind);
+        expect_eq!(rt; reader.bytes, behind);
     }
     Ok(())
 }
@@ -155,8 +156,8 @@ fn reads_no_more_than_the_image(rt: HostRuntime) -> Result<(), Fail> {
         reader.fails_at = fails_at;
         let fault = read_leading_image(rt.alloc(), &mut reader).err();
         let due = (fails_at < 4).then_some(ImageFault::ReadFault);
-        assert_eq!(rt; fault, due);
-        assert_eq!(rt; reader.reads, 4.min(fails_at + 1));
+        expect_eq!(rt; fault, due);
+        expect_eq!(rt; reader.reads, 4.min(fails_at + 1));
     }
     Ok(())
 }

@@ -7,6 +7,7 @@ use crate::tests::pages::{VERSION_1, VERSION_2, falling_chain, set, two_buckets}
 use crate::tests::streams::Sink;
 use crate::tests::version_2::{three_buckets_image_2, two_pages_image_2};
 use lh_bucket::Listing;
+use lh_expect::{expect, expect_eq};
 use lh_image::*;
 use lh_page::{Key, Value};
 use std::alloc::{AllocGlobal, Global};
@@ -25,12 +26,12 @@ fn look(bytes: &[u8], key: &[u8]) -> Result<Result<Option<Value>, ImageFault>, F
 /// The key has this value in the bytes, copied and lent.
 fn expect_value(rt: &impl Abort, image: &Image<'_>, key: &Key, value: &[u8]) {
     match image.find(key) {
-        Ok(Some(found)) => assert_eq!(rt; found.bytes(), value),
-        _ => assert!(rt; false),
+        Ok(Some(found)) => expect_eq!(rt; found.bytes(), value),
+        _ => expect!(rt; false),
     }
     match image.find_bytes(key) {
-        Ok(Some(found)) => assert_eq!(rt; found, value),
-        _ => assert!(rt; false),
+        Ok(Some(found)) => expect_eq!(rt; found, value),
+        _ => expect!(rt; false),
     }
 }
 
@@ -44,11 +45,11 @@ fn expect_listing(
     absent: &[&[u8]],
 ) -> Result<(), Fail> {
     let image = Image::open(bytes).ok().ok_or("open")?;
-    assert_eq!(rt; image.version(), version);
-    assert_eq!(rt; image.config(), listing.config());
-    assert!(rt; image.buckets() == listing.buckets());
-    assert!(rt; image.len() == listing.len());
-    assert!(rt; image.is_empty() == (listing.len() == 0));
+    expect_eq!(rt; image.version(), version);
+    expect_eq!(rt; image.config(), listing.config());
+    expect!(rt; image.buckets() == listing.buckets());
+    expect!(rt; image.len() == listing.len());
+    expect!(rt; image.is_empty() == (listing.len() == 0));
     for bucket in 0..listing.buckets() {
         for place in 0..listing.len_of(bucket) {
             let pair = listing.pair_at(bucket, place);
@@ -57,8 +58,8 @@ fn expect_listing(
     }
     for key in absent {
         let key = Key::new(*key)?;
-        assert_eq!(rt; image.find(&key), Ok(None));
-        assert!(rt; matches!(image.find_bytes(&key), Ok(None)));
+        expect_eq!(rt; image.find(&key), Ok(None));
+        expect!(rt; matches!(image.find_bytes(&key), Ok(None)));
     }
     Ok(())
 }
@@ -70,10 +71,10 @@ fn expect_both(
     absent: &[&[u8]],
 ) -> Result<(), Fail> {
     let mut sink = Sink::new(rt.alloc(), usize::MAX, 0);
-    assert_eq!(rt; write_image(listing, &mut sink), Ok(()));
+    expect_eq!(rt; write_image(listing, &mut sink), Ok(()));
     expect_listing(rt, sink.bytes.as_slice(), listing, Version::Two, absent)?;
     let mut sink = Sink::new(rt.alloc(), usize::MAX, 0);
-    assert_eq!(rt; write_image_v1(listing, &mut sink), Ok(()));
+    expect_eq!(rt; write_image_v1(listing, &mut sink), Ok(()));
     expect_listing(rt, sink.bytes.as_slice(), listing, Version::One, absent)
 }
 
@@ -126,7 +127,7 @@ fn longest_records(rt: HostRuntime) -> Result<(), Fail> {
     records.push(pair(&[7; 55], &[])?)?;
     let listing = listing_of(alloc, [1, 24, 100, 1], 1, &records)?;
     let mut sink = Sink::new(alloc, usize::MAX, 0);
-    assert_eq!(rt; write_image(&listing, &mut sink), Ok(()));
+    expect_eq!(rt; write_image(&listing, &mut sink), Ok(()));
     let bytes = sink.bytes.as_slice();
     expect_listing(&rt, bytes, &listing, Version::Two, &[&[7; 54], &[8; 56]])
 }
@@ -144,9 +145,9 @@ fn expect_rows(
         }
         let found = look(&bytes, *key)?;
         match *want {
-            Ok(Some(value)) => assert_eq!(rt; found, Ok(Some(Value::new(value)?))),
-            Ok(None) => assert_eq!(rt; found, Ok(None)),
-            Err(fault) => assert_eq!(rt; found, Err(fault)),
+            Ok(Some(value)) => expect_eq!(rt; found, Ok(Some(Value::new(value)?))),
+            Ok(None) => expect_eq!(rt; found, Ok(None)),
+            Err(fault) => expect_eq!(rt; found, Err(fault)),
         }
     }
     Ok(())
@@ -262,11 +263,11 @@ fn forged_chains(rt: HostRuntime) -> Result<(), Fail> {
 fn falling_chains(rt: HostRuntime) -> Result<(), Fail> {
     let mut bytes = falling_chain(rt.alloc(), &VERSION_2, 30)?;
     let last = Ok(Some(Value::empty()));
-    assert_eq!(rt; look(&bytes, b"\0\0\0\x02")?, last);
-    assert_eq!(rt; look(&bytes, b"\0\0\0\x1f")?, Ok(None));
+    expect_eq!(rt; look(&bytes, b"\0\0\0\x02")?, last);
+    expect_eq!(rt; look(&bytes, b"\0\0\0\x1f")?, Ok(None));
     set(&mut bytes, 2 * 4096 + 8, 30);
-    assert_eq!(rt; look(&bytes, b"\0\0\0\x02")?, last);
-    assert_eq!(rt; look(&bytes, b"\0\0\0\x1f")?, Err(ImageFault::Twice(29)));
+    expect_eq!(rt; look(&bytes, b"\0\0\0\x02")?, last);
+    expect_eq!(rt; look(&bytes, b"\0\0\0\x1f")?, Err(ImageFault::Twice(29)));
     Ok(())
 }
 
@@ -281,9 +282,9 @@ fn expect_lengths(rt: &impl Abort, bytes: &mut Vec<u8>, page: usize) -> Result<(
         let cut = &bytes[..count.min(bytes.len())];
         assert_eq!(rt; Image::open(cut).err(), Some(want), "{count}");
     }
-    assert!(rt; Image::open(bytes).is_ok());
+    expect!(rt; Image::open(bytes).is_ok());
     bytes.push(0)?;
-    assert_eq!(rt; Image::open(bytes).err(), Some(ImageFault::Trailing));
+    expect_eq!(rt; Image::open(bytes).err(), Some(ImageFault::Trailing));
     Ok(())
 }
 

@@ -4,6 +4,7 @@ use crate::tests::building::{THREE_BUCKETS, TWO_PAGES, put_all, read_again};
 use crate::tests::census::expect_census;
 use crate::tests::streams::reader_of;
 use crate::tests::version_2::THREE_BUCKETS_2;
+use lh_expect::{expect, expect_eq};
 use lh_image::*;
 use std::alloc::Global;
 use std::io::{self, Write};
@@ -16,12 +17,12 @@ fn expect(rt: &impl Abort, alloc: Global, bytes: &[u8], wanted: Option<ImageFaul
     if told == Some(ImageFault::Memory) {
         told = read_image(alloc, &mut reader_of(bytes, 1024)).err();
     }
-    assert_eq!(rt; told, wanted);
+    expect_eq!(rt; told, wanted);
     let mut told = read_leading_image(alloc, &mut reader_of(bytes, 1024)).err();
     if told == Some(ImageFault::Memory) {
         told = read_leading_image(alloc, &mut reader_of(bytes, 1024)).err();
     }
-    assert_eq!(rt; told, wanted);
+    expect_eq!(rt; told, wanted);
 }
 
 /// A sound image, and one whose only fault is the last of the table, so that all memory is asked for.
@@ -62,9 +63,9 @@ fn expect_checked(rt: &impl Abort, alloc: Global, bytes: &[u8], wanted: Option<I
             if told == Some(ImageFault::Memory) {
                 told = image.check(alloc).err();
             }
-            assert_eq!(rt; told, wanted);
+            expect_eq!(rt; told, wanted);
         }
-        Err(_) => assert!(rt; false),
+        Err(_) => expect!(rt; false),
     }
 }
 
@@ -129,10 +130,10 @@ fn refused_growth_stops_no_writing(rt: HostRuntime) {
         is_same: true,
     };
     match read_again(rt.alloc(), &bytes) {
-        Ok(listing) => assert_eq!(rt; write_image_v1(&listing, &mut due), Ok(())),
+        Ok(listing) => expect_eq!(rt; write_image_v1(&listing, &mut due), Ok(())),
         Err(fault) => panic!(rt; "{fault}"),
     }
-    assert!(rt; due.is_same && due.bytes.is_empty());
+    expect!(rt; due.is_same && due.bytes.is_empty());
 }
 
 /// The same of version 2.
@@ -145,8 +146,8 @@ fn refused_growth_stops_no_writing_of_version_2(rt: HostRuntime) {
         is_same: true,
     };
     match read_again(rt.alloc(), &bytes) {
-        Ok(listing) => assert_eq!(rt; write_image(&listing, &mut due), Ok(())),
+        Ok(listing) => expect_eq!(rt; write_image(&listing, &mut due), Ok(())),
         Err(fault) => panic!(rt; "{fault}"),
     }
-    assert!(rt; due.is_same && due.bytes.is_empty());
+    expect!(rt; due.is_same && due.bytes.is_empty());
 }

@@ -2,6 +2,7 @@
 use crate::tests::building::{expect_same, listing_of, pair, read_again};
 use crate::tests::streams::Sink;
 use lh_bucket::Listing;
+use lh_expect::expect_eq;
 use lh_image::*;
 use std::alloc::{AllocGlobal, Global};
 use std::process::Abort;
@@ -14,9 +15,9 @@ fn expect_refused(
     wanted: WriteImageFault,
 ) -> Result<(), Fail> {
     let mut sink = Sink::new(rt.alloc(), usize::MAX, 0);
-    assert_eq!(rt; write_image_v1(listing, &mut sink), Err(wanted));
-    assert_eq!(rt; sink.calls, 0);
-    assert_eq!(rt; write_image(listing, &mut sink), Ok(()));
+    expect_eq!(rt; write_image_v1(listing, &mut sink), Err(wanted));
+    expect_eq!(rt; sink.calls, 0);
+    expect_eq!(rt; write_image(listing, &mut sink), Ok(()));
     expect_same(rt, &read_again(rt.alloc(), &sink.bytes)?, listing);
     Ok(())
 }
@@ -93,8 +94,8 @@ fn the_longest_old_record(rt: HostRuntime) -> Result<(), Fail> {
     let alloc = rt.alloc();
     let listing = one_bucket(alloc, &[(30, 40)])?;
     let mut sink = Sink::new(alloc, usize::MAX, 0);
-    assert_eq!(rt; write_image_v1(&listing, &mut sink), Ok(()));
-    assert_eq!(rt; sink.bytes.len(), 2048);
+    expect_eq!(rt; write_image_v1(&listing, &mut sink), Ok(()));
+    expect_eq!(rt; sink.bytes.len(), 2048);
     expect_same(&rt, &read_again(alloc, &sink.bytes)?, &listing);
     Ok(())
 }
@@ -102,26 +103,26 @@ fn the_longest_old_record(rt: HostRuntime) -> Result<(), Fail> {
 #[test]
 fn refusals_are_printed(rt: HostRuntime) -> Result<(), Fail> {
     let capacity = format!(in rt.alloc(); "{}", WriteImageFault::OldCapacity)?;
-    assert_eq!(rt; capacity.as_str(), "image V1");
+    expect_eq!(rt; capacity.as_str(), "image V1");
     let fault = WriteImageFault::OldRecord {
         bucket: 65_535,
         place: 12,
     };
     let record = format!(in rt.alloc(); "{fault}")?;
-    assert_eq!(rt; record.as_str(), "image V2 at bucket 65535 place 12");
+    expect_eq!(rt; record.as_str(), "image V2 at bucket 65535 place 12");
     for (fault, text) in [
         (WriteImageFault::WriteFault, "write failed"),
         (WriteImageFault::Memory, "no memory"),
     ] {
         let told = format!(in rt.alloc(); "{fault}")?;
-        assert_eq!(rt; told.as_str(), text);
+        expect_eq!(rt; told.as_str(), text);
     }
     for (fault, text) in [
         (ImageFault::ReadFault, "read failed"),
         (ImageFault::Memory, "no memory"),
     ] {
         let told = format!(in rt.alloc(); "{fault}")?;
-        assert_eq!(rt; told.as_str(), text);
+        expect_eq!(rt; told.as_str(), text);
     }
     Ok(())
 }

@@ -6,6 +6,7 @@ use crate::tests::building::{
 use crate::tests::pages::{VERSION_1, falling_chain, set, two_buckets_exchanged};
 use crate::tests::streams::reader_of;
 use lh_bucket::Listing;
+use lh_expect::{expect, expect_eq};
 use lh_image::*;
 use lh_page::Key;
 use std::alloc::Global;
@@ -18,8 +19,8 @@ fn reads_as(rt: &impl Abort, alloc: Global, bytes: &[u8], wanted: &Listing) -> R
         let mut reader = reader_of(bytes, most);
         let listing = read_image(alloc, &mut reader)?;
         expect_same(rt, &listing, wanted);
-        assert!(rt; reader.bytes.is_empty());
-        assert!(rt; reader.longest <= 1024);
+        expect!(rt; reader.bytes.is_empty());
+        expect!(rt; reader.longest <= 1024);
     }
     Ok(())
 }
@@ -41,13 +42,13 @@ fn reads_through_any_reader(rt: HostRuntime) -> Result<(), Fail> {
 fn reads_records_by_bucket(rt: HostRuntime) -> Result<(), Fail> {
     let alloc = rt.alloc();
     let listing = read_again(alloc, &three_buckets_image(alloc)?)?;
-    assert_eq!(rt; listing.buckets(), 3);
-    assert_eq!(rt; listing.config().capacity(), 2);
-    assert_eq!(rt; listing.config().load(), 100);
-    assert_eq!(rt; listing.config().max(), 65536);
-    assert!(rt; *shown(alloc, &listing, 0)?.as_slice() == *b"a1e5".as_slice());
-    assert!(rt; *shown(alloc, &listing, 1)?.as_slice() == *b"b2d4".as_slice());
-    assert!(rt; *shown(alloc, &listing, 2)?.as_slice() == *b"c3".as_slice());
+    expect_eq!(rt; listing.buckets(), 3);
+    expect_eq!(rt; listing.config().capacity(), 2);
+    expect_eq!(rt; listing.config().load(), 100);
+    expect_eq!(rt; listing.config().max(), 65536);
+    expect!(rt; *shown(alloc, &listing, 0)?.as_slice() == *b"a1e5".as_slice());
+    expect!(rt; *shown(alloc, &listing, 1)?.as_slice() == *b"b2d4".as_slice());
+    expect!(rt; *shown(alloc, &listing, 2)?.as_slice() == *b"c3".as_slice());
     Ok(())
 }
 
@@ -59,8 +60,8 @@ fn a_failed_read_is_never_tried_again(rt: HostRuntime) -> Result<(), Fail> {
         reader.fails_at = fails_at;
         let fault = read_image(rt.alloc(), &mut reader).err();
         let due = (fails_at < 5).then_some(ImageFault::ReadFault);
-        assert_eq!(rt; fault, due);
-        assert_eq!(rt; reader.reads, 5.min(fails_at + 1));
+        expect_eq!(rt; fault, due);
+        expect_eq!(rt; reader.reads, 5.min(fails_at + 1));
     }
     Ok(())
 }
@@ -84,8 +85,8 @@ fn faults_of_the_header_come_before_a_failed_read(rt: HostRuntime) -> Result<(),
             } else {
                 want
             };
-            assert_eq!(rt; fault, Some(due));
-            assert_eq!(rt; reader.reads, 1);
+            expect_eq!(rt; fault, Some(due));
+            expect_eq!(rt; reader.reads, 1);
         }
     }
     Ok(())
@@ -95,21 +96,21 @@ fn faults_of_the_header_come_before_a_failed_read(rt: HostRuntime) -> Result<(),
 fn overflow_pages_in_any_order(rt: HostRuntime) -> Result<(), Fail> {
     let alloc = rt.alloc();
     let listing = read_again(alloc, &two_buckets_exchanged(alloc, &VERSION_1)?)?;
-    assert!(rt; *shown(alloc, &listing, 0)?.as_slice() == *b"a1c3".as_slice());
-    assert!(rt; *shown(alloc, &listing, 1)?.as_slice() == *b"b2d4".as_slice());
+    expect!(rt; *shown(alloc, &listing, 0)?.as_slice() == *b"a1c3".as_slice());
+    expect!(rt; *shown(alloc, &listing, 1)?.as_slice() == *b"b2d4".as_slice());
     Ok(())
 }
 
 #[test]
 fn long_chain(rt: HostRuntime) -> Result<(), Fail> {
     let listing = read_again(rt.alloc(), &falling_chain(rt.alloc(), &VERSION_1, 300)?)?;
-    assert!(rt; listing.buckets() == 1);
-    assert!(rt; listing.len_of(0) == 300);
-    assert_eq!(rt;
+    expect!(rt; listing.buckets() == 1);
+    expect!(rt; listing.len_of(0) == 300);
+    expect_eq!(rt;
         listing.pair_at(0, 1).key,
         Key::new(&300_u32.to_be_bytes())?
     );
-    assert_eq!(rt;
+    expect_eq!(rt;
         listing.pair_at(0, 299).key,
         Key::new(&2_u32.to_be_bytes())?
     );

@@ -5,6 +5,7 @@ use crate::tests::building::{
 use crate::tests::pages::{VERSION_1, VERSION_2, two_buckets, two_buckets_exchanged};
 use crate::tests::streams::Sink;
 use lh_bucket::Listing;
+use lh_expect::{expect, expect_eq};
 use lh_image::*;
 use std::alloc::Global;
 use std::process::Abort;
@@ -24,7 +25,7 @@ fn written(rt: &impl Abort, alloc: Global, version: u32, listing: &Listing) -> V
     let mut sink = Sink::new(alloc, usize::MAX, 0);
     if send(version, listing, &mut sink).is_err() {
         sink = Sink::new(alloc, usize::MAX, 0);
-        assert_eq!(rt; send(version, listing, &mut sink), Ok(()));
+        expect_eq!(rt; send(version, listing, &mut sink), Ok(()));
     }
     sink.bytes
 }
@@ -34,7 +35,7 @@ fn reads_back(rt: &impl Abort, alloc: Global, listing: &Listing) -> Result<(), F
     for version in 1..=2 {
         let image = written(rt, alloc, version, listing);
         expect_same(rt, &read_again(alloc, &image)?, listing);
-        assert!(rt; version == 1 || image_len(listing) == Ok(image.len() as u64));
+        expect!(rt; version == 1 || image_len(listing) == Ok(image.len() as u64));
     }
     Ok(())
 }
@@ -60,7 +61,7 @@ fn large_files_read_back(rt: HostRuntime) -> Result<(), Fail> {
         ([3, 14, 90, 24], 24),
     ] {
         let listing = listing_of(alloc, settings, buckets, &records)?;
-        assert_eq!(rt; listing.len(), 300);
+        expect_eq!(rt; listing.len(), 300);
         reads_back(&rt, alloc, &listing)?;
     }
     Ok(())
@@ -72,7 +73,7 @@ fn exchanged_pages_are_written_in_order(rt: HostRuntime) -> Result<(), Fail> {
     for (version, shape) in [(1, VERSION_1), (2, VERSION_2)] {
         let listing = read_again(alloc, &two_buckets_exchanged(alloc, &shape)?)?;
         let image = written(&rt, alloc, version, &listing);
-        assert_eq!(rt; image.as_slice(), two_buckets(alloc, &shape)?.as_slice());
+        expect_eq!(rt; image.as_slice(), two_buckets(alloc, &shape)?.as_slice());
     }
     Ok(())
 }
@@ -84,8 +85,8 @@ fn versions_are_exchanged(rt: HostRuntime) -> Result<(), Fail> {
     let old = two_buckets(alloc, &VERSION_1)?;
     let new = two_buckets(alloc, &VERSION_2)?;
     let from_old = written(&rt, alloc, 2, &read_again(alloc, &old)?);
-    assert_eq!(rt; from_old.as_slice(), new.as_slice());
+    expect_eq!(rt; from_old.as_slice(), new.as_slice());
     let from_new = written(&rt, alloc, 1, &read_again(alloc, &new)?);
-    assert_eq!(rt; from_new.as_slice(), old.as_slice());
+    expect_eq!(rt; from_new.as_slice(), old.as_slice());
     Ok(())
 }

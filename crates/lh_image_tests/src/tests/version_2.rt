@@ -7,6 +7,7 @@ use crate::tests::census::expect_census;
 use crate::tests::pages::{VERSION_2, falling_chain, set, two_buckets_exchanged};
 use crate::tests::streams::{Sink, reader_of};
 use lh_bucket::Listing;
+use lh_expect::{expect, expect_eq};
 use lh_image::*;
 use std::alloc::{AllocGlobal, Global};
 use std::process::Abort;
@@ -79,9 +80,9 @@ fn is_written_as(
 ) -> Result<(), Fail> {
     for at_once in [usize::MAX, 1, 7, 4096] {
         let mut sink = Sink::new(rt.alloc(), at_once, 0);
-        assert_eq!(rt; write_image(listing, &mut sink), Ok(()));
-        assert_eq!(rt; sink.bytes.as_slice(), image);
-        assert!(rt; sink.longest <= 4096);
+        expect_eq!(rt; write_image(listing, &mut sink), Ok(()));
+        expect_eq!(rt; sink.bytes.as_slice(), image);
+        expect!(rt; sink.longest <= 4096);
     }
     Ok(())
 }
@@ -97,9 +98,9 @@ fn worked_listings_are_these_bytes(rt: HostRuntime) -> Result<(), Fail> {
 #[test]
 fn overflow_pages_stand_by_bucket_and_place(rt: HostRuntime) -> Result<(), Fail> {
     let mut sink = Sink::new(rt.alloc(), usize::MAX, 0);
-    assert_eq!(rt; write_image(&six_pages(rt.alloc())?, &mut sink), Ok(()));
+    expect_eq!(rt; write_image(&six_pages(rt.alloc())?, &mut sink), Ok(()));
     let image = sink.bytes.as_slice();
-    assert_eq!(rt; image.len(), 7 * 4096);
+    expect_eq!(rt; image.len(), 7 * 4096);
     // kind, used, level, reserved, bucket, next
     let heads: [&[u8]; 6] = [
         b"\x01\x01\x02\0\0\0\0\0\x04\0\0\0",
@@ -111,7 +112,7 @@ fn overflow_pages_stand_by_bucket_and_place(rt: HostRuntime) -> Result<(), Fail>
     ];
     for (place, head) in heads.iter().enumerate() {
         let start = 4096 + 4096 * place;
-        assert_eq!(rt; image.get(start..start + 12), Some(*head));
+        expect_eq!(rt; image.get(start..start + 12), Some(*head));
     }
     Ok(())
 }
@@ -124,13 +125,13 @@ fn the_largest_page_is_written(rt: HostRuntime) -> Result<(), Fail> {
     records.push(pair(&[b'k'; 56], &[b'v'; 112])?)?;
     let listing = listing_of(alloc, [1, 24, 100, 1], 1, &records)?;
     let mut sink = Sink::new(alloc, usize::MAX, 0);
-    assert_eq!(rt; write_image(&listing, &mut sink), Ok(()));
+    expect_eq!(rt; write_image(&listing, &mut sink), Ok(()));
     let image = sink.bytes.as_slice();
-    assert_eq!(rt; image.len(), 2 * 4096);
-    assert_eq!(rt; image.get(4096..4098), Some(b"\x01\x18".as_slice()));
-    assert_eq!(rt; image.get(8022..8025), Some(b"\x38\x70k".as_slice()));
-    assert_eq!(rt; image.get(8079..8081), Some(b"kv".as_slice()));
-    assert_eq!(rt; image.get(8191), Some(&b'v'));
+    expect_eq!(rt; image.len(), 2 * 4096);
+    expect_eq!(rt; image.get(4096..4098), Some(b"\x01\x18".as_slice()));
+    expect_eq!(rt; image.get(8022..8025), Some(b"\x38\x70k".as_slice()));
+    expect_eq!(rt; image.get(8079..8081), Some(b"kv".as_slice()));
+    expect_eq!(rt; image.get(8191), Some(&b'v'));
     expect_same(&rt, &read_again(alloc, image)?, &listing);
     Ok(())
 }
@@ -141,15 +142,15 @@ fn a_write_or_flush_that_fails_is_told(rt: HostRuntime) -> Result<(), Fail> {
     // Six writes of 2,048 bytes, then the flush.
     for failing in 1..8_usize {
         let mut sink = Sink::new(rt.alloc(), 2048, failing);
-        assert_eq!(rt;
+        expect_eq!(rt;
             write_image(&listing, &mut sink),
             Err(WriteImageFault::WriteFault)
         );
-        assert_eq!(rt; sink.calls, failing);
-        assert_eq!(rt; sink.bytes.len(), 2048 * (failing - 1));
+        expect_eq!(rt; sink.calls, failing);
+        expect_eq!(rt; sink.bytes.len(), 2048 * (failing - 1));
     }
     let mut sink = Sink::new(rt.alloc(), 2048, 8);
-    assert_eq!(rt; write_image(&listing, &mut sink), Ok(()));
+    expect_eq!(rt; write_image(&listing, &mut sink), Ok(()));
     Ok(())
 }
 
@@ -161,8 +162,8 @@ fn reads_through_any_reader(rt: HostRuntime) -> Result<(), Fail> {
         let mut reader = reader_of(&bytes, most);
         let listing = read_image(alloc, &mut reader)?;
         expect_same(&rt, &listing, &three_buckets(alloc)?);
-        assert!(rt; reader.bytes.is_empty());
-        assert!(rt; reader.longest <= 4096);
+        expect!(rt; reader.bytes.is_empty());
+        expect!(rt; reader.longest <= 4096);
     }
     Ok(())
 }
@@ -191,8 +192,8 @@ fn a_failed_read_is_never_tried_again(rt: HostRuntime) -> Result<(), Fail> {
         reader.fails_at = fails_at;
         let fault = read_image(rt.alloc(), &mut reader).err();
         let due = (fails_at < 6).then_some(ImageFault::ReadFault);
-        assert_eq!(rt; fault, due);
-        assert_eq!(rt; reader.reads, 6.min(fails_at + 1));
+        expect_eq!(rt; fault, due);
+        expect_eq!(rt; reader.reads, 6.min(fails_at + 1));
     }
     Ok(())
 }
@@ -215,8 +216,8 @@ fn faults_of_the_header_come_before_a_failed_read(rt: HostRuntime) -> Result<(),
             } else {
                 want
             };
-            assert_eq!(rt; fault, Some(due));
-            assert_eq!(rt; reader.reads, 2.min(fails_at + 1));
+            expect_eq!(rt; fault, Some(due));
+            expect_eq!(rt; reader.reads, 2.min(fails_at + 1));
         }
     }
     Ok(())
@@ -228,12 +229,12 @@ fn no_image_is_read_further(rt: HostRuntime) -> Result<(), Fail> {
     let mut bytes = three_buckets_image_2(rt.alloc())?;
     set(&mut bytes, 3, b'3');
     let mut reader = reader_of(&bytes, 4096);
-    assert_eq!(rt;
+    expect_eq!(rt;
         read_image(rt.alloc(), &mut reader).err(),
         Some(ImageFault::Magic)
     );
-    assert_eq!(rt; reader.reads, 1);
-    assert_eq!(rt; reader.bytes.len(), 15_360);
+    expect_eq!(rt; reader.reads, 1);
+    expect_eq!(rt; reader.bytes.len(), 15_360);
     Ok(())
 }
 

@@ -4,6 +4,7 @@ use crate::tests::building::{
 };
 use crate::tests::streams::Sink;
 use lh_bucket::Listing;
+use lh_expect::{expect, expect_eq};
 use lh_image::*;
 use std::alloc::AllocGlobal;
 use std::process::Abort;
@@ -17,9 +18,9 @@ fn is_written_as(
 ) -> Result<(), Fail> {
     for at_once in [usize::MAX, 1, 7, 1024] {
         let mut sink = Sink::new(rt.alloc(), at_once, 0);
-        assert_eq!(rt; write_image_v1(listing, &mut sink), Ok(()));
-        assert_eq!(rt; sink.bytes.as_slice(), image);
-        assert!(rt; sink.longest <= 1024);
+        expect_eq!(rt; write_image_v1(listing, &mut sink), Ok(()));
+        expect_eq!(rt; sink.bytes.as_slice(), image);
+        expect!(rt; sink.longest <= 1024);
     }
     Ok(())
 }
@@ -47,9 +48,9 @@ fn overflow_pages_stand_by_bucket_and_place(rt: HostRuntime) -> Result<(), Fail>
     let alloc = rt.alloc();
     let listing = six_pages(alloc)?;
     let mut sink = Sink::new(alloc, usize::MAX, 0);
-    assert_eq!(rt; write_image_v1(&listing, &mut sink), Ok(()));
+    expect_eq!(rt; write_image_v1(&listing, &mut sink), Ok(()));
     let image = sink.bytes.as_slice();
-    assert_eq!(rt; image.len(), 7 * 1024);
+    expect_eq!(rt; image.len(), 7 * 1024);
     // kind, used, level, reserved, bucket, next
     let heads: [&[u8]; 6] = [
         b"\x01\x01\x02\0\0\0\0\0\x04\0\0\0",
@@ -61,7 +62,7 @@ fn overflow_pages_stand_by_bucket_and_place(rt: HostRuntime) -> Result<(), Fail>
     ];
     for (place, head) in heads.iter().enumerate() {
         let start = 1024 + 1024 * place;
-        assert_eq!(rt; image.get(start..start + 12), Some(*head));
+        expect_eq!(rt; image.get(start..start + 12), Some(*head));
     }
     Ok(())
 }
@@ -74,18 +75,18 @@ fn a_write_or_flush_that_fails_is_told(rt: HostRuntime) -> Result<(), Fail> {
     // Six writes of 512 bytes, then the flush.
     for failing in 1..8_usize {
         let mut sink = Sink::new(alloc, 512, failing);
-        assert_eq!(rt;
+        expect_eq!(rt;
             write_image_v1(&listing, &mut sink),
             Err(WriteImageFault::WriteFault)
         );
-        assert_eq!(rt; sink.calls, failing);
-        assert_eq!(rt;
+        expect_eq!(rt; sink.calls, failing);
+        expect_eq!(rt;
             image.as_slice().get(..512 * (failing - 1)),
             Some(sink.bytes.as_slice())
         );
     }
     let mut sink = Sink::new(alloc, 512, 8);
-    assert_eq!(rt; write_image_v1(&listing, &mut sink), Ok(()));
+    expect_eq!(rt; write_image_v1(&listing, &mut sink), Ok(()));
     Ok(())
 }
 
@@ -93,10 +94,10 @@ fn a_write_or_flush_that_fails_is_told(rt: HostRuntime) -> Result<(), Fail> {
 fn a_writer_that_takes_nothing_fails(rt: HostRuntime) -> Result<(), Fail> {
     let listing = two_pages(rt.alloc())?;
     let mut sink = Sink::new(rt.alloc(), 0, 0);
-    assert_eq!(rt;
+    expect_eq!(rt;
         write_image_v1(&listing, &mut sink),
         Err(WriteImageFault::WriteFault)
     );
-    assert_eq!(rt; sink.calls, 1);
+    expect_eq!(rt; sink.calls, 1);
     Ok(())
 }

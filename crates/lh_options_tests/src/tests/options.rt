@@ -1,5 +1,6 @@
 //! Requests of words that are written out.
 use lh_addr::Config;
+use lh_expect::{expect, expect_eq};
 use lh_options::{ImageVersion, Request, request_of};
 use std::alloc::AllocError;
 use std::process::Abort;
@@ -42,7 +43,7 @@ fn answer(rt: &(impl Abort + AllocGlobal), words: &[&str]) -> Result<String, All
             format!(in alloc; "apply, {version}")
         }
         Request::Help(text) => {
-            assert!(rt;
+            expect!(rt;
                 text.as_str().starts_with("Usage: lhash")
                     || text.as_str().contains("\nUsage: lhash")
             );
@@ -334,7 +335,7 @@ fn gives(
     expected: &str,
 ) -> Result<(), AllocError> {
     let given = answer(rt, words)?;
-    assert_eq!(rt; given.as_str(), expected);
+    expect_eq!(rt; given.as_str(), expected);
     Ok(())
 }
 
@@ -517,18 +518,18 @@ fn subcommands_and_help(rt: HostRuntime) -> Result<(), AllocError> {
     expect(&rt, ["--help"].as_slice(), "help")?;
     expect(&rt, ["-h"].as_slice(), "help")?;
     let help = answer(&rt, ["lhash", "--help"].as_slice())?;
-    assert_eq!(rt; help.as_str(), "help");
+    expect_eq!(rt; help.as_str(), "help");
     let help = answer(&rt, ["lhash", "help"].as_slice())?;
-    assert_eq!(rt; help.as_str(), "help");
+    expect_eq!(rt; help.as_str(), "help");
     let help = answer(&rt, ["lhash", "help", "commands"].as_slice())?;
-    assert_eq!(rt; help.as_str(), "help");
+    expect_eq!(rt; help.as_str(), "help");
     let none = answer(&rt, ["lhash"].as_slice())?;
-    assert_eq!(rt;
+    expect_eq!(rt;
         none.as_str(),
         "refused: 'lhash' requires a subcommand but one was not provided; for more information, try '--help'"
     );
     let unknown = answer(&rt, ["lhash", "bogus"].as_slice())?;
-    assert_eq!(rt;
+    expect_eq!(rt;
         unknown.as_str(),
         "refused: unrecognized subcommand 'bogus'"
     );
@@ -547,7 +548,7 @@ fn told(rt: &impl AllocGlobal, words: &[&str]) -> Result<String, AllocError> {
 fn the_version_has_two_words(rt: HostRuntime) -> Result<(), AllocError> {
     for word in ["--version", "-V"] {
         let text = told(&rt, ["lhash", word].as_slice())?;
-        assert_eq!(rt; text.as_str(), "lhash 0.1.0\n");
+        expect_eq!(rt; text.as_str(), "lhash 0.1.0\n");
     }
     Ok(())
 }

@@ -1,5 +1,6 @@
 //! Chains of records.
 use crate::tests::records::pair_of;
+use lh_expect::{expect, expect_eq};
 use lh_page::{Chain, Key, KeyLength, KeySet, Memory, Pair, Value, ValueLength, pages_needed};
 use std::process::Abort;
 use std::test::Fail;
@@ -7,15 +8,15 @@ use std::test::Fail;
 /// Pushes a new record, and once more where memory was refused: the chain is as it was then.
 fn add(rt: &impl Abort, chain: &mut Chain, key: &[u8], value: &[u8]) -> Result<(), Fail> {
     let pair = pair_of(key, value)?;
-    assert_eq!(rt; chain.find(&pair.key), None);
+    expect_eq!(rt; chain.find(&pair.key), None);
     let before = chain.len();
     if chain.push(pair).is_err() {
-        assert_eq!(rt; chain.len(), before);
-        assert_eq!(rt; chain.find(&pair.key), None);
+        expect_eq!(rt; chain.len(), before);
+        expect_eq!(rt; chain.find(&pair.key), None);
         chain.push(pair)?;
     }
-    assert_eq!(rt; chain.len(), before + 1);
-    assert_eq!(rt; chain.find(&pair.key), Some(before));
+    expect_eq!(rt; chain.len(), before + 1);
+    expect_eq!(rt; chain.find(&pair.key), Some(before));
     Ok(())
 }
 
@@ -25,16 +26,16 @@ fn delete(rt: &impl Abort, chain: &mut Chain, key: &[u8]) -> Result<Pair, Fail> 
         return Err(Fail::from("no record has the key"));
     };
     let removed = chain.remove(place);
-    assert_eq!(rt; chain.find(&key), None);
+    expect_eq!(rt; chain.find(&key), None);
     Ok(removed)
 }
 
 /// The first bytes of the chain's keys are these, in their order.
 fn expect_keys(rt: &impl Abort, chain: &Chain, keys: &[u8]) {
-    assert_eq!(rt; chain.len(), keys.len());
+    expect_eq!(rt; chain.len(), keys.len());
     for (place, key) in keys.iter().enumerate() {
-        assert!(rt; place < chain.len());
-        assert_eq!(rt; chain.pair_at(place).key.bytes().first(), Some(key));
+        expect!(rt; place < chain.len());
+        expect_eq!(rt; chain.pair_at(place).key.bytes().first(), Some(key));
     }
 }
 
@@ -62,13 +63,13 @@ pub fn record_of(letter: u8) -> Result<Pair, Fail> {
 
 /// The chain has the records of these letters in their order.
 pub fn expect_records(rt: &impl Abort, chain: &Chain, letters: &[u8]) -> Result<(), Fail> {
-    assert_eq!(rt; chain.len(), letters.len());
+    expect_eq!(rt; chain.len(), letters.len());
     for (place, letter) in letters.iter().enumerate() {
         let pair = record_of(*letter)?;
-        assert!(rt; place < chain.len());
-        assert_eq!(rt; chain.pair_at(place), pair);
-        assert_eq!(rt; chain.value_at(place), pair.value);
-        assert_eq!(rt; chain.find(&pair.key), Some(place));
+        expect!(rt; place < chain.len());
+        expect_eq!(rt; chain.pair_at(place), pair);
+        expect_eq!(rt; chain.value_at(place), pair.value);
+        expect_eq!(rt; chain.find(&pair.key), Some(place));
     }
     Ok(())
 }
@@ -98,19 +99,19 @@ impl KeySet for Early {
 #[test]
 fn a_delete_moves_the_last_record(rt: HostRuntime) -> Result<(), Fail> {
     let mut chain = Chain::new(rt.alloc(), 2)?;
-    assert_eq!(rt; chain.pages(), 1);
+    expect_eq!(rt; chain.pages(), 1);
     for key in [b"a", b"c", b"e", b"g"] {
         add(&rt, &mut chain, key, b"1")?;
     }
     expect_keys(&rt, &chain, b"aceg");
-    assert_eq!(rt; chain.pages(), 2);
-    assert_eq!(rt; delete(&rt, &mut chain, b"a")?, pair_of(b"a", b"1")?);
+    expect_eq!(rt; chain.pages(), 2);
+    expect_eq!(rt; delete(&rt, &mut chain, b"a")?, pair_of(b"a", b"1")?);
     expect_keys(&rt, &chain, b"gce");
-    assert_eq!(rt; chain.pages(), 2);
-    assert_eq!(rt; delete(&rt, &mut chain, b"e")?, pair_of(b"e", b"1")?);
+    expect_eq!(rt; chain.pages(), 2);
+    expect_eq!(rt; delete(&rt, &mut chain, b"e")?, pair_of(b"e", b"1")?);
     expect_keys(&rt, &chain, b"gc");
-    assert_eq!(rt; chain.pages(), 1);
-    assert_eq!(rt; chain.capacity(), 2);
+    expect_eq!(rt; chain.pages(), 1);
+    expect_eq!(rt; chain.capacity(), 2);
     Ok(())
 }
 
@@ -120,19 +121,19 @@ fn finds_replaces_and_divides(rt: HostRuntime) -> Result<(), Fail> {
     for letter in b'a'..=b'z' {
         add(&rt, &mut chain, &[letter, b'0'], &[letter])?;
     }
-    assert_eq!(rt; chain.pages(), 2);
+    expect_eq!(rt; chain.pages(), 2);
     let key = Key::new(b"y0")?;
     let Some(place) = chain.find(&key) else {
         return Err(Fail::from("no record has the key"));
     };
-    assert_eq!(rt; place, 24);
-    assert_eq!(rt;
+    expect_eq!(rt; place, 24);
+    expect_eq!(rt;
         chain.replace_at(place, Value::new(b"new")?),
         Value::new(b"y")?
     );
-    assert_eq!(rt; chain.find(&key), Some(24));
-    assert!(rt; 24 < chain.len());
-    assert_eq!(rt; chain.pair_at(24), pair_of(b"y0", b"new")?);
+    expect_eq!(rt; chain.find(&key), Some(24));
+    expect!(rt; 24 < chain.len());
+    expect_eq!(rt; chain.pair_at(24), pair_of(b"y0", b"new")?);
     let gone = match chain.split_off(&Early) {
         Ok(gone) => gone,
         Err(Memory) => {
@@ -142,8 +143,8 @@ fn finds_replaces_and_divides(rt: HostRuntime) -> Result<(), Fail> {
     };
     expect_keys(&rt, &gone, b"abcdef");
     expect_keys(&rt, &chain, b"ghijklmnopqrstuvwxyz");
-    assert_eq!(rt; gone.capacity(), 14);
-    assert_eq!(rt; chain.find(&key), Some(18));
+    expect_eq!(rt; gone.capacity(), 14);
+    expect_eq!(rt; chain.find(&key), Some(18));
     Ok(())
 }
 
@@ -157,18 +158,18 @@ fn a_chain_is_made_of_records(rt: HostRuntime) -> Result<(), Fail> {
     };
     add(&rt, &mut chain, b"b", b"2")?;
     expect_keys(&rt, &chain, b"ab");
-    assert_eq!(rt; chain.pages(), 2);
-    assert_eq!(rt; chain.find(&Key::new(b"a")?), Some(0));
-    assert_eq!(rt; chain.pair_at(0), pair_of(b"a", b"1")?);
+    expect_eq!(rt; chain.pages(), 2);
+    expect_eq!(rt; chain.find(&Key::new(b"a")?), Some(0));
+    expect_eq!(rt; chain.pair_at(0), pair_of(b"a", b"1")?);
     Ok(())
 }
 
 #[test]
 fn counts_the_pages_of_records(rt: HostRuntime) {
-    assert_eq!(rt; pages_needed(0, 2), 1);
-    assert_eq!(rt; pages_needed(2, 2), 1);
-    assert_eq!(rt; pages_needed(3, 2), 2);
-    assert_eq!(rt; pages_needed(usize::MAX, 1), usize::MAX);
+    expect_eq!(rt; pages_needed(0, 2), 1);
+    expect_eq!(rt; pages_needed(2, 2), 1);
+    expect_eq!(rt; pages_needed(3, 2), 2);
+    expect_eq!(rt; pages_needed(usize::MAX, 1), usize::MAX);
 }
 
 #[test]
@@ -184,19 +185,19 @@ fn a_value_crosses_from_the_line_and_back(rt: HostRuntime) -> Result<(), Fail> {
                 return Err(Fail::from("no record has the key"));
             };
             let value = value_of(length as u8, length)?;
-            assert_eq!(rt; chain.replace_at(place, value), before);
-            assert_eq!(rt; chain.find(&key), Some(5));
-            assert!(rt; place < chain.len());
-            assert_eq!(rt; chain.pair_at(place), Pair { key, value });
+            expect_eq!(rt; chain.replace_at(place, value), before);
+            expect_eq!(rt; chain.find(&key), Some(5));
+            expect!(rt; place < chain.len());
+            expect_eq!(rt; chain.pair_at(place), Pair { key, value });
             before = value;
         }
-        assert_eq!(rt;
+        expect_eq!(rt;
             delete(&rt, &mut chain, record_of(b'a')?.key.bytes())?,
             record_of(b'a')?
         );
-        assert_eq!(rt; chain.find(&key), Some(0));
-        assert!(rt; 0 < chain.len());
-        assert_eq!(rt; chain.pair_at(0), Pair { key, value: before });
+        expect_eq!(rt; chain.find(&key), Some(0));
+        expect!(rt; 0 < chain.len());
+        expect_eq!(rt; chain.pair_at(0), Pair { key, value: before });
     }
     Ok(())
 }
@@ -230,19 +231,19 @@ fn the_longest_keys_have_six_bytes_behind_them(rt: HostRuntime) -> Result<(), Fa
             key: key_of(*letter, 56)?,
             value: value_of(*letter, *len)?,
         };
-        assert!(rt; place < chain.len());
-        assert_eq!(rt; chain.pair_at(place), pair);
+        expect!(rt; place < chain.len());
+        expect_eq!(rt; chain.pair_at(place), pair);
     }
     // A key that differs in its last byte alone, one that differs at the end of its first half, and a shorter one.
     let mut bytes = [b'-'; 56];
     bytes[0] = b'a';
-    assert_eq!(rt; chain.find(&Key::new(&bytes)?), Some(0));
+    expect_eq!(rt; chain.find(&Key::new(&bytes)?), Some(0));
     bytes[55] = b'+';
-    assert_eq!(rt; chain.find(&Key::new(&bytes)?), None);
+    expect_eq!(rt; chain.find(&Key::new(&bytes)?), None);
     bytes[55] = b'-';
     bytes[31] = b'+';
-    assert_eq!(rt; chain.find(&Key::new(&bytes)?), None);
-    assert_eq!(rt; chain.find(&key_of(b'a', 55)?), None);
+    expect_eq!(rt; chain.find(&Key::new(&bytes)?), None);
+    expect_eq!(rt; chain.find(&key_of(b'a', 55)?), None);
     Ok(())
 }
 
@@ -252,14 +253,14 @@ fn a_delete_moves_a_record_to_another_unit(rt: HostRuntime) -> Result<(), Fail> 
     let mut letters = *b"abcdefghijklm";
     add_records(&rt, &mut chain, &letters)?;
     for (removed, place) in [0, 11, 3, 4, 7, 1, 5, 0, 4, 2, 0, 1, 0].iter().enumerate() {
-        assert!(rt; removed < 13 && *place < 13);
+        expect!(rt; removed < 13 && *place < 13);
         let pair = record_of(letters[*place])?;
-        assert_eq!(rt; chain.find(&pair.key), Some(*place));
-        assert_eq!(rt; delete(&rt, &mut chain, pair.key.bytes())?, pair);
+        expect_eq!(rt; chain.find(&pair.key), Some(*place));
+        expect_eq!(rt; delete(&rt, &mut chain, pair.key.bytes())?, pair);
         letters[*place] = letters[12 - removed];
         expect_records(&rt, &chain, &letters[..12 - removed])?;
     }
-    assert_eq!(rt; chain.len(), 0);
+    expect_eq!(rt; chain.len(), 0);
     add_records(&rt, &mut chain, b"nop")?;
     expect_records(&rt, &chain, b"nop")
 }
@@ -269,7 +270,7 @@ fn a_split_takes_long_values_along(rt: HostRuntime) -> Result<(), Fail> {
     let letters = b"ABCDEFGHIJKLMNOPQRSTUVWXYZabcdefghijklmnopqrstuvwxyz";
     let mut chain = Chain::new(rt.alloc(), 24)?;
     add_records(&rt, &mut chain, letters)?;
-    assert_eq!(rt; chain.pages(), 3);
+    expect_eq!(rt; chain.pages(), 3);
     expect_records(&rt, &chain, letters)?;
     let gone = match chain.split_off(&Early) {
         Ok(gone) => gone,
@@ -289,14 +290,14 @@ fn a_chain_has_many_records(rt: HostRuntime) -> Result<(), Fail> {
     let mut chain = Chain::new(rt.alloc(), 24)?;
     for number in 0..5000_u16 {
         let pair = pair_of(&number.wrapping_mul(13).to_be_bytes(), b"1")?;
-        assert_eq!(rt; chain.find(&pair.key), None);
+        expect_eq!(rt; chain.find(&pair.key), None);
         chain.push(pair)?;
     }
-    assert_eq!(rt; (chain.len(), chain.pages()), (5000, 209));
+    expect_eq!(rt; (chain.len(), chain.pages()), (5000, 209));
     let gone = chain.split_off(&Early)?;
     // The first byte is below `g` for a number below 103 * 256 / 13.
-    assert_eq!(rt; (gone.len(), chain.len()), (2029, 2971));
-    assert_eq!(rt; (gone.pages(), chain.pages()), (85, 124));
+    expect_eq!(rt; (gone.len(), chain.len()), (2029, 2971));
+    expect_eq!(rt; (gone.pages(), chain.pages()), (85, 124));
     Ok(())
 }
 
@@ -305,8 +306,8 @@ fn a_chain_has_many_records(rt: HostRuntime) -> Result<(), Fail> {
 fn an_empty_chain_is_made_and_divided(rt: HostRuntime) -> Result<(), Fail> {
     let mut chain = Chain::from_pairs(rt.alloc(), 2, &[])?;
     let gone = chain.split_off(&Early)?;
-    assert_eq!(rt; (gone.len(), chain.len()), (0, 0));
-    assert_eq!(rt; (gone.pages(), chain.pages()), (1, 1));
+    expect_eq!(rt; (gone.len(), chain.len()), (0, 0));
+    expect_eq!(rt; (gone.pages(), chain.pages()), (1, 1));
     Ok(())
 }
 
@@ -314,9 +315,9 @@ fn an_empty_chain_is_made_and_divided(rt: HostRuntime) -> Result<(), Fail> {
 fn append_records(rt: &impl Abort, chain: &mut Chain, letters: &[u8]) -> Result<(), Fail> {
     for letter in letters {
         let Pair { key, value } = record_of(*letter)?;
-        assert_eq!(rt; chain.find(&key), None);
+        expect_eq!(rt; chain.find(&key), None);
         if chain.append(&key, &value).is_err() {
-            assert_eq!(rt; chain.find(&key), None);
+            expect_eq!(rt; chain.find(&key), None);
             chain.append(&key, &value)?;
         }
     }
@@ -324,18 +325,18 @@ fn append_records(rt: &impl Abort, chain: &mut Chain, letters: &[u8]) -> Result<
 }
 
 fn discard_at(rt: &impl Abort, chain: &mut Chain, place: usize) {
-    assert!(rt; place < chain.len());
+    expect!(rt; place < chain.len());
     chain.discard(place);
 }
 
 fn set_value_at(rt: &impl Abort, chain: &mut Chain, place: usize, value: &Value) {
-    assert!(rt; place < chain.len());
+    expect!(rt; place < chain.len());
     chain.set_value(place, value);
 }
 
 fn expect_value(rt: &impl Abort, chain: &Chain, place: usize, bytes: &[u8]) {
-    assert!(rt; place < chain.len());
-    assert_eq!(rt; chain.value_bytes(place), bytes);
+    expect!(rt; place < chain.len());
+    expect_eq!(rt; chain.value_bytes(place), bytes);
 }
 
 #[test]

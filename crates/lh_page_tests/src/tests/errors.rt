@@ -1,4 +1,5 @@
 //! The texts of errors.
+use lh_expect::expect_eq;
 use lh_page::{KeyLength, Memory, PageFault, ValueLength};
 use std::alloc::AllocError;
 use std::fmt::Display;
@@ -14,25 +15,25 @@ fn printed<D: Display>(rt: &HostRuntime, value: &D) -> Result<String, AllocError
 
 #[test]
 fn prints_errors(rt: HostRuntime) -> Result<(), Fail> {
-    assert_eq!(rt;
+    expect_eq!(rt;
         printed(&rt, &KeyLength { length: 57 })?.as_str(),
         "key length 57"
     );
-    assert_eq!(rt;
+    expect_eq!(rt;
         printed(&rt, &KeyLength { length: 0 })?.as_str(),
         "key length 0"
     );
-    assert_eq!(rt;
+    expect_eq!(rt;
         printed(&rt, &ValueLength { length: 113 })?.as_str(),
         "value length 113"
     );
-    assert_eq!(rt; printed(&rt, &Memory)?.as_str(), "no memory");
-    assert_eq!(rt; printed(&rt, &PageFault::Kind)?.as_str(), "page kind");
-    assert_eq!(rt; printed(&rt, &PageFault::Used)?.as_str(), "page used");
-    assert_eq!(rt;
+    expect_eq!(rt; printed(&rt, &Memory)?.as_str(), "no memory");
+    expect_eq!(rt; printed(&rt, &PageFault::Kind)?.as_str(), "page kind");
+    expect_eq!(rt; printed(&rt, &PageFault::Used)?.as_str(), "page used");
+    expect_eq!(rt;
         printed(&rt, &PageFault::Slot(13))?.as_str(),
         "page slot 13"
     );
-    assert_eq!(rt; printed(&rt, &PageFault::Slot(3))?.as_str(), "page slot 3");
+    expect_eq!(rt; printed(&rt, &PageFault::Slot(3))?.as_str(), "page slot 3");
     Ok(())
 }

@@ -1,5 +1,6 @@
 //! Growth that is refused: run with each request for memory refused in turn, one in each run.
 use crate::tests::chains::{Early, expect_records, record_of};
+use lh_expect::expect_eq;
 use lh_page::{Chain, Memory};
 use std::test::Fail;
 
@@ -10,10 +11,10 @@ fn refused_growth_leaves_a_chain_as_it_was(rt: HostRuntime) -> Result<(), Fail> 
     let mut chain = Chain::new(rt.alloc(), 3)?;
     for (place, letter) in letters.iter().enumerate() {
         let pair = record_of(*letter)?;
-        assert_eq!(rt; chain.find(&pair.key), None);
+        expect_eq!(rt; chain.find(&pair.key), None);
         if chain.push(pair).is_err() {
             expect_records(&rt, &chain, &letters[..place])?;
-            assert_eq!(rt; chain.find(&pair.key), None);
+            expect_eq!(rt; chain.find(&pair.key), None);
             chain.push(pair)?;
         }
         expect_records(&rt, &chain, &letters[..place + 1])?;
@@ -36,10 +37,10 @@ fn refused_appends_leave_a_chain_as_it_was(rt: HostRuntime) -> Result<(), Fail> 
     let mut chain = Chain::new(rt.alloc(), 3)?;
     for (place, letter) in letters.iter().enumerate() {
         let pair = record_of(*letter)?;
-        assert_eq!(rt; chain.find(&pair.key), None);
+        expect_eq!(rt; chain.find(&pair.key), None);
         if chain.append(&pair.key, &pair.value).is_err() {
             expect_records(&rt, &chain, &letters[..place])?;
-            assert_eq!(rt; chain.find(&pair.key), None);
+            expect_eq!(rt; chain.find(&pair.key), None);
             chain.append(&pair.key, &pair.value)?;
         }
         expect_records(&rt, &chain, &letters[..place + 1])?;

@@ -2,6 +2,7 @@
 ghost use Rattle.std.specs.Prelude.{◌≡◌, IfOk, vec_len};
 
 use lh_bucket::Call;
+use lh_expect::expect_eq;
 use lh_page::{Key, Value};
 use lh_script::{ParseError, parse};
 use std::alloc::{AllocError, Global};
@@ -55,7 +56,7 @@ fn each_verb_is_a_call(rt: HostRuntime) -> Result<(), Fail> {
         Call::Delete(Key::new(b"c")?),
         Call::Replace(Key::new(b"d")?, Value::new(b"")?),
     ];
-    assert_eq!(rt; calls.as_slice(), expected.as_slice());
+    expect_eq!(rt; calls.as_slice(), expected.as_slice());
     Ok(())
 }
 
@@ -65,7 +66,7 @@ fn digits_have_either_case(rt: HostRuntime) -> Result<(), Fail> {
         return Err(Fail::from("no calls"));
     };
     let expected = [Call::Insert(Key::new(b"\x0a\xf9")?, Value::new(b"\xcd\xeb\x00")?)];
-    assert_eq!(rt; calls.as_slice(), expected.as_slice());
+    expect_eq!(rt; calls.as_slice(), expected.as_slice());
     Ok(())
 }
 
@@ -75,38 +76,38 @@ fn a_dash_is_the_empty_value(rt: HostRuntime) -> Result<(), Fail> {
         return Err(Fail::from("no calls"));
     };
     let expected = [Call::Insert(Key::new(b"a")?, Value::new(b"")?)];
-    assert_eq!(rt; calls.as_slice(), expected.as_slice());
+    expect_eq!(rt; calls.as_slice(), expected.as_slice());
     Ok(())
 }
 
 #[test]
 fn faulty_words(rt: HostRuntime) -> Result<(), Fail> {
     let alloc = rt.alloc();
-    assert_eq!(rt;
+    expect_eq!(rt;
         outcome(alloc, b"# x\n\nfrob\n".as_slice())?.as_str(),
         "line 3: unknown word"
     );
-    assert_eq!(rt;
+    expect_eq!(rt;
         outcome(alloc, b"Search 61\n".as_slice())?.as_str(),
         "line 1: unknown word"
     );
-    assert_eq!(rt;
+    expect_eq!(rt;
         outcome(alloc, b"search\n".as_slice())?.as_str(),
         "line 1: wrong number of words"
     );
-    assert_eq!(rt;
+    expect_eq!(rt;
         outcome(alloc, b"search 61 62\n".as_slice())?.as_str(),
         "line 1: wrong number of words"
     );
-    assert_eq!(rt;
+    expect_eq!(rt;
         outcome(alloc, b"insert 6g\n".as_slice())?.as_str(),
         "line 1: wrong number of words"
     );
-    assert_eq!(rt;
+    expect_eq!(rt;
         outcome(alloc, b"insert 61 31 # x\n".as_slice())?.as_str(),
         "line 1: wrong number of words"
     );
-    assert_eq!(rt;
+    expect_eq!(rt;
         outcome(alloc, b"replace 61\n".as_slice())?.as_str(),
         "line 1: wrong number of words"
     );
@@ -116,27 +117,27 @@ fn faulty_words(rt: HostRuntime) -> Result<(), Fail> {
 #[test]
 fn faulty_operands(rt: HostRuntime) -> Result<(), Fail> {
     let alloc = rt.alloc();
-    assert_eq!(rt;
+    expect_eq!(rt;
         outcome(alloc, b"insert 6g 31\n".as_slice())?.as_str(),
         "line 1: bad hexadecimal"
     );
-    assert_eq!(rt;
+    expect_eq!(rt;
         outcome(alloc, b"insert 61 3\n".as_slice())?.as_str(),
         "line 1: bad hexadecimal"
     );
-    assert_eq!(rt;
+    expect_eq!(rt;
         outcome(alloc, b"insert - 3\n".as_slice())?.as_str(),
         "line 1: key length 0"
     );
-    assert_eq!(rt;
+    expect_eq!(rt;
         outcome(alloc, b"delete 6\xe9\n".as_slice())?.as_str(),
         "line 1: bad hexadecimal"
     );
-    assert_eq!(rt;
+    expect_eq!(rt;
         outcome(alloc, b"delete --\n".as_slice())?.as_str(),
         "line 1: bad hexadecimal"
     );
-    assert_eq!(rt;
+    expect_eq!(rt;
         outcome(alloc, b"search 61\nsearch 6\nfrob\n".as_slice())?.as_str(),
         "line 2: bad hexadecimal"
     );
@@ -147,24 +148,24 @@ fn faulty_operands(rt: HostRuntime) -> Result<(), Fail> {
 fn keys_have_56_bytes_at_most(rt: HostRuntime) -> Result<(), Fail> {
     let alloc = rt.alloc();
     let text = with_zeros(alloc, b"search ", 112, b"\n")?;
-    assert_eq!(rt; outcome(alloc, text.as_slice())?.as_str(), "1 calls");
+    expect_eq!(rt; outcome(alloc, text.as_slice())?.as_str(), "1 calls");
     let text = with_zeros(alloc, b"search ", 114, b"\n")?;
-    assert_eq!(rt;
+    expect_eq!(rt;
         outcome(alloc, text.as_slice())?.as_str(),
         "line 1: key length 57"
     );
     let text = with_zeros(alloc, b"search ", 115, b"\n")?;
-    assert_eq!(rt;
+    expect_eq!(rt;
         outcome(alloc, text.as_slice())?.as_str(),
         "line 1: bad hexadecimal"
     );
     let text = with_zeros(alloc, b"search ", 114, b"0g\n")?;
-    assert_eq!(rt;
+    expect_eq!(rt;
         outcome(alloc, text.as_slice())?.as_str(),
         "line 1: bad hexadecimal"
     );
     let text = with_zeros(alloc, b"insert ", 114, b" 3\n")?;
-    assert_eq!(rt;
+    expect_eq!(rt;
         outcome(alloc, text.as_slice())?.as_str(),
         "line 1: key length 57"
     );
@@ -175,14 +176,14 @@ fn keys_have_56_bytes_at_most(rt: HostRuntime) -> Result<(), Fail> {
 fn values_have_112_bytes_at_most(rt: HostRuntime) -> Result<(), Fail> {
     let alloc = rt.alloc();
     let text = with_zeros(alloc, b"insert 61 ", 224, b"\n")?;
-    assert_eq!(rt; outcome(alloc, text.as_slice())?.as_str(), "1 calls");
+    expect_eq!(rt; outcome(alloc, text.as_slice())?.as_str(), "1 calls");
     let text = with_zeros(alloc, b"insert 61 ", 226, b"\n")?;
-    assert_eq!(rt;
+    expect_eq!(rt;
         outcome(alloc, text.as_slice())?.as_str(),
         "line 1: value length 113"
     );
     let text = with_zeros(alloc, b"insert 61 ", 227, b"\n")?;
-    assert_eq!(rt;
+    expect_eq!(rt;
         outcome(alloc, text.as_slice())?.as_str(),
         "line 1: bad hexadecimal"
     );
@@ -193,7 +194,7 @@ fn values_have_112_bytes_at_most(rt: HostRuntime) -> Result<(), Fail> {
 fn long_words_have_their_length(rt: HostRuntime) -> Result<(), Fail> {
     let alloc = rt.alloc();
     let text = with_zeros(alloc, b"delete ", 1_000_000, b"\n")?;
-    assert_eq!(rt;
+    expect_eq!(rt;
         outcome(alloc, text.as_slice())?.as_str(),
         "line 1: key length 500000"
     );
@@ -203,36 +204,36 @@ fn long_words_have_their_length(rt: HostRuntime) -> Result<(), Fail> {
 #[test]
 fn blanks_comments_and_line_ends(rt: HostRuntime) -> Result<(), Fail> {
     let alloc = rt.alloc();
-    assert_eq!(rt; outcome(alloc, b"".as_slice())?.as_str(), "0 calls");
-    assert_eq!(rt;
+    expect_eq!(rt; outcome(alloc, b"".as_slice())?.as_str(), "0 calls");
+    expect_eq!(rt;
         outcome(alloc, b"\n \t\n\r\n".as_slice())?.as_str(),
         "0 calls"
     );
-    assert_eq!(rt;
+    expect_eq!(rt;
         outcome(alloc, b" \tsearch\t 61 \t\r\n".as_slice())?.as_str(),
         "1 calls"
     );
-    assert_eq!(rt;
+    expect_eq!(rt;
         outcome(alloc, b"search 61".as_slice())?.as_str(),
         "1 calls"
     );
-    assert_eq!(rt;
+    expect_eq!(rt;
         outcome(alloc, b" #search 61\n#\nsearch 61\n".as_slice())?.as_str(),
         "1 calls"
     );
-    assert_eq!(rt;
+    expect_eq!(rt;
         outcome(alloc, b"search 61\r\r\n".as_slice())?.as_str(),
         "line 1: bad hexadecimal"
     );
-    assert_eq!(rt;
+    expect_eq!(rt;
         outcome(alloc, b"search 61\r".as_slice())?.as_str(),
         "line 1: bad hexadecimal"
     );
-    assert_eq!(rt;
+    expect_eq!(rt;
         outcome(alloc, b"\r".as_slice())?.as_str(),
         "line 1: unknown word"
     );
-    assert_eq!(rt;
+    expect_eq!(rt;
         outcome(alloc, b"search 61\r \n".as_slice())?.as_str(),
         "line 1: bad hexadecimal"
     );
@@ -243,10 +244,10 @@ fn blanks_comments_and_line_ends(rt: HostRuntime) -> Result<(), Fail> {
 fn scripts_have_16_777_216_bytes_at_most(rt: HostRuntime) -> Result<(), Fail> {
     let alloc = rt.alloc();
     let text = repeated(alloc, b' ', 16_777_217)?;
-    assert_eq!(rt;
+    expect_eq!(rt;
         outcome(alloc, text.as_slice())?.as_str(),
         "script too long"
     );
-    assert_eq!(rt; outcome(alloc, &text.as_slice()[1..])?.as_str(), "0 calls");
+    expect_eq!(rt; outcome(alloc, &text.as_slice()[1..])?.as_str(), "0 calls");
     Ok(())
 }

@@ -1,6 +1,7 @@
 //! Memory that is refused: run with each request for it refused in turn, one in each run.
 
 use lh_bucket::Call;
+use lh_expect::expect_eq;
 use lh_script::{ParseError, parse};
 use std::test::Fail;
 
@@ -14,6 +15,6 @@ fn a_refused_script_is_read_again(rt: HostRuntime) -> Result<(), Fail> {
         Err(ParseError::Memory) => parse::<Call>(rt.alloc(), text.as_slice()),
         answer => answer,
     };
-    assert_eq!(rt; calls.map(|calls| calls.len()), Ok(9));
+    expect_eq!(rt; calls.map(|calls| calls.len()), Ok(9));
     Ok(())
 }

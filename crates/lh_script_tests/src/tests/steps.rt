@@ -1,6 +1,7 @@
 //! Step scripts from end to end: events, and the texts of faults.
 use lh_bucket::Call;
 use lh_core::{Effect, Event, Refusal};
+use lh_expect::expect_eq;
 use lh_page::{Key, Value};
 use lh_script::{EntryText, LineFault, ParseError, ScriptFault, parse};
 use std::alloc::{AllocError, Global};
@@ -49,7 +50,7 @@ fn each_line_is_an_event(rt: HostRuntime) -> Result<(), Fail> {
         Event::SplitPoint,
         Event::SplitDrop,
     ];
-    assert_eq!(rt; events.as_slice(), expected.as_slice());
+    expect_eq!(rt; events.as_slice(), expected.as_slice());
     Ok(())
 }
 
@@ -95,12 +96,12 @@ fn what_is_seldom_told_has_a_text(rt: HostRuntime) -> Result<(), Fail> {
         bucket: 65_535,
     };
     let text = EntryText(&Ok(aim)).to_string(alloc)?;
-    assert_eq!(rt; text.as_str(), "aim 16 65535");
+    expect_eq!(rt; text.as_str(), "aim 16 65535");
     let text = EntryText(&Err(Refusal::Memory)).to_string(alloc)?;
-    assert_eq!(rt; text.as_str(), "refused C7");
+    expect_eq!(rt; text.as_str(), "refused C7");
     let length = LineFault::ValueLength(8_388_608);
-    assert_eq!(rt; length.to_string(alloc)?.as_str(), "value length 8388608");
+    expect_eq!(rt; length.to_string(alloc)?.as_str(), "value length 8388608");
     let text = ScriptFault::AtLine(16_777_216, length).to_string(alloc)?;
-    assert_eq!(rt; text.as_str(), "line 16777216: value length 8388608");
+    expect_eq!(rt; text.as_str(), "line 16777216: value length 8388608");
     Ok(())
 }

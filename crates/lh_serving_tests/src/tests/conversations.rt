@@ -2,6 +2,7 @@
 ghost use Rattle.std.specs.Prelude.{◌≡◌, IfOk, vec_len};
 
 use lh_addr::Config;
+use lh_expect::{expect, expect_eq};
 use lh_serving::{Conversation, LONGEST_LINE};
 use std::alloc::{AllocError, Global};
 use std::process::Abort;
@@ -68,7 +69,7 @@ fn lines_that_come_byte_by_byte_have_the_same_answers(rt: HostRuntime) -> Result
     for place in 0..LINES.len() {
         hear(&mut talk, &LINES[place..place + 1])?;
     }
-    assert_eq!(rt; talk.waiting(), ANSWERS);
+    expect_eq!(rt; talk.waiting(), ANSWERS);
     Ok(())
 }
 
@@ -76,13 +77,13 @@ fn lines_that_come_byte_by_byte_have_the_same_answers(rt: HostRuntime) -> Result
 fn a_line_is_answered_with_its_lf(rt: HostRuntime) -> Result<(), Fail> {
     let mut talk = conversation(rt.alloc())?;
     hear(&mut talk, b"insert 61 31")?;
-    assert_eq!(rt; talk.waiting(), b"".as_slice());
+    expect_eq!(rt; talk.waiting(), b"".as_slice());
     hear(&mut talk, b"\nrecords\nrec")?;
-    assert_eq!(rt; talk.waiting(), b"inserted\nrecords 1\n".as_slice());
+    expect_eq!(rt; talk.waiting(), b"inserted\nrecords 1\n".as_slice());
     talk.note_told();
-    assert_eq!(rt; talk.waiting(), b"".as_slice());
+    expect_eq!(rt; talk.waiting(), b"".as_slice());
     hear(&mut talk, b"ords\n")?;
-    assert_eq!(rt; talk.waiting(), b"records 1\n".as_slice());
+    expect_eq!(rt; talk.waiting(), b"records 1\n".as_slice());
     Ok(())
 }
 
@@ -103,14 +104,14 @@ fn is_answered(rt: &(impl Abort + AllocGlobal), length: usize, answer: &[u8]) ->
             "{length} bytes, {at_once} at once"
         );
         let behind = &talk.waiting()[answer.len().min(talk.waiting().len())..];
-        assert_eq!(rt; behind, b"records 0\n".as_slice());
+        expect_eq!(rt; behind, b"records 0\n".as_slice());
     }
     Ok(())
 }
 
 #[test]
 fn a_line_has_1024_bytes_at_most(rt: HostRuntime) -> Result<(), Fail> {
-    assert!(rt; LONGEST_LINE == 1_024);
+    expect!(rt; LONGEST_LINE == 1_024);
     is_answered(&rt, 1_024, b"")?;
     is_answered(&rt, 1_025, b"fault line too long\n")?;
     is_answered(&rt, 9_000, b"fault line too long\n")
@@ -118,22 +119,22 @@ fn a_line_has_1024_bytes_at_most(rt: HostRuntime) -> Result<(), Fail> {
 
 /// What waits is these lines, and behind them the image of a file with so many records, or none.
 fn waits(rt: &impl Abort, talk: &Conversation, lines: &[u8], records: Option<u64>) {
-    assert_eq!(rt; talk.waiting(), lines);
+    expect_eq!(rt; talk.waiting(), lines);
     match talk.image() {
-        Some(listing) => assert!(rt; records == Some(listing.len())),
-        None => assert!(rt; records.is_none()),
+        Some(listing) => expect!(rt; records == Some(listing.len())),
+        None => expect!(rt; records.is_none()),
     }
 }
 
 #[test]
 fn an_image_waits_behind_the_lines(rt: HostRuntime) -> Result<(), Fail> {
     let mut talk = conversation(rt.alloc())?;
-    assert!(rt; talk.is_quiet());
+    expect!(rt; talk.is_quiet());
     hear(&mut talk, b"insert 61 31\nimage\n")?;
     waits(&rt, &talk, b"inserted\nimage 8192\n", Some(1));
-    assert!(rt; !talk.is_quiet());
+    expect!(rt; !talk.is_quiet());
     talk.note_told();
-    assert!(rt; talk.is_quiet());
+    expect!(rt; talk.is_quiet());
     hear(&mut talk, b"delete 61\nim")?;
     waits(&rt, &talk, b"deleted\n", None);
     hear(&mut talk, b"age\n")?;

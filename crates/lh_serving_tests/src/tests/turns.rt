@@ -1,5 +1,6 @@
 //! A client at the other end of `serve`, who looks at what was flushed whenever it is listened to.
 use lh_addr::Config;
+use lh_expect::{expect, expect_eq};
 use lh_subcommands::{answer_serve, answer_serve_from};
 use std::cell::Cell;
 use std::io::{self, Error, ErrorKind, Read, Write};
@@ -84,9 +85,9 @@ fn each_line_is_answered_before_the_next_read(rt: HostRuntime) -> Result<(), Fai
             flushed: &flushed,
         };
         let status = answer_serve(rt.alloc(), Config::default(), &mut sends, &mut hears);
-        assert!(rt; status.code() == if fails { 3 } else { 0 });
-        assert_eq!(rt; hears.bytes.as_slice(), ANSWERS);
-        assert_eq!(rt; sends.noted.as_slice(), FLUSHED.as_slice());
+        expect!(rt; status.code() == if fails { 3 } else { 0 });
+        expect_eq!(rt; hears.bytes.as_slice(), ANSWERS);
+        expect_eq!(rt; sends.noted.as_slice(), FLUSHED.as_slice());
     }
     Ok(())
 }
@@ -115,8 +116,8 @@ fn told(
     } else {
         answer_serve(rt.alloc(), Config::default(), &mut sends, &mut hears)
     };
-    assert_eq!(rt; status.code(), 0);
-    assert_eq!(rt; sends.noted.as_slice(), flushed_before);
+    expect_eq!(rt; status.code(), 0);
+    expect_eq!(rt; sends.noted.as_slice(), flushed_before);
     Ok(hears.bytes)
 }
 
@@ -131,9 +132,9 @@ fn an_image_is_told_before_what_comes_behind_it(rt: HostRuntime) -> Result<(), F
     let behind = b"buckets 1\n";
     let length = front.len() - 4 + EMPTY_IMAGE + behind.len();
     let told_at_once = told(&rt, all.as_slice(), false, [0, length].as_slice())?;
-    assert_eq!(rt; told_at_once.len(), length);
-    assert!(rt; told_at_once.as_slice().starts_with(front.as_slice()));
-    assert!(rt; told_at_once.as_slice().ends_with(behind.as_slice()));
+    expect_eq!(rt; told_at_once.len(), length);
+    expect!(rt; told_at_once.as_slice().starts_with(front.as_slice()));
+    expect!(rt; told_at_once.as_slice().ends_with(behind.as_slice()));
     Ok(())
 }
 
@@ -150,8 +151,8 @@ fn goes_on(rt: &(impl AllocGlobal + Abort), line: &[u8], told_first: &[u8]) -> R
     let answers = b"inserted\nrecords 1\nimage 8192\n";
     let length = answers.len() + EMPTY_IMAGE;
     let next = told(rt, pieces.as_slice(), true, [0, 0, 0, 0, length].as_slice())?;
-    assert_eq!(rt; next.len(), length);
-    assert!(rt; next.as_slice().starts_with(answers.as_slice()));
+    expect_eq!(rt; next.len(), length);
+    expect!(rt; next.as_slice().starts_with(answers.as_slice()));
     Ok(())
 }
 

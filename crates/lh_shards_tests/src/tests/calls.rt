@@ -4,6 +4,7 @@ ghost use Rattle.lh_shards.specs.Hands.{AreOf};
 
 use lh_addr::Config;
 use lh_bucket::Reply;
+use lh_expect::{expect, expect_eq};
 use lh_file::CodedKey;
 use lh_page::{Key, Value};
 use lh_shards::{CreateFault, Hands, Shards, SplitFault};
@@ -24,13 +25,13 @@ fn none_and_too_many_are_refused(rt: HostRuntime) -> Result<(), Fail> {
     let config = Config::new(1, 2, 100, 16)?;
     for count in [0, 1_025, u32::MAX] {
         match Shards::create(rt.alloc(), config, count, false) {
-            Err(fault) => assert_eq!(rt; fault, CreateFault::Count),
+            Err(fault) => expect_eq!(rt; fault, CreateFault::Count),
             Ok(_) => return Err(Fail::new("created")),
         }
     }
     for count in [1, 2, 1_024] {
         let (shards, _) = Shards::create(rt.alloc(), config, count, false)?;
-        assert_eq!(rt; shards.count(), count);
+        expect_eq!(rt; shards.count(), count);
     }
     Ok(())
 }
@@ -46,9 +47,9 @@ pub(crate) fn insert_letters<R: Abort + Wait>(
 {
     for letter in b'a'..b'z' {
         let (key, value) = (Key::new(&[letter])?, Value::new(&[letter, letter])?);
-        assert!(rt; shards.put(rt, hands, &key, &value)?);
-        assert!(rt; !shards.put(rt, hands, &CodedKey::new(key), &value)?);
-        assert_eq!(rt; shards.get(rt, hands, &key)?, Some(value));
+        expect!(rt; shards.put(rt, hands, &key, &value)?);
+        expect!(rt; !shards.put(rt, hands, &CodedKey::new(key), &value)?);
+        expect_eq!(rt; shards.get(rt, hands, &key)?, Some(value));
     }
     Ok(())
 }
@@ -58,17 +59,17 @@ fn lean_calls_are_those_of_a_map(rt: HostRuntime) -> Result<(), Fail> {
     let (shards, mut hands) = shards_of(rt.alloc(), 8)?;
     insert_letters(&rt, &shards, &mut hands)?;
     let (key, value) = (CodedKey::new(Key::new(b"b")?), Value::new(b"other")?);
-    assert!(rt; shards.set(&rt, &mut hands, &key, &value)?);
+    expect!(rt; shards.set(&rt, &mut hands, &key, &value)?);
     let mut read = Value::empty();
-    assert!(rt; shards.read_into(&rt, &mut hands, &key, &mut read)?);
-    assert_eq!(rt; read, value);
-    assert_eq!(rt;
+    expect!(rt; shards.read_into(&rt, &mut hands, &key, &mut read)?);
+    expect_eq!(rt; read, value);
+    expect_eq!(rt;
         shards.with_value(&rt, &mut hands, &key, |bytes| bytes.len())?,
         Some(5)
     );
-    assert!(rt; shards.remove(&rt, &mut hands, &key)?);
-    assert!(rt; !shards.remove(&rt, &mut hands, &key)?);
-    assert_eq!(rt; shards.get(&rt, &mut hands, &key)?, None);
+    expect!(rt; shards.remove(&rt, &mut hands, &key)?);
+    expect!(rt; !shards.remove(&rt, &mut hands, &key)?);
+    expect_eq!(rt; shards.get(&rt, &mut hands, &key)?, None);
     Ok(())
 }
 
@@ -76,25 +77,25 @@ fn lean_calls_are_those_of_a_map(rt: HostRuntime) -> Result<(), Fail> {
 fn answers_tell_all(rt: HostRuntime) -> Result<(), Fail> {
     let (shards, mut hands) = shards_of(rt.alloc(), 3)?;
     let (key, value) = (Key::new(b"key")?, Value::new(b"value")?);
-    assert_eq!(rt;
+    expect_eq!(rt;
         shards.insert(&rt, &mut hands, key, value)?.reply(),
         Reply::Inserted
     );
-    assert_eq!(rt;
+    expect_eq!(rt;
         shards.search(&rt, &mut hands, key)?.reply(),
         Reply::Found(value)
     );
-    assert_eq!(rt;
+    expect_eq!(rt;
         shards
             .replace(&rt, &mut hands, key, Value::empty())?
             .reply(),
         Reply::Replaced
     );
-    assert_eq!(rt;
+    expect_eq!(rt;
         shards.delete(&rt, &mut hands, key)?.reply(),
         Reply::Deleted
     );
-    assert_eq!(rt; shards.delete(&rt, &mut hands, key)?.reply(), Reply::Absent);
+    expect_eq!(rt; shards.delete(&rt, &mut hands, key)?.reply(), Reply::Absent);
     Ok(())
 }
 
@@ -103,29 +104,29 @@ fn answers_take_a_key_with_its_code(rt: HostRuntime) -> Result<(), Fail> {
     let (shards, mut hands) = shards_of(rt.alloc(), 3)?;
     let (key, value) = (Key::new(b"key")?, Value::new(b"value")?);
     let coded = CodedKey::new(key);
-    assert_eq!(rt;
+    expect_eq!(rt;
         shards.insert(&rt, &mut hands, coded, value)?.reply(),
         Reply::Inserted
     );
-    assert_eq!(rt;
+    expect_eq!(rt;
         shards.search(&rt, &mut hands, key)?.reply(),
         Reply::Found(value)
     );
-    assert_eq!(rt;
+    expect_eq!(rt;
         shards
             .replace(&rt, &mut hands, coded, Value::empty())?
             .reply(),
         Reply::Replaced
     );
-    assert_eq!(rt;
+    expect_eq!(rt;
         shards.search(&rt, &mut hands, coded)?.reply(),
         Reply::Found(Value::empty())
     );
-    assert_eq!(rt;
+    expect_eq!(rt;
         shards.delete(&rt, &mut hands, coded)?.reply(),
         Reply::Deleted
     );
-    assert_eq!(rt; shards.search(&rt, &mut hands, key)?.reply(), Reply::Absent);
+    expect_eq!(rt; shards.search(&rt, &mut hands, key)?.reply(), Reply::Absent);
     Ok(())
 }
 
@@ -134,10 +135,10 @@ fn a_hand_that_has_too_few_calls_is_named(rt: HostRuntime) -> Result<(), Fail> {
     let (shards, mut hands) = shards_of(rt.alloc(), 4)?;
     let mut few = shards.split_hands(&mut hands, 10)?;
     let key = Key::new(b"key")?;
-    assert_eq!(rt; shards.get(&rt, &mut few, &key)?, None);
+    expect_eq!(rt; shards.get(&rt, &mut few, &key)?, None);
     let home = shards.shard_of(lh_addr::fnv1a(key.bytes()));
     match shards.split_hands(&mut few, 10) {
-        Err(fault) => assert_eq!(rt;
+        Err(fault) => expect_eq!(rt;
             fault,
             SplitFault::Spent {
                 shard: home,

@@ -5,6 +5,7 @@ ghost use Rattle.lh_shards.specs.Openings.{AreBrandsOf};
 
 use super::calls::{insert_letters, shards_of};
 use lh_addr::{Config, fnv1a};
+use lh_expect::{expect, expect_eq};
 use lh_file::{FileBrand, Mode, Traced};
 use lh_page::{Key, Pair, Value};
 use lh_shards::{Hands, Openings, ShardScan, Shards, empty_listings};
@@ -27,8 +28,8 @@ fn meet<M: Mode, J: FileBrand, R: Abort>(
     met: &mut Records,
 ) -> Result<(), Fail> {
     for pair in pairs {
-        assert_eq!(rt; shards.shard_of(fnv1a(pair.key.bytes())), shard);
-        assert_eq!(rt; met.insert(pair.key, pair.value)?, None);
+        expect_eq!(rt; shards.shard_of(fnv1a(pair.key.bytes())), shard);
+        expect_eq!(rt; met.insert(pair.key, pair.value)?, None);
     }
     Ok(())
 }
@@ -46,7 +47,7 @@ fn take<M: Mode, J: FileBrand, R: Abort + Wait>(
     ensures { AreOf shards.now hands.new }
 {
     let snapshot = shards.snapshot(rt, hands, shard)?;
-    assert_eq!(rt; snapshot.stamps(), shards.told(hands, shard));
+    expect_eq!(rt; snapshot.stamps(), shards.told(hands, shard));
     let listing = snapshot.into_known_listing();
     for bucket in 0..listing.buckets() {
         meet(rt, shards, shard, listing.pairs_of(bucket), met)?;
@@ -97,9 +98,9 @@ fn look<M: Mode, J: FileBrand, R: Abort + Wait>(
         take(rt, shards, hands, shard, &mut taken)?;
         visited = visited.saturating_add(scan(rt, alloc, shards, hands, shard, &mut scanned)?);
     }
-    assert_eq!(rt; taken.len(), records);
-    assert_eq!(rt; visited, shards.buckets(hands));
-    assert!(rt; taken == scanned);
+    expect_eq!(rt; taken.len(), records);
+    expect_eq!(rt; visited, shards.buckets(hands));
+    expect!(rt; taken == scanned);
     Ok(())
 }
 
@@ -126,7 +127,7 @@ fn put_letters<J: FileBrand, R: Abort + Wait>(
 {
     for letter in b'a'..b'z' {
         let (key, value) = (Key::new(&[letter])?, Value::new(&[letter, letter])?);
-        assert!(rt; shards.put(rt, hands, &key, &value)?);
+        expect!(rt; shards.put(rt, hands, &key, &value)?);
     }
     Ok(())
 }

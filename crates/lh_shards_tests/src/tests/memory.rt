@@ -8,6 +8,7 @@ ghost use Rattle.lh_shards.specs.Snapshots.{IsScanOf};
 use super::whole::{acts_in, records_in};
 use lh_addr::Config;
 use lh_bucket::Listing;
+use lh_expect::{expect, expect_eq};
 use lh_file::{BucketCopy, FileBrand, FileFault, History, Memory, SettleFault};
 use lh_page::{Key, Value};
 use lh_shards::{
@@ -170,10 +171,10 @@ fn refused_growth_loses_nothing(rt: HostRuntime) -> Result<(), Fail> {
         Ok(closed) => closed,
         Err(Memory) => filled_and_closed(&rt, rt.alloc(), config).ok_or("a call went wrong")??,
     };
-    assert_eq!(rt; records_in(&closed), 24);
+    expect_eq!(rt; records_in(&closed), 24);
     let openings = openings_again(rt.alloc(), config, &closed)?;
     let histories = settled_again(rt.alloc(), &openings, &closed)?;
-    assert!(rt; acts_in(&histories) == 24 || acts_in(&histories) == 25);
+    expect!(rt; acts_in(&histories) == 24 || acts_in(&histories) == 25);
     Ok(())
 }
 
@@ -271,8 +272,8 @@ fn memory_refused_in_a_look_loses_nothing(rt: HostRuntime) -> Result<(), Fail> {
     let config = Config::new(1, 2, 100, 16)?;
     let (shards, mut first) = made_again(rt.alloc(), config)?;
     let mut second = divided_again(&shards, &mut first)?;
-    assert!(rt; fill_again(&rt, &shards, &mut first, &mut second));
-    assert_eq!(rt;
+    expect!(rt; fill_again(&rt, &shards, &mut first, &mut second));
+    expect_eq!(rt;
         looked_again(&rt, rt.alloc(), &shards, &mut first)?,
         (24, 24)
     );
@@ -304,10 +305,10 @@ fn memory_refused_while_traced_shards_open(rt: HostRuntime) -> Result<(), Fail> 
     let count = match opened_count(rt.alloc(), &listings) {
         Ok(count) => count,
         Err(fault) => {
-            assert_eq!(rt; fault, OpenFault::Memory);
+            expect_eq!(rt; fault, OpenFault::Memory);
             opened_count(rt.alloc(), &listings)?
         }
     };
-    assert_eq!(rt; count, 4);
+    expect_eq!(rt; count, 4);
     Ok(())
 }

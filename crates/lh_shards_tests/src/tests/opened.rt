@@ -3,6 +3,7 @@ use super::calls::{insert_letters, shards_of};
 use super::whole::{openings, records_in};
 use lh_addr::{Config, fnv1a};
 use lh_bucket::Listing;
+use lh_expect::{expect, expect_eq};
 use lh_file::Load;
 use lh_page::{Key, Pair, Value};
 use lh_shards::{OpenFault, Shards, empty_listings, shard_of};
@@ -24,24 +25,24 @@ fn settled_shards_are_opened_again(rt: HostRuntime) -> Result<(), Fail> {
     let closed = shards.close(&rt, hands)?;
     let openings = openings(rt.alloc(), &closed)?;
     let _ = closed.settle(rt.alloc(), &openings)?;
-    assert_eq!(rt; records_in(&closed), 25);
+    expect_eq!(rt; records_in(&closed), 25);
     let listings = closed.into_listings()?;
     let (shards, mut hands) = Shards::open_from(rt.alloc(), &listings, true)?;
-    assert_eq!(rt; shards.count(), 8);
+    expect_eq!(rt; shards.count(), 8);
     let load = Load {
         opening: 25,
         inserted: 0,
         deleted: 0,
     };
-    assert_eq!(rt; shards.load(&mut hands), load);
+    expect_eq!(rt; shards.load(&mut hands), load);
     let (key, value) = (Key::new(b"q")?, Value::new(b"qq")?);
-    assert_eq!(rt; shards.get(&rt, &mut hands, &key)?, Some(value));
-    assert!(rt; shards.remove(&rt, &mut hands, &key)?);
+    expect_eq!(rt; shards.get(&rt, &mut hands, &key)?, Some(value));
+    expect!(rt; shards.remove(&rt, &mut hands, &key)?);
     let closed = shards.close(&rt, hands)?;
-    assert_eq!(rt; listings.len(), closed.count() as usize);
+    expect_eq!(rt; listings.len(), closed.count() as usize);
     let histories = closed.settle(rt.alloc(), &listings)?;
-    assert_eq!(rt; histories.len(), 8);
-    assert_eq!(rt; records_in(&closed), 24);
+    expect_eq!(rt; histories.len(), 8);
+    expect_eq!(rt; records_in(&closed), 24);
     Ok(())
 }
 
@@ -50,12 +51,12 @@ fn numbers_of_listings_are_refused(rt: HostRuntime) -> Result<(), Fail> {
     let config = Config::new(1, 2, 100, 16)?;
     for count in [0, 1_025] {
         let listings = empty_listings(rt.alloc(), config, count)?;
-        assert_eq!(rt; fault_of(rt.alloc(), &listings)?, OpenFault::Count);
+        expect_eq!(rt; fault_of(rt.alloc(), &listings)?, OpenFault::Count);
     }
     for count in [1, 1_024] {
         let listings = empty_listings(rt.alloc(), config, count)?;
         let (shards, _) = Shards::open_from(rt.alloc(), &listings, false)?;
-        assert_eq!(rt; shards.count(), count);
+        expect_eq!(rt; shards.count(), count);
     }
     Ok(())
 }
@@ -64,7 +65,7 @@ fn numbers_of_listings_are_refused(rt: HostRuntime) -> Result<(), Fail> {
 fn another_configuration_is_refused(rt: HostRuntime) -> Result<(), Fail> {
     let mut listings = empty_listings(rt.alloc(), Config::new(1, 2, 100, 16)?, 3)?;
     listings.push(Listing::empty(rt.alloc(), Config::new(1, 3, 100, 16)?)?)?;
-    assert_eq!(rt;
+    expect_eq!(rt;
         fault_of(rt.alloc(), &listings)?,
         OpenFault::Config { shard: 3 }
     );
@@ -112,8 +113,8 @@ pub(crate) fn listings_astray(alloc: Global) -> Result<(Vec<Listing>, usize), Fa
 #[test]
 fn a_record_of_another_shard_is_named(rt: HostRuntime) -> Result<(), Fail> {
     let (listings, place) = listings_astray(rt.alloc())?;
-    assert!(rt; place > 0);
-    assert_eq!(rt;
+    expect!(rt; place > 0);
+    expect_eq!(rt;
         fault_of(rt.alloc(), &listings)?,
         OpenFault::Misplaced {
             shard: 0,

@@ -5,6 +5,7 @@ ghost use Rattle.lh_shards.specs.Hands.{AreOf};
 use super::calls::shards_of;
 use super::whole::{acts_in, openings, records_in};
 use lh_bucket::{Call, Reply};
+use lh_expect::expect_eq;
 use lh_file::{ActLine, History};
 use lh_page::{Key, Value};
 use lh_shards::{Hands, Shards};
@@ -167,7 +168,7 @@ pub(crate) fn reply_of(map: &mut BTreeMap<Key, Value>, call: &Call) -> Result<Re
 
 /// An act's reply is that of the map, which is after it as the act leaves it.
 fn check_act(rt: &impl Abort, map: &mut BTreeMap<Key, Value>, act: &ActLine) -> Result<(), Fail> {
-    assert_eq!(rt; reply_of(map, &act.call)?, act.reply);
+    expect_eq!(rt; reply_of(map, &act.call)?, act.reply);
     Ok(())
 }
 
@@ -205,9 +206,9 @@ fn eight_threads_make_one_map(rt: HostRuntime) -> Result<(), Fail> {
     let closed = shards.close(&rt, hands)?;
     let openings = openings(rt.alloc(), &closed)?;
     let histories = closed.settle(rt.alloc(), &openings)?;
-    assert_eq!(rt; acts_in(&histories), 8 * 60 * 5);
+    expect_eq!(rt; acts_in(&histories), 8 * 60 * 5);
     let records = records_in(&closed);
-    assert_eq!(rt; records_of_turns(&rt, rt.alloc(), &histories)?, records);
-    assert_eq!(rt; records_of_runs(&rt, rt.alloc(), &histories)?, records);
+    expect_eq!(rt; records_of_turns(&rt, rt.alloc(), &histories)?, records);
+    expect_eq!(rt; records_of_runs(&rt, rt.alloc(), &histories)?, records);
     Ok(())
 }

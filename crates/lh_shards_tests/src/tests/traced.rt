@@ -8,6 +8,7 @@ use super::threads::reply_of;
 use super::whole::{acts_in, records_in};
 use lh_addr::{Config, fnv1a};
 use lh_bucket::{Answer, Call, Listing};
+use lh_expect::{expect, expect_eq};
 use lh_file::{ActLine, FileBrand, FileFault, History, Traced};
 use lh_page::{Key, Value};
 use lh_shards::{ClosedShards, Hands, OpenFault, Openings, Shards, empty_listings};
@@ -40,14 +41,14 @@ fn traced_shards_are_refused_as_others_are(rt: HostRuntime) -> Result<(), Fail> 
     let alloc = rt.alloc();
     let config = Config::new(1, 2, 100, 16)?;
     let mut listings = empty_listings(alloc, config, 0)?;
-    assert_eq!(rt; fault_of(alloc, &listings)?, OpenFault::Count);
+    expect_eq!(rt; fault_of(alloc, &listings)?, OpenFault::Count);
     for capacity in [2, 3] {
         let config = Config::new(1, capacity, 100, 16)?;
         listings.push(Listing::empty(alloc, config)?)?;
     }
-    assert_eq!(rt; fault_of(alloc, &listings)?, OpenFault::Config { shard: 1 });
+    expect_eq!(rt; fault_of(alloc, &listings)?, OpenFault::Config { shard: 1 });
     let (listings, place) = listings_astray(alloc)?;
-    assert_eq!(rt;
+    expect_eq!(rt;
         fault_of(alloc, &listings)?,
         OpenFault::Misplaced {
             shard: 0,
@@ -102,7 +103,7 @@ fn make_calls<J: FileBrand, R: Abort + Wait>(
     for turn in 0..605_u32 {
         let call = call_of(turn)?;
         let answer = serve(rt, shards, hands, call)?;
-        assert_eq!(rt; answer.reply(), reply_of(&mut map, &call)?);
+        expect_eq!(rt; answer.reply(), reply_of(&mut map, &call)?);
     }
     Ok(map.len() as u64)
 }
@@ -128,14 +129,14 @@ fn traced_shards_close_with_their_histories(rt: HostRuntime) -> Result<(), Fail>
     let listings = empty_listings(alloc, Config::new(1, 2, 100, 1_024)?, 3)?;
     let openings = Openings::of(alloc, &listings, true)?;
     let (closed, buckets, records) = called::<Brand, _>(&rt, alloc, openings)?;
-    assert!(rt; buckets > 3);
+    expect!(rt; buckets > 3);
     for shard in 0..closed.count() {
-        assert!(rt; closed.shard(shard).closed.gathered());
+        expect!(rt; closed.shard(shard).closed.gathered());
     }
-    assert_eq!(rt; records_in(&closed), records);
+    expect_eq!(rt; records_in(&closed), records);
     let histories = closed.settle(alloc, &listings)?;
-    assert_eq!(rt; histories.len(), 3);
-    assert_eq!(rt; acts_in(&histories), 605);
+    expect_eq!(rt; histories.len(), 3);
+    expect_eq!(rt; acts_in(&histories), 605);
     Ok(())
 }
 
@@ -367,11 +368,11 @@ fn check_order(rt: &impl Abort, act: &ActLine, number: u8, told: u64) -> Result<
         return Err(Fail::new("another key"));
     };
     if number < *first {
-        assert!(rt; told <= act.stamp);
+        expect!(rt; told <= act.stamp);
         return Ok(true);
     }
     if number >= *last {
-        assert!(rt; act.stamp < told);
+        expect!(rt; act.stamp < told);
         return Ok(true);
     }
     Ok(false)
@@ -413,14 +414,14 @@ fn told_numbers_order_acts_of_two_shards(rt: HostRuntime) -> Result<(), Fail> {
     }
     let closed = exchanged::<Brand, _>(&rt, alloc, openings, &messages).ok_or("a call went wrong")?;
     let histories = closed.settle(alloc, &listings)?;
-    assert_eq!(rt; histories.len(), 3);
+    expect_eq!(rt; histories.len(), 3);
     let mut ordered = 0_u64;
     for (shard, history) in histories.iter().enumerate() {
         // 20 messages, before each of which there is an act, and two acts beside each of the 60.
-        assert_eq!(rt; history.len(), 140);
+        expect_eq!(rt; history.len(), 140);
         ordered = ordered.saturating_add(check_orders(&rt, history, &messages, shard as u8)?);
     }
     // Of 3 * 140 * 20 pairs those have no order that are of two acts and a message beside which they were made.
-    assert_eq!(rt; ordered, 8_400 - 2 * (57 * 3 + 2 + 1));
+    expect_eq!(rt; ordered, 8_400 - 2 * (57 * 3 + 2 + 1));
     Ok(())
 }

@@ -5,6 +5,7 @@ ghost use Rattle.lh_shards.specs.Hands.{AreOf};
 use super::calls::{insert_letters, shards_of};
 use lh_addr::Config;
 use lh_bucket::Listing;
+use lh_expect::{expect, expect_eq};
 use lh_file::{History, Load, SettleFault};
 use lh_page::{Key, Value};
 use lh_shards::{ClosedShards, Hands, ShardFault, Shards, empty_listings};
@@ -42,20 +43,20 @@ pub(crate) fn records_in(closed: &ClosedShards) -> u64 {
 #[test]
 fn sums_are_of_all_shards(rt: HostRuntime) -> Result<(), Fail> {
     let (shards, mut hands) = shards_of(rt.alloc(), 8)?;
-    assert_eq!(rt; shards.buckets(&mut hands), 8);
+    expect_eq!(rt; shards.buckets(&mut hands), 8);
     let mut load = Load {
         opening: 0,
         inserted: 0,
         deleted: 0,
     };
-    assert_eq!(rt; shards.load(&mut hands), load);
+    expect_eq!(rt; shards.load(&mut hands), load);
     insert_letters(&rt, &shards, &mut hands)?;
-    assert!(rt; shards.buckets(&mut hands) > 8);
+    expect!(rt; shards.buckets(&mut hands) > 8);
     let key = Key::new(b"c")?;
-    assert!(rt; shards.remove(&rt, &mut hands, &key)?);
+    expect!(rt; shards.remove(&rt, &mut hands, &key)?);
     load.inserted = 25;
     load.deleted = 1;
-    assert_eq!(rt; shards.load(&mut hands), load);
+    expect_eq!(rt; shards.load(&mut hands), load);
     Ok(())
 }
 
@@ -65,17 +66,17 @@ fn check_whole<R: Abort + Wait>(rt: &R, alloc: Global, count: u32) -> Result<(),
     let mut second = shards.split_hands(&mut first, 1_000)?;
     insert_letters(rt, &shards, &mut second)?;
     let key = Key::new(b"a")?;
-    assert!(rt; shards.get(rt, &mut first, &key)?.is_some());
+    expect!(rt; shards.get(rt, &mut first, &key)?.is_some());
     let Ok(hands) = shards.join_hands(first, second) else {
         return Err(Fail::new("not joined"));
     };
     let closed = shards.close(rt, hands)?;
-    assert_eq!(rt; closed.count(), count);
-    assert_eq!(rt; records_in(&closed), 25);
+    expect_eq!(rt; closed.count(), count);
+    expect_eq!(rt; records_in(&closed), 25);
     let openings = openings(alloc, &closed)?;
     let histories = closed.settle(alloc, &openings)?;
-    assert_eq!(rt; histories.len(), count as usize);
-    assert_eq!(rt; acts_in(&histories), 76);
+    expect_eq!(rt; histories.len(), count as usize);
+    expect_eq!(rt; acts_in(&histories), 76);
     Ok(())
 }
 
@@ -100,13 +101,13 @@ fn a_dropped_hand_is_missed_in_its_shard(rt: HostRuntime) -> Result<(), Fail> {
     let (shards, mut first) = shards_of(rt.alloc(), 8)?;
     let mut second = shards.split_hands(&mut first, 1_000)?;
     let (key, value) = (Key::new(b"key")?, Value::new(b"value")?);
-    assert!(rt; shards.put(&rt, &mut second, &key, &value)?);
+    expect!(rt; shards.put(&rt, &mut second, &key, &value)?);
     let shard = shards.shard_of(lh_addr::fnv1a(key.bytes()));
-    assert!(rt; shard > 0);
+    expect!(rt; shard > 0);
     let closed = shards.close(&rt, first)?;
     let openings = openings(rt.alloc(), &closed)?;
     match closed.settle(rt.alloc(), &openings) {
-        Err(fault) => assert_eq!(rt;
+        Err(fault) => expect_eq!(rt;
             fault,
             ShardFault {
                 shard,

@@ -2,6 +2,7 @@
 use crate::tests::images::continued::behind;
 use crate::tests::images::{FIVE, FIVE_CENSUS, FIVE_RECORDS, FIVE_WORDS, built, inserts};
 use crate::tests::support::{Sink, Source, ran};
+use lh_expect::{expect, expect_eq};
 use lhash::run;
 use std::io::{self, Write};
 use std::process::Abort;
@@ -52,9 +53,9 @@ fn read_fails(
         status.code() == 3 && output.is_empty(),
         "read {failing_read}"
     );
-    assert!(rt; source.reads == failing_read);
+    expect!(rt; source.reads == failing_read);
     let text = status.to_string(rt.alloc())?;
-    assert!(rt; text.as_str() == "read failed");
+    expect!(rt; text.as_str() == "read failed");
     Ok(())
 }
 
@@ -74,7 +75,7 @@ fn reads_whole(
     };
     let mut output = Vec::new(rt.alloc());
     let status = run(rt, words, &mut source, &mut output);
-    assert!(rt; status.code() == 0 && *output.as_slice() == *told);
+    expect!(rt; status.code() == 0 && *output.as_slice() == *told);
     Ok(source.reads)
 }
 
@@ -109,9 +110,9 @@ fn write_fails(
         status.code() == 3 && sink.writes == failing_write,
         "write {failing_write}"
     );
-    assert!(rt; whole.starts_with(sink.bytes.as_slice()));
+    expect!(rt; whole.starts_with(sink.bytes.as_slice()));
     let text = status.to_string(rt.alloc())?;
-    assert!(rt; text.as_str() == "write failed");
+    expect!(rt; text.as_str() == "write failed");
     Ok(())
 }
 
@@ -126,7 +127,7 @@ fn takes_whole(
     let mut source = input;
     let mut sink = Sink::new(rt.alloc(), at_once, 0);
     let status = run(rt, words, &mut source, &mut sink);
-    assert!(rt; status.code() == 0 && *sink.bytes.as_slice() == *whole);
+    expect!(rt; status.code() == 0 && *sink.bytes.as_slice() == *whole);
     sink.writes
 }
 
@@ -139,7 +140,7 @@ fn fails_at_each_write(
     writes: usize,
     whole: &[u8],
 ) -> Result<(), Fail> {
-    assert!(rt; takes_whole(rt, words, input, at_once, whole) == writes);
+    expect!(rt; takes_whole(rt, words, input, at_once, whole) == writes);
     for failing_write in 1..=writes {
         write_fails(rt, words, input, at_once, failing_write, whole)?;
     }
@@ -169,7 +170,7 @@ fn each_failed_write_ends_the_run(rt: HostRuntime) -> Result<(), Fail> {
 fn each_failed_write_of_an_image_ends_build(rt: HostRuntime) -> Result<(), Fail> {
     let image = built(&rt, FIVE_WORDS, FIVE)?;
     let script = FIVE.as_bytes();
-    assert!(rt; takes_whole(&rt, FIVE_WORDS, script, 1, &image) == 4_097);
+    expect!(rt; takes_whole(&rt, FIVE_WORDS, script, 1, &image) == 4_097);
     fails_at_each_write(&rt, FIVE_WORDS, script, 64, 65, &image)?;
     fails_at_each_write(&rt, FIVE_WORDS, script, 4_096, 5, &image)
 }
@@ -195,7 +196,7 @@ fn fails_at_each_turn(
     told: &[u8],
 ) -> Result<(), Fail> {
     for (at_once, reads) in [(7, 589), (1_024, 5)] {
-        assert!(rt; reads_whole(rt, words, image, at_once, told)? == reads);
+        expect!(rt; reads_whole(rt, words, image, at_once, told)? == reads);
         fails_at_each_read(rt, words, image, at_once, told)?;
     }
     fails_at_each_write(rt, words, image, 1, told.len().saturating_add(1), told)
@@ -208,7 +209,7 @@ fn each_failed_turn_ends_what_reads_an_image(rt: HostRuntime) -> Result<(), Fail
     fails_at_each_turn(&rt, &["lhash", "dump"], &image, FIVE_RECORDS.as_bytes())?;
     let draw = ["lhash", "draw"];
     let (_, drawing, _) = ran(&rt, &draw, &image)?;
-    assert!(rt; drawing.len() > 1_000);
+    expect!(rt; drawing.len() > 1_000);
     fails_at_each_turn(&rt, &draw, &image, &drawing)
 }
 
@@ -217,7 +218,7 @@ fn each_failed_turn_ends_replay(rt: HostRuntime) -> Result<(), Fail> {
     let replay = ["lhash", "replay"];
     let steps = b"call 0 search 61\nread 0\n";
     let (_, picture, _) = ran(&rt, &replay, steps)?;
-    assert!(rt; picture.len() > 500);
+    expect!(rt; picture.len() > 500);
     fails_at_each_read(&rt, &replay, steps, 1, &picture)?;
     let writes = picture.len().saturating_add(1);
     fails_at_each_write(&rt, &replay, steps, 1, writes, &picture)
@@ -229,7 +230,7 @@ fn each_failed_turn_ends_migrate(rt: HostRuntime) -> Result<(), Fail> {
     let migrate = ["lhash", "migrate"];
     let old = built(&rt, FIVE_WORDS, FIVE)?;
     let (_, new, _) = ran(&rt, &migrate, &old)?;
-    assert_eq!(rt; new.len(), 16_384);
+    expect_eq!(rt; new.len(), 16_384);
     fails_at_each_read(&rt, &migrate, &old, 7, &new)?;
     fails_at_each_read(&rt, &migrate, &old, 1_024, &new)?;
     fails_at_each_read(&rt, &migrate, &new, 1_024, &new)?;
@@ -251,7 +252,7 @@ fn each_failed_turn_ends_what_goes_on_from_an_image(rt: HostRuntime) -> Result<(
     fails_at_each_write(&rt, &query, &input, 1, writes, replies)?;
     let apply = ["lhash", "apply"];
     let (_, left, _) = ran(&rt, &apply, &input)?;
-    assert_eq!(rt; left.len(), 20_480);
+    expect_eq!(rt; left.len(), 20_480);
     for at_once in [7, 1_024] {
         fails_at_each_read(&rt, &apply, &input, at_once, &left)?;
     }
@@ -279,7 +280,7 @@ fn a_failed_read_stands_between_image_and_script(rt: HostRuntime) -> Result<(), 
             };
             let mut output = Vec::new(rt.alloc());
             let status = run(&rt, words.as_slice(), &mut source, &mut output);
-            assert!(rt; status.code() == code && output.is_empty());
+            expect!(rt; status.code() == code && output.is_empty());
         }
     }
     Ok(())
@@ -309,8 +310,8 @@ fn faults_of_the_first_page_come_before_a_failed_read(rt: HostRuntime) -> Result
         };
         let mut output = Vec::new(rt.alloc());
         let status = run(&rt, &["lhash", "check"], &mut source, &mut output);
-        assert!(rt; status.code() == 1 && output.is_empty());
-        assert_eq!(rt; status.to_string(rt.alloc())?.as_str(), text);
+        expect!(rt; status.code() == 1 && output.is_empty());
+        expect_eq!(rt; status.to_string(rt.alloc())?.as_str(), text);
     }
     Ok(())
 }
@@ -321,8 +322,8 @@ fn a_writer_that_takes_nothing_has_failed(rt: HostRuntime) -> Result<(), Fail> {
     let mut sink = Sink::new(rt.alloc(), 0, 0);
     let words = ["lhash", "commands"];
     let status = run(&rt, words.as_slice(), &mut input, &mut sink);
-    assert_eq!(rt; status.to_string(rt.alloc())?.as_str(), "write failed");
-    assert_eq!(rt; sink.writes, 1);
+    expect_eq!(rt; status.to_string(rt.alloc())?.as_str(), "write failed");
+    expect_eq!(rt; sink.writes, 1);
     Ok(())
 }
 
@@ -336,9 +337,9 @@ fn goes_out_in_chunks(
     let mut source = input;
     let mut sink = Sink::new(rt.alloc(), usize::MAX, 0);
     let status = run(rt, words, &mut source, &mut sink);
-    assert!(rt; status.code() == 0 && sink.writes < 16);
+    expect!(rt; status.code() == 0 && sink.writes < 16);
     let written = sink.bytes.iter().filter(|byte| **byte == b'\n').count();
-    assert!(rt; written == lines);
+    expect!(rt; written == lines);
 }
 
 #[test]
@@ -381,8 +382,8 @@ fn the_last_chunk_is_flushed(rt: HostRuntime) -> Result<(), Fail> {
         let mut input = script.as_bytes();
         let mut output = Unflushed { bytes: 0, whole: 0 };
         let status = run(&rt, &["lhash", "commands"], &mut input, &mut output);
-        assert!(rt; status.code() == 0 && output.bytes == 0);
-        assert_eq!(rt;
+        expect!(rt; status.code() == 0 && output.bytes == 0);
+        expect_eq!(rt;
             output.whole,
             7_usize.saturating_mul(searches).saturating_add(10)
         );

@@ -1,6 +1,7 @@
 //! Drawings of images.
 use crate::tests::images::{built, inserts};
 use crate::tests::support::{has_parts, ran};
+use lh_expect::{expect, expect_eq};
 use std::process::Abort;
 use std::sync::Wait;
 use std::test::Fail;
@@ -36,9 +37,9 @@ fn empty_file(rt: &(impl AllocGlobal + Threads + Wait + Sync)) -> Result<Vec<u8>
 fn an_empty_file_is_drawn(rt: HostRuntime) -> Result<(), Fail> {
     let image = empty_file(&rt)?;
     let (code, written, text) = ran(&rt, ["lhash", "draw"].as_slice(), image.as_slice())?;
-    assert_eq!(rt; text.as_str(), "");
-    assert_eq!(rt; written.as_slice(), EMPTY_FILE.as_bytes());
-    assert_eq!(rt; code, 0);
+    expect_eq!(rt; text.as_str(), "");
+    expect_eq!(rt; written.as_slice(), EMPTY_FILE.as_bytes());
+    expect_eq!(rt; code, 0);
     Ok(())
 }
 
@@ -47,9 +48,9 @@ fn a_cut_off_image_is_not_drawn(rt: HostRuntime) -> Result<(), Fail> {
     let mut image = empty_file(&rt)?;
     image.truncate(3071);
     let (code, written, text) = ran(&rt, ["lhash", "draw"].as_slice(), image.as_slice())?;
-    assert_eq!(rt; text.as_str(), "image I4");
-    assert_eq!(rt; code, 1);
-    assert!(rt; written.is_empty());
+    expect_eq!(rt; text.as_str(), "image I4");
+    expect_eq!(rt; code, 1);
+    expect!(rt; written.is_empty());
     Ok(())
 }
 
@@ -64,9 +65,9 @@ fn draws(
     let words = ["lhash", "build", "--image=1", "--capacity=1", most];
     let image = built(rt, words.as_slice(), script.as_str())?;
     let (code, written, text) = ran(rt, ["lhash", "draw"].as_slice(), image.as_slice())?;
-    assert_eq!(rt; text.as_str(), "");
+    expect_eq!(rt; text.as_str(), "");
     has_parts(rt, written.as_slice(), parts);
-    assert_eq!(rt; code, 0);
+    expect_eq!(rt; code, 0);
     Ok(())
 }
 

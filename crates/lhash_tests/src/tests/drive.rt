@@ -2,6 +2,7 @@
 use crate::tests::support::{fails, writes};
 use lh_addr::Config;
 use lh_bucket::Call;
+use lh_expect::{expect, expect_eq};
 use lh_file::{Gate, NoGate, Point};
 use lh_page::{Key, Value};
 use lhash::{Driven, Status, Unsettled, drive_with, drive_with_snapshots};
@@ -136,8 +137,8 @@ fn a_faulty_script_runs_nothing(rt: HostRuntime) -> Result<(), Fail> {
 /// A status of this fault has code 5 and this text.
 fn tells(rt: &(impl Abort + AllocGlobal), fault: Unsettled, text: &str) -> Result<(), AllocError> {
     let status = Status::NotSettled(fault);
-    assert_eq!(rt; status.code(), 5);
-    assert_eq!(rt; status.to_string(rt.alloc())?.as_str(), text);
+    expect_eq!(rt; status.code(), 5);
+    expect_eq!(rt; status.to_string(rt.alloc())?.as_str(), text);
     Ok(())
 }
 
@@ -221,7 +222,7 @@ fn hold_at_once(
     threads: u32,
     buckets: u32,
 ) -> Result<(), Fail> {
-    assert!(rt; threads > 0);
+    expect!(rt; threads > 0);
     let calls = inserts_of(rt.alloc(), letters)?;
     let wanted = u64::from(threads);
     let gate = MeetAll {
@@ -231,9 +232,9 @@ fn hold_at_once(
     };
     let config = Config::new(buckets, 14, 100, 65536)?;
     let driven = drive_with(rt, rt.alloc(), config, calls.as_slice(), threads, &gate);
-    assert_eq!(rt; driven, Ok(all_inserted(wanted)));
-    assert!(rt; gate.met.load(Ordering::SeqCst) >= wanted);
-    assert_eq!(rt; gate.late.load(Ordering::SeqCst), 0);
+    expect_eq!(rt; driven, Ok(all_inserted(wanted)));
+    expect!(rt; gate.met.load(Ordering::SeqCst) >= wanted);
+    expect_eq!(rt; gate.late.load(Ordering::SeqCst), 0);
     Ok(())
 }
 
@@ -249,7 +250,7 @@ fn calls_that_fill_no_row_of_threads_are_made(rt: HostRuntime) -> Result<(), Fai
     let calls = inserts_of(rt.alloc(), b"abcdefghijklmnopq")?;
     let config = Config::new(1, 2, 100, 65536)?;
     for threads in [2, 3, 5, 16, 18, 64] {
-        assert!(rt; threads > 0);
+        expect!(rt; threads > 0);
         let driven = drive_with(&rt, rt.alloc(), config, calls.as_slice(), threads, NoGate);
         assert_eq!(rt; driven, Ok(all_inserted(17)), "{threads} threads");
     }
@@ -262,7 +263,7 @@ fn a_record_outlives_the_thread_that_wrote_it(rt: HostRuntime) -> Result<(), Fai
     let config = Config::new(1, 14, 100, 65536)?;
     let calls = inserts_of(rt.alloc(), b"a")?;
     let driven = drive_with(&rt, rt.alloc(), config, calls.as_slice(), 1, NoGate);
-    assert_eq!(rt; driven, Ok(all_inserted(1)));
+    expect_eq!(rt; driven, Ok(all_inserted(1)));
     Ok(())
 }
 
@@ -306,7 +307,7 @@ fn eight_threads_settle_though_each_waits(rt: HostRuntime) -> Result<(), Fail> {
         replaced: 0,
         records: 1000,
     };
-    assert_eq!(rt; driven, Ok(totals));
+    expect_eq!(rt; driven, Ok(totals));
     Ok(())
 }
 
@@ -360,9 +361,9 @@ fn a_snapshot_is_taken_while_calls_are_made(rt: HostRuntime) -> Result<(), Fail>
     let config = Config::new(1, 14, 100, 65536)?;
     let gate = HoldForSnapshot::after(2);
     let driven = drive_with_snapshots(&rt, rt.alloc(), config, calls.as_slice(), 1, 1, &gate);
-    assert_eq!(rt; driven, Ok(all_inserted(4)));
-    assert_eq!(rt; gate.taken.load(Ordering::SeqCst), 1);
-    assert_eq!(rt; gate.late.load(Ordering::SeqCst), 0);
+    expect_eq!(rt; driven, Ok(all_inserted(4)));
+    expect_eq!(rt; gate.taken.load(Ordering::SeqCst), 1);
+    expect_eq!(rt; gate.late.load(Ordering::SeqCst), 0);
     Ok(())
 }
 
@@ -372,7 +373,7 @@ fn as_many_snapshots_are_taken(rt: HostRuntime) -> Result<(), Fail> {
     let calls = calls_of(rt.alloc(), 102)?;
     let config = Config::new(1, 1, 100, 65536)?;
     for (threads, snapshots) in [(1, 5), (3, 1), (3, 5), (3, 40), (3, 0)] {
-        assert!(rt; threads > 0);
+        expect!(rt; threads > 0);
         let gate = HoldForSnapshot::after(0);
         let driven = drive_with_snapshots(
             &rt,
@@ -398,7 +399,7 @@ fn as_many_snapshots_are_taken(rt: HostRuntime) -> Result<(), Fail> {
             Ok(totals),
             "{threads} threads, {snapshots} snapshots"
         );
-        assert_eq!(rt; gate.taken.load(Ordering::SeqCst), u64::from(snapshots));
+        expect_eq!(rt; gate.taken.load(Ordering::SeqCst), u64::from(snapshots));
     }
     Ok(())
 }

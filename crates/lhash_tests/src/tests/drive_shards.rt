@@ -2,6 +2,7 @@
 use crate::tests::support::{Sink, Source};
 use lh_addr::Config;
 use lh_bucket::Call;
+use lh_expect::{expect, expect_eq};
 use lh_file::NoGate;
 use lh_page::{Key, Value};
 use lhash::{DeviceFault, Driven, Status, drive_shards_with, drive_with, run};
@@ -52,10 +53,10 @@ fn shards_have_the_totals_of_one_file(rt: HostRuntime) -> Result<(), Fail> {
         records: 640,
     };
     let one = drive_with(&rt, rt.alloc(), config, calls.as_slice(), 1, NoGate);
-    assert_eq!(rt; one, Ok(totals));
+    expect_eq!(rt; one, Ok(totals));
     for shards in [1, 2, 8, 64] {
         for threads in [1, 4, 8] {
-            assert!(rt; threads > 0 && shards > 0 && shards <= 64);
+            expect!(rt; threads > 0 && shards > 0 && shards <= 64);
             let calls = calls.as_slice();
             let driven = drive_shards_with(&rt, rt.alloc(), config, calls, threads, shards);
             assert_eq!(rt; driven, Ok(totals), "{shards} shards, {threads} threads");
@@ -74,7 +75,7 @@ fn calls_that_fill_no_row_of_threads_are_made(rt: HostRuntime) -> Result<(), Fai
     }
     let calls = calls.as_slice();
     for threads in [2, 3, 5, 16, 18, 64] {
-        assert!(rt; threads > 0);
+        expect!(rt; threads > 0);
         let driven = drive_shards_with(&rt, rt.alloc(), config, calls, threads, 64);
         let totals = Driven {
             calls: 17,
@@ -113,7 +114,7 @@ fn writes_totals(
 ) -> Result<(), Fail> {
     for shards in ["1", "2", "8", "64"] {
         let (status, output) = answered(rt, script, threads, shards)?;
-        assert_eq!(rt; status.code(), 0);
+        expect_eq!(rt; status.code(), 0);
         assert_eq!(rt; output.as_slice(), totals.as_bytes(), "{shards} shards");
     }
     Ok(())
@@ -145,12 +146,12 @@ fn an_empty_script_has_totals(rt: HostRuntime) -> Result<(), Fail> {
 #[test]
 fn a_faulty_script_runs_nothing(rt: HostRuntime) -> Result<(), Fail> {
     let (status, output) = answered(&rt, "insert 61 31\nsearch 6\nfrob\n", "4", "8")?;
-    assert_eq!(rt; status.code(), 1);
-    assert_eq!(rt;
+    expect_eq!(rt; status.code(), 1);
+    expect_eq!(rt;
         status.to_string(rt.alloc())?.as_str(),
         "line 2: bad hexadecimal"
     );
-    assert!(rt; output.is_empty());
+    expect!(rt; output.is_empty());
     Ok(())
 }
 
@@ -171,8 +172,8 @@ fn a_device_may_fail(rt: HostRuntime) -> Result<(), Fail> {
         } else {
             DeviceFault::Write
         };
-        assert!(rt; matches!(status, Status::Device(told) if told == fault));
-        assert!(rt; sink.bytes.is_empty());
+        expect!(rt; matches!(status, Status::Device(told) if told == fault));
+        expect!(rt; sink.bytes.is_empty());
     }
     Ok(())
 }

@@ -1,5 +1,6 @@
 //! Images, from scripts to bytes and from bytes to what is told of them.
 use crate::tests::support::{fails, ran};
+use lh_expect::expect;
 use std::process::Abort;
 use std::sync::Wait;
 use std::test::Fail;
@@ -84,7 +85,7 @@ pub fn built(
     script: &str,
 ) -> Result<Vec<u8>, Fail> {
     let (code, image, text) = ran(rt, words, script.as_bytes())?;
-    assert!(rt; code == 0 && text.is_empty());
+    expect!(rt; code == 0 && text.is_empty());
     Ok(image)
 }
 
@@ -96,8 +97,8 @@ pub fn told(
     output: &[u8],
 ) -> Result<(), Fail> {
     let (code, written, text) = ran(rt, words, input)?;
-    assert!(rt; code == 0 && text.is_empty());
-    assert!(rt; *written.as_slice() == *output);
+    expect!(rt; code == 0 && text.is_empty());
+    expect!(rt; *written.as_slice() == *output);
     Ok(())
 }
 
@@ -246,7 +247,7 @@ fn an_image_of_many_pages_is_read(rt: HostRuntime) -> Result<(), Fail> {
     let words = ["lhash", "build", "--capacity", "1", "--image", "1"];
     let image = built(&rt, words.as_slice(), script.as_str())?;
     let (code, census, _) = ran(&rt, &["lhash", "check"], &image)?;
-    assert!(rt; code == 0 && census.starts_with(b"buckets 65536\n"));
+    expect!(rt; code == 0 && census.starts_with(b"buckets 65536\n"));
     Ok(())
 }
 
@@ -265,7 +266,7 @@ fn turned_away(
     words: &[&str],
 ) -> Result<(), Fail> {
     let (code, written, _) = ran(rt, words, b"")?;
-    assert!(rt; code == 2 && written.is_empty());
+    expect!(rt; code == 2 && written.is_empty());
     Ok(())
 }
 

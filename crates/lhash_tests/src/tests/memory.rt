@@ -2,6 +2,7 @@
 //! says so, and made once more it has its totals.
 use lh_addr::Config;
 use lh_bucket::Call;
+use lh_expect::expect_eq;
 use lh_page::{Key, Value};
 use lhash::{DriveFault, Driven, drive_shards_with};
 use std::alloc::Global;
@@ -48,6 +49,6 @@ fn a_refused_run_on_shards_may_be_made_again(rt: HostRuntime) -> Result<(), Fail
         replaced: 0,
         records: 12,
     };
-    assert_eq!(rt; driven, Ok(totals));
+    expect_eq!(rt; driven, Ok(totals));
     Ok(())
 }

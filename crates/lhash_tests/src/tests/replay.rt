@@ -1,5 +1,6 @@
 //! Pictures of step scripts.
 use crate::tests::support::{fails, has_parts, ran, writes};
+use lh_expect::expect_eq;
 use std::alloc::{AllocError, Global};
 use std::test::Fail;
 
@@ -178,8 +179,8 @@ fn many_steps_of_all_kinds_are_drawn(rt: HostRuntime) -> Result<(), Fail> {
     let script = many_steps(rt.alloc())?;
     let words = ["lhash", "replay", "--max=2"];
     let (code, written, text) = ran(&rt, words.as_slice(), script.as_bytes())?;
-    assert_eq!(rt; text.as_str(), "");
+    expect_eq!(rt; text.as_str(), "");
     has_parts(&rt, written.as_slice(), MANY_PARTS.as_slice());
-    assert_eq!(rt; code, 0);
+    expect_eq!(rt; code, 0);
     Ok(())
 }

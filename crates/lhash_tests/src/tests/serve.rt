@@ -1,5 +1,6 @@
 //! `serve`, from words and bytes to bytes and a status.
 use crate::tests::support::{Sink, Source, fails, ran, writes};
+use lh_expect::expect_eq;
 use lhash::run;
 use std::alloc::Global;
 use std::process::Abort;
@@ -20,14 +21,14 @@ const AT_ONCE: usize = 5;
 #[test]
 fn serve_has_the_replies_of_commands(rt: HostRuntime) -> Result<(), Fail> {
     let (code, replies, _) = ran(&rt, COMMANDS.as_slice(), CALLS.as_bytes())?;
-    assert_eq!(rt; code, 0);
+    expect_eq!(rt; code, 0);
     let mut input = Vec::new(rt.alloc());
     input.extend_from_slice(CALLS.as_bytes())?;
     input.extend_from_slice(b"buckets\n")?;
     let (code, answers, text) = ran(&rt, SERVE.as_slice(), &input)?;
-    assert_eq!(rt; text.as_str(), "");
-    assert_eq!(rt; code, 0);
-    assert_eq!(rt; answers, replies);
+    expect_eq!(rt; text.as_str(), "");
+    expect_eq!(rt; code, 0);
+    expect_eq!(rt; answers, replies);
     Ok(())
 }
 
@@ -56,7 +57,7 @@ fn image_of(
 ) -> Result<Vec<u8>, Fail> {
     let words = ["lhash", "build", "--capacity", "1", "--image", version];
     let (code, image, _) = ran(rt, words.as_slice(), calls.as_bytes())?;
-    assert_eq!(rt; code, 0);
+    expect_eq!(rt; code, 0);
     Ok(image)
 }
 
@@ -79,25 +80,25 @@ fn serve_goes_on_from_an_image_as_query_and_apply_do(rt: HostRuntime) -> Result<
             ["lhash", "query"].as_slice(),
             &joined(rt.alloc(), &image, CALLS.as_bytes())?,
         )?;
-        assert_eq!(rt; code, 0);
+        expect_eq!(rt; code, 0);
         let (code, left, _) = ran(
             &rt,
             ["lhash", "apply"].as_slice(),
             &joined(rt.alloc(), &image, CALLS.as_bytes())?,
         )?;
-        assert_eq!(rt; code, 0);
+        expect_eq!(rt; code, 0);
         let lines = joined(rt.alloc(), CALLS.as_bytes(), b"buckets\nimage\n")?;
         let (code, answers, text) = ran(
             &rt,
             FROM_IMAGE.as_slice(),
             &joined(rt.alloc(), &image, &lines)?,
         )?;
-        assert_eq!(rt; text.as_str(), "");
-        assert_eq!(rt; code, 0);
+        expect_eq!(rt; text.as_str(), "");
+        expect_eq!(rt; code, 0);
         let head = format!(in rt.alloc(); "image {}\n", left.len())?;
         let mut due = joined(rt.alloc(), &replies, head.as_bytes())?;
         due.extend_from_slice(&left)?;
-        assert_eq!(rt; answers, due);
+        expect_eq!(rt; answers, due);
     }
     Ok(())
 }
@@ -148,7 +149,7 @@ fn read_fails(
     };
     let mut output = Vec::new(rt.alloc());
     let status = run(rt, SERVE.as_slice(), &mut source, &mut output);
-    assert_eq!(rt; status.code(), 3);
+    expect_eq!(rt; status.code(), 3);
     let came = CALLS.len().saturating_sub(source.bytes.len());
     let (heard, _) = CALLS.as_bytes().split_at(came.min(CALLS.len()));
     let (_, answers, _) = ran(rt, SERVE.as_slice(), heard)?;

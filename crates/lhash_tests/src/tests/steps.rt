@@ -1,5 +1,6 @@
 //! Step scripts, from words and bytes to bytes and a status.
 use crate::tests::support::{fails, ran, writes};
+use lh_expect::{expect, expect_eq};
 use std::process::Abort;
 use std::sync::Wait;
 use std::test::Fail;
@@ -242,7 +243,7 @@ fn an_empty_script_tells_nothing(rt: HostRuntime) -> Result<(), Fail> {
     let words = ["lhash", "steps", "--initial", "3", "--max", "2"];
     fails(&rt, words.as_slice(), "frob", 2, "max is less than initial")?;
     let (code, written, _) = ran(&rt, ["lhash", "steps", "--help"].as_slice(), b"frob")?;
-    assert_eq!(rt; code, 0);
-    assert!(rt; !written.is_empty());
+    expect_eq!(rt; code, 0);
+    expect!(rt; !written.is_empty());
     Ok(())
 }

@@ -1,4 +1,5 @@
 //! Readers and writers that fail, and what a run did.
+use lh_expect::{expect, expect_eq};
 use lhash::run;
 use std::io::{self, Error, ErrorKind, Read, Write};
 use std::process::Abort;
@@ -90,9 +91,9 @@ pub fn writes(
     output: &str,
 ) -> Result<(), Fail> {
     let (code, written, text) = ran(rt, words, input.as_bytes())?;
-    assert_eq!(rt; text.as_str(), "");
-    assert_eq!(rt; written.as_slice(), output.as_bytes());
-    assert_eq!(rt; code, 0);
+    expect_eq!(rt; text.as_str(), "");
+    expect_eq!(rt; written.as_slice(), output.as_bytes());
+    expect_eq!(rt; code, 0);
     Ok(())
 }
 
@@ -104,9 +105,9 @@ pub fn fails(
     fault: &str,
 ) -> Result<(), Fail> {
     let (status, written, text) = ran(rt, words, input.as_bytes())?;
-    assert_eq!(rt; text.as_str(), fault);
-    assert_eq!(rt; status, code);
-    assert!(rt; written.is_empty());
+    expect_eq!(rt; text.as_str(), fault);
+    expect_eq!(rt; status, code);
+    expect!(rt; written.is_empty());
     Ok(())
 }
 

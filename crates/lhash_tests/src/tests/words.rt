@@ -1,5 +1,6 @@
 //! Words that ask for no file.
 use crate::tests::support::{fails, ran, writes};
+use lh_expect::{expect, expect_eq};
 use std::test::Fail;
 
 #[test]
@@ -13,8 +14,8 @@ fn words_are_judged_before_the_input(rt: HostRuntime) -> Result<(), Fail> {
         ["lhash"].as_slice(),
     ] {
         let (code, written, _) = ran(&rt, words, b"frob")?;
-        assert_eq!(rt; code, 2);
-        assert!(rt; written.is_empty());
+        expect_eq!(rt; code, 2);
+        expect!(rt; written.is_empty());
     }
     Ok(())
 }
@@ -27,9 +28,9 @@ fn help_goes_to_the_output(rt: HostRuntime) -> Result<(), Fail> {
         ["lhash", "commands", "--help"].as_slice(),
     ] {
         let (code, written, text) = ran(&rt, words, b"frob")?;
-        assert_eq!(rt; code, 0);
-        assert_eq!(rt; text.as_str(), "");
-        assert!(rt; !written.is_empty());
+        expect_eq!(rt; code, 0);
+        expect_eq!(rt; text.as_str(), "");
+        expect!(rt; !written.is_empty());
     }
     Ok(())
 }
@@ -48,9 +49,9 @@ fn control_characters_of_words_are_escaped(rt: HostRuntime) -> Result<(), Fail> 
         ["\u{1b}[31mlhash"].as_slice(),
     ] {
         let (_, written, text) = ran(&rt, words, b"")?;
-        assert!(rt; !written.is_empty() || !text.as_str().is_empty());
-        assert!(rt; !text.as_str().chars().any(|letter| letter.is_control()));
-        assert!(rt;
+        expect!(rt; !written.is_empty() || !text.as_str().is_empty());
+        expect!(rt; !text.as_str().chars().any(|letter| letter.is_control()));
+        expect!(rt;
             written
                 .iter()
                 .all(|byte| *byte == b'\n' || *byte >= b' ' && *byte < 127)

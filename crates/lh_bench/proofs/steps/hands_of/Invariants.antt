@@ -4,6 +4,6 @@ use Rattle.lh_bench.proofs.steps.hands_of.Given as goal
 
 abbrev pub invariant-loop : goal.invariant-loop
 invariant-loop g l = record {
-  first : IsOf l.words l.hand;
-  each : All (λ hand. IsOf l.words hand) l.hands.items;
+  first : IsOf l.file.state l.hand;
+  each : All (λ hand. IsOf l.file.state hand) l.hands.items;
 }

@@ -1,6 +1,7 @@
 //! Images with a script behind them, whose calls `query` answers and `apply` makes.
 use super::{CHAIN, CHAIN_WORDS, FIVE, FIVE_WORDS, HOLE, UNSORTED, UNSORTED_WORDS, built, told};
 use crate::tests::support::ran;
+use lh_expect::{expect, expect_eq};
 use std::process::Abort;
 use std::sync::Wait;
 use std::test::Fail;
@@ -63,8 +64,8 @@ fn refused_by(
     fault: &str,
 ) -> Result<(), Fail> {
     let (code, written, text) = ran(rt, words, input)?;
-    assert_eq!(rt; text.as_str(), fault);
-    assert!(rt; code == 1 && written.is_empty());
+    expect_eq!(rt; text.as_str(), fault);
+    expect!(rt; code == 1 && written.is_empty());
     Ok(())
 }
 
@@ -101,10 +102,10 @@ fn left_after(
     second: &[u8],
 ) -> Result<Vec<u8>, Fail> {
     let (code, mut input, _) = ran(rt, words, first)?;
-    assert!(rt; code == 0);
+    expect!(rt; code == 0);
     input.extend_from_slice(second)?;
     let (code, left, _) = ran(rt, APPLY_FIRST, &input)?;
-    assert!(rt; code == 0);
+    expect!(rt; code == 0);
     Ok(left)
 }
 
@@ -145,7 +146,7 @@ fn apply_of_an_empty_script_is_migrate(rt: HostRuntime) -> Result<(), Fail> {
     ] {
         let first = built(&rt, words, script)?;
         let (code, second, _) = ran(&rt, &["lhash", "migrate"], &first)?;
-        assert!(rt; code == 0 && second.starts_with(b"LHF2"));
+        expect!(rt; code == 0 && second.starts_with(b"LHF2"));
         for image in [&first, &second] {
             for empty in ["", "\n\n", "# nothing\n"] {
                 told(&rt, APPLY, &behind(&rt, image, empty)?, &second)?;
@@ -203,10 +204,10 @@ fn what_is_left_may_have_no_image_of_version_1(rt: HostRuntime) -> Result<(), Fa
     let script = format!(in rt.alloc(); "insert {key} 31\n")?;
     let input = behind(&rt, &image, script.as_str())?;
     let (code, left, _) = ran(&rt, APPLY, &input)?;
-    assert!(rt; code == 0 && left.starts_with(b"LHF2"));
+    expect!(rt; code == 0 && left.starts_with(b"LHF2"));
     let (code, written, text) = ran(&rt, APPLY_FIRST, &input)?;
-    assert!(rt; code == 1 && written.is_empty());
-    assert!(rt; text.as_str().starts_with("image V2 at bucket "));
+    expect!(rt; code == 1 && written.is_empty());
+    expect!(rt; text.as_str().starts_with("image V2 at bucket "));
     let script = format!(in rt.alloc(); "insert {key} 31\nfrob\n")?;
     refused(&rt, &image, script.as_str(), "line 2: unknown word")?;
     let wide = built(&rt, &["lhash", "build", "--capacity=15"], FIVE)?;

@@ -1,6 +1,7 @@
 //! Bytes that are no image, or another one than was built.
 use super::{CHAIN, CHAIN_WORDS, FIVE, FIVE_WORDS, accepted, built, put};
 use crate::tests::support::ran;
+use lh_expect::expect;
 use std::process::Abort;
 use std::sync::Wait;
 use std::test::Fail;
@@ -20,7 +21,7 @@ fn refused_by(
     fault: &str,
 ) -> Result<(), Fail> {
     let (code, written, text) = ran(rt, &["lhash", subcommand], bytes)?;
-    assert!(rt; code == 1 && written.is_empty());
+    expect!(rt; code == 1 && written.is_empty());
     assert!(rt; text.as_str() == fault, "{text} for {fault}");
     Ok(())
 }

@@ -5,6 +5,7 @@ ghost use Rattle.lh_file.specs.FileState.{IsOf};
 use super::{FIVE, FIVE_WORDS, built, told};
 use crate::tests::support::ran;
 use lh_bucket::Listing;
+use lh_expect::expect_eq;
 use lh_file::{Hand, HashFile, NoGate, settle};
 use lh_image::{read_image, write_image};
 use lh_page::{Key, Value};
@@ -67,7 +68,7 @@ fn an_image_is_opened_used_and_written_again(rt: HostRuntime) -> Result<(), Fail
 fn a_migrated_image_is_opened_with_longer_keys(rt: HostRuntime) -> Result<(), Fail> {
     let old = built(&rt, FIVE_WORDS, FIVE)?;
     let (code, new, _) = ran(&rt, &["lhash", "migrate"], &old)?;
-    assert_eq!(rt; code, 0);
+    expect_eq!(rt; code, 0);
     let listing = read_image(rt.alloc(), &mut new.as_slice())?;
     let longest = [b'k'; 56];
     let once = used(&rt, rt.alloc(), &listing, &longest, b"f")?;

@@ -5,6 +5,6 @@ use Rattle.lh_file_tests.proofs.tests.threads.join_all.Given as goal
 
 abbrev pub invariant-loop-worker : goal.invariant-loop-worker
 invariant-loop-worker g l = record {
-  first : IsOf l.file l.all;
+  first : IsOf l.file.state l.all;
   each : All (λ worker. worker.promise.0.now ≡ l.file) (into_iter_items l.worker-iterator);
 }

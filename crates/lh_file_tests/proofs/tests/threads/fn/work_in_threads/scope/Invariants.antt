@@ -4,6 +4,6 @@ use Rattle.lh_file_tests.proofs.tests.threads.fn.work_in_threads.scope.Given as 
 
 abbrev pub invariant-loop-i : goal.invariant-loop-i
 invariant-loop-i g l = record {
-  first : IsOf l.file.now l.all;
+  first : IsOf l.file.now.state l.all;
   each : All (λ worker. worker.promise.0.now ≡ l.file.now) l.workers.items;
 }
