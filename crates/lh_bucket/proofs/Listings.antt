@@ -6,7 +6,7 @@ use Rattle.std.specs.Ordering.{nat_cmp}
 use Rattle.std.specs.Cmp.Lexicographic.{slice_cmp, texts_ties}
 use Rattle.std.specs.BTreeMap.{is_at}
 use Rattle.std.proofs.lemmas.Bool.{cases_lt, false≢true, false_from_ne_true}
-use Rattle.std.proofs.lemmas.List.{get_or_default, get_or_past, length-map, length-replicate}
+use Rattle.std.proofs.lemmas.List.{get_or_default, length-map, length-replicate}
 use Rattle.std.proofs.Math.ListN.{get_or-map, replicate}
 use Rattle.std.proofs.lemmas.Map.Keys.{IsDistinct-from_apart}
 use Rattle.std.specs.List.{IsDistinct, All}
@@ -103,14 +103,6 @@ all_more P lists n ps is all before b below = ⊎_elim
     (λ (last : b ≡ n). subst (All P) (sym (ap (list_at lists) last ∙ is)) all)
     (last_or_before b n below)
 
--- what holds of the lists holds of every list, since there is none behind them
-pub all_lists : (P : Pair → Type 0) (lists : List (List Pair)) (n : ℕ) → length lists ≤ n →
-    ((b : ℕ) → b < n → All P (list_at lists b)) → (b : ℕ) → All P (list_at lists b)
-all_lists P lists n many before b p d within = ⊎_elim
-    (λ (low : b < n). before b low p d within)
-    (λ (high : n ≤ b). absurd (omega (arith, within, ap length (get_or_past lists b [] (omega arith)))))
-    (cases_lt b n)
-
 -- a list without a key twice
 pub distinct_new : (ps : List Pair) → ((p : ℕ) → p < length ps → IsNew 0 ps p) → IsDistinct bytes_eq (keys_of ps)
 distinct_new ps new = IsDistinct-from_apart bytes_eq (keys_of ps) (λ i j d lt below.
@@ -204,16 +196,6 @@ first_twice lists n ps found (Some fault) at twice before among = ⊎_elim
     (λ (new : (found ≡ None) × IsTwiceIn n ps fault).
     first_there lists n ps at (subst (λ r. IfNone r (EachBefore IsNew lists n)) new.0 before) fault new.1)
     twice
-
--- a key that stands twice is the first fault of lists in which each record is at home
-pub fault_of_twice : (initial buckets : ℕ) (lists : List (List Pair)) (result : Option ListingFault) →
-    EachPlace (IsHome initial buckets) lists → IfSome result (IsTwiceAmong lists) →
-    IfSome result (IsFaultAmong initial buckets lists)
-fault_of_twice initial buckets lists None home twice = tt
-fault_of_twice initial buckets lists (Some Shape) home twice = twice
-fault_of_twice initial buckets lists (Some (Misplaced bucket place)) home twice = absurd twice
-fault_of_twice initial buckets lists (Some (Twice bucket place)) home twice = (home, twice)
-fault_of_twice initial buckets lists (Some Memory) home long = (home, long)
 
 -- the first fault of lists of which there are as many as buckets is their first fault
 pub fault_is_first : (config : Settings) (buckets : ℕ) (lists : List (List Pair)) → IsShape config buckets lists →

@@ -76,9 +76,6 @@ entry_keys-map (p ∷ ps) = ap (λ ks. p.key ∷ ks) (entry_keys-map ps)
 pub apart_from_distinct : (ps : List Pair) → Distinct ps → Apart (map entry_of ps)
 apart_from_distinct ps d = subst (IsDistinct bytes_eq) (sym (entry_keys-map ps)) d
 
-not_Some : {X : Type 0} {G : Type 0} (v : X) → ◌≡◌ {A = Option X} None (Some v) → G
-not_Some v e = cc
-
 alike : {X : Type 0} (a b : Option X) → ((v : X) → a ≡ Some v → b ≡ Some v) → ((v : X) → b ≡ Some v → a ≡ Some v) →
     a ≡ b
 alike None None f g = refl

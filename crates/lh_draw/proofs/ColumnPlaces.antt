@@ -75,9 +75,3 @@ pub label_column : (l : Lists) (place : ℕ) → 1 ≤ size l → place < label_
 unfolding label_count
 label_column l place some h =
     label_within (column_count (size l)) (label_step (size l)) place (column_some (size l) some) h
-
--- a product of small factors is small
-pub product_small : (a b : ℕ) → a ≤ 64 → b ≤ 512 → a * b ≤ 32768
-product_small a b few many =
-    let one : b * a ≤ b * 64 = mul-le-mul_left b few in
-    omega (arith, one, many)

@@ -77,11 +77,6 @@ marked_set marks pairs place p same h i low below =
       | inr there ↦ ap (λ (q : Pair). q.key) (sym (get_or-set_other pairs place i p no_pair there))
     ])
 
--- a record that isn't looked at has another key
-pub other_mark : (marks : List ℕ) (pairs : List Pair) (i : ℕ) (key : List ℕ) (mark : ℕ) → IsMarked marks pairs →
-    i < marked_room → i < length pairs → mark ≡ mark_of key → (get_or marks i 0 ≡ mark → ⊥) → key_at pairs i ≢ key
-other_mark marks pairs i key mark h low within is differ same = differ (h i low within ∙ ap mark_of same ∙ sym is)
-
 -- no record whose bit is off has the key
 abbrev pub AbsentOff : List Pair → List ℕ → ℕ → Type 0
 AbsentOff pairs key bits = (i : ℕ) → i < marked_room → i < length pairs → bit_at bits i ≡ 0 → key_at pairs i ≢ key

@@ -9,9 +9,6 @@ use Rattle.std.proofs.lemmas.Slice.Eq.{bytes_eq-Decides}
 use Rattle.lh_page.specs.declared.pair.Pair.{Pair}
 use Rattle.lh_page.specs.Records.{place_of, no_pair, AbsentBelow, StandsFirst}
 
-has_key : List ℕ → Pair → Bool
-has_key key p = bytes_eq p.key key
-
 -- the test whether bytes are the same passes where they are
 pub bytes_eq-same : (x y : List ℕ) → x ≡ y → bytes_eq x y ≡ true
 bytes_eq-same x y e = (bytes_eq-Decides x y).1 e

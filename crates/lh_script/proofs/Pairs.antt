@@ -157,14 +157,6 @@ pair_bad (c ∷ d ∷ cs) high low lt e f m =
 abbrev pub with_front : List ℕ → Option (List ℕ) → Option (List ℕ)
 with_front front r = option_map (λ bytes. front ++ bytes) r
 
-no_front : (r : Option (List ℕ)) → r ≡ with_front [] r
-no_front None = refl
-no_front (Some bs) = refl
-
--- while no byte is written, all bytes are still to come
-pub front_none : (xs : List ℕ) → pairs xs ≡ with_front [] (pairs xs)
-front_none xs = no_front (pairs xs)
-
 fronts : (front : List ℕ) (b : ℕ) (r : Option (List ℕ)) →
     with_front front (option_map (λ bytes. b ∷ bytes) r) ≡ with_front (front ++ b ∷ []) r
 fronts front b None = refl

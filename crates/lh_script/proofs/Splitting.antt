@@ -111,10 +111,6 @@ word_split xs (c ∷ cs) e h =
     let plain : is_blank c ≡ false = word_behind_blanks xs c cs (sym e) in
     words_behind_blanks xs ∙ (ap words (sym e) ∙ (words_from_word c cs plain ∙ rw (plain, one_plus) refl))
 
--- the CR before an LF
-abbrev last_is_cr : List ℕ → Type 0
-last_is_cr xs = get_or xs (length xs - 1) 0 ≡ 13
-
 -- a CR at the end of a line is dropped
 pub cr_goes : (xs : List ℕ) → 0 < length xs → get_or xs (length xs - 1) 0 ≡ 13 →
     without_last_cr xs ≡ take (length xs - 1) xs
@@ -242,7 +238,3 @@ unfolding is_lf
 lf_found xs None n h e = e ∙ sym (no_place (is_byte 10) xs (λ k lt f. h k (omega arith) lt f))
 lf_found xs (Some k) n h e =
     sym (first_place (is_byte 10) xs k h.0.high (λ j lt f. h.0.before j (omega arith) lt f) h.1)
-
--- the first line ends within the text
-pub line_bound : (xs : List ℕ) → position_or_len is_lf xs ≤ length xs
-line_bound xs = length_from_position is_lf xs

@@ -26,22 +26,6 @@ none_of_two b c e f = rw (e, f) refl
 no_lf : (xs ys : List ℕ) → list_any is_lf xs ≡ false → list_any is_lf ys ≡ false → list_any is_lf (xs ++ ys) ≡ false
 no_lf xs ys e f = list_any-append is_lf xs ys ∙ none_of_two (list_any is_lf xs) (list_any is_lf ys) e f
 
--- a conversation that begins has heard nothing and told nothing
-pub begun : (start : FileSeen) (w : WorldSeen) (n : ℕ) (p : Option (List ℕ)) (waiting : List ℕ) → HoldsFile w n start →
-    p ≡ kept [] → waiting ≡ [] →
-    IsAt start (talk_of w n p waiting None) [] []
-begun start w n p waiting h e f =
-    record {
-      turns = [];
-      rest = [];
-      each = tt;
-      whole = refl;
-      incomplete = refl;
-      same = append-nil waiting ∙ f;
-      part = e;
-      file = h;
-    }
-
 -- a part of a line has come
 pub came : (start : FileSeen) (w : WorldSeen) (n : ℕ) (p q : Option (List ℕ)) (waiting : List ℕ) (image : Option Lists)
     (heard answers more : List ℕ) →
@@ -105,24 +89,6 @@ answered start w x n m p q r waiting new heard answers said old image o a none h
       part = er;
       file = served.2;
     }
-
--- what waits is told
-pub told_all : (start : FileSeen) (w : WorldSeen) (n : ℕ) (p : Option (List ℕ)) (waiting new heard answers : List ℕ)
-    (image : Option Lists) →
-    IsAt start (talk_of w n p waiting image) heard answers → new ≡ [] →
-    IsAt start (talk_of w n p new None) heard (answers ++ (waiting ++ image_text image))
-told_all start w n p waiting new heard answers image h e = record {
-  turns = h.turns;
-  rest = h.rest;
-  each = h.each;
-  whole = h.whole;
-  incomplete = h.incomplete;
-  same =
-      ap (λ y. (answers ++ (waiting ++ image_text image)) ++ (y ++ [])) e
-      ∙ append-nil (answers ++ (waiting ++ image_text image)) ∙ h.same;
-  part = h.part;
-  file = h.file;
-}
 
 -- nothing is left behind all bytes
 pub nothing_behind : (xs : List ℕ) → xs ≡ xs ++ take (length xs - length xs) (drop (length xs) xs)

@@ -1,4 +1,3 @@
 -- Lemmas by subject; beside them the proofs of each function, by its module
 pub mod CallsServed
 pub mod Hearing
-pub mod Parting

@@ -167,14 +167,6 @@ module _ (m : Records) (done : List Pair) (p : Pair) where
         fits None t below q b = t.first q
         fits (Some s) t below q b = t.first.1 q (below q b)
 
--- nothing was taken yet
-pub tally_none : (m : Records) → IsTally m [] m None
-tally_none m = record {
-  fresh = λ q e. refl;
-  met = λ q h. absurd (h refl);
-  first = λ q. inl refl;
-}
-
 -- all records were taken
 module _ (m : Records) (lists : List (List Pair)) (left : Records) (stray : Option (List ℕ))
     (t : IsTally m (all_of lists) left stray) where
@@ -198,16 +190,6 @@ module _ (m : Records) (lists : List (List Pair)) (left : Records) (stray : Opti
       full : (o : Option (List ℕ)) → IsSome o → [] ≡ option_to_list o → ⊥
       full (Some v) some e = not_nil v [] (sym e)
       full None some e = absurd (false≢true some)
-
-  -- where no key that was met strays and nothing is left, each key stands just as in the map
-  pub none_stray : stray ≡ None → ((q : List ℕ) → get left q ≡ None) → (q : List ℕ) → StandsAs m lists q
-  none_stray is gone q = stands q (subst (IsStrayOf m (all_of lists)) is t.first q) (gone q)
-
-  -- where nothing is left, the least key met that strays is the least that stands otherwise than in the map
-  pub old_stray : (k : List ℕ) → stray ≡ Some k → ((q : List ℕ) → get left q ≡ None) → IsFirstStray m lists k
-  old_stray k is gone =
-      let f = subst (IsStrayOf m (all_of lists)) is t.first in
-      record { stray = strays k f.0; least = λ q b. stands q (f.1 q b) (gone q) }
 
   -- the least key of those left, or the old one
   pub some_stray : (k first : List ℕ) → (stray ≡ Some k) ⊎ (k ≡ first)

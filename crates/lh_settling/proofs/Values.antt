@@ -12,7 +12,6 @@ use Rattle.std.specs.FinMap.{nat_cmp-IsAntisymmetric}
 use Rattle.std.proofs.lemmas.Bool.{false_from_ne_true, false≢true}
 use Rattle.std.proofs.lemmas.List.{map-append}
 use Rattle.std.proofs.lemmas.List.Elements.{filter-append}
-use Rattle.std.proofs.lemmas.Option.{same_Some}
 use Rattle.std.proofs.lemmas.Slice.Eq.{bytes_eq-Decides}
 use Rattle.lh_page.specs.declared.pair.Pair.{Pair}
 use Rattle.lh_bucket.specs.declared.call.Call.TheVariants.{Insert, Delete}
@@ -178,14 +177,6 @@ before_greater k s h q b =
 -- no key comes before itself
 pub never_before : (k : List ℕ) → IsBefore k k → ⊥
 never_before k b = false≢true (sym (before-apart k k b) ∙ itself k)
-
--- a value that was found
-pub value_same : (v w : List ℕ) → bytes_eq v w ≡ true → Some v ≡ Some w
-value_same v w e = ap Some (equals v w e)
-
--- a value that was found is not one that the test tells apart from it
-pub value_other : (v w : List ℕ) → bytes_eq v w ≡ false → Some v ≢ Some w
-value_other v w e same = false≢true (sym e ∙ ap (λ x. bytes_eq v x) (sym (same_Some v w same)) ∙ itself v)
 
 -- what a map has at a key, of the keys that pass a test
 pub get-retained : (m : Records) (f : List ℕ → Bool) (q : List ℕ) → get (retain_keys m f) q ≡ cond (f q) (get m q) None

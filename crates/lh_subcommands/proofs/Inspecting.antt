@@ -28,7 +28,7 @@ use Rattle.lh_subcommands.specs.Run.{Ends}
 use Rattle.lh_subcommands.specs.declared.status.DeviceFault.TheVariants.{Write}
 use Rattle.lh_subcommands.specs.declared.status.InputFault.TheVariants.{Image}
 use Rattle.lh_subcommands.specs.declared.status.Status.{Status}
-use Rattle.lh_subcommands.specs.declared.status.Status.TheVariants.{Done, Input, Device, Memory as NoMemory}
+use Rattle.lh_subcommands.specs.declared.status.Status.TheVariants.{Done, Input, Device}
 
 -- a fault that is neither a failed read nor out of memory
 pub refused_for_bytes : (fault : ImageFault) → (fault ≡ ReadFault → ⊥) → (fault ≡ Memory → ⊥) →
@@ -88,11 +88,6 @@ pub check_begun : (census : Census) (text : List ℕ) (left before now : Option 
 check_begun census text None before now shows is h = tt
 check_begun census text (Some input) before now shows is h =
     (check_text census, census_due census shows.0 input shows.1 shows.2, subst (TakesBeginning before now) is h)
-
--- a run of `check` that is out of memory ends without a write
-pub check_unwritten : (left a : Option (List ℕ)) → IfSome left (λ input. Ends NoMemory (check_due input) a a)
-check_unwritten None a = tt
-check_unwritten (Some input) a = Keeps-refl a
 
 -- and so are its records
 records_due : (listing l : Lists) (input : List ℕ) → reading_of input ≡ Ok l → listing ≡ l →

@@ -72,19 +72,6 @@ record_begins before now sent bucket pairs i pair at h =
     ∙ sent-all (λ p. line (record_text bucket p)) sent pairs i pair (slice_get_within pairs i pair at))
     (begins_longer before now _ (bucket_text bucket (drop (suc i) pairs)) h)
 
--- before its first record no line of a bucket is sent
-pub no_lines : (before now : Option (List ℕ)) (waiting sent : List ℕ) (bucket : ℕ) (pairs : List Pair) →
-    Sends before now waiting sent → Sends before now waiting (sent ++ lines_before bucket pairs 0)
-no_lines before now waiting sent bucket pairs h = subst (Sends before now waiting) (sym (append-nil sent)) h
-
--- behind its last record all lines of a bucket are sent
-pub all_lines : (before now : Option (List ℕ)) (waiting sent : List ℕ) (bucket : ℕ) (pairs : List Pair) (i : ℕ) →
-    length pairs ≤ i →
-    Sends before now waiting (sent ++ lines_before bucket pairs i) →
-    Sends before now waiting (sent ++ bucket_text bucket pairs)
-all_lines before now waiting sent bucket pairs i many h =
-    subst (λ (ps : List Pair). Sends before now waiting (sent ++ bucket_text bucket ps)) (take_all i pairs many) h
-
 -- the lines of the first buckets
 abbrev pub buckets_before : Lists → ℕ → List ℕ
 buckets_before l n = flat_map (λ i. bucket_text i (list_at l.lists i)) (take n (range_with_len 0 (size l)))

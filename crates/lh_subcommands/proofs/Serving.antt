@@ -2,8 +2,8 @@
 use Rattle.std.proofs.Common.{◌≡◌, inl, inr, ℕ, List, [], ◌∷◌, ◌++◌, Option, None, Some, IfSome, length, refl, sym, ap}
 use Rattle.std.proofs.Common.{subst, ◌∙◌, append_assoc, append-nil, arith}
 use Rattle.std.specs.Prelude.{Result, Ok, Err}
-use Rattle.std.specs.Io.KnownBytes.{Appends, Consumes, IsAtEnd, Keeps}
-use Rattle.std.proofs.KnownBytes.{Appends-trans, Appends-nil, Consumes-trans, Keeps-refl}
+use Rattle.std.specs.Io.KnownBytes.{Appends, Consumes, IsAtEnd}
+use Rattle.std.proofs.KnownBytes.{Appends-trans, Consumes-trans, Keeps-refl}
 use Rattle.lh_image.specs.Reading.{IsDueFault, following, leading, reading_of}
 use Rattle.lh_image.specs.declared.fault.ImageFault.{ImageFault}
 use Rattle.lh_image.specs.declared.fault.ImageFault.TheVariants.{ReadFault, Memory as MemoryToRead}
@@ -21,7 +21,7 @@ use Rattle.lh_subcommands.specs.declared.status.DeviceFault.TheVariants.{Read, W
 use Rattle.lh_subcommands.specs.declared.status.InputFault.{InputFault}
 use Rattle.lh_subcommands.specs.declared.status.InputFault.TheVariants.{Image}
 use Rattle.lh_subcommands.specs.declared.status.Status.{Status}
-use Rattle.lh_subcommands.specs.declared.status.Status.TheVariants.{Done, Device, Memory}
+use Rattle.lh_subcommands.specs.declared.status.Status.TheVariants.{Done, Device}
 
 -- the input's fault of an image's
 abbrev image_of : Result Lists ImageFault → Result (List ℕ) InputFault
@@ -37,10 +37,6 @@ pub due : (s : FileSeen) (t : ConversationSeen) (heard answers : List ℕ) → I
     IsAnswered s heard (answers ++ pending t)
 due s t heard answers h =
     record { turns = h.turns; rest = h.rest; each = h.each; whole = h.whole; incomplete = h.incomplete; same = h.same }
-
--- nothing was heard yet
-pub telling_begins : (s : FileSeen) (t : ConversationSeen) (a : Option (List ℕ)) → IsAt s t [] [] → IsTelling s t a a []
-telling_begins s t a h = record { answers = []; held = h; appended = Appends-nil a }
 
 -- what waits was written
 pub telling_now : (s : FileSeen) (t u : ConversationSeen) (before now after : Option (List ℕ)) (heard : List ℕ) →
@@ -141,12 +137,6 @@ pub ends_read : (s : FileSeen) (left rest before now : Option (List ℕ)) (heard
 ends_read s None rest before now heard c h = tt
 ends_read s (Some input) rest before now heard c h = (heard, c, h)
 
--- `serve` that is out of memory at once has heard and told nothing
-pub ends_wanting : (s : FileSeen) (left before : Option (List ℕ)) →
-    IfSome left (λ input. EndsServing s input Memory left before before)
-ends_wanting s None before = tt
-ends_wanting s (Some input) before = (Keeps-refl (Some input), Keeps-refl before)
-
 unread : (fault : ImageFault) (due : Result Lists ImageFault) → IsDueFault fault due → IsUnopened (refused_as fault) due
 unread ReadFault due h = inl (inl refl)
 unread MemoryToRead due h = inl (inr refl)
@@ -215,12 +205,6 @@ pub cut_in_rest : (s : FileSeen) (before now : Option (List ℕ)) (heard bytes t
     IsCutShort s before now (heard ++ bytes)
 cut_in_rest s before now heard bytes taken rest e h =
     subst (IsCutShort s before now) (append_assoc heard taken rest ∙ ap (λ x. heard ++ x) (sym e)) h
-
--- from a reader that keeps what it has nothing was taken
-pub keeps_consumes : (a b : Option (List ℕ)) → Keeps a b → Consumes a b []
-keeps_consumes None b h = tt
-keeps_consumes (Some x) None h = absurd h
-keeps_consumes (Some x) (Some y) h = sym h
 
 empty_list : (xs : List ℕ) → length xs ≡ 0 → xs ≡ []
 empty_list [] e = refl

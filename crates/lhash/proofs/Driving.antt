@@ -217,10 +217,3 @@ all_settled law file opening closed acts hand taken from held full none each =
           law file.listing s closed t.entries t.logs t.log hand acts (lines_of held.0) t.whole t.is t.told held
           full none own) taken each,
     )
-
--- the snapshots that a hand took of a file have the file's settings
-pub configs_taken : (file : FileState) (settings : Settings) (hand : HandState) (taken : List ClosedFile) →
-    file.config ≡ settings → All (HasTakenOne file hand) taken →
-    All (λ (snapshot : ClosedFile). snapshot.config ≡ settings) taken
-configs_taken file settings hand taken is each =
-    All-weaker (HasTakenOne file hand) (λ (s : ClosedFile). s.config ≡ settings) (λ s t. t.config ∙ is) taken each

@@ -2,7 +2,6 @@
 use Rattle.std.proofs.Common.{◌≡◌, ◌==◌, ◌||◌, ◌∙◌, ℕ, Bool, true, false, cond, ◌<◌, ◌≤◌, List, Option, None, Some}
 use Rattle.std.proofs.Common.{IfSome, inl, inr, refl, sym, ap, subst, codes}
 use Rattle.std.specs.Prelude.{option_and_then, option_map, Result, Ok, Err}
-use Rattle.std.specs.String.{string_bytes}
 use Rattle.std.specs.Io.KnownBytes.{Keeps}
 use Rattle.lh_addr.specs.Settings.{Settings}
 use Rattle.lh_bucket.specs.declared.call.Call.{Call}
@@ -10,7 +9,7 @@ use Rattle.lh_bucket.specs.Listing.{Lists}
 use Rattle.lh_image.specs.declared.fault.ImageFault.{ImageFault}
 use Rattle.lh_image.specs.declared.version.Version.{Version}
 use Rattle.lh_image.specs.Reading.{following, leading, reading_of}
-use Rattle.lh_options.specs.Options.{Asks, AsksForHelp, IsTurned, Text, asked_by, asked_for, image_begins, number_given}
+use Rattle.lh_options.specs.Options.{Asks, Text, asked_by, asked_for, image_begins, number_given}
 use Rattle.lh_options.specs.Options.{settings_given, settings_typed, subcommand_named, version_numbered}
 use Rattle.lh_options.specs.AskingLaws.{apply, asked_named, build, commands, drive, refused_alone, refuses_setting}
 use Rattle.lh_options.specs.AskingLaws.{replay}
@@ -25,13 +24,12 @@ use Rattle.lh_subcommands.specs.Images.{EndsBuilding, check_due, draw_due, dump_
 use Rattle.lh_subcommands.specs.Run.{EndsReplay, EndsSteps}
 use Rattle.lh_serving.specs.Answers.{FileSeen, first_file}
 use Rattle.lh_subcommands.specs.Serve.{EndsGoingOn, EndsServing, EndsServingFrom}
-use Rattle.lhash.specs.Serving.{Ending, EndsCommands, EndsDrivingIn, EndsTold, IsHelped, IsRun, IsTurnedAway, IsWordsOf}
+use Rattle.lhash.specs.Serving.{Ending, EndsCommands, EndsDrivingIn, EndsTold, IsRun, IsWordsOf}
 use Rattle.lhash.specs.Serving.{RefusesBelow, RefusesBeside, RefusesSnapshots, IsPerformed, ServesApply, ServesBuild}
-use Rattle.lhash.specs.Serving.{ServesClient, ServesDrive, ServesFile, ServesFrom, ServesImage, TurnsAway}
+use Rattle.lhash.specs.Serving.{ServesClient, ServesDrive, ServesFile, ServesFrom, ServesImage}
 use Rattle.lhash.specs.Serving.{below_initial, beside_image, snapshots_of_shards, wanted_version}
-use Rattle.lh_subcommands.specs.declared.status.DeviceFault.TheVariants.{Read, Write}
 use Rattle.lh_subcommands.specs.declared.status.Status.{Status}
-use Rattle.lh_subcommands.specs.declared.status.Status.TheVariants.{Done, Input, Words, Device, Memory, NotSettled}
+use Rattle.lh_subcommands.specs.declared.status.Status.TheVariants.{Memory}
 
 -- a request is served as what it is
 pub served_as : {r asked : Request} → r ≡ asked → (status : Status) (left rest before now : Option (List ℕ)) →
@@ -342,45 +340,3 @@ refuses_below words status left rest before now settings accepts none given belo
     absurd (answers.0 accepts)
 refuses_below words status left rest before now settings accepts none given below (inr run) =
     (subst (IsWordsOf below_initial) (sym run.0) tt, run.1, run.2)
-
-helped : (words : List Text) (text : List ℕ) (status : Status) (before now : Option (List ℕ)) → AsksForHelp words →
-    IsHelped text status before now → IsTurnedAway words status before now
-helped words text Done before now asks h = asks
-helped words text (Input fault) before now asks h = absurd h
-helped words text (Words reason) before now asks h = absurd h
-helped words text (Device Read) before now asks h = absurd h
-helped words text (Device Write) before now asks h = asks
-helped words text Memory before now asks h = absurd h
-helped words text (NotSettled fault) before now asks h = absurd h
-
-turned : (words : List Text) (r : Request) (status : Status) (left rest before now : Option (List ℕ)) →
-    IsTurned words r → IsPerformed r status left rest before now →
-    IsTurnedAway words status before now × Keeps left rest
-turned words (request.Help text) status left rest before now is serves =
-    (helped words (string_bytes text) status before now is serves.0, serves.1)
-turned words (request.Refused text) status left rest before now is serves =
-    (subst (λ (s : Status). IsTurnedAway words s before now) (sym serves.0) (is.0, is.1, serves.2), serves.1)
-turned words (request.Commands config) status left rest before now is serves = absurd is
-turned words (request.Steps config) status left rest before now is serves = absurd is
-turned words (request.Replay config) status left rest before now is serves = absurd is
-turned words (request.Serve config) status left rest before now is serves = absurd is
-turned words request.ServeImage status left rest before now is serves = absurd is
-turned words request.SettingsBesideImage status left rest before now is serves = absurd is
-turned words request.SnapshotsOfShards status left rest before now is serves = absurd is
-turned words (request.Build config image) status left rest before now is serves = absurd is
-turned words (request.Drive config threads shards snapshots) status left rest before now is serves = absurd is
-turned words request.Check status left rest before now is serves = absurd is
-turned words request.Dump status left rest before now is serves = absurd is
-turned words request.Draw status left rest before now is serves = absurd is
-turned words request.Migrate status left rest before now is serves = absurd is
-turned words request.Query status left rest before now is serves = absurd is
-turned words (request.Apply image) status left rest before now is serves = absurd is
-turned words request.MaxBelowInitial status left rest before now is serves = absurd is
-
--- what is turned away
-pub turns_away : TurnsAway
-turns_away words status left rest before now refused (inl (r, inl answers, serves)) = absurd (refused answers.0)
-turns_away words status left rest before now refused (inl (r, inr answers, serves)) =
-    turned words r status left rest before now answers.1 serves
-turns_away words status left rest before now refused (inr run) =
-    (subst (λ (s : Status). IsTurnedAway words s before now) (sym run.0) run.2, run.1)

@@ -9,7 +9,7 @@ use Rattle.lh_addr.specs.Fnv.{code_of}
 use Rattle.lh_addr.specs.Settings.{Settings}
 use Rattle.lh_addr.specs.Growth.{address, level_of}
 use Rattle.lh_bucket.specs.declared.call.Call.{Call}
-use Rattle.lh_bucket.specs.Call.{is_insert, is_search}
+use Rattle.lh_bucket.specs.Call.{is_search}
 use Rattle.lh_bucket.specs.declared.call.Reply.{Reply}
 use Rattle.lh_bucket.specs.Call.{key_of}
 use Rattle.lh_bucket.specs.Bucket.{Seen}
@@ -29,12 +29,12 @@ use Rattle.lh_core.specs.State.{State, splitting}
 use Rattle.lh_core.specs.Holds.{is_barred, is_held, is_held_alone}
 use Rattle.lh_core.specs.Rules.{allowed, put}
 use Rattle.lh_core.specs.Log.{effect_reply}
-use Rattle.lh_core.specs.History.{served_by, has_insert, outline}
+use Rattle.lh_core.specs.History.{served_by, outline}
 use Rattle.lh_core.specs.Sound.{IsPhase}
 use Rattle.lh_core.specs.Kept.{IsWorld}
 use Rattle.lh_core.specs.Serial.{IsAtRest, IsGivenUp, IsServedAlone, HasGrown}
 use Rattle.lh_core.specs.World.{WorldSeen, IsStep, StandsFor, reply_to, map_after}
-use Rattle.lh_core.specs.StepLaws.{became, told, some_same, none_some}
+use Rattle.lh_core.specs.StepLaws.{became, told, some_same}
 use Rattle.lh_core.proofs.Logs.Leading.{idle_filled}
 
 -- a call that is served at once, while nobody is at work
@@ -97,15 +97,6 @@ goes s a b e o v w f ok h step =
     (subst (λ x. allowed v.config x e ≡ Ok (outline f, w.state)) h.state step.ruled) in
     record { same = step.config ∙ h.same; state = became (sym r ∙ ok) }
 
--- and what it tells
-tells : (s : Settings) (a b : State) (e : Event) (o : Option Effect) (v w : WorldSeen) (f : Effect) →
-    allowed s a e ≡ Ok (o, b) → At s a v → IsStep v e (Ok f) w → outline f ≡ o
-tells s a b e o v w f ok h step =
-    let r : allowed s a e ≡ Ok (outline f, w.state) =
-    subst (λ t. allowed t a e ≡ Ok (outline f, w.state)) h.same
-    (subst (λ x. allowed v.config x e ≡ Ok (outline f, w.state)) h.state step.ruled) in
-    told (sym r ∙ ok)
-
 may : (s : Settings) (a b : State) (e : Event) (o : Option Effect) (v : WorldSeen) → allowed s a e ≡ Ok (o, b) →
     At s a v → IsOk (allowed v.config v.state e)
 may s a b e o v ok h =
@@ -147,10 +138,6 @@ module _ (s : Settings) (n : ℕ) (c : Call) where
   release_goes : allowed s (alone n (Acted c bucket)) (event.Release 0) ≡ Ok (Some effect.Released, alone n Idle)
   release_goes = refl
 
--- an effect that the rules leave to the map is a reply
-not_told : {G : Type 0} (f g : Effect) → outline f ≡ None → Some g ≡ outline f → G
-not_told f g e h = none_some (sym (h ∙ e))
-
 module _ (c : Call) (v0 v1 v2 : WorldSeen) (f0 f1 : Effect) (h : IsWorld v0) (r : IsAtRest v0.state)
     (t0 : IsStep v0 (event.Call 0 c) (Ok f0) v1) (t1 : IsStep v1 (event.Read 0) (Ok f1) v2) where
   at0 : At v0.config (alone v0.state.buckets Idle) v0
@@ -173,23 +160,9 @@ module _ (c : Call) (v0 v1 v2 : WorldSeen) (f0 f1 : Effect) (h : IsWorld v0) (r 
         v3
     at3 = goes v0.config _ _ (event.Lock 0) _ v2 v3 f2 (lock_goes v0.config v0.state.buckets c) at2 t2
 
-    -- after the lock it may act
-    pub may_act : IsOk (allowed v3.config v3.state (event.Act 0))
-    may_act = may v0.config _ _ (event.Act 0) _ v3 (act_goes v0.config v0.state.buckets c) at3
-
     -- the call that the act serves
     serves_call : served_by v3.state (event.Act 0) ≡ Some c
     serves_call = ap (λ a. served_by a (event.Act 0)) at3.state
-
-    -- where the call that the act serves is an insert, the worker's call is one
-    pub wants_insert : has_insert (served_by v3.state (event.Act 0)) ≡ true → is_insert c ≡ true
-    wants_insert h = sym (ap has_insert serves_call) ∙ h
-
-    -- where the act was refused, the worker may give up
-    pub may_give_up : (v4 : WorldSeen) → v4 ≡ v3 → IsOk (allowed v4.config v4.state (event.Release 0))
-    may_give_up v4 e =
-        subst (λ (v : WorldSeen). IsOk (allowed v.config v.state (event.Release 0))) (sym e)
-        (may v0.config _ _ (event.Release 0) _ v3 (give_up_goes v0.config v0.state.buckets c) at3)
 
     -- once its bucket is let go without an act, the call is given up
     pub given_up : (v4 v5 : WorldSeen) (f3 : Effect) → v4 ≡ v3 → IsStep v4 (event.Release 0) (Ok f3) v5 →
@@ -208,14 +181,6 @@ module _ (c : Call) (v0 v1 v2 : WorldSeen) (f0 f1 : Effect) (h : IsWorld v0) (r 
     module _ (v4 : WorldSeen) (f3 : Effect) (t3 : IsStep v3 (event.Act 0) (Ok f3) v4) where
       at4 : At v0.config (alone v0.state.buckets (Acted c (bucket v0.config v0.state.buckets c))) v4
       at4 = goes v0.config _ _ (event.Act 0) _ v3 v4 f3 (act_goes v0.config v0.state.buckets c) at3 t3
-
-      -- after its act the worker may let its bucket go
-      pub may_release : IsOk (allowed v4.config v4.state (event.Release 0))
-      may_release = may v0.config _ _ (event.Release 0) _ v4 (release_goes v0.config v0.state.buckets c) at4
-
-      -- the effect of the act is a reply
-      pub tells_reply : outline f3 ≡ None
-      tells_reply = tells v0.config _ _ (event.Act 0) _ v3 v4 f3 (act_goes v0.config v0.state.buckets c) at3 t3
 
       -- once the worker has let its bucket go, its call was served alone, with the reply of the act
       pub served : (v5 : WorldSeen) (f4 : Effect) (y : Reply) → f3 ≡ effect.Answered y →
@@ -310,17 +275,9 @@ module _ (v0 v1 : WorldSeen) (f0 : Effect) (h : IsWorld v0) (r : IsAtRest v0.sta
         subst (λ v. At v0.config (waiting v0.state.buckets v0.state.buckets split.Locked) v) (sym e)
         (goes v0.config _ _ event.SplitLock _ v1 v2 f1 (both_goes v0.config v0.state.buckets) split1 t1)
 
-    -- where no records were moved, both buckets may be let go
-    pub may_free_unmoved : IsOk (allowed v3.config v3.state event.SplitRelease)
-    may_free_unmoved = may v0.config _ _ event.SplitRelease _ v3 (free_unmoved_goes v0.config v0.state.buckets) split3
-
     module _ (v4 : WorldSeen) (f2 : Effect) (t2 : IsStep v3 event.SplitRelease (Ok f2) v4) where
       split4 : At v0.config (waiting v0.state.buckets v0.state.buckets split.Begun) v4
       split4 = goes v0.config _ _ event.SplitRelease _ v3 v4 f2 (free_unmoved_goes v0.config v0.state.buckets) split3 t2
-
-      -- after that the split may be given up
-      pub may_drop : IsOk (allowed v4.config v4.state event.SplitDrop)
-      may_drop = may v0.config _ _ event.SplitDrop _ v4 (drop_goes v0.config v0.state.buckets) split4
 
       -- once it is dropped, the split is given up
       pub split_given_up : (v5 : WorldSeen) (f3 : Effect) → IsStep v4 event.SplitDrop (Ok f3) v5 → IsGivenUp v0 v5

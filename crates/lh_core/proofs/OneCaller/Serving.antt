@@ -205,8 +205,3 @@ pub from_opened : (l : Lists) (v : WorldSeen) (m : Records) (cs : List Call) (rs
 from_opened l v m cs rs w opened h =
     subst (λ n. IsSerialFrom l.config m n cs rs w) (ap (λ (a : State). a.buckets) opened.state)
     (subst (λ (t : Settings). IsSerialFrom t m v.state.buckets cs rs w) opened.config h)
-
--- the world of a listing is at rest
-pub opened_rests : (l : Lists) (v : WorldSeen) → IsOpenedWorld l v → IsAtRest v.state
-opened_rests l v h =
-    record { workers = ap (λ (x : State). x.workers) h.state; splitter = ap (λ (x : State). x.splitter) h.state }

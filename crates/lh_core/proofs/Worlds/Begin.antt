@@ -1,14 +1,10 @@
 -- The buckets that a file begins with, and the first world
-use Rattle.std.proofs.Common.{◌≡◌, ℕ, ◌+◌, ◌*◌, ◌^◌, ◌<◌, ◌≤◌, ◌||◌, Bool, true, false, cond, List, [], ◌∷◌, ◌++◌, None}
-use Rattle.std.proofs.Common.{Option, Some, get_or, nat_eq, nat_lt, nat_le, refl, sym, ap, subst, ◌∙◌, arith, ⊎_elim}
-use Rattle.std.proofs.Common.{length-append}
+use Rattle.std.proofs.Common.{◌≡◌, ℕ, ◌+◌, ◌*◌, ◌^◌, ◌<◌, ◌≤◌, ◌||◌, Bool, true, false, cond, List, [], None}
+use Rattle.std.proofs.Common.{Option, Some, nat_eq, nat_lt, nat_le, refl, sym, ap, subst, ◌∙◌, arith}
 use Rattle.std.specs.FinMap.{empty, get-empty}
 use Rattle.std.specs.List.{IsDistinct}
 use Rattle.std.specs.Ordering.{nat_cmp}
 use Rattle.std.specs.Cmp.Lexicographic.{slice_cmp}
-use Rattle.std.proofs.Math.ListN.{get_or-append}
-use Rattle.std.proofs.Math.Seq.{get_or-append_seam}
-use Rattle.std.proofs.lemmas.Bool.{cases_lt}
 use Rattle.std.proofs.lemmas.Bool.Decides.{nat_tests}
 use Rattle.lh_addr.specs.Extent.{Extent}
 use Rattle.lh_addr.specs.Fnv.{code_of}
@@ -19,41 +15,12 @@ use Rattle.lh_bucket.specs.Records.{map_of}
 use Rattle.lh_core.specs.declared.control.Control.{Control}
 use Rattle.lh_core.specs.State.{first}
 use Rattle.lh_core.specs.Control.{IsControl, control_state, world_of}
-use Rattle.lh_core.specs.Kept.{AreBuckets, IsBucketRow, IsWorld, IsEmptyRow, empty_at}
+use Rattle.lh_core.specs.Kept.{IsBucketRow, IsWorld, IsEmptyRow, empty_at}
 use Rattle.lh_core.specs.Laws.{LinearHashing}
 use Rattle.lh_core.specs.Sound.{IsSound}
-use Rattle.lh_core.specs.World.{IsPlaced, HasKeysOnce, no_bucket}
+use Rattle.lh_core.specs.World.{IsPlaced, HasKeysOnce}
 use Rattle.lh_bucket.specs.PlainMapLaws.{same, get_kept}
 use Rattle.lh_core.proofs.Logs.Aiming.{first_sound}
-
--- the empty row has the first buckets while there are none yet
-pub buckets_none : (is : ℕ → Seen) → AreBuckets is 0 []
-buckets_none is = record { all = refl; each = λ i lt. absurd (omega (arith, lt)) }
-
--- a row of the first buckets with the next one at its end has one more of them
-pub buckets_more : (is : ℕ → Seen) (n : ℕ) (row : List Seen) → AreBuckets is n row →
-    AreBuckets is (n + 1) (row ++ is n ∷ [])
-buckets_more is n row h = record {
-  all = length-append row (is n ∷ []) ∙ ap (λ k. k + 1) h.all;
-  each = λ i lt.
-      ⊎_elim
-      (λ (e : i < n). get_or-append row (is n ∷ []) no_bucket i (subst (λ k. i < k) (sym h.all) e) ∙ h.each i e)
-      (λ (e : n ≤ i).
-      let q : n ≡ i = omega (arith, lt, e) in
-      subst (λ k. get_or (row ++ is n ∷ []) k no_bucket ≡ is k) q
-      (ap (λ k. get_or (row ++ is n ∷ []) k no_bucket) (sym h.all)
-      ∙ get_or-append_seam row (is n) [] no_bucket))
-      (cases_lt i n);
-}
-
--- the empty row has the first empty buckets while there are none yet
-pub row_none : (s : Settings) → IsEmptyRow s 0 []
-row_none s = buckets_none (empty_at s)
-
--- a row of the first empty buckets with the next one at its end has one more of them
-pub row_more : (s : Settings) (n : ℕ) (row : List Seen) → IsEmptyRow s n row →
-    IsEmptyRow s (n + 1) (row ++ empty_at s n ∷ [])
-row_more s n row h = buckets_more (empty_at s) n row h
 
 level_test : (i p l t n : ℕ) → 0 ≡ l → 0 ≡ p → t ≡ n → i < n → cond (nat_lt i p || nat_le t i) (l + 1) l ≡ 0
 level_test i p l t n a b e h = grind (arith, nat_tests)

@@ -1,33 +1,29 @@
 -- One step of the world, put together
-use Rattle.std.proofs.Common.{◌≡◌, ℕ, ◌+◌, ◌<◌, List, Option, Some, None, Result, Ok, Err, refl, sym, ap, subst, ◌∙◌}
-use Rattle.std.proofs.Common.{inl, inr}
-use Rattle.std.specs.Result.{IsOk, OnErr}
+use Rattle.std.proofs.Common.{◌≡◌, ℕ, ◌+◌, List, Option, Some, None, Result, Ok, Err, refl, sym, ap, subst, ◌∙◌}
+use Rattle.std.specs.Result.{OnErr}
 use Rattle.lh_addr.specs.Settings.{Settings, IsInRange}
 use Rattle.lh_addr.specs.Extent.{Extent}
 use Rattle.lh_bucket.specs.declared.call.Reply.{Reply}
 use Rattle.lh_bucket.specs.Bucket.{Seen}
-use Rattle.lh_bucket.specs.Call.{IsInsert}
 use Rattle.lh_bucket.specs.PlainMap.{Records, reply, after}
 use Rattle.lh_core.specs.declared.control.Control.{Control}
 use Rattle.lh_core.specs.declared.control.Act.{Act}
-use Rattle.lh_core.specs.declared.state.SplitState.{SplitState}
 use Rattle.lh_core.specs.declared.state.SplitState.TheVariants as split
 use Rattle.lh_core.specs.declared.effect.Effect.{Effect}
 use Rattle.lh_core.specs.declared.effect.Effect.TheVariants as effect
 use Rattle.lh_core.specs.declared.effect.Refusal.{Refusal}
-use Rattle.lh_core.specs.declared.effect.Refusal.TheVariants.{Memory}
 use Rattle.lh_core.specs.declared.event.Event.{Event}
 use Rattle.lh_core.specs.declared.event.Event.TheVariants as event
 use Rattle.lh_core.specs.State.{State, with_moved}
 use Rattle.lh_core.specs.Rules.{allowed}
 use Rattle.lh_core.specs.Log.{effect_reply}
-use Rattle.lh_core.specs.History.{outline, call_held, served_by, has_insert}
-use Rattle.lh_core.specs.Sound.{IsSound, IsPhase}
+use Rattle.lh_core.specs.History.{outline, call_held, served_by}
+use Rattle.lh_core.specs.Sound.{IsSound}
 use Rattle.lh_core.specs.Kept.{IsBucketRow, IsWorld}
-use Rattle.lh_core.specs.Control.{IsControl, KeepsFile, IsActOf, HasNoReply, IsQuiet, control_state, step_to}
+use Rattle.lh_core.specs.Control.{IsControl, KeepsFile, IsActOf, HasNoReply, control_state, step_to}
 use Rattle.lh_core.specs.Control.{acted as acted_state, world_of}
 use Rattle.lh_core.specs.Laws.{LinearHashing}
-use Rattle.lh_core.specs.World.{WorldSeen, IsPlaced, IsStep, StandsFor, reply_to, map_after}
+use Rattle.lh_core.specs.World.{IsPlaced, IsStep, StandsFor, reply_to, map_after}
 use Rattle.lh_core.proofs.Logs.Aiming.{sound_ok}
 
 told_outline : (f : Effect) → HasNoReply f → Some f ≡ outline f
@@ -57,28 +53,6 @@ told_reply (effect.Moved n m) t = refl
 told_reply effect.Freed t = refl
 told_reply (effect.Point n) t = refl
 told_reply effect.Dropped t = refl
-
-serves_none : (a : State) (e : Event) → IsQuiet e → served_by a e ≡ None
-serves_none a (event.Call w c) q = refl
-serves_none a (event.Read w) q = refl
-serves_none a (event.Lock w) q = refl
-serves_none a (event.Rehash w) q = refl
-serves_none a (event.Act w) q = absurd q
-serves_none a (event.Release w) q = refl
-serves_none a event.SplitBegin q = refl
-serves_none a event.SplitLock q = refl
-serves_none a event.SplitMove q = absurd q
-serves_none a event.SplitRelease q = refl
-serves_none a event.SplitPoint q = refl
-serves_none a event.SplitDrop q = refl
-
--- an event that the rules refuse is a step that leaves the world as it is
-pub refused : (v : WorldSeen) (e : Event) (r : Refusal) → allowed v.config v.state e ≡ Err r → IsStep v e (Err r) v
-refused v e r h = record { config = refl; ruled = (refl, inl h); follows = λ m p. p }
-
--- out of memory
-is_ok : {X E : Type 0} {r : Result X E} {x : X} → r ≡ Ok x → IsOk r
-is_ok e = subst IsOk (sym e) refl
 
 module _ (c d : Control) (row : List Seen) where
   -- after an accepted event the control is still sound, and makes a world with the row of filled buckets
@@ -119,20 +93,6 @@ module _ (c d : Control) (row : List Seen) where
       subst (λ (s : Settings). IsPlaced s.initial d.filled.buckets m rows) (sym r.config)
       (subst (λ (x : Extent). IsPlaced c.config.initial x.buckets m rows) (sym f) p)
 
-  -- an accepted event that leaves the records where they are and tells no reply is a step of the world
-  pub turned : (e : Event) (f : Effect) → IsQuiet e → HasNoReply f → KeepsFile c d → d.filled ≡ c.filled →
-      Ok (Some f, control_state d) ≡ allowed c.config (control_state c) e →
-      IsStep (world_of c row) e (Ok f) (world_of d row)
-  turned e f q t r same ok = record {
-    config = r.config;
-    ruled = sym ok ∙ ap (λ o. Ok (o, control_state d)) (told_outline f t);
-    follows = λ m p. (
-      told_reply f t ∙ ap (reply_to m) (sym (serves_none (control_state c) e q)),
-      subst (StandsFor (world_of d row)) (ap (map_after m) (sym (serves_none (control_state c) e q)))
-          (placed_same m row r same p),
-    );
-  }
-
   -- an act that tells the map's reply, and leaves the records of the map after its call, is a step of the world
   pub acted : (w : ℕ) (act : Act) (y : Reply) (rows : List Seen) → IsActOf c w act → KeepsFile c d →
       d.filled ≡ c.filled →
@@ -154,14 +114,6 @@ module _ (c d : Control) (row : List Seen) where
         );
       }
 
-  -- an insert's act that the rules allow may be refused where memory runs out, which leaves the world as it is
-  pub act_wanted : (w : ℕ) (act : Act) → IsActOf c w act →
-      allowed c.config (control_state c) (event.Act w) ≡ Ok (None, acted_state (control_state c) w act) →
-      IsInsert act.call.now → IsStep (world_of c row) (event.Act w) (Err Memory) (world_of c row)
-  act_wanted w act i ok insert =
-      let calls : served_by (control_state c) (event.Act w) ≡ Some act.call.now = ap call_held i.held in
-      record { config = refl; ruled = (refl, inr (refl, ap has_insert calls ∙ insert, is_ok ok)); follows = λ m p. p }
-
   -- the moving of a split's records is a step of the world if it places each map's records in one bucket more
   pub moved : (f : Effect) (rows : List Seen) → HasNoReply f → KeepsFile c d →
       control_state d ≡ with_moved (control_state c) →
@@ -179,14 +131,3 @@ module _ (c d : Control) (row : List Seen) where
           (subst (λ n. IsPlaced c.config.initial n m rows) (sym (ap (λ (z : State). z.filled) state)) (stands m p)),
     );
   }
-
-  -- a moving of records that the rules allow may be refused where memory runs out, which leaves the world as it is
-  pub move_wanted : (f : Effect) →
-      allowed c.config (control_state c) event.SplitMove ≡ Ok (Some f, with_moved (control_state c)) →
-      IsStep (world_of c row) event.SplitMove (Err Memory) (world_of c row)
-  move_wanted f ok = record { config = refl; ruled = (refl, inr (refl, refl, is_ok ok)); follows = λ m p. p }
-
--- before a move, the root counts the filled buckets, and there may be more
-pub locked_phase : (s : Settings) (n f : ℕ) (x : SplitState) → x ≡ split.Locked → IsPhase s n f x →
-    (f ≡ n) × (n < s.max)
-locked_phase s n f x e p = let q : IsPhase s n f split.Locked = subst (IsPhase s n f) e p in q

@@ -6,7 +6,7 @@ use Rattle.std.proofs.lemmas.Bool.{false≢true}
 use mathlib.Core.Logic.{dite}
 use native.Mathlib.Decide.{dec_le}
 use Rattle.lh_bucket.specs.Listing.{Lists, size}
-use Rattle.lh_words.specs.Dealing.{first_bucket_of, other_buckets_of, dealt_seat, dealt_bucket_seat, buckets_from}
+use Rattle.lh_words.specs.Dealing.{other_buckets_of, dealt_seat, buckets_from}
 use Rattle.lh_words.specs.Dealing.{undealt}
 use Rattle.lh_words.specs.Plays.{Seated}
 use Rattle.lh_words.specs.Seats.{opened_at, first_seat}
@@ -23,23 +23,12 @@ none_from : (k : Lists) (n : ℕ) → size k ≤ n → buckets_from k n ≡ []
 none_from k n past = let e : size k - n ≡ 0 = omega arith in ap (λ m. map (opened_at k) (range_with_len n m)) e
 
 module _ (k : Lists) where
-  -- the bucket that is dealt next, and the seat that has the others
-  pub next_dealt : (n : ℕ) → n < size k → (traced : Bool) → traced ≡ true →
-      (dealt_bucket_seat (undealt traced k n)).parts ≡ opened_at k n ∷ []
-  next_dealt n below true on = ap first_bucket_of (next_of k n below)
-  next_dealt n below false on = absurd (false≢true on)
-
   -- in a traced file the first seat that deals its next bucket has dealt out the buckets below the one after it
   pub dealt_one : (n : ℕ) → n < size k → (traced : Bool) → traced ≡ true →
       dealt_seat (undealt traced k n) ≡ undealt traced k (n + 1)
   dealt_one n below true on =
       ap (λ ps. record (first_seat true k) { parts = ps }) (ap other_buckets_of (next_of k n below))
   dealt_one n below false on = absurd (false≢true on)
-
-  -- nothing is dealt out of an untraced file, nor past the last bucket
-  pub undealt-off : (m n : ℕ) (traced : Bool) → traced ≡ false → undealt traced k m ≡ undealt traced k n
-  undealt-off m n false off = refl
-  undealt-off m n true off = absurd (false≢true (sym off))
 
   -- past the last bucket nothing is left to deal
   pub undealt-past : (m n : ℕ) (traced : Bool) → size k ≤ m → size k ≤ n → undealt traced k m ≡ undealt traced k n

@@ -53,10 +53,6 @@ abbrev pub AreBucketsTo : Settings → ℕ → List Seen → ℕ → Type 0
 AreBucketsTo config size buckets n =
     (place : ℕ) (bucket : Seen) → place < n → get_elem? buckets place ≡ some bucket → IsInPlace config size place bucket
 
--- buckets in their places: none yet, one more, and all
-pub no_row : (config : Settings) (size : ℕ) (buckets : List Seen) → AreBucketsTo config size buckets 0
-no_row config size buckets place bucket below at = absurd (omega (arith, below))
-
 -- where the buckets before a place and the one at it are what they have to be, so are those before the next place
 pub row_more : (config : Settings) (size : ℕ) (buckets : List Seen) (n : ℕ) (b : Seen) → get_or buckets n b ≡ b →
     IsInPlace config size n b → AreBucketsTo config size buckets n → AreBucketsTo config size buckets (n + 1)

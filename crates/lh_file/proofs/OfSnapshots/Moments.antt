@@ -1,5 +1,5 @@
 -- What the buckets of a file, all held at once, say of its records
-use Rattle.std.proofs.Common.{◌≡◌, ℕ, zero, suc, ◌%◌, ◌<◌, ◌≤◌, ⊎_elim, List, [], ◌∷◌, ◌++◌, map, length, refl, sym, ap}
+use Rattle.std.proofs.Common.{◌≡◌, ℕ, zero, suc, ◌%◌, ◌<◌, ◌≤◌, ⊎_elim, List, [], ◌∷◌, map, length, refl, sym, ap}
 use Rattle.std.proofs.Common.{◌∙◌, subst, arith}
 use Rattle.std.specs.Prelude.{Result, Ok, Err}
 use Rattle.std.specs.Result.{IfOk}
@@ -145,12 +145,3 @@ ok_map (Err e) P Q is f = tt
 pub ok_both : {X E : Type 0} (r : Result X E) (P Q : X → Type 0) → IfOk r P → IfOk r Q → IfOk r (λ x. P x × Q x)
 ok_both (Ok x) P Q p q = (p, q)
 ok_both (Err e) P Q p q = tt
-
--- an element between two lists stands in their sum
-pub among : {A : Type 0} (before : List A) (a : A) (more whole : List A) → whole ≡ (before ++ a ∷ []) ++ more →
-    get_elem? whole (length before) ≡ some a
-among {A = A} before a more whole is = ap (λ l. get_elem? l (length before)) is ∙ there before
-  where
-    there : (l : List A) → get_elem? ((l ++ a ∷ []) ++ more) (length l) ≡ some a
-    there [] = refl
-    there (x ∷ l) = there l

@@ -1,11 +1,10 @@
 -- Texts of a range of numbers, joined.
-use Rattle.std.proofs.Common.{◌≡◌, ℕ, zero, suc, ◌+◌, ◌-◌, ◌<◌, ◌≤◌, List, [], ◌∷◌, ◌++◌, length, take, drop, get_or}
-use Rattle.std.proofs.Common.{Option, Some, refl, sym, ap, subst, ◌∙◌, append-nil, length-drop, arith, inl, inr}
-use Rattle.std.specs.Prelude.{slice_get, min}
+use Rattle.std.proofs.Common.{◌≡◌, ℕ, zero, suc, ◌+◌, ◌-◌, ◌<◌, List, [], ◌∷◌, ◌++◌, length, take, drop, get_or}
+use Rattle.std.proofs.Common.{Option, Some, refl, sym, ap, subst, ◌∙◌, append-nil, length-drop, arith}
+use Rattle.std.specs.Prelude.{slice_get}
 use Rattle.std.specs.List.{range_with_len, flat_map}
 use Rattle.std.proofs.KnownBytes.{Appends-trans}
-use Rattle.std.proofs.lemmas.List.{take_more, take_all, get_or-drop}
-use Rattle.std.proofs.lemmas.Bool.{cases_lt}
+use Rattle.std.proofs.lemmas.List.{take_more, get_or-drop}
 use Rattle.std.proofs.lemmas.List.Concat.{flat_map-append}
 use Rattle.std.proofs.lemmas.Option.{get_or_from_slice_get, slice_get_within}
 use Rattle.std.specs.Io.KnownBytes.{Appends}
@@ -69,14 +68,3 @@ record_more xs start k x h =
     omega (arith, slice_get_within xs (start + k) x h, length-drop start xs) in
     let at : get_or (drop start xs) k x ≡ x = get_or-drop start xs k x ∙ get_or_from_slice_get xs (start + k) x x h in
     sym (take_more (drop start xs) k x within ∙ ap (λ y. take k (drop start xs) ++ y ∷ []) at)
-
--- as many records as there are
-pub records_all : {X : Type 0} (xs : List X) (start b count : ℕ) → count ≡ min (length xs - start) b →
-    take count (drop start xs) ≡ take b (drop start xs)
-records_all xs start b count e = elim (cases_lt b (length xs - start)) [
-  | inl low ↦ let same : count ≡ b = omega arith in ap (λ n. take n (drop start xs)) same
-  | inr high ↦
-      let long : length (drop start xs) ≤ count = omega (arith, length-drop start xs) in
-      let short : length (drop start xs) ≤ b = omega (arith, length-drop start xs) in
-      take_all count (drop start xs) long ∙ sym (take_all b (drop start xs) short)
-]

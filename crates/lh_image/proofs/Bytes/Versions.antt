@@ -36,11 +36,6 @@ pub length-magic : (v : Version) → length (magic v) ≡ 4
 length-magic One = refl
 length-magic Two = refl
 
--- a page has at least one slot
-pub some_slots : (v : Version) → 1 ≤ slots v
-some_slots One = omega arith
-some_slots Two = omega arith
-
 -- no page has more than 24 slots
 pub few_slots : (v : Version) → slots v ≤ 24
 few_slots One = omega arith

@@ -129,39 +129,3 @@ found_least f a (suc n) p =
             rest.1 (omega (arith, h.0), omega (arith, h.1), h.2, λ q low lt. h.3 q (omega arith) lt),
       )
     ]
-
--- where at least one number is counted, there is a number that passes
-pub one_of : (f : ℕ → Bool) (a n : ℕ) → 1 ≤ count_by f (range_with_len a n) →
-    (p : ℕ) × (a ≤ p) × (p < a + n) × (f p ≡ true)
-one_of f a zero many = absurd (omega arith)
-one_of f a (suc n) many =
-    let all : count_by f (range_with_len a (suc n)) ≡ cond (f a) 1 0 + count_by f (range_with_len (a + 1) n) =
-    count_cons f a n in
-    elim (cases_Bool (f a)) [
-      | inl passes ↦ (a, omega arith, omega arith, passes)
-      | inr fails ↦
-          let here : count_by f (range_with_len a (suc n)) ≡ 0 + count_by f (range_with_len (a + 1) n) =
-          rw fails at all in
-          let r = one_of f (a + 1) n (omega arith) in
-          (r.0, omega (arith, r.1), omega (arith, r.2), r.3)
-    ]
-
--- where at least two numbers are counted, there are two that pass
-pub two_of : (f : ℕ → Bool) (a n : ℕ) → 2 ≤ count_by f (range_with_len a n) →
-    (p q : ℕ) × (a ≤ p) × (p < q) × (q < a + n) × (f p ≡ true) × (f q ≡ true)
-two_of f a zero many = absurd (omega arith)
-two_of f a (suc n) many =
-    let all : count_by f (range_with_len a (suc n)) ≡ cond (f a) 1 0 + count_by f (range_with_len (a + 1) n) =
-    count_cons f a n in
-    elim (cases_Bool (f a)) [
-      | inl passes ↦
-          let here : count_by f (range_with_len a (suc n)) ≡ 1 + count_by f (range_with_len (a + 1) n) =
-          rw passes at all in
-          let r = one_of f (a + 1) n (omega arith) in
-          (a, r.0, omega arith, omega (arith, r.1), omega (arith, r.2), passes, r.3)
-      | inr fails ↦
-          let here : count_by f (range_with_len a (suc n)) ≡ 0 + count_by f (range_with_len (a + 1) n) =
-          rw fails at all in
-          let r = two_of f (a + 1) n (omega arith) in
-          (r.0, r.1, omega (arith, r.2), r.3, omega (arith, r.4), r.5, r.6)
-    ]

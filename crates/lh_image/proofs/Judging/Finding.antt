@@ -23,11 +23,6 @@ flat_more f xs i d less =
     (flat_map-append f (take i xs) (get_or xs i d ∷ [])
     ∙ ap (λ ys. flat_map f (take i xs) ++ ys) (append-nil (f (get_or xs i d))))
 
--- what is made of the first items, after one item more
-pub map_more : {X : Type 0} {Y : Type 0} (f : X → Y) (xs : List X) (i : ℕ) (d : X) → i < length xs →
-    map f (take (i + 1) xs) ≡ map f (take i xs) ++ f (get_or xs i d) ∷ []
-map_more f xs i d less = rw (take_more xs i d less) (map-append f (take i xs) (get_or xs i d ∷ []))
-
 -- one number more of a list that is made by a function
 pub made_more : {V : Type 0} {Y : Type 0} (items : V → Y) (vs ws : List V) (v : V) (f : ℕ → Y) (n : ℕ) →
     ws ≡ vs ++ v ∷ [] → items v ≡ f n → map items vs ≡ map f (range_with_len 0 n) →

@@ -1,34 +1,30 @@
 -- An image that was checked: no page that is met has a fault, and no key is found elsewhere than in its first record
-use Rattle.std.proofs.Common.{◌≡◌, ◌≢◌, ℕ, zero, suc, ◌+◌, ◌-◌, ◌<◌, ◌≤◌, true, false, List, [], ◌∷◌, ◌++◌, length}
-use Rattle.std.proofs.Common.{Option, Some, None, Result, Ok, Err, refl, sym, ap, subst, ◌∙◌, inl, inr, get_or, set}
+use Rattle.std.proofs.Common.{◌≡◌, ℕ, zero, suc, ◌+◌, ◌-◌, ◌<◌, ◌≤◌, true, false, List, [], ◌∷◌, ◌++◌}
+use Rattle.std.proofs.Common.{Option, Some, None, Result, Ok, Err, refl, sym, ap, subst, ◌∙◌, inl, inr}
 use Rattle.std.proofs.Common.{arith}
 use Rattle.std.specs.Option.{is_some, option_or}
-use Rattle.std.specs.FinMap.{get}
 use Rattle.std.specs.Str.{bytes_eq}
-use Rattle.std.proofs.lemmas.Bool.{cases_eq, cases_lt, false_from_ne_true}
-use Rattle.std.proofs.lemmas.List.{get_or-set_other, get_or-set_same, get_or_append_left, get_or_at, length-append}
-use Rattle.std.proofs.lemmas.Slice.Eq.{bytes_eq-Decides}
+use Rattle.std.proofs.lemmas.Bool.{cases_lt}
+use Rattle.std.proofs.lemmas.List.{get_or_append_left, get_or_at, length-append}
 use Rattle.lh_addr.specs.Extent.{Extent}
-use Rattle.lh_addr.specs.Fnv.{code_of}
 use Rattle.lh_page.specs.declared.format.Format.{Format}
 use Rattle.lh_page.specs.declared.head.PageHead.{PageHead}
 use Rattle.lh_page.specs.declared.pair.Pair.{Pair}
 use Rattle.lh_page.specs.PageFields.{bad_slot, is_bad_record, is_bad_slot, pair_of, pairs_of, used_of}
 use Rattle.lh_page.specs.PageTable.{slot}
-use Rattle.lh_bucket.specs.Listing.{Lists, all_of}
-use Rattle.lh_bucket.specs.Records.{map_of}
+use Rattle.lh_bucket.specs.Listing.{Lists}
 use Rattle.lh_image.specs.declared.fault.ImageFault.{ImageFault}
 use Rattle.lh_image.specs.declared.fault.ImageFault.TheVariants.{ReadFault, Memory, Twice}
 use Rattle.lh_image.specs.declared.header.Header.{Header}
 use Rattle.lh_image.specs.declared.judge.page_checks.PageFaults.{PageFaults}
 use Rattle.lh_image.specs.declared.table.PageEntry.{PageEntry}
 use Rattle.lh_image.specs.declared.checked.index.PageIndex.{PageIndex}
-use Rattle.lh_image.specs.Checked.{AreIndexed, IsIndexed, code_mark, no_index}
+use Rattle.lh_image.specs.Checked.{AreIndexed, IsIndexed, no_index}
 use Rattle.lh_image.specs.Faults.{bad_used, first_fault_of, has_bad_slot, image_fault}
 use Rattle.lh_image.specs.Image.{ImageLaw, IsImage, OneListingLaw, listing_of}
 use Rattle.lh_image.specs.Layout.{page, view_of}
 use Rattle.lh_image.specs.Listed.{IsLate, IsMemoryOr, IsRead}
-use Rattle.lh_image.specs.LookUp.{IsOpenedImage, MapLaw, first_pairs, found_first, found_from, head_rows_at, home_of}
+use Rattle.lh_image.specs.LookUp.{IsOpenedImage, first_pairs, found_first, found_from, head_rows_at, home_of}
 use Rattle.lh_image.specs.LookUp.{look_up, own_fault, rest_rows_at, value_in}
 use Rattle.lh_image.specs.Pages.{HaveCome}
 use Rattle.lh_image.specs.Reading.{IsDueFault, judged_by, reading_of}
@@ -122,10 +118,6 @@ own_records bytes i p f pg k e fe pe few low =
 
 -- ---- a key in its slot
 
--- keys of different lengths aren't the same
-pub other_length : (xs ys : List ℕ) → length xs ≢ length ys → bytes_eq xs ys ≡ false
-other_length xs ys differ = false_from_ne_true _ (λ same. differ (ap length ((bytes_eq-Decides xs ys).0 same)))
-
 module _ (f : Format) (bytes key : List ℕ) (n : ℕ) (before : value_in key (first_pairs f bytes n) ≡ None) where
   -- a key that isn't found in the first slots isn't found with one slot more, which has another key
   pub scanned_on : bytes_eq (pair_of f (slot f bytes n)).key key ≡ false →
@@ -193,33 +185,7 @@ never_past v key pages counter number answer h past e =
     err_is_not_ok (Twice number) answer (look_up v key)
     (h.same ∙ ap (λ n. found_from v key n number) none ∙ found_twice v key number (λ z. omega (arith, h.from))) e
 
-ok_same : (a b : Option (List ℕ)) (r : Result (Option (List ℕ)) ImageFault) → r ≡ Ok a → r ≡ Ok b → a ≡ b
-ok_same a b r e g = cc
-
--- what a look-up in an image finds is what the plain map of all records has
-pub listed_as : MapLaw → (bytes key : List ℕ) (l : Lists) (answer : Option (List ℕ)) → IsImage bytes l →
-    look_up (view_of bytes) key ≡ Ok answer → get (map_of (all_of l.lists)) key ≡ answer
-listed_as law bytes key l answer image e =
-    ok_same (get (map_of (all_of l.lists)) key) answer (look_up (view_of bytes) key) (law bytes l key image) e
-
 -- ---- what is kept of the pages
-
--- keys with different marks aren't the same
-pub mark_apart : (key other : List ℕ) (kept mark : ℕ) → kept ≡ code_mark (code_of other) →
-    mark ≡ code_mark (code_of key) → kept ≢ mark → bytes_eq other key ≡ false
-mark_apart key other kept mark is sought differ =
-    false_from_ne_true _
-    (λ same. differ (is ∙ ap (λ k. code_mark (code_of k)) ((bytes_eq-Decides other key).0 same) ∙ sym sought))
-
--- the marks of the first keys of a page, after one mark more
-pub marks_more : (f : Format) (page marks : List ℕ) (n mark : ℕ) → n < length marks →
-    ((i : ℕ) → i < n → get_or marks i 0 ≡ code_mark (code_of (pair_of f (slot f page i)).key)) →
-    mark ≡ code_mark (code_of (pair_of f (slot f page n)).key) →
-    (i : ℕ) → i < n + 1 → get_or (set marks n mark) i 0 ≡ code_mark (code_of (pair_of f (slot f page i)).key)
-marks_more f page marks n mark room before here i low = elim (cases_eq i n) [
-  | inl same ↦ rw same (get_or-set_same marks n mark 0 room ∙ here)
-  | inr other ↦ get_or-set_other marks n i mark 0 other ∙ before i (omega arith)
-]
 
 -- in an image each page has records within its slots, and no bad one
 pub image_page : OneListingLaw → (bytes : List ℕ) (header : Header) (root : Extent) (l : Lists) →
@@ -244,10 +210,6 @@ image_page one bytes header root l o image p low high f pg fe pe =
           (ap (λ g. is_some (bad_slot g pg)) format ∙ ap (λ b. is_some (bad_slot (format_of (version_of bytes)) b)) pe
           ∙ sound.clean.slots p low below) fits less,
     )
-
--- one entry, in the header's place, is enough where no page behind it has come
-pub no_pages : (bytes : List ℕ) (entries : List PageIndex) → length entries ≡ 1 → AreIndexed bytes 1 entries
-no_pages bytes entries one = record { size = one; pages = λ p low high. absurd (omega arith) }
 
 -- with the entry of one page more, the first pages and that one have their entries
 pub pages_more : (bytes : List ℕ) (entries : List PageIndex) (n : ℕ) (entry : PageIndex) (f : Format) (pg : List ℕ) →

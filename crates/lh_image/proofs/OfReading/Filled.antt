@@ -54,20 +54,6 @@ fills_whole bytes now n buffer filled all each = record {
   each_byte = each;
 }
 
--- the buffer was filled, or there were too few bytes
-pub whole_read : (old new : Option (List ℕ)) (n : ℕ) (buffer : List ℕ) →
-    IfSome old (λ bytes. IsFilled bytes n buffer new) → length buffer ≤ n → AreBytes buffer →
-    IfSome old (λ bytes. FillsWhole bytes buffer new)
-whole_read None new n buffer filled all each = tt
-whole_read (Some bytes) new n buffer filled all each = fills_whole bytes new n buffer filled all each
-
--- where a buffer wasn't filled to its end, there were fewer bytes than it holds
-pub cut_short : (old new : Option (List ℕ)) (n : ℕ) (buffer : List ℕ) →
-    IfSome old (λ bytes. IsFilled bytes n buffer new) → n < length buffer →
-    IfSome old (λ bytes. length bytes < length buffer)
-cut_short None new n buffer filled less = tt
-cut_short (Some bytes) new n buffer filled less = omega (arith, filled.count)
-
 -- ---- fewer bytes than this many
 
 -- too few bytes are fewer than more bytes, too

@@ -5,8 +5,8 @@ use Rattle.std.proofs.Common.{Result, Ok, Err, refl, sym, ap, ◌∙◌, arith, 
 use Rattle.std.specs.Prelude.{IfErr, OnOk, option_map}
 use Rattle.std.specs.List.{range_with_len, find, sum_by}
 use Rattle.std.specs.Option.{is_some}
-use Rattle.std.proofs.lemmas.Bool.{cases_lt, cases_order, ne_eqb}
-use Rattle.std.proofs.lemmas.List.{get_or_append_left, get_or_at, get_or_past, take_all, drop_at, get_or-take}
+use Rattle.std.proofs.lemmas.Bool.{cases_lt, ne_eqb}
+use Rattle.std.proofs.lemmas.List.{get_or_append_left, get_or_at, take_all, drop_at, get_or-take}
 use Rattle.std.proofs.lemmas.List.{get_or-drop, length-drop, take-append-le, drop-append-le}
 use Rattle.std.proofs.lemmas.List.Sums.{sum_by-cons}
 use Rattle.lh_page.specs.declared.fault.PageFault.TheVariants.{Kind as OwnKind, Used as OwnUsed, Slot as OwnSlot}
@@ -17,7 +17,6 @@ use Rattle.lh_image.specs.declared.fault.ImageFault.{ImageFault}
 use Rattle.lh_image.specs.declared.fault.ImageFault.TheVariants.{Memory}
 use Rattle.lh_image.specs.declared.header.Header.{Header}
 use Rattle.lh_image.specs.declared.judge.page_checks.PageFaults.{PageFaults}
-use Rattle.lh_image.specs.declared.version.Version.{Version}
 use Rattle.lh_image.specs.declared.table.PageEntry.{PageEntry}
 use Rattle.lh_image.specs.Faults.{at_head, bad_kind, bad_bucket, bad_used}
 use Rattle.lh_image.specs.Layout.{header_of, page, view_of}
@@ -103,23 +102,6 @@ entry_before entries e p within = get_or_append_left entries (e ∷ []) no_entry
 entry_last : (entries : List PageEntry) (e : PageEntry) (n : ℕ) → length entries ≡ n →
     entry_at (entries ++ e ∷ []) n ≡ e
 entry_last entries e n size = get_or_at entries e [] no_entry n size
-
--- after one page more, each page's records lie among those of all
-pub within_more : (entries new_entries : List PageEntry) (pairs new_pairs : List Pair) (own following : ℕ)
-    (version : Version) (bytes : List ℕ) (room : ℕ) → AreWithin entries pairs →
-    IsPushed entries pairs new_entries new_pairs own following version bytes room → AreWithin new_entries new_pairs
-within_more entries new_entries pairs new_pairs own following version bytes room within pushed p =
-    let added : List Pair = pushed.added in
-    let last : PageEntry = record { bucket = own; next = following; start = length pairs; used = length added } in
-    let size : length new_pairs ≡ length pairs + length added = ap length pushed.appended ∙ length-append pairs added in
-    rw pushed.entered (elim (cases_order p (length entries)) [
-      | inl same ↦ let is : entry_at (entries ++ last ∷ []) p ≡ last =
-          entry_last entries last p (sym same) in rw is (omega arith)
-      | inr (inl before) ↦ let is = entry_before entries last p before in rw is (omega (arith, within p))
-      | inr (inr behind) ↦ let is : entry_at (entries ++ last ∷ []) p ≡ no_entry =
-          get_or_past (entries ++ last ∷ []) p no_entry (omega (arith, length-append entries (last ∷ []))) in
-          rw is (omega arith)
-    ])
 
 -- the table after one page more, whose records are those of a View where nothing is wrong with them
 table_more : (v : View) (n : ℕ) (entries new_entries : List PageEntry) (pairs added : List Pair) (head : PageHead) →

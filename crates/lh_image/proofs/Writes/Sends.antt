@@ -57,10 +57,6 @@ takes_longer a b xs ys t = record {
   whole = sym (append_assoc t.taken t.left ys) ∙ ap (λ zs. zs ++ ys) t.whole;
 }
 
--- a whole text is a beginning of itself
-pub takes_whole : (a b c : Option (List ℕ)) (xs : List ℕ) → Appends a b xs → Keeps b c → TakesBeginning a c xs
-takes_whole a b c xs h k = record { taken = xs; left = []; appended = Appends-kept a b c xs h k; whole = append-nil xs }
-
 -- a text taken, and then another one sent
 pub sent_after : {E : Type 0} (a b c : Option (List ℕ)) (xs ys : List ℕ) (r : Result (Unit {0}) E) → Appends a b xs →
     IsSent ys r b c → IsSent (xs ++ ys) r a c
