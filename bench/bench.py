@@ -32,8 +32,8 @@ SHOWN = {"lh_bench": "this file", "twin_tags": "the same in C++", "dashmap": "Da
 TITLES = {"W1": "W1 inserts", "W2": "W2 searches", "W3": "W3, 1 insert to 19 searches", "W4": "W4, half are writes",
           "W5": "W5, to a file and back", "W6": "W6 new values", "W7": "W7, skewed searches", "W8": "W8, searches that miss",
           "W9": "W9, as W4, long records"}
-# One thread looks at all records while the others call, or reads the clock alone; these have tables of their own.
-LOOKS = {"W11": "W11, snapshots", "W12": "W12, scans"}
+# One thread makes passes over all records while the others call, or reads the clock alone; these have tables of their own.
+PASSES = {"W11": "W11, snapshots", "W12": "W12, scans"}
 BESIDE = {"W11": "snapshots", "W12": "scans", "W13": "the clock"}
 # From which class of lengths on the calls of a column took as long as its head says.
 AT_LEAST = {">= 4 us": 3, ">= 16 us": 5, ">= 64 us": 7, ">= 256 us": 9, ">= 4 ms": 13, ">= 16 ms": 15}
@@ -168,13 +168,13 @@ def drawn(panels, records):
             '<rect width="100%%" height="100%%" fill="#fff"/>\n%s\n</svg>\n' % (*size, *size, says, means, style, "\n".join(out)))
 
 
-def looks_table(workload, threads, rows, names):
-    """What looks of one kind beside so many threads took, and what those threads did meanwhile."""
-    columns = [("looks", "looks", 1, "%.0f"), ("shortest", "look_min_s", 1e3, "%.3f"), ("median", "look_median_s", 1e3, "%.3f"),
-               ("longest", "look_max_s", 1e3, "%.3f"), ("Mop/s", "ops_per_s", 1e-6, "%.3f"),
+def passes_table(workload, threads, rows, names):
+    """What passes of one kind beside so many threads took, and what those threads did meanwhile."""
+    columns = [("passes", "passes", 1, "%.0f"), ("shortest", "pass_min_s", 1e3, "%.3f"), ("median", "pass_median_s", 1e3, "%.3f"),
+               ("longest", "pass_max_s", 1e3, "%.3f"), ("Mop/s", "ops_per_s", 1e-6, "%.3f"),
                ("peak MB", "peak_bytes", 1e-6, "%.1f")]
-    print("\n%s beside %d thread%s: milliseconds of a look, medians of the rounds"
-          % (LOOKS[workload], threads, "s" * (threads > 1)))
+    print("\n%s beside %d thread%s: milliseconds of a pass, medians of the rounds"
+          % (PASSES[workload], threads, "s" * (threads > 1)))
     print("%-15s" % "peer" + "".join("%10s" % head for head, *_ in columns) + "%10s" % "check")
     for name in names:
         own = [r for r in rows if (r["peer"], r["workload"], r["threads"]) == (name, workload, threads)]
@@ -215,8 +215,8 @@ def table(rows, to):
     """All rows are of one size."""
     names = [p for p in PEERS if any(r["peer"] == p for r in rows)]
     names += sorted({r["peer"] for r in rows} - set(names))
-    for workload, threads in sorted({(r["workload"], r["threads"]) for r in rows if r["workload"] in LOOKS}):
-        looks_table(workload, threads, rows, names)
+    for workload, threads in sorted({(r["workload"], r["threads"]) for r in rows if r["workload"] in PASSES}):
+        passes_table(workload, threads, rows, names)
     timed = [r for r in rows if "writes_by_length" in r]
     for threads in sorted({r["threads"] for r in timed}):
         lengths_table("writes", "write", threads, timed, names)

@@ -84,7 +84,7 @@ impl<T: Table> Caller<T> {
     }
 
     /// Searches for a record, and compares its value where that stands.
-    fn look_at<R: Wait>(&mut self, rt: &R, record: u64, is_there: bool) {
+    fn compare<R: Wait>(&mut self, rt: &R, record: u64, is_there: bool) {
         match self.table.compare(rt, self.contents, record) {
             Ok(Some(is_due)) => {
                 self.tally.note_found();
@@ -125,7 +125,7 @@ impl<T: Table> Caller<T> {
     /// Makes a call without an answer. One that fails counts as wrong.
     fn take_lent<R: Wait>(&mut self, rt: &R, step: Step) {
         if let Step::Search { record, is_there } = step {
-            self.look_at(rt, record, is_there);
+            self.compare(rt, record, is_there);
             return;
         }
         let is_new = matches!(step, Step::Insert { is_new: true, .. });

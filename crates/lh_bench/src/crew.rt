@@ -1,9 +1,9 @@
 //! Several threads on one table.
 
 use crate::caller::{Caller, play, play_to_end};
-use crate::looks::{Looks, read_clock, take_looks};
 use crate::meter::{Stopwatch, TimeSpent};
 use crate::order::{Order, Workload};
+use crate::passes::{Passes, make_passes, read_clock};
 use crate::starter::Starter;
 use crate::streams::{Misses, Mixed, MostlySearches, OneKey, Part, Skewed};
 use crate::table::Table;
@@ -22,7 +22,7 @@ pub struct Shift<T> {
     pub tally: Tally,
     pub calls: u64,
     pub spent: TimeSpent,
-    pub looks: Looks,
+    pub passes: Passes,
 }
 
 /// The calls of one thread, which begins when all do.
@@ -73,29 +73,29 @@ fn tally_of<R: Threads>(rt: &R, workers: Vec<JoinHandle<Tally>>) -> Tally {
     all
 }
 
-/// What one thread more does while workers call: it looks, or reads the clock, where the order has that.
-fn look_on<T: Table, R: Wait + Clock + Files + AllocGlobal>(
+/// What one thread more does while workers call: it makes passes, or reads the clock, where the order has that.
+fn act_beside<T: Table, R: Wait + Clock + Files + AllocGlobal>(
     rt: &R,
     table: &mut T,
     order: &Order,
-) -> Result<Looks> {
+) -> Result<Passes> {
     match order.workload {
-        Workload::Snapshots | Workload::Scans => take_looks(rt, table, order),
+        Workload::Snapshots | Workload::Scans => make_passes(rt, table, order),
         Workload::Readings => read_clock(rt),
-        _ => Ok(Looks::NONE),
+        _ => Ok(Passes::NONE),
     }
 }
 
 /// The same, which then lets the workers end.
-fn look_beside<T: Table, R: Wait + Clock + Files + AllocGlobal>(
+fn beside_workers<T: Table, R: Wait + Clock + Files + AllocGlobal>(
     rt: &R,
     starter: &Starter,
     table: &mut T,
     order: &Order,
-) -> Result<Looks> {
-    let looks = look_on(rt, table, order);
+) -> Result<Passes> {
+    let passes = act_beside(rt, table, order);
     starter.end();
-    looks
+    passes
 }
 
 /// Lets all workers begin at once, and waits for them. It is a fault if there are fewer than the order has threads.
@@ -116,7 +116,7 @@ where
     }
     let watch = Stopwatch::start(rt);
     starter.start();
-    let looks = look_beside(rt, starter, &mut table, &order);
+    let passes = beside_workers(rt, starter, &mut table, &order);
     let tally = tally_of(rt, workers);
     let spent = watch?.stop(rt)?;
     if started != order.threads {
@@ -132,7 +132,7 @@ where
         tally,
         calls,
         spent,
-        looks: looks?,
+        passes: passes?,
     })
 }
 

@@ -35,7 +35,7 @@ where
         }
         _ => shared(rt, table, order, order.records, 2)?,
     };
-    outcome.looks.peak_bytes = outcome.looks.peak_bytes.saturating_sub(before);
+    outcome.passes.peak_bytes = outcome.passes.peak_bytes.saturating_sub(before);
     Ok(outcome)
 }
 

@@ -3,7 +3,7 @@ ghost use Rattle.std.specs.Prelude.{◌≡◌};
 ghost use Rattle.lh_file.specs.FileState.{IsOf};
 
 use crate::contents::Contents;
-use crate::looks::Met;
+use crate::passes::Met;
 use crate::table::{CALLS, Table};
 use anyhow::Result;
 use lh_bucket::Answer;

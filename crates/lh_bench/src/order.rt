@@ -141,7 +141,7 @@ impl Workload {
         )
     }
 
-    /// Whether one thread more looks at all records while the others call.
+    /// Whether one thread more makes passes over all records while the others call.
     pub fn has_looks(self) -> bool {
         matches!(self, Workload::Snapshots | Workload::Scans)
     }

@@ -1,9 +1,9 @@
 //! The line that a run prints.
 
 use crate::lengths::Lengths;
-use crate::looks::Looks;
 use crate::meter::TimeSpent;
 use crate::order::{Order, Workload};
+use crate::passes::Passes;
 use crate::tally::Tally;
 use crate::units::Seconds;
 use std::io;
@@ -33,7 +33,7 @@ pub struct Outcome {
     pub file_bytes: u64,
     /// The buckets of the table at the end, where they are told.
     pub buckets: u64,
-    pub looks: Looks,
+    pub passes: Passes,
     /// Whether there were as many replies of each kind as are due.
     pub is_due: bool,
 }
@@ -51,7 +51,7 @@ impl Outcome {
             resident_bytes: 0,
             file_bytes: 0,
             buckets: 0,
-            looks: Looks::NONE,
+            passes: Passes::NONE,
             is_due,
         }
     }
@@ -94,7 +94,7 @@ impl Outcome {
             print!(rt; ",\"image\":1")?;
         }
         let times_calls = order.workload.times_calls();
-        // How many calls are timed, and how many looks there are, differs from run to run.
+        // How many calls are timed, and how many passes there are, differs from run to run.
         match form {
             Form::Counts if times_calls => {}
             _ => self.print_calls(rt, form)?,
@@ -133,12 +133,12 @@ impl Outcome {
     }
 
     fn print_looks(&self, rt: &impl Print) -> io::Result<()> {
-        let looks = &self.looks;
-        let (taken, sum, memory) = (looks.taken, looks.sum, looks.peak_bytes);
-        let (shortest, median) = (Seconds(looks.shortest), Seconds(looks.median));
-        let longest = Seconds(looks.longest);
-        print!(rt; ",\"looks\":{taken},\"look_min_s\":{shortest},\"look_median_s\":{median}")?;
-        print!(rt; ",\"look_max_s\":{longest},\"sum\":{sum},\"peak_bytes\":{memory}")
+        let passes = &self.passes;
+        let (made, sum, memory) = (passes.made, passes.sum, passes.peak_bytes);
+        let (shortest, median) = (Seconds(passes.shortest), Seconds(passes.median));
+        let longest = Seconds(passes.longest);
+        print!(rt; ",\"passes\":{made},\"pass_min_s\":{shortest},\"pass_median_s\":{median}")?;
+        print!(rt; ",\"pass_max_s\":{longest},\"sum\":{sum},\"peak_bytes\":{memory}")
     }
 
     fn print_lengths(&self, rt: &impl Print) -> io::Result<()> {

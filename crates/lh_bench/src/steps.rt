@@ -31,10 +31,10 @@ trait Kind {
         ensures head { bucket.new.head ≡ bucket.old.head };
 }
 
-/// A look at the size.
-struct Look;
+/// The size is read.
+struct Size;
 
-impl Kind for Look {
+impl Kind for Size {
     fn take(
         file: &HashFile<NoGate>,
         hand: &mut Hand,
@@ -107,7 +107,7 @@ fn repeat<K: Kind>(
 /// A kind of step, by its name.
 #[derive(Clone, Copy)]
 enum Name {
-    Look,
+    Size,
     Claim,
     Stamp,
 }
@@ -132,7 +132,7 @@ fn repeat_named(
     };
     let call = Call::Delete(key);
     match name {
-        Name::Look => repeat::<Look>(file, hand, &mut bucket, &call, steps),
+        Name::Size => repeat::<Size>(file, hand, &mut bucket, &call, steps),
         Name::Claim => repeat::<Claim>(file, hand, &mut bucket, &call, steps),
         Name::Stamp => repeat::<Stamp>(file, hand, &mut bucket, &call, steps),
     }
@@ -193,7 +193,7 @@ pub fn measure<R>(rt: &R, order: &Order) -> Result<()>
 where
     R: Threads + Wait + Sync + Clock + CpuClock + Print + AllocGlobal,
 {
-    run(rt, order, Name::Look, "look")?;
+    run(rt, order, Name::Size, "size")?;
     run(rt, order, Name::Claim, "claim and drop")?;
     run(rt, order, Name::Stamp, "stamp")
 }

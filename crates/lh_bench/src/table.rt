@@ -4,7 +4,7 @@ ghost use Rattle.lh_settling.specs.ClosedFile.{IsWhole};
 ghost use Rattle.lh_shards.specs.Hands.{IsCount};
 
 use crate::contents::Contents;
-use crate::looks::Met;
+use crate::passes::Met;
 use anyhow::Result;
 use lh_bucket::Answer;
 use lh_file::{Closed, FileFault};

@@ -5,9 +5,9 @@ ghost use Rattle.lh_shards.specs.Hands.{AreOf};
 
 use crate::caller::{Caller, play, play_timed};
 use crate::crew::{Shift, play_in_threads};
-use crate::looks::sees_all;
 use crate::meter::{Stopwatch, resident_bytes};
 use crate::order::{Order, Workload};
+use crate::passes::sees_all;
 use crate::report::Outcome;
 use crate::starter::Starter;
 use crate::streams::{Inserts, Picks, Searches};
@@ -135,12 +135,12 @@ fn outcome_of<T: Table, R: Wait + AllocGlobal>(
         .wrapping_sub(tally.deleted);
     let is_due = there.wrong == 0
         && there.found == due
-        && shift.looks.are_due
+        && shift.passes.are_due
         && are_seen
         && are_met(order.workload, &tally, shift.calls);
     Outcome {
         buckets,
-        looks: shift.looks,
+        passes: shift.passes,
         ..Outcome::new(shift.calls, shift.spent, tally, is_due)
     }
 }

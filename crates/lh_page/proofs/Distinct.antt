@@ -39,10 +39,6 @@ distinct_from_apart pairs h = IsDistinct-from_AllPairs bytes_eq-Decides (keys_of
 pub distinct_none : (pairs : List Pair) → pairs ≡ [] → IsDistinct bytes_eq (keys_of pairs)
 distinct_none pairs e = distinct_from_apart pairs (λ i j d lt below. absurd (omega (arith, ap length e)))
 
--- no key stands twice where there is one record
-pub distinct_one : (p : Pair) → IsDistinct bytes_eq (keys_of (p ∷ []))
-distinct_one p = distinct_from_apart (p ∷ []) (λ i j d lt below. absurd (omega arith))
-
 -- one record more, with a key that isn't there
 pub distinct_push : (pairs : List Pair) (p : Pair) → IsDistinct bytes_eq (keys_of pairs) → place_of pairs p.key ≡ None →
     IsDistinct bytes_eq (keys_of (pairs ++ p ∷ []))

@@ -119,7 +119,6 @@ module _ {T : Type 0} where
     of = of;
   }
 
--- a call that was made and then given another result for the same reply
 -- a search counts in neither count
 pub uncounted : (m : Records) (call : Call) → IsSearch call →
     (inserts_of (reply m call) ≡ 0) × (deletes_of (reply m call) ≡ 0)

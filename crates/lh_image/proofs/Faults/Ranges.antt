@@ -90,7 +90,7 @@ count_few f a (suc n) one = rw (count_cons f a n) (elim (cases_Bool (f a)) [
       rw fails (omega (arith, count_few f (a + 1) n (λ p q low lt high. one p q (omega arith) lt (omega arith))))
 ])
 
--- ---- the first number that passes, and two that pass
+-- ---- the first number that passes
 
 -- two findings that are the same have found the same
 pub some_is : {A : Type 0} (x y : A) → Some x ≡ Some y → x ≡ y

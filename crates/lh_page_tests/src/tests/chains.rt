@@ -149,7 +149,6 @@ fn finds_replaces_and_divides(rt: HostRuntime) -> Result<(), Fail> {
 }
 
 #[test]
-#[tactic(auto, using(lh_page::proofs::Distinct::distinct_one))]
 fn a_chain_is_made_of_records(rt: HostRuntime) -> Result<(), Fail> {
     let pairs = [pair_of(b"a", b"1")?];
     let mut chain = match Chain::from_pairs(rt.alloc(), 1, &pairs) {

@@ -1,4 +1,4 @@
-//! Looks at all records of a table: snapshots, and scans.
+//! Passes over all records of a table: snapshots, and scans.
 
 use crate::meter::{Laps, peak_bytes};
 use crate::order::{Order, Workload};
@@ -9,7 +9,7 @@ use lh_page::{Pair, Value};
 use std::rt::{Clock, Files};
 use std::sync::Wait;
 
-/// How many looks are taken at least.
+/// How many passes are made at least.
 const LEAST: usize = 10;
 
 /// How many nanoseconds they go on at least.
@@ -38,10 +38,10 @@ impl Met {
     }
 }
 
-/// How long looks took.
+/// How long passes took.
 #[derive(Clone, Copy)]
-pub struct Looks {
-    pub taken: u64,
+pub struct Passes {
+    pub made: u64,
     /// Nanoseconds.
     pub shortest: u64,
     pub median: u64,
@@ -50,13 +50,13 @@ pub struct Looks {
     pub sum: u64,
     /// The bytes of memory that the process had at most.
     pub peak_bytes: u64,
-    /// Whether each look met about as many records as are due.
+    /// Whether each pass met about as many records as are due.
     pub are_due: bool,
 }
 
-impl Looks {
-    pub const NONE: Looks = Looks {
-        taken: 0,
+impl Passes {
+    pub const NONE: Passes = Passes {
+        made: 0,
         shortest: 0,
         median: 0,
         longest: 0,
@@ -65,7 +65,7 @@ impl Looks {
         are_due: true,
     };
 
-    /// Notes what a look met where this many records are due, and when that can't be by chance.
+    /// Notes what a pass met where this many records are due, and when that can't be by chance.
     // Each of twice as many keys is there with probability 1/2: a deviation is the root of half of the records.
     fn note(&mut self, met: Met, due: u64) {
         let far = met.records.max(due) - met.records.min(due);
@@ -74,11 +74,11 @@ impl Looks {
         self.are_due = self.are_due && is_near;
     }
 
-    /// The same looks, which took so long.
-    fn timed(self, mut times: Vec<u64>) -> Looks {
+    /// The same passes, which took so long.
+    fn timed(self, mut times: Vec<u64>) -> Passes {
         times.sort_unstable();
-        Looks {
-            taken: times.len() as u64,
+        Passes {
+            made: times.len() as u64,
             shortest: times.first().copied().unwrap_or(0),
             median: times.get(times.len() / 2).copied().unwrap_or(0),
             longest: times.last().copied().unwrap_or(0),
@@ -112,7 +112,7 @@ fn found<T: Table, R: Wait>(rt: &R, table: &mut T, order: &Order) -> Met {
     met
 }
 
-/// Whether a look at a table that nobody changes meets just what searches find.
+/// Whether a pass over a table that nobody changes meets just what searches find.
 pub fn sees_all<T: Table, R: Wait + AllocGlobal>(
     rt: &R,
     table: &mut T,
@@ -125,8 +125,8 @@ pub fn sees_all<T: Table, R: Wait + AllocGlobal>(
     Ok(met == found(rt, table, order))
 }
 
-/// Looks once: what was met, and in how many nanoseconds. The records of snapshots are counted, and not read.
-fn look<T: Table, R: Wait + Clock + AllocGlobal>(
+/// One pass: what was met, and in how many nanoseconds. The records of snapshots are counted, and not read.
+fn pass<T: Table, R: Wait + Clock + AllocGlobal>(
     rt: &R,
     table: &mut T,
     workload: Workload,
@@ -145,31 +145,31 @@ fn look<T: Table, R: Wait + Clock + AllocGlobal>(
     Ok((met, laps.next(rt)?))
 }
 
-/// Looks one after another, for a second at least.
-pub fn take_looks<T: Table, R: Wait + Clock + Files + AllocGlobal>(
+/// Makes passes one after another, for a second at least.
+pub fn make_passes<T: Table, R: Wait + Clock + Files + AllocGlobal>(
     rt: &R,
     table: &mut T,
     order: &Order,
-) -> Result<Looks> {
+) -> Result<Passes> {
     let mut times = Vec::new(rt.alloc());
-    let mut looks = Looks::NONE;
+    let mut passes = Passes::NONE;
     let mut laps = Laps::start(rt)?;
     let mut passed = 0_u64;
     for _ in rt.forever() {
-        let (met, time) = look(rt, table, order.workload)?;
-        looks.note(met, order.records);
+        let (met, time) = pass(rt, table, order.workload)?;
+        passes.note(met, order.records);
         times.push(time)?;
         passed = passed.saturating_add(laps.next(rt)?);
         if times.len() >= LEAST && passed >= SECOND {
             break;
         }
     }
-    looks.peak_bytes = peak_bytes(rt);
-    Ok(looks.timed(times))
+    passes.peak_bytes = peak_bytes(rt);
+    Ok(passes.timed(times))
 }
 
-/// Reads the clock for a second, one reading after another, and takes no look.
-pub fn read_clock<R: Wait + Clock>(rt: &R) -> Result<Looks> {
+/// Reads the clock for a second, one reading after another, and makes no pass.
+pub fn read_clock<R: Wait + Clock>(rt: &R) -> Result<Passes> {
     let mut laps = Laps::start(rt)?;
     let mut passed = 0_u64;
     for _ in rt.forever() {
@@ -178,5 +178,5 @@ pub fn read_clock<R: Wait + Clock>(rt: &R) -> Result<Looks> {
             break;
         }
     }
-    Ok(Looks::NONE)
+    Ok(Passes::NONE)
 }

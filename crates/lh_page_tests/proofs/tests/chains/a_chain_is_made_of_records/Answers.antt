@@ -1,0 +1,15 @@
+use Rattle.std.proofs.Common.{ℕ, List, [], ◌∷◌, arith}
+use Rattle.std.specs.List.{IsDistinct}
+use Rattle.std.specs.Str.{bytes_eq}
+use Rattle.std.proofs.lemmas.Map.Made.{IsDistinct-from_AllPairs}
+use Rattle.std.proofs.lemmas.Slice.Eq.{bytes_eq-Decides}
+use Rattle.lh_page_tests.proofs.tests.chains.a_chain_is_made_of_records.Goals as goal
+
+one_key : (key : List ℕ) → IsDistinct bytes_eq (key ∷ [])
+one_key key = IsDistinct-from_AllPairs bytes_eq-Decides (key ∷ []) (λ i j d lt below. absurd (omega arith))
+
+pub from_pairs-requires-clause-distinct : goal.from_pairs-requires-clause-distinct
+from_pairs-requires-clause-distinct g c = one_key _
+
+pub from_pairs-requires-in-Err-clause-distinct : goal.from_pairs-requires-in-Err-clause-distinct
+from_pairs-requires-in-Err-clause-distinct g c = one_key _
