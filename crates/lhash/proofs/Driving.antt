@@ -22,8 +22,7 @@ use Rattle.lh_file.specs.Snapshots.Settled.{BeforeLaw, IsSettledFirst, SnapshotL
 use Rattle.lh_file.specs.Words.HandState.{HandState}
 use Rattle.lh_script.specs.Commands.{command}
 use Rattle.lh_subcommands.specs.Devices.{TakesBeginning}
-use Rattle.lhash.specs.Driven.{driven_text, snapshots_text}
-use Rattle.lhash.specs.Driving.{IsSettledWith, EndsDriving, IsDrivenWith, IsDriveFault, IsDriveFaultWith, IsFaultOfOne}
+use Rattle.lhash.specs.Driving.{IsSettledWith, EndsThreaded, IsDrivenWith, IsDriveFault, IsDriveFaultWith, IsFaultOfOne}
 use Rattle.lhash.specs.Driving.{IsSettledBefore, empty_file, ended_by}
 use Rattle.lh_subcommands.specs.Run.{ReadsScript}
 use Rattle.lh_script.specs.Scripts.{script}
@@ -37,88 +36,79 @@ use Rattle.lh_subcommands.specs.declared.status.Status.{Status}
 use Rattle.lh_subcommands.specs.declared.status.Status.TheVariants.{Done, Input, Words, Device, NotSettled}
 use Rattle.lh_subcommands.specs.declared.status.Status.TheVariants.{Memory as NoMemory}
 
--- a run that read no script ends without a write
-unread : (settings : Settings) (snapshots : ℕ) (status : Status) (input : List ℕ) (a : Option (List ℕ)) →
-    ReadsScript {A = CallOf} (Err status) (script command input) → EndsDriving settings snapshots input status a a
-unfolding EndsDriving
-unread settings snapshots Done input a h = absurd h
-unread settings snapshots (Input (Script fault)) input a h = (h, Keeps-refl a)
-unread settings snapshots (Input (Image fault)) input a h = absurd h
-unread settings snapshots (Input (Unwritten fault)) input a h = absurd h
-unread settings snapshots (Words text) input a h = absurd h
-unread settings snapshots (Device Read) input a h = Keeps-refl a
-unread settings snapshots (Device Write) input a h = absurd h
-unread settings snapshots NoMemory input a h = Keeps-refl a
-unread settings snapshots (NotSettled reason) input a h = absurd h
-
--- a run of `drive` that read no script ends without a write
-pub unrun : (settings : Settings) (snapshots : ℕ) (status : Status) (left a : Option (List ℕ)) →
-    IfSome left (λ input. ReadsScript {A = CallOf} (Err status) (script command input)) →
-    IfSome left (λ input. EndsDriving settings snapshots input status a a)
-unrun settings snapshots status None a h = tt
-unrun settings snapshots status (Some input) a h = unread settings snapshots status input a h
-
--- a run that is out of memory ends without a write
-pub undriven_memory : (settings : Settings) (snapshots : ℕ) (left a : Option (List ℕ)) →
-    IfSome left (λ input. EndsDriving settings snapshots input NoMemory a a)
-unfolding EndsDriving
-undriven_memory settings snapshots None a = tt
-undriven_memory settings snapshots (Some input) a = Keeps-refl a
-
 -- the script was read
 abbrev pub IsScriptOf : Option (List ℕ) → List CallOf → Type 0
 IsScriptOf left calls = IfSome left (λ input. script command input ≡ Ok calls)
 
--- and so does one that has no totals
-ends_so : (settings : Settings) (snapshots : ℕ) (input : List ℕ) (calls : List CallOf) (fault : DriveFault)
-    (a : Option (List ℕ)) → script command input ≡ Ok calls →
-    IsDriveFaultWith settings snapshots fault → EndsDriving settings snapshots input (ended_by fault) a a
-unfolding EndsDriving
-ends_so settings snapshots input calls (Settle settle.SplitUnderWay) a given h =
-    (calls, given, (Settle settle.SplitUnderWay, h, refl), Keeps-refl a)
-ends_so settings snapshots input calls (Settle (settle.MissingStamp stamp)) a given h =
-    (calls, given, (Settle (settle.MissingStamp stamp), h, refl), Keeps-refl a)
-ends_so settings snapshots input calls (Settle (settle.Reply stamp was due)) a given h =
-    (calls, given, (Settle (settle.Reply stamp was due), h, refl), Keeps-refl a)
-ends_so settings snapshots input calls (Settle (settle.Content key)) a given h =
-    (calls, given, (Settle (settle.Content key), h, refl), Keeps-refl a)
-ends_so settings snapshots input calls (Settle (settle.Placed bucket key)) a given h =
-    (calls, given, (Settle (settle.Placed bucket key), h, refl), Keeps-refl a)
-ends_so settings snapshots input calls (Settle settle.Memory) a given h = Keeps-refl a
-ends_so settings snapshots input calls (Call fault) a given h = (calls, given, (Call fault, h, refl), Keeps-refl a)
-ends_so settings snapshots input calls Thread a given h = Keeps-refl a
-ends_so settings snapshots input calls Memory a given h = Keeps-refl a
+-- a run in threads, whatever its totals and its faults are
+module _ (Totals : List CallOf → List ℕ → Type 0) (Fault : DriveFault → Type 0) where
+  unread : (status : Status) (input : List ℕ) (a : Option (List ℕ)) →
+      ReadsScript {A = CallOf} (Err status) (script command input) → EndsThreaded Totals Fault input status a a
+  unfolding EndsThreaded
+  unread Done input a h = absurd h
+  unread (Input (Script fault)) input a h = (h, Keeps-refl a)
+  unread (Input (Image fault)) input a h = absurd h
+  unread (Input (Unwritten fault)) input a h = absurd h
+  unread (Words text) input a h = absurd h
+  unread (Device Read) input a h = Keeps-refl a
+  unread (Device Write) input a h = absurd h
+  unread NoMemory input a h = Keeps-refl a
+  unread (NotSettled reason) input a h = absurd h
 
--- a run of `drive` that has no totals ends by its fault, without a write
-pub undriven_so : (settings : Settings) (snapshots : ℕ) (calls : List CallOf) (fault : DriveFault) (status : Status)
-    (left a : Option (List ℕ)) → IsScriptOf left calls →
-    IsDriveFaultWith settings snapshots fault → status ≡ ended_by fault →
-    IfSome left (λ input. EndsDriving settings snapshots input status a a)
-undriven_so settings snapshots calls fault status None a given h is = tt
-undriven_so settings snapshots calls fault status (Some input) a given h is =
-    subst (λ (s : Status). EndsDriving settings snapshots input s a a) (sym is)
-    (ends_so settings snapshots input calls fault a given h)
+  -- one that read no script ends without a write
+  pub unrun : (status : Status) (left a : Option (List ℕ)) →
+      IfSome left (λ input. ReadsScript {A = CallOf} (Err status) (script command input)) →
+      IfSome left (λ input. EndsThreaded Totals Fault input status a a)
+  unrun status None a h = tt
+  unrun status (Some input) a h = unread status input a h
 
--- the totals were written
-pub totals_told : (settings : Settings) (snapshots : ℕ) (calls : List CallOf) (d : Driven) (text : List ℕ)
-    (left before now : Option (List ℕ)) → IsScriptOf left calls →
-    IsDrivenWith settings calls snapshots d → text ≡ driven_text d ++ snapshots_text snapshots →
-    Appends before now text → IfSome left (λ input. EndsDriving settings snapshots input Done before now)
-unfolding EndsDriving
-totals_told settings snapshots calls d text None before now given driven is h = tt
-totals_told settings snapshots calls d text (Some input) before now given driven is h =
-    (calls, text, given, (d, driven, is), h)
+  -- one that is out of memory ends without a write
+  pub undriven_memory : (left a : Option (List ℕ)) →
+      IfSome left (λ input. EndsThreaded Totals Fault input NoMemory a a)
+  unfolding EndsThreaded
+  undriven_memory None a = tt
+  undriven_memory (Some input) a = Keeps-refl a
 
--- a beginning of them was written
-pub totals_begun : (settings : Settings) (snapshots : ℕ) (calls : List CallOf) (d : Driven) (text : List ℕ)
-    (left before now : Option (List ℕ)) → IsScriptOf left calls →
-    IsDrivenWith settings calls snapshots d → text ≡ driven_text d ++ snapshots_text snapshots →
-    TakesBeginning before now text →
-    IfSome left (λ input. EndsDriving settings snapshots input (Device Write) before now)
-unfolding EndsDriving
-totals_begun settings snapshots calls d text None before now given driven is h = tt
-totals_begun settings snapshots calls d text (Some input) before now given driven is h =
-    (calls, text, given, (d, driven, is), h)
+  ends_so : (input : List ℕ) (calls : List CallOf) (fault : DriveFault) (a : Option (List ℕ)) →
+      script command input ≡ Ok calls → Fault fault → EndsThreaded Totals Fault input (ended_by fault) a a
+  unfolding EndsThreaded
+  ends_so input calls (Settle settle.SplitUnderWay) a given h =
+      (calls, given, (Settle settle.SplitUnderWay, h, refl), Keeps-refl a)
+  ends_so input calls (Settle (settle.MissingStamp stamp)) a given h =
+      (calls, given, (Settle (settle.MissingStamp stamp), h, refl), Keeps-refl a)
+  ends_so input calls (Settle (settle.Reply stamp was due)) a given h =
+      (calls, given, (Settle (settle.Reply stamp was due), h, refl), Keeps-refl a)
+  ends_so input calls (Settle (settle.Content key)) a given h =
+      (calls, given, (Settle (settle.Content key), h, refl), Keeps-refl a)
+  ends_so input calls (Settle (settle.Placed bucket key)) a given h =
+      (calls, given, (Settle (settle.Placed bucket key), h, refl), Keeps-refl a)
+  ends_so input calls (Settle settle.Memory) a given h = Keeps-refl a
+  ends_so input calls (Call fault) a given h = (calls, given, (Call fault, h, refl), Keeps-refl a)
+  ends_so input calls Thread a given h = Keeps-refl a
+  ends_so input calls Memory a given h = Keeps-refl a
+
+  -- one that has no totals ends by its fault, without a write
+  pub undriven_so : (calls : List CallOf) (fault : DriveFault) (status : Status) (left a : Option (List ℕ)) →
+      IsScriptOf left calls → Fault fault → status ≡ ended_by fault →
+      IfSome left (λ input. EndsThreaded Totals Fault input status a a)
+  undriven_so calls fault status None a given h is = tt
+  undriven_so calls fault status (Some input) a given h is =
+      subst (λ (s : Status). EndsThreaded Totals Fault input s a a) (sym is) (ends_so input calls fault a given h)
+
+  -- the totals were written
+  pub totals_told : (calls : List CallOf) (text : List ℕ) (left before now : Option (List ℕ)) → IsScriptOf left calls →
+      Totals calls text → Appends before now text → IfSome left (λ input. EndsThreaded Totals Fault input Done before now)
+  unfolding EndsThreaded
+  totals_told calls text None before now given totals h = tt
+  totals_told calls text (Some input) before now given totals h = (calls, text, given, totals, h)
+
+  -- a beginning of them was written
+  pub totals_begun : (calls : List CallOf) (text : List ℕ) (left before now : Option (List ℕ)) → IsScriptOf left calls →
+      Totals calls text → TakesBeginning before now text →
+      IfSome left (λ input. EndsThreaded Totals Fault input (Device Write) before now)
+  unfolding EndsThreaded
+  totals_begun calls text None before now given totals h = tt
+  totals_begun calls text (Some input) before now given totals h = (calls, text, given, totals, h)
 
 -- a history has a reply for each call of its acts
 pub replies_made : (acts history : List ActLine) → IsInOrder acts history →

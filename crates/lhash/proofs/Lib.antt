@@ -1,6 +1,5 @@
 pub mod Counting
 pub mod Driving
-pub mod DrivingShards
 pub mod Looking
 pub mod Merges
 pub mod Places

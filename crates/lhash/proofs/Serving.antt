@@ -17,8 +17,7 @@ use Rattle.lh_options.specs.AskingLaws.{serves_file, serves_image, steps, unappl
 use Rattle.lh_options.specs.declared.options.Request.{Request}
 use Rattle.lh_options.specs.declared.options.Request.TheVariants as request
 use Rattle.lh_script.specs.declared.fault.ScriptFault.{ScriptFault}
-use Rattle.lhash.specs.Driving.{EndsDriving}
-use Rattle.lhash.specs.DrivingShards.{EndsDrivingShards}
+use Rattle.lhash.specs.Driving.{EndsThreaded}
 use Rattle.lh_subcommands.specs.Continued.{EndsApplying, EndsLeaving, query_due, script_behind}
 use Rattle.lh_subcommands.specs.Images.{EndsBuilding, check_due, draw_due, dump_due, migrate_due}
 use Rattle.lh_subcommands.specs.Run.{EndsReplay, EndsSteps}
@@ -167,7 +166,7 @@ serves_build words status left rest before now settings n asks given image withi
 driven_nothing : (one : Bool) (settings : Settings) (shards snapshots : ℕ) (input : List ℕ)
     (before now : Option (List ℕ)) → Keeps before now →
     EndsDrivingIn one settings shards snapshots input Memory before now
-unfolding EndsDriving EndsDrivingShards
+unfolding EndsThreaded
 driven_nothing true settings shards snapshots input before now keeps = keeps
 driven_nothing false settings shards snapshots input before now keeps = keeps
 

@@ -24,7 +24,6 @@ use Rattle.lhash.specs.declared.drive.DriveFault.TheVariants.{Settle, Call, Thre
 use Rattle.lhash.specs.declared.driven.Driven.{Driven}
 use Rattle.lh_subcommands.specs.declared.status.Status.{Status}
 use Rattle.lh_subcommands.specs.declared.status.Status.TheVariants.{NotSettled, Memory as NoMemory}
-use Rattle.lh_subcommands.specs.declared.unsettled.Unsettled.{Unsettled}
 use Rattle.lh_subcommands.specs.declared.unsettled.Unsettled.TheVariants as unsettled
 
 -- the listing of an empty file
@@ -147,15 +146,15 @@ abbrev pub IsTotals : Settings → ℕ → List CallOf → List ℕ → Type 0
 IsTotals settings snapshots calls output =
     (d : Driven) × IsDrivenWith settings calls snapshots d × (output ≡ driven_text d ++ snapshots_text snapshots)
 
--- what threads did is not settled, for this reason
-abbrev pub IsUnsettled : Settings → ℕ → Unsettled → Type 0
-IsUnsettled settings snapshots reason =
-    (fault : DriveFault) × IsDriveFaultWith settings snapshots fault × (ended_by fault ≡ NotSettled reason)
+-- how a run in threads ends on an input, with such totals, or for such a fault: not settled, and the writer took
+-- nothing; otherwise with the totals, or with the script's first fault
+unfoldable pub EndsThreaded : (List CallOf → List ℕ → Type 0) → (DriveFault → Type 0) → List ℕ → Status →
+    Option (List ℕ) → Option (List ℕ) → Type 0
+EndsThreaded Totals Fault input (NotSettled reason) before now =
+    (calls : List CallOf) × (script command input ≡ Ok calls)
+    × ((fault : DriveFault) × Fault fault × (ended_by fault ≡ NotSettled reason)) × Keeps before now
+EndsThreaded Totals Fault input status before now = EndsTelling Totals status (script command input) before now
 
--- how `drive` ends on an input with so many snapshots: not settled, and the writer took nothing; otherwise with the
--- totals of a legal history, or with the script's first fault
-unfoldable pub EndsDriving : Settings → ℕ → List ℕ → Status → Option (List ℕ) → Option (List ℕ) → Type 0
-EndsDriving settings snapshots input (NotSettled reason) before now =
-    (calls : List CallOf) × (script command input ≡ Ok calls) × IsUnsettled settings snapshots reason × Keeps before now
-EndsDriving settings snapshots input status before now =
-    EndsTelling (IsTotals settings snapshots) status (script command input) before now
+-- how `drive` ends on an input with so many snapshots
+abbrev pub EndsDriving : Settings → ℕ → List ℕ → Status → Option (List ℕ) → Option (List ℕ) → Type 0
+EndsDriving settings snapshots = EndsThreaded (IsTotals settings snapshots) (IsDriveFaultWith settings snapshots)

@@ -1,8 +1,7 @@
 -- What a run of calls in threads on several shards may tell: the totals of a settled history, or why there are none
-use Rattle.std.specs.Prelude.{◌≡◌, ◌≢◌, ℕ, ◌-◌, ◌%◌, ◌^◌, true, min, List, All, Option, Some, Ok, length, replicate}
+use Rattle.std.specs.Prelude.{◌≡◌, ◌≢◌, ℕ, ◌-◌, ◌%◌, ◌^◌, true, min, List, All, Option, Some, length, replicate}
 use Rattle.std.specs.Prelude.{slice_get, sum_by}
 use Rattle.std.specs.FinMap.{empty}
-use Rattle.std.specs.Io.KnownBytes.{Keeps}
 use Rattle.lh_addr.specs.Settings.{Settings}
 use Rattle.lh_bucket.specs.declared.call.Call.{Call as CallOf}
 use Rattle.lh_bucket.specs.Listing.{Lists, count_of}
@@ -14,14 +13,9 @@ use Rattle.lh_settling.specs.declared.settle_fault.SettleFault.TheVariants as se
 use Rattle.lh_shards.specs.OneMap.{IsLegalFrom, IsMerge}
 use Rattle.lh_shards.specs.Settling.{AreSettled, HoldParts, IsFirstDue}
 use Rattle.lh_shards.specs.declared.closed_shard.ClosedShard.{ClosedShard}
-use Rattle.lh_script.specs.Commands.{command}
-use Rattle.lh_script.specs.Scripts.{script}
-use Rattle.lh_subcommands.specs.Run.{EndsTelling}
 use Rattle.lh_subcommands.specs.declared.status.Status.{Status}
-use Rattle.lh_subcommands.specs.declared.status.Status.TheVariants.{NotSettled}
-use Rattle.lh_subcommands.specs.declared.unsettled.Unsettled.{Unsettled}
 use Rattle.lhash.specs.Driven.{Counts, driven_text}
-use Rattle.lhash.specs.Driving.{IsWorkersFault, empty_file, ended_by}
+use Rattle.lhash.specs.Driving.{EndsThreaded, IsWorkersFault, empty_file}
 use Rattle.lhash.specs.declared.drive.DriveFault.{DriveFault}
 use Rattle.lhash.specs.declared.drive.DriveFault.TheVariants.{Settle}
 use Rattle.lhash.specs.declared.driven.Driven.{Driven}
@@ -82,15 +76,6 @@ abbrev pub IsTotalsOfShards : Settings → ℕ → List CallOf → List ℕ → 
 IsTotalsOfShards settings shards calls output =
     (d : Driven) × IsDrivenShards settings shards calls d × (output ≡ driven_text d)
 
--- what threads did on so many shards is not settled, for this reason
-abbrev pub AreUnsettled : Settings → ℕ → Unsettled → Type 0
-AreUnsettled settings shards reason =
-    (fault : DriveFault) × IsDriveShardsFault settings shards fault × (ended_by fault ≡ NotSettled reason)
-
--- how `drive` ends on an input with so many shards: not settled, and the writer took nothing; otherwise with the totals
--- of a legal history, or with the script's first fault
-unfoldable pub EndsDrivingShards : Settings → ℕ → List ℕ → Status → Option (List ℕ) → Option (List ℕ) → Type 0
-EndsDrivingShards settings shards input (NotSettled reason) before now =
-    (calls : List CallOf) × (script command input ≡ Ok calls) × AreUnsettled settings shards reason × Keeps before now
-EndsDrivingShards settings shards input status before now =
-    EndsTelling (IsTotalsOfShards settings shards) status (script command input) before now
+-- how `drive` ends on an input with so many shards
+abbrev pub EndsDrivingShards : Settings → ℕ → List ℕ → Status → Option (List ℕ) → Option (List ℕ) → Type 0
+EndsDrivingShards settings shards = EndsThreaded (IsTotalsOfShards settings shards) (IsDriveShardsFault settings shards)
