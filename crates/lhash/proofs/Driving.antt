@@ -97,7 +97,8 @@ module _ (Totals : List CallOf → List ℕ → Type 0) (Fault : DriveFault → 
 
   -- the totals were written
   pub totals_told : (calls : List CallOf) (text : List ℕ) (left before now : Option (List ℕ)) → IsScriptOf left calls →
-      Totals calls text → Appends before now text → IfSome left (λ input. EndsThreaded Totals Fault input Done before now)
+      Totals calls text → Appends before now text →
+      IfSome left (λ input. EndsThreaded Totals Fault input Done before now)
   unfolding EndsThreaded
   totals_told calls text None before now given totals h = tt
   totals_told calls text (Some input) before now given totals h = (calls, text, given, totals, h)
