@@ -31,14 +31,14 @@ SHOWN = {"lh_bench": "this file", "twin_tags": "the same in C++", "dashmap": "Da
          "std_onelock": "one lock", "kc_hash": "Kyoto Cabinet", "lmdb": "LMDB", "tdb": "TDB", "gdbm": "GDBM", "bdb_hash": "Berkeley DB"}
 TITLES = {"W1": "W1 inserts", "W2": "W2 searches", "W3": "W3, 1 insert to 19 searches", "W4": "W4, half are writes",
           "W5": "W5, to a file and back", "W6": "W6 new values", "W7": "W7, skewed searches", "W8": "W8, searches that miss",
-          "W9": "W9, as W4, long records"}
+          "W9": "W9, as W4, long records", "W14": "W14, counters"}
 # One thread makes passes over all records while the others call, or reads the clock alone; these have tables of their own.
 PASSES = {"W11": "W11, snapshots", "W12": "W12, scans"}
 BESIDE = {"W11": "snapshots", "W12": "scans", "W13": "the clock"}
 # From which class of lengths on the calls of a column took as long as its head says.
 AT_LEAST = {">= 4 us": 3, ">= 16 us": 5, ">= 64 us": 7, ">= 256 us": 9, ">= 4 ms": 13, ">= 16 ms": 15}
 # How many threads are tried, where --threads says nothing; the other workloads have one.
-THREADS = {"W3": "1,2,4", "W4": "1,2,4", "W7": "1,4", "W8": "1,4", "W9": "1,4", "W11": "1,3", "W12": "1,3", "W13": "1,3"}
+THREADS = {"W3": "1,2,4", "W4": "1,2,4", "W7": "1,4", "W8": "1,4", "W9": "1,4", "W11": "1,3", "W12": "1,3", "W13": "1,3", "W14": "1,4"}
 
 
 def numbers(text):
@@ -293,8 +293,8 @@ def main():
     a.add_argument("--contestant", action="append", default=[], metavar="NAME=PROGRAM",
                    help="one more program, with words of its own behind it if need be: 'lh_lent16=/path/lh_bench --lent --shards 16'")
     a.add_argument("--peers", default="", help="only these, with commas between them")
-    a.add_argument("--workloads", default="W1,W2,W3,W4,W5,W7,W8,W9,W10,W11,W12,W13")
-    a.add_argument("--threads", help="of W3, W4, W7 to W9 and W11 to W13; 1,2,4, 1,4 or 1,3 if nothing is said")
+    a.add_argument("--workloads", default="W1,W2,W3,W4,W5,W7,W8,W9,W10,W11,W12,W13,W14")
+    a.add_argument("--threads", help="of W3, W4, W7 to W9 and W11 to W14; 1,2,4, 1,4 or 1,3 if nothing is said")
     a.add_argument("--records", default="3000,10000,1000000", help="the sizes, of which 3000 and 10000 lie in caches")
     a.add_argument("--seed", type=int, default=1)
     a.add_argument("--rounds", type=int, default=3)

@@ -115,6 +115,10 @@ impl<T: Table> Caller<T> {
                 let (key, value) = (contents.key(record), contents.other_value(record, length));
                 either(table.set(rt, &key, &value)?, Reply::Replaced, Reply::Absent)
             }
+            Step::Count { record } => {
+                let key = contents.key(record);
+                either(table.count(rt, &key)?, Reply::Inserted, Reply::Replaced)
+            }
             Step::Delete { record } | Step::Search { record, .. } => {
                 let key = contents.key(record);
                 either(table.remove(rt, &key)?, Reply::Deleted, Reply::Absent)
@@ -152,6 +156,7 @@ impl<T: Table> Caller<T> {
             Step::Insert { record, is_new } => self.insert(rt, record, is_new),
             Step::Delete { record } => self.delete(rt, record),
             Step::Replace { record, length } => self.replace(rt, record, length),
+            Step::Count { .. } => self.take_lent(rt, step),
         }
     }
 

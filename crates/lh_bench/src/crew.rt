@@ -5,7 +5,7 @@ use crate::meter::{Stopwatch, TimeSpent};
 use crate::order::{Order, Workload};
 use crate::passes::{Passes, make_passes, read_clock};
 use crate::starter::Starter;
-use crate::streams::{Misses, Mixed, MostlySearches, OneKey, Part, Skewed};
+use crate::streams::{Counts, Misses, Mixed, MostlySearches, OneKey, Part, Skewed};
 use crate::table::Table;
 use crate::tally::Tally;
 use anyhow::{Result, bail};
@@ -53,6 +53,7 @@ fn work<T: Table, R: Wait + Clock>(
         }
         Workload::Skewed => play_part::<Skewed, T, R>(rt, starter, caller, order, thread),
         Workload::Misses => play_part::<Misses, T, R>(rt, starter, caller, order, thread),
+        Workload::Counters => play_part::<Counts, T, R>(rt, starter, caller, order, thread),
         Workload::OneKey => play_part::<OneKey, T, R>(rt, starter, caller, order, thread),
         Workload::Snapshots | Workload::Scans | Workload::Readings => {
             let stream = Mixed::of_thread(&order, thread);

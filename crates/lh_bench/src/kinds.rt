@@ -2,6 +2,7 @@
 ghost use Rattle.std.specs.Prelude.{true};
 ghost use Rattle.lh_file.specs.Buckets.Brands.{IsBrandOf};
 
+use crate::counting::counts;
 use crate::meter::resident_bytes;
 use crate::on_file::OnFile;
 use crate::on_shards::OnShards;
@@ -29,6 +30,7 @@ where
         Workload::Inserts => inserts(rt, table, order, before)?,
         Workload::Searches => searches(rt, table, order)?,
         Workload::Replaces => replaces(rt, table, order)?,
+        Workload::Counters => counts(rt, table, order)?,
         Workload::MostlySearches => shared(rt, table, order, 0, 1)?,
         Workload::OneKey | Workload::Skewed | Workload::Misses => {
             shared(rt, table, order, order.records, 1)?

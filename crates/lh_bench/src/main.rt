@@ -14,6 +14,7 @@
 
 mod caller;
 mod contents;
+mod counting;
 mod crew;
 mod image;
 mod kinds;

@@ -3,6 +3,7 @@ ghost use Rattle.std.specs.Prelude.{◌≡◌};
 ghost use Rattle.lh_file.specs.FileState.{IsOf};
 
 use crate::contents::Contents;
+use crate::counting::{counter, one_more};
 use crate::passes::Met;
 use crate::table::{CALLS, Table};
 use anyhow::Result;
@@ -105,6 +106,12 @@ impl<'a, M: Mode, J: FileBrand> Table for OnFile<'a, M, J> {
     #[inline(always)]
     fn remove<R: Wait>(&mut self, rt: &R, key: &Key) -> Result<bool, FileFault> {
         self.file.remove(rt, &mut self.hand, key)
+    }
+
+    #[inline(always)]
+    fn count<R: Wait>(&mut self, rt: &R, key: &Key) -> Result<bool, FileFault> {
+        self.file
+            .merge(rt, &mut self.hand, key, &counter(1), one_more)
     }
 
     fn divide(&mut self) -> Result<OnFile<'a, M, J>> {

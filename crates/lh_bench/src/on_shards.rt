@@ -4,6 +4,7 @@ ghost use Rattle.lh_settling.specs.ClosedFile.{IsWhole};
 ghost use Rattle.lh_shards.specs.Hands.{AreOf, IsCount};
 
 use crate::contents::Contents;
+use crate::counting::{counter, one_more};
 use crate::passes::Met;
 use crate::table::{CALLS, Table};
 use anyhow::Result;
@@ -141,6 +142,12 @@ impl<'a> Table for OnShards<'a> {
     #[inline(always)]
     fn remove<R: Wait>(&mut self, rt: &R, key: &Key) -> Result<bool, FileFault> {
         self.shards.remove(rt, &mut self.hands, key)
+    }
+
+    #[inline(always)]
+    fn count<R: Wait>(&mut self, rt: &R, key: &Key) -> Result<bool, FileFault> {
+        self.shards
+            .merge(rt, &mut self.hands, key, &counter(1), one_more)
     }
 
     fn divide(&mut self) -> Result<OnShards<'a>> {

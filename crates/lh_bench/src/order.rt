@@ -37,6 +37,8 @@ pub enum Workload {
     Scans,
     /// Readings of the clock, one after another, while other threads make mixed calls.
     Readings,
+    /// Counters to each of which one is added in one step, a few of them mostly.
+    Counters,
     /// Searches for one record, by all threads.
     OneKey,
     /// The single atomic steps of a file's words.
@@ -48,7 +50,7 @@ pub enum Workload {
 }
 
 impl Workload {
-    pub const MEASURED: [Workload; 13] = [
+    pub const MEASURED: [Workload; 14] = [
         Workload::Inserts,
         Workload::Searches,
         Workload::MostlySearches,
@@ -62,6 +64,7 @@ impl Workload {
         Workload::Snapshots,
         Workload::Scans,
         Workload::Readings,
+        Workload::Counters,
     ];
 
     /// The word that asks for it.
@@ -80,6 +83,7 @@ impl Workload {
             Workload::Snapshots => "W11",
             Workload::Scans => "W12",
             Workload::Readings => "W13",
+            Workload::Counters => "W14",
             Workload::OneKey => "hot",
             Workload::Steps => "steps",
             Workload::Settling => "settle",
@@ -102,6 +106,7 @@ impl Workload {
             "W11" => Workload::Snapshots,
             "W12" => Workload::Scans,
             "W13" => Workload::Readings,
+            "W14" => Workload::Counters,
             "hot" => Workload::OneKey,
             "steps" => Workload::Steps,
             "settle" => Workload::Settling,
@@ -119,6 +124,7 @@ impl Workload {
             Workload::Misses => 8,
             Workload::LongRecords => 9,
             Workload::LookUps => 10,
+            Workload::Counters => 14,
             _ => 4,
         }
     }
@@ -135,6 +141,7 @@ impl Workload {
                 | Workload::Snapshots
                 | Workload::Scans
                 | Workload::Readings
+                | Workload::Counters
                 | Workload::OneKey
                 | Workload::Steps
                 | Workload::All
@@ -269,8 +276,8 @@ pub enum Asked {
     Told(Error),
 }
 
-const WORDS: [&str; 17] = [
-    "W1", "W2", "W3", "W4", "W5", "W6", "W7", "W8", "W9", "W10", "W11", "W12", "W13", "hot",
+const WORDS: [&str; 18] = [
+    "W1", "W2", "W3", "W4", "W5", "W6", "W7", "W8", "W9", "W10", "W11", "W12", "W13", "W14", "hot",
     "steps", "settle", "all",
 ];
 
@@ -293,7 +300,7 @@ fn command<'a>(alloc: Global) -> Result<Command<'a>, Error> {
     let workload = Arg::new(alloc, "workload")
         .long("workload")
         .help(
-            "What to measure; beside W4's calls W11 takes snapshots, W12 takes scans, and W13 only reads the clock",
+            "What to measure; beside W4's calls W11 takes snapshots, W12 takes scans, and W13 only reads the clock; W14 counts",
         )
         .required(true)
         .action(ArgAction::Set)

@@ -34,7 +34,7 @@ fn make_calls<R: Wait>(
             Step::Delete { record } => {
                 file.remove(rt, hand, &contents.key(record))?;
             }
-            Step::Search { record, .. } | Step::Replace { record, .. } => {
+            Step::Search { record, .. } | Step::Replace { record, .. } | Step::Count { record } => {
                 file.get(rt, hand, &contents.key(record))?;
             }
         }

@@ -13,6 +13,8 @@ pub enum Step {
     Delete { record: u64 },
     /// A replace of a record that is there by a value of this length.
     Replace { record: u64, length: u8 },
+    /// One more for a counter that is there.
+    Count { record: u64 },
 }
 
 impl Step {
@@ -221,6 +223,30 @@ impl Stream for Skewed {
 impl Part for Skewed {
     fn of_thread(order: &Order, thread: u64) -> Skewed {
         Skewed {
+            numbers: Numbers::of_thread(order, thread),
+            skew: Skew::new(order.records),
+        }
+    }
+}
+
+/// One more for each of some counters, for a few of them mostly.
+#[derive(Drop)]
+pub struct Counts {
+    numbers: Numbers,
+    skew: Skew,
+}
+
+impl Stream for Counts {
+    fn next(&mut self) -> Step {
+        Step::Count {
+            record: self.skew.pick(&mut self.numbers),
+        }
+    }
+}
+
+impl Part for Counts {
+    fn of_thread(order: &Order, thread: u64) -> Counts {
+        Counts {
             numbers: Numbers::of_thread(order, thread),
             skew: Skew::new(order.records),
         }

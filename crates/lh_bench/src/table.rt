@@ -35,6 +35,9 @@ pub trait Table: Drop {
 
     fn remove<R: Wait>(&mut self, rt: &R, key: &Key) -> Result<bool, FileFault>;
 
+    /// Adds one to a counter in one step, or makes it with the number 1: whether it is new.
+    fn count<R: Wait>(&mut self, rt: &R, key: &Key) -> Result<bool, FileFault>;
+
     /// The same table, for another thread.
     fn divide(&mut self) -> Result<Self>;
 

@@ -4,6 +4,7 @@ ghost use Rattle.std.specs.List.{filter};
 ghost use Rattle.std.specs.FinMap.{get, retain_keys};
 ghost use Rattle.lh_addr.specs.Fnv.{code_of};
 ghost use Rattle.lh_addr.specs.Limits.{most_level};
+ghost use Rattle.lh_page.specs.Records.{place_of};
 ghost use Rattle.lh_bucket.specs.declared.call.Call.TheVariants.{Search, Insert, Delete, Replace};
 ghost use Rattle.lh_bucket.specs.declared.call.Reply.TheVariants.{Inserted};
 ghost use Rattle.lh_bucket.specs.declared.verdict.Verdict.TheVariants.{Here};
@@ -119,6 +120,7 @@ impl PagedBucket {
     /// The place of the record with a key.
     #[inline]
     pub fn find(&self, key: &Key) -> Option<usize>
+        ensures place { result ≡ place_of self.now.pairs key.now }
         ensures found { found_at self.now.pairs result ≡ reply (content self.now) (Search key.now) }
         ensures within { IfSome result (λ place. place < length self.now.pairs) }
     {
@@ -152,7 +154,31 @@ impl PagedBucket {
         ensures new_key { OnErr result (reply (content self.old) (call_of change.entry) ≡ Inserted) }
         ensures err { OnErr result (self.new ≡ self.old) }
     {
-        let reply = change_at(&mut self.chain, change)?;
+        let place = self.find(change.key());
+        self.change_found(change, place, k)
+    }
+
+    /// The same, where the place of the record with its key has been found, or that there is none: the key isn't looked
+    /// for again.
+    #[inline(always)]
+    pub fn change_found(
+        &mut self,
+        change: Change<'_>,
+        place: Option<usize>,
+        k: u8,
+    ) -> Result<ChangeReply, Memory>
+        requires low { k ≤ most_level }
+        requires here { verdict self.old.head (code_of (key_of (call_of change))) k ≡ Here }
+        requires place { place ≡ place_of self.old.pairs (key_of (call_of change)) }
+        ensures reply { IfOk result (λ r. reply_of r ≡ reply (content self.old) (call_of change.entry)) }
+        ensures head { self.new.head ≡ self.old.head }
+        ensures content { OnOk result (content self.new ≡ after (content self.old) (call_of change.entry)) }
+        ensures order { OnOk result (self.new.pairs ≡ served self.old.pairs (call_of change.entry)) }
+        ensures no_memory { ¬ (IsInsert (call_of change.entry)) → IsOk result }
+        ensures new_key { OnErr result (reply (content self.old) (call_of change.entry) ≡ Inserted) }
+        ensures err { OnErr result (self.new ≡ self.old) }
+    {
+        let reply = change_at(&mut self.chain, change, place)?;
         // In a chain no key stands twice.
         let _ = self.chain.len();
         Ok(reply)
@@ -169,15 +195,21 @@ fn value_in(chain: &Chain, key: &Key) -> Option<Value>
     }
 }
 
-/// Puts a record last in a chain, unless its key is there.
-fn insert_into(chain: &mut Chain, key: &Key, value: &Value) -> Result<ChangeReply, Memory>
+/// Puts a record last in a chain, unless its key is there, at this place.
+fn insert_into(
+    chain: &mut Chain,
+    key: &Key,
+    value: &Value,
+    place: Option<usize>,
+) -> Result<ChangeReply, Memory>
+    requires { place ≡ place_of chain.old.pairs key.now }
     ensures reply { IfOk result (λ r. reply_of r ≡ reply (map_of chain.old.pairs) (Insert key.now value.now)) }
     ensures list { OnOk result (
         chain.new ≡ record chain.old { pairs = served chain.old.pairs (Insert key.now value.now) }) }
     ensures new_key { OnErr result (reply (map_of chain.old.pairs) (Insert key.now value.now) ≡ Inserted) }
     ensures err { OnErr result (chain.new ≡ chain.old) }
 {
-    match chain.find(key) {
+    match place {
         Some(_) => Ok(ChangeReply::Exists),
         None => {
             chain.append(key, value)?;
@@ -186,12 +218,13 @@ fn insert_into(chain: &mut Chain, key: &Key, value: &Value) -> Result<ChangeRepl
     }
 }
 
-/// Takes the record with a key out of a chain, if it is there.
-fn delete_from(chain: &mut Chain, key: &Key) -> ChangeReply
-    ensures reply { reply_of result ≡ reply (map_of chain.old.pairs) (Delete key.now) }
-    ensures list { chain.new ≡ record chain.old { pairs = served chain.old.pairs (Delete key.now) } }
+/// Takes the record with a key, at this place, out of a chain, if it is there.
+fn delete_from(chain: &mut Chain, _key: &Key, place: Option<usize>) -> ChangeReply
+    requires { place ≡ place_of chain.old.pairs _key.now }
+    ensures reply { reply_of result ≡ reply (map_of chain.old.pairs) (Delete _key.now) }
+    ensures list { chain.new ≡ record chain.old { pairs = served chain.old.pairs (Delete _key.now) } }
 {
-    match chain.find(key) {
+    match place {
         Some(place) => {
             chain.discard(place);
             ChangeReply::Deleted
@@ -200,12 +233,13 @@ fn delete_from(chain: &mut Chain, key: &Key) -> ChangeReply
     }
 }
 
-/// Gives the record with a key another value, in its place, if it is there.
-fn replace_in(chain: &mut Chain, key: &Key, value: &Value) -> ChangeReply
-    ensures reply { reply_of result ≡ reply (map_of chain.old.pairs) (Replace key.now value.now) }
-    ensures list { chain.new ≡ record chain.old { pairs = served chain.old.pairs (Replace key.now value.now) } }
+/// Gives the record with a key, at this place, another value, if it is there.
+fn replace_in(chain: &mut Chain, _key: &Key, value: &Value, place: Option<usize>) -> ChangeReply
+    requires { place ≡ place_of chain.old.pairs _key.now }
+    ensures reply { reply_of result ≡ reply (map_of chain.old.pairs) (Replace _key.now value.now) }
+    ensures list { chain.new ≡ record chain.old { pairs = served chain.old.pairs (Replace _key.now value.now) } }
 {
-    match chain.find(key) {
+    match place {
         Some(place) => {
             chain.set_value(place, value);
             ChangeReply::Replaced
@@ -214,9 +248,14 @@ fn replace_in(chain: &mut Chain, key: &Key, value: &Value) -> ChangeReply
     }
 }
 
-/// Serves a change at a chain.
+/// Serves a change at a chain, which has the record with its key at this place.
 #[inline(always)]
-fn change_at(chain: &mut Chain, change: Change<'_>) -> Result<ChangeReply, Memory>
+fn change_at(
+    chain: &mut Chain,
+    change: Change<'_>,
+    place: Option<usize>,
+) -> Result<ChangeReply, Memory>
+    requires { place ≡ place_of chain.old.pairs (key_of (call_of change)) }
     ensures reply { IfOk result (λ r. reply_of r ≡ reply (map_of chain.old.pairs) (call_of change.entry)) }
     ensures list { OnOk result (chain.new
         ≡ record chain.old { pairs = served chain.old.pairs (call_of change.entry) }) }
@@ -225,9 +264,9 @@ fn change_at(chain: &mut Chain, change: Change<'_>) -> Result<ChangeReply, Memor
     ensures err { OnErr result (chain.new ≡ chain.old) }
 {
     match change {
-        Change::Insert(key, value) => insert_into(chain, key, value),
-        Change::Delete(key) => Ok(delete_from(chain, key)),
-        Change::Replace(key, value) => Ok(replace_in(chain, key, value)),
+        Change::Insert(key, value) => insert_into(chain, key, value, place),
+        Change::Delete(key) => Ok(delete_from(chain, key, place)),
+        Change::Replace(key, value) => Ok(replace_in(chain, key, value, place)),
     }
 }
 

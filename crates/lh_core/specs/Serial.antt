@@ -1,5 +1,6 @@
 -- Calls served one after another, and how a file grows under them
-use Rattle.std.specs.Prelude.{◌≡◌, ◌⊎◌, ℕ, ◌+◌, ◌-◌, Bool, false, List, [], ◌∷◌, if◌then◌else◌}
+use Rattle.std.specs.Prelude.{◌≡◌, ℕ, ◌+◌, ◌-◌, Bool, true, false, List, [], ◌∷◌}
+use Rattle.std.specs.Prelude.{if◌then◌else◌}
 use Rattle.std.specs.FinMap.{len, empty}
 use Rattle.lh_addr.specs.Settings.{Settings, wants_split}
 use Rattle.lh_bucket.specs.declared.call.Call.{Call}
@@ -89,13 +90,16 @@ pub record IsGivenUp (world next : WorldSeen) : Type 0 where
   pub state : next.state ≡ world.state
   pub stands : (map : Records) → StandsFor world map → StandsFor next map
 
--- a call was served, and the split that it asked for, unless memory ran out for the split
-pub record IsServedOn (world : WorldSeen) (map : Records) (call : Call) (told : Reply) (records : ℕ) (next : WorldSeen)
-    : Type 0 where
+-- A call was served, and the split that it asked for. Where the split is told as refused it was asked for, and the file
+-- has not grown.
+pub record IsServedOn (world : WorldSeen) (map : Records) (call : Call) (told : Reply) (records : ℕ) (refused : Bool)
+    (next : WorldSeen) : Type 0 where
   pub same : next.config ≡ world.config
   pub rest : IsAtRest next.state
-  pub size : (next.state.buckets ≡ size_after world.config (after map call) world.state.buckets (reply map call))
-      ⊎ (next.state.buckets ≡ world.state.buckets)
+  pub size : next.state.buckets ≡ (if refused then world.state.buckets
+      else size_after world.config (after map call) world.state.buckets (reply map call))
+  pub asked : refused ≡ true →
+      grows_after world.config (len (after map call)) world.state.buckets (reply map call) ≡ true
   pub stands : StandsFor next (after map call)
   pub replied : told ≡ reply map call
   pub count : records ≡ len (after map call)

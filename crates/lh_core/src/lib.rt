@@ -52,6 +52,6 @@ pub use event::Event;
 pub use lh_bucket::Memory;
 pub use opened::{count_before, serial_from};
 pub use ran::{Ran, run};
-pub use serial_ran::{SerialRan, serial};
+pub use serial_ran::{SerialRan, Served, serial};
 pub use state::{SplitState, WorkerState};
 pub use world::World;

@@ -25,6 +25,16 @@ pub struct SerialRan<B: Bucket> {
     pub world: World<B>,
 }
 
+/// What came of a call whose caller goes on where memory runs out.
+#[derive(Clone, Copy)]
+pub struct Served {
+    pub reply: Reply,
+    /// The number of records from now on.
+    pub records: u64,
+    /// Whether it asked for a split, and memory ran out for that.
+    pub split_refused: bool,
+}
+
 /// The number of records after a reply.
 fn count_after(records: u64, reply: &Reply) -> u64
     requires { records < 2 ^ 64 - 1 }
@@ -169,29 +179,27 @@ impl<B: Bucket> World<B> {
     }
 
     /// Serves a call of a caller who goes on where memory runs out, and splits once where the policy wants
-    /// it: the reply, and the number of records from then on, which was `records`.
+    /// it. The number of records was `records`.
     ///
     /// Only an insert may fail; then nothing has changed. Where memory runs out for the split alone, the
     /// call is served, and the next record that is added asks for a split again.
-    pub fn serve(&mut self, call: Call, records: u64) -> Result<(Reply, u64), Memory>
+    pub fn serve(&mut self, call: Call, records: u64) -> Result<Served, Memory>
         requires rest { IsAtRest self.old.state }
         requires few { records < 2 ^ 64 - 1 }
         ensures served { (m : Records) → StandsFor self.old m → records ≡ len m →
-            IfOk result (λ p. IsServedOn self.old m call p.0 p.1 self.new) }
+            IfOk result (λ it. IsServedOn self.old m call it.reply it.records it.split_refused self.new) }
         ensures rest { IsAtRest self.new.state }
         ensures err { OnErr result (IsGivenUp self.old self.new) }
         ensures insert { OnErr result (IsInsert call) }
     {
         let reply = self.serve_at_once(&call)?;
         let count = count_after(records, &reply);
-        if !self.wants(&reply, count) {
-            return Ok((reply, count));
-        }
-        match self.grow() {
-            Ok(()) => Ok((reply, count)),
-            // The next record that is added asks for it again.
-            Err(Memory) => Ok((reply, count)),
-        }
+        let split_refused = self.wants(&reply, count) && self.grow().is_err();
+        Ok(Served {
+            reply,
+            records: count,
+            split_refused,
+        })
     }
 
     /// Serves calls one after another, from this number of records on.

@@ -49,14 +49,19 @@ pub record AreGathered (buckets : List Seen) (lists : List (List Pair)) (whole :
 abbrev pub NoneOutside : List Entry → Type 0
 NoneOutside entries = Each entries (λ e. e.outside ≡ false)
 
+-- each act of the log is one of these
+abbrev pub AreAmong : List Entry → List Entry → Type 0
+AreAmong entries log = Each log (λ e. (place : ℕ) × (get_elem? entries place ≡ some e))
+
 -- A traced file was closed with all its buckets and no split under way: the hand that closed it was told of a log, of
 -- all that was done with the file, and the closed file holds just what that leaves. Where each call came home to this
--- hand and none was outside, these acts are the log's, of which none is outside, and the file is settled.
+-- hand and none was outside, these acts are the log's, of which none is outside, and the file is settled; and each act
+-- of the log is one of the hand's, with what it met.
 abbrev pub HasHistory : Lists → ClosedFile → List ActLine → HandState → Type 0
 HasHistory opening closed acts hand =
     (log : List Entry) × IsSnapshot opening closed hand.entries hand.logs log
     × (hand.view.left + length hand.acts ≡ 2 ^ 63 → NoneOutside hand.entries →
-    IsSettled opening closed acts (lines_of log) × NoneOutside log)
+    IsSettled opening closed acts (lines_of log) × NoneOutside log × AreAmong hand.entries log)
 
 -- No stamp is missing where the file records and all calls came home to the hand that closed it.
 abbrev pub NoneMissingLaw : Type 0

@@ -1,4 +1,7 @@
 -- What callers know of the history of a traced file
 pub mod Entered
+pub mod Met
 pub mod Own
 pub mod RealTime
+pub mod Updating
+pub mod UpdatingLaws

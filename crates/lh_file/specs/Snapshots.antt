@@ -3,4 +3,5 @@ pub mod Hands
 pub mod Moments
 pub mod Held
 pub mod Scans
+pub mod ScannedKeys
 pub mod Settled

@@ -1,6 +1,7 @@
-//! Searches, inserts, deletes, replaces and splits.
+//! Searches, inserts, deletes, replaces, calls that read and write in one act, and splits.
 pub(crate) mod aim;
 mod answered;
+pub(crate) mod atomic;
 pub(crate) mod coded;
 mod hold;
 mod lean;

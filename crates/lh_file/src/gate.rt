@@ -13,6 +13,8 @@ pub enum Point {
     Released { bucket: u32 },
     /// A snapshot has the locks of all buckets, which are this many, and has copied none yet.
     Surveyed { buckets: u32 },
+    /// It has copied the bucket and dropped its lock, and has those of all buckets behind it still.
+    Copied { bucket: u32 },
     /// The right to split was got.
     RightGot,
     /// A split has moved its records and dropped both locks. The file's size is the old one yet.

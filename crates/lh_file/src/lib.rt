@@ -36,12 +36,14 @@ mod file;
 mod gate;
 pub mod laws;
 mod opening;
+pub mod scan_laws;
 pub mod settle_laws;
 mod snapshots;
 mod words;
 
 pub use buckets::brand::{FileBrand, Unbranded};
 pub use buckets::segment::Segment;
+pub use calls::atomic::Compared;
 pub use calls::coded::{Coded, CodedKey};
 pub use calls::parts;
 pub use fault::{FileFault, JoinAllFault, JoinFault};

@@ -7,7 +7,7 @@ mod end;
 pub(crate) mod hand;
 mod history;
 pub(crate) mod load;
-mod looks;
+pub(crate) mod looks;
 pub(crate) mod right;
 mod root;
 mod shares;

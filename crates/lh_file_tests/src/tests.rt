@@ -1,5 +1,6 @@
 //! What no contract says: worked examples, hands on threads, calls that are held at a point, and
 //! growth that is refused.
+mod atomic;
 mod closed_files;
 mod coded;
 mod crew;

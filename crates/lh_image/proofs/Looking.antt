@@ -7,3 +7,6 @@ pub mod Openings
 pub mod Maps
 pub mod Loops
 pub mod Checked
+pub mod Indexed
+pub mod Places
+pub mod Walks

@@ -20,5 +20,6 @@ pub mod Reading
 pub mod RoundTrip
 pub mod LookUp
 pub mod Checked
+pub mod Indexed
 pub mod Writing
 pub mod Texts

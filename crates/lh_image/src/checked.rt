@@ -4,21 +4,20 @@ ghost use Rattle.std.specs.FinMap.{get};
 ghost use Rattle.lh_bucket.specs.Listing.{all_of, count_of, size};
 ghost use Rattle.lh_bucket.specs.Records.{map_of};
 ghost use Rattle.lh_page.specs.Limits.{IsValue};
+ghost use Rattle.lh_image.specs.Checked.{IsChecked};
 ghost use Rattle.lh_image.specs.Faults.{image_fault};
 ghost use Rattle.lh_image.specs.Image.{IsImage};
 ghost use Rattle.lh_image.specs.Listed.{IsMemoryOr};
 ghost use Rattle.lh_image.specs.LookUp.{IsOpenedImage};
 
-mod finding;
-mod index;
+pub(crate) mod index;
 mod pages;
 
-use crate::checked::finding::place_of;
 use crate::checked::index::{PageIndex, index_in};
 use crate::checked::pages::pages_in;
 use crate::fault::ImageFault;
 use crate::header::Header;
-use crate::image::walk::value_at;
+use crate::indexed::find_in;
 use crate::judge::listed::listing_of_pages;
 use crate::laws::{
     faultless_bytes_are_an_image, image_is_of_only_listing, what_is_found_stands_there,
@@ -59,6 +58,26 @@ impl<'a> Model for CheckedImage<'a> {
     ghost invariant = { λ i. IsChecked i.bytes.now i.header i.root i.index.items };
 }
 
+/// Looks at all pages of bytes that were opened, and keeps what look-ups want of them.
+pub(crate) fn index_checked(
+    alloc: Global,
+    bytes: &[u8],
+    header: &Header,
+    root: &Root,
+) -> Result<Vec<PageIndex>, ImageFault>
+    requires { IsOpenedImage bytes.now header.now root.now }
+    ensures checked { IfOk result (λ index. IsChecked bytes.now header.now root.now index.items) }
+    ensures fault { IfErr result (λ fault. IsMemoryOr fault (image_fault bytes.now)) }
+{
+    // Their laws: bytes without a fault are an image, and of the one listing that they show.
+    faultless_bytes_are_an_image();
+    image_is_of_only_listing();
+    let (table, faults) = pages_in(alloc, bytes, header, root)?;
+    listing_of_pages(alloc, header, &table, &faults)?;
+    let index = index_in(alloc, bytes, header, root)?;
+    Ok(index)
+}
+
 impl<'a> CheckedImage<'a> {
     /// Looks at all pages of bytes that were opened.
     pub(crate) fn of(
@@ -71,16 +90,11 @@ impl<'a> CheckedImage<'a> {
         ensures image { IfOk result (λ checked. IsImage bytes.now checked) }
         ensures fault { IfErr result (λ fault. IsMemoryOr fault (image_fault bytes.now)) }
     {
-        // Their laws: bytes without a fault are an image, and of the one listing that they show.
-        faultless_bytes_are_an_image();
-        image_is_of_only_listing();
-        let (table, faults) = pages_in(alloc, bytes, header, root)?;
-        listing_of_pages(alloc, header, &table, &faults)?;
         Ok(CheckedImage {
             bytes,
             header: *header,
             root: *root,
-            index: index_in(alloc, bytes, header, root)?,
+            index: index_checked(alloc, bytes, header, root)?,
         })
     }
 
@@ -120,9 +134,15 @@ impl<'a> CheckedImage<'a> {
     {
         // Its law: in an image of a listing the plain map of all records answers the same.
         what_is_found_stands_there();
-        match place_of(self.bytes, &self.header, &self.root, &self.index, key) {
-            Some((page, slot)) => Some(value_at(self.bytes, &self.header, &self.root, page, slot)),
-            None => None,
+        match find_in(
+            self.bytes,
+            self.header.version,
+            &self.root,
+            &self.index,
+            key.bytes(),
+        ) {
+            Ok(found) => found,
+            Err(_) => unreachable!(),
         }
     }
 

@@ -6,7 +6,9 @@ ghost use Rattle.std.specs.Result.{result_err};
 ghost use Rattle.lh_bucket.specs.Listing.{Lists, all_of, count_of, size};
 ghost use Rattle.lh_bucket.specs.Records.{map_of};
 ghost use Rattle.lh_page.specs.Limits.{IsValue};
+ghost use Rattle.lh_image.specs.Checked.{IsChecked};
 ghost use Rattle.lh_image.specs.Faults.{image_fault};
+ghost use Rattle.lh_image.specs.Indexed.{extent_of};
 ghost use Rattle.lh_image.specs.Image.{IsImage};
 ghost use Rattle.lh_image.specs.Layout.{header_of, view_of};
 ghost use Rattle.lh_image.specs.Listed.{IsMemoryOr};
@@ -17,7 +19,8 @@ mod opening;
 pub(crate) mod slots;
 pub(crate) mod walk;
 
-use crate::checked::CheckedImage;
+use crate::checked::index::PageIndex;
+use crate::checked::{CheckedImage, index_checked};
 use crate::fault::ImageFault;
 use crate::header::Header;
 use crate::image::opening::{check_size, header_in};
@@ -103,6 +106,25 @@ impl<'a> Image<'a> {
         ensures listed { (l : Lists) → IsImage self.now l → result ≡ size l }
     {
         self.header.buckets
+    }
+
+    /// The number of pages, the header among them.
+    pub fn pages(&self) -> u32
+        ensures { result ≡ (header_of self.now).pages }
+    {
+        self.header.pages
+    }
+
+    /// Looks at all pages once, as [`check`](Image::check) does, and puts what look-ups want of them into the caller's
+    /// memory: an entry for each page.
+    pub fn check_into(&self, alloc: Global, index: &mut [PageIndex]) -> Result<(), ImageFault>
+        requires { length index.old ≡ (header_of self.now).pages }
+        ensures checked { IfOk result (λ _. IsChecked self.now (header_of self.now) (extent_of self.now) index.new) }
+        ensures fault { IfErr result (λ fault. IsMemoryOr fault (image_fault self.now)) }
+    {
+        let own = index_checked(alloc, self.bytes, &self.header, &self.root)?;
+        index.copy_from_slice(&own);
+        Ok(())
     }
 
     /// The number of records, as the header has it.

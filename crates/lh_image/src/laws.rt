@@ -5,6 +5,7 @@ ghost use Rattle.lh_image.specs.Chains.{ChainLaw, PathsLaw};
 ghost use Rattle.lh_image.specs.Counted.{CensusLaw};
 ghost use Rattle.lh_image.specs.FirstFault.{FirstFaultLaw, NoFaultLaw};
 ghost use Rattle.lh_image.specs.Image.{ImageLaw, OneListingLaw};
+ghost use Rattle.lh_image.specs.Indexed.{PlacesLaw, WalkLaw};
 ghost use Rattle.lh_image.specs.LookUp.{FaultLaw, MapLaw, StandsLaw};
 ghost use Rattle.lh_image.specs.Reading.{LeadingLaw};
 ghost use Rattle.lh_image.specs.RoundTrip.{RoundTripLaw};
@@ -96,6 +97,17 @@ pub fn what_is_found_stands_there()
     ensures faults { FaultLaw }
 {
     image_is_of_only_listing();
+    address_is_only_bucket();
+    records_make_a_map();
+    listing_is_placed();
+}
+
+/// In an image of a listing each record of its plain map has one place, and no other record has one. So a walk from place to
+/// place, as by calls of [`next_in`](crate::indexed::next_in) from 0 on, comes to each record once.
+pub fn each_record_has_one_place()
+    ensures places { PlacesLaw }
+    ensures walk { WalkLaw }
+{
     address_is_only_bucket();
     records_make_a_map();
     listing_is_placed();

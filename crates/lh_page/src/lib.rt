@@ -17,6 +17,7 @@ pub mod format;
 mod head;
 mod key;
 mod key_set;
+pub mod lanes;
 pub mod laws;
 pub mod limits;
 mod line;

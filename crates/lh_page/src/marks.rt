@@ -1,13 +1,13 @@
 //! The row of one-byte marks in the head of a chain. A look-up reads the records of its key's mark alone.
-ghost use Rattle.std.specs.Prelude.{◌≡◌, ◌≢◌, ◌↔◌, ℕ, ◌+◌, ◌^◌, ◌<◌, ◌≤◌, length, slice_index, IfSome, IfNone};
+ghost use Rattle.std.specs.Prelude.{◌≡◌, ◌≢◌, ◌↔◌, ℕ, ◌<◌, ◌≤◌, length, slice_index, IfSome, IfNone};
 ghost use Rattle.std.specs.Int.{bit_at};
 ghost use Rattle.lh_page.specs.Mark.{mark_of};
 ghost use Rattle.lh_page.specs.Marks.{IsMarked, IsMarkedAt};
 ghost use Rattle.lh_page.specs.Records.{key_at, AbsentBelow, StandsFirst};
 
 use crate::key::Key;
+use crate::lanes::{beside, lowest, places_16, places_32, without};
 use crate::record_list::RecordList;
-use std::simd::prelude::*;
 
 /// How many records of a chain have marks.
 pub const MARKED: usize = 48;
@@ -85,52 +85,7 @@ pub fn find_marked(marks: &[u8; MARKED], pairs: &RecordList, key: &Key) -> Optio
 fn places_of(marks: &[u8; MARKED], mark: u8) -> u64
     ensures { (i : ℕ) → i < MARKED → (bit_at result i ≡ 1) ↔ (slice_index marks.now i ≡ mark) }
 {
-    front_places(marks, mark) | back_places(marks, mark) << FRONT
-}
-
-/// How many marks are compared at once, before the others are.
-const FRONT: usize = 32;
-
-/// The places of a mark among the front ones, as the bits that are set.
-#[inline]
-fn front_places(marks: &[u8; MARKED], mark: u8) -> u64
-    ensures few { result < 2 ^ FRONT }
-    ensures places { (i : ℕ) → i < FRONT → (bit_at result i ≡ 1) ↔ (slice_index marks.now i ≡ mark) }
-{
-    u8x32::from_slice(&marks[..FRONT])
-        .simd_eq(u8x32::splat(mark))
-        .to_bitmask()
-}
-
-/// The places of a mark behind the front ones, counted from the first of these.
-#[inline]
-fn back_places(marks: &[u8; MARKED], mark: u8) -> u64
-    ensures few { result < 2 ^ 16 }
-    ensures places { (i : ℕ) → i < 16 → (bit_at result i ≡ 1) ↔ (slice_index marks.now (FRONT + i) ≡ mark) }
-{
-    u8x16::from_slice(&marks[FRONT..])
-        .simd_eq(u8x16::splat(mark))
-        .to_bitmask()
-}
-
-/// The lowest bit that is set.
-#[inline]
-fn lowest(bits: u64) -> usize
-    requires { bits ≢ 0 }
-    ensures within { result < 64 }
-    ensures set { bit_at bits result ≡ 1 }
-    ensures below { (i : ℕ) → i < result → bit_at bits i ≡ 0 }
-{
-    bits.trailing_zeros() as usize
-}
-
-/// The bits without one of them.
-#[inline]
-fn without(bits: u64, place: usize) -> u64
-    requires within { place < 64 }
-    requires set { bit_at bits place ≡ 1 }
-    ensures fewer { result < bits }
-    ensures others { (i : ℕ) → i < 64 → i ≢ place → bit_at result i ≡ bit_at bits i }
-{
-    bits & !(1 << place)
+    let front = places_32(&marks[..32], mark);
+    let back = places_16(&marks[32..], mark);
+    beside(front, back, 32)
 }

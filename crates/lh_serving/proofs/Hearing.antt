@@ -17,8 +17,9 @@ use Rattle.lh_script.specs.declared.requests.ClientRequest.{ClientRequest}
 use Rattle.lh_serving.specs.declared.answer.LineAnswer.{LineAnswer}
 use Rattle.lh_serving.specs.declared.answer.Fault.{Fault}
 
-abbrev pub talk_of : WorldSeen → ℕ → Option (List ℕ) → List ℕ → Option Lists → ConversationSeen
-talk_of w n p waiting image = record { world = w; records = n; part = p; waiting = waiting; image = image }
+abbrev pub talk_of : WorldSeen → ℕ → Bool → Option (List ℕ) → List ℕ → Option Lists → ConversationSeen
+talk_of w n b p waiting image =
+    record { world = w; records = n; missed = b; part = p; waiting = waiting; image = image }
 
 none_of_two : (b c : Bool) → b ≡ false → c ≡ false → (b || c) ≡ false
 none_of_two b c e f = rw (e, f) refl
@@ -27,12 +28,13 @@ no_lf : (xs ys : List ℕ) → list_any is_lf xs ≡ false → list_any is_lf ys
 no_lf xs ys e f = list_any-append is_lf xs ys ∙ none_of_two (list_any is_lf xs) (list_any is_lf ys) e f
 
 -- a part of a line has come
-pub came : (start : FileSeen) (w : WorldSeen) (n : ℕ) (p q : Option (List ℕ)) (waiting : List ℕ) (image : Option Lists)
+pub came : (start : FileSeen) (w : WorldSeen) (n : ℕ) (b : Bool) (p q : Option (List ℕ)) (waiting : List ℕ)
+    (image : Option Lists)
     (heard answers more : List ℕ) →
-    IsAt start (talk_of w n p waiting image) heard answers →
+    IsAt start (talk_of w n b p waiting image) heard answers →
     ((l : List ℕ) → p ≡ kept l → q ≡ kept (l ++ more)) → list_any is_lf more ≡ false →
-    IsAt start (talk_of w n q waiting image) (heard ++ more) answers
-came start w n p q waiting image heard answers more h f e = record {
+    IsAt start (talk_of w n b q waiting image) (heard ++ more) answers
+came start w n b p q waiting image heard answers more h f e = record {
   turns = h.turns;
   rest = h.rest ++ more;
   each = h.each;
@@ -56,18 +58,18 @@ behind answers waiting text image =
     ∙ ap (λ y. (answers ++ y) ++ (text ++ image)) (sym (append-nil waiting))
 
 -- a line has come to its end, and is answered
-pub answered : (start : FileSeen) (w x : WorldSeen) (n m : ℕ) (p q r : Option (List ℕ))
+pub answered : (start : FileSeen) (w x : WorldSeen) (n m : ℕ) (b d : Bool) (p q r : Option (List ℕ))
     (waiting new heard answers said : List ℕ) (old image : Option Lists)
     (o : Result (Option ClientRequest) Fault) (a : Option LineAnswer) → old ≡ None →
-    IsAt start (talk_of w n p waiting old) heard answers →
+    IsAt start (talk_of w n b p waiting old) heard answers →
     ((l : List ℕ) → p ≡ kept l → q ≡ kept (l ++ said)) → list_any is_lf said ≡ false →
     o ≡ asked_by q →
-    ((file : FileSeen) → HoldsFile w n file →
-    (next : FileSeen) × AnswersLine file o (answer_line a ++ image_text image) next × HoldsFile x m next) →
-    r ≡ kept [] → new ≡ waiting ++ answer_line a → IsAt start (talk_of x m r new image) (heard ++ line said) answers
-answered start w x n m p q r waiting new heard answers said old image o a none h f e eo serve er en =
+    ((file : FileSeen) → HoldsFile w n b file →
+    (next : FileSeen) × AnswersLine file o (answer_line a ++ image_text image) next × HoldsFile x m d next) →
+    r ≡ kept [] → new ≡ waiting ++ answer_line a → IsAt start (talk_of x m d r new image) (heard ++ line said) answers
+answered start w x n m b d p q r waiting new heard answers said old image o a none h f e eo serve er en =
     let served : (next : FileSeen) × AnswersLine (file_after start h.turns) o (answer_line a ++ image_text image) next
-    × HoldsFile x m next =
+    × HoldsFile x m d next =
     serve (file_after start h.turns) h.file in
     let whole : o ≡ asked_by (kept (h.rest ++ said)) = eo ∙ ap asked_by (f h.rest h.part) in
     let was : answers ++ (waiting ++ []) ≡ answers_of h.turns =

@@ -1,5 +1,6 @@
 -- What a client is answered: the replies of one plain map
-use Rattle.std.specs.Prelude.{◌≡◌, ◌⊎◌, ℕ, ◌-◌, ◌^◌, ◌≤◌, List, [], ◌++◌, length, Option, None, Some, Result, Ok, Err}
+use Rattle.std.specs.Prelude.{◌≡◌, ◌⊎◌, ℕ, ◌-◌, ◌^◌, ◌≤◌, Bool, true, false, ◌||◌, List, [], ◌++◌, length}
+use Rattle.std.specs.Prelude.{if◌then◌else◌, Option, None, Some, Result, Ok, Err}
 use Rattle.std.specs.FinMap.{empty, len}
 use Rattle.lh_addr.specs.Settings.{Settings}
 use Rattle.lh_bucket.specs.declared.call.Call.{Call}
@@ -7,7 +8,7 @@ use Rattle.lh_bucket.specs.Listing.{Lists, size}
 use Rattle.lh_bucket.specs.PlainMap.{IsInsert, Records, after, reply}
 use Rattle.lh_core.specs.Listed.{IsListed}
 use Rattle.lh_core.specs.Opened.{records_of}
-use Rattle.lh_core.specs.Serial.{IsAtRest, size_after}
+use Rattle.lh_core.specs.Serial.{IsAtRest, grows_after, size_after}
 use Rattle.lh_core.specs.World.{StandsFor, WorldSeen}
 use Rattle.lh_image.specs.Canonical.{canonical}
 use Rattle.lh_image.specs.Writing.{FitsImage, IsWriteRefusal}
@@ -23,19 +24,21 @@ use Rattle.lh_serving.specs.declared.answer.LineAnswer.TheVariants as answer
 use Rattle.lh_serving.specs.declared.answer.Fault.{Fault}
 use Rattle.lh_serving.specs.declared.answer.Fault.TheVariants as fault
 
--- a file as its client sees it: its configuration, its records, and how many buckets it has
+-- a file as its client sees it: its configuration, its records, how many buckets it has, and whether memory has run out
+-- for a split
 pub record FileSeen : Type 0 where
   pub settings : Settings
   pub map : Records
   pub size : ℕ
+  pub missed : Bool
 
 -- the empty file of a configuration
 abbrev pub first_file : Settings → FileSeen
-first_file settings = record { settings = settings; map = empty; size = settings.initial }
+first_file settings = record { settings = settings; map = empty; size = settings.initial; missed = false }
 
 -- the file of a listing
 abbrev pub file_of : Lists → FileSeen
-file_of l = record { settings = l.config; map = records_of l; size = size l }
+file_of l = record { settings = l.config; map = records_of l; size = size l; missed = false }
 
 -- a line that is no request is a fault
 abbrev pub in_line : Result (Option ClientRequest) LineFault → Result (Option ClientRequest) Fault
@@ -47,13 +50,17 @@ abbrev pub asked_by : Option (List ℕ) → Result (Option ClientRequest) Fault
 asked_by None = Err fault.TooLong
 asked_by (Some line) = in_line (request (words (without_last_cr line)))
 
--- the file after a call: the records are the plain map's; the buckets are as many as the split policy gives, or as
--- before where memory ran out for a split
+-- The file after a call: the records are the plain map's; the buckets are as many as the split policy gives, but as
+-- many as before where memory ran out for the split that the policy wants, and that is noted.
 pub record IsAfter (file : FileSeen) (call : Call) (next : FileSeen) : Type 0 where
   pub settings : next.settings ≡ file.settings
   pub map : next.map ≡ after file.map call
-  pub size : (next.size ≡ size_after file.settings (after file.map call) file.size (reply file.map call))
-      ⊎ (next.size ≡ file.size)
+  pub refused : Bool
+  pub size : next.size ≡ (if refused then file.size
+      else size_after file.settings (after file.map call) file.size (reply file.map call))
+  pub asked : refused ≡ true →
+      grows_after file.settings (len (after file.map call)) file.size (reply file.map call) ≡ true
+  pub missed : next.missed ≡ (file.missed || refused)
 
 -- memory may run out for an insert, and for any call where 64 bits count no more records
 abbrev pub MayWant : FileSeen → Call → Type 0
@@ -94,10 +101,11 @@ AnswersLine file (Ok (Some ask.Image)) said next =
     × (next ≡ file)
 AnswersLine file (Err f) said next = (said ≡ answer_line (Some (answer.Fault f))) × (next ≡ file)
 
--- a world at rest, with the number of its records, is this file
-pub record HoldsFile (world : WorldSeen) (records : ℕ) (file : FileSeen) : Type 0 where
+-- a world at rest, with the number of its records and whether memory has run out for a split, is this file
+pub record HoldsFile (world : WorldSeen) (records : ℕ) (missed : Bool) (file : FileSeen) : Type 0 where
   pub same : world.config ≡ file.settings
   pub rest : IsAtRest world.state
   pub stands : StandsFor world file.map
   pub count : records ≡ len file.map
   pub size : world.state.buckets ≡ file.size
+  pub noted : missed ≡ file.missed

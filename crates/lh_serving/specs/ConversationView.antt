@@ -8,6 +8,7 @@ abbrev pub conversation_seen : Inside → ConversationSeen
 conversation_seen talk = record {
   world = talk.world;
   records = talk.records;
+  missed = talk.missed;
   part = talk.part;
   waiting = string_bytes talk.waiting;
   image = talk.image;

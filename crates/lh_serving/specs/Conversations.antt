@@ -1,5 +1,5 @@
 -- A conversation so far: what came from the client, and what it was told
-use Rattle.std.specs.Prelude.{◌≡◌, ℕ, false, List, [], ◌∷◌, ◌++◌, Option, None}
+use Rattle.std.specs.Prelude.{◌≡◌, ℕ, Bool, false, List, [], ◌∷◌, ◌++◌, Option, None}
 use Rattle.std.specs.List.{list_any}
 use Rattle.lh_bucket.specs.Listing.{Lists}
 use Rattle.lh_core.specs.World.{WorldSeen}
@@ -46,11 +46,12 @@ pub record IsAnswered (start : FileSeen) (heard answers : List ℕ) : Type 0 whe
   pub incomplete : list_any is_lf rest ≡ false
   pub same : answers ≡ answers_of turns
 
--- a conversation: its world and the number of its records, what has come of the next line, the lines that wait to be
--- told, and the file whose image waits behind them, if one does
+-- a conversation: its world and the number of its records, whether memory has run out for a split, what has come of the
+-- next line, the lines that wait to be told, and the file whose image waits behind them, if one does
 pub record ConversationSeen : Type 0 where
   pub world : WorldSeen
   pub records : ℕ
+  pub missed : Bool
   pub part : Option (List ℕ)
   pub waiting : List ℕ
   pub image : Option Lists
@@ -74,4 +75,4 @@ pub record IsAt (start : FileSeen) (talk : ConversationSeen) (heard answers : Li
   pub incomplete : list_any is_lf rest ≡ false
   pub same : answers ++ pending talk ≡ answers_of turns
   pub part : talk.part ≡ kept rest
-  pub file : HoldsFile talk.world talk.records (file_after start turns)
+  pub file : HoldsFile talk.world talk.records talk.missed (file_after start turns)

@@ -1,5 +1,5 @@
 //! A conversation with a client, from bytes to bytes.
-ghost use Rattle.std.specs.Prelude.{◌≡◌, ◌<◌, ◌++◌, ℕ, List, None, [], IfOk, length, option_map};
+ghost use Rattle.std.specs.Prelude.{◌≡◌, ◌<◌, ◌++◌, ℕ, List, None, [], false, IfOk, length, option_map};
 ghost use Rattle.std.specs.Bool.{OnFalse, OnTrue};
 ghost use Rattle.lh_core.specs.Serial.{IsAtRest};
 ghost use Rattle.lh_serving.specs.Answers.{FileSeen, HoldsFile, asked_by, file_of, first_file};
@@ -18,12 +18,13 @@ use std::marker::Model;
 /// How much room there is for answers that wait, before more memory is taken for them.
 const ROOM: usize = 66_000;
 
-/// A file, what has come of its client's next line, the answers that the client wasn't told yet, and the file whose
+/// A file, whether memory has run out for a split of it, what has come of its client's next line, the answers that the client wasn't told yet, and the file whose
 /// image is to be told behind them.
 #[derive(Drop)]
 pub struct Conversation {
     world: World<PagedBucket>,
     records: u64,
+    missed: bool,
     part: LinePart,
     waiting: String,
     image: Option<Listing>,
@@ -58,7 +59,7 @@ impl Conversation {
     /// A conversation over a file with so many records, before anything was said.
     fn over(alloc: Global, world: World<PagedBucket>, records: u64) -> Result<Conversation, Memory>
         requires { IsAtRest world.state }
-        ensures begun { (start : FileSeen) → HoldsFile world records start →
+        ensures begun { (start : FileSeen) → HoldsFile world records false start →
             IfOk result (λ talk. IsAt start talk [] []) }
         ensures quiet { IfOk result HasToldAll }
     {
@@ -67,6 +68,7 @@ impl Conversation {
         Ok(Conversation {
             world,
             records,
+            missed: false,
             part,
             waiting,
             image: None,
@@ -110,7 +112,7 @@ impl Conversation {
             Some((line, behind)) => {
                 self.part.add(line);
                 let asked = asked(&self.part);
-                let said = answer_to(&mut self.world, &mut self.records, asked);
+                let said = answer_to(&mut self.world, &mut self.records, &mut self.missed, asked);
                 self.part.clear();
                 put(&mut self.waiting, said.answer)?;
                 self.image = said.image;
@@ -131,6 +133,14 @@ impl Conversation {
         ensures { option_map (λ l. l.now) result ≡ self.now.image }
     {
         self.image.as_ref()
+    }
+
+    /// Whether memory has run out for a split that a call asked for. Until then the file has just as many buckets as
+    /// the split policy gives; the next record that is added asks for the split again.
+    pub fn has_missed_a_split(&self) -> bool
+        ensures { result ≡ self.now.missed }
+    {
+        self.missed
     }
 
     /// Whether nothing waits to be told.

@@ -1,5 +1,5 @@
 //! What a client asks for, served by a world.
-ghost use Rattle.std.specs.Prelude.{◌≡◌, ◌++◌, ℕ, IfErr, IfOk, None, Some};
+ghost use Rattle.std.specs.Prelude.{◌≡◌, ◌++◌, ℕ, Bool, IfErr, IfOk, None, Some};
 ghost use Rattle.lh_core.specs.Serial.{IsAtRest};
 ghost use Rattle.lh_serving.specs.Answers.{AnswersLine, AnswersCall, FileSeen, IsImaged, IsUnimaged, HoldsFile};
 ghost use Rattle.lh_serving.specs.Texts.{image_text, answer_line};
@@ -28,21 +28,28 @@ fn only(answer: LineAnswer) -> Said
     }
 }
 
-/// Serves a call. Where there is no memory for it, nothing changes.
-fn serve_call(world: &mut World<PagedBucket>, records: &mut u64, call: Call) -> LineAnswer
+/// Serves a call. Where there is no memory for it, nothing changes; where there is none for its split alone, that is
+/// noted.
+fn serve_call(
+    world: &mut World<PagedBucket>,
+    records: &mut u64,
+    missed: &mut bool,
+    call: Call,
+) -> LineAnswer
     requires { IsAtRest world.old.state }
     ensures rest { IsAtRest world.new.state }
-    ensures answered { (file : FileSeen) → HoldsFile world.old records.old file →
-        (next : FileSeen) × AnswersCall file call result next × HoldsFile world.new records.new next }
+    ensures answered { (file : FileSeen) → HoldsFile world.old records.old missed.old file →
+        (next : FileSeen) × AnswersCall file call result next × HoldsFile world.new records.new missed.new next }
 {
     let count = *records;
     if count == u64::MAX {
         return LineAnswer::Fault(Fault::Memory);
     }
     match world.serve(call, count) {
-        Ok((reply, now)) => {
-            *records = now;
-            LineAnswer::Reply(reply)
+        Ok(served) => {
+            *records = served.records;
+            *missed |= served.split_refused;
+            LineAnswer::Reply(served.reply)
         }
         Err(Memory) => LineAnswer::Fault(Fault::Memory),
     }
@@ -51,9 +58,10 @@ fn serve_call(world: &mut World<PagedBucket>, records: &mut u64, call: Call) -> 
 /// A copy of the file, and how many bytes its image has.
 fn imaged(world: &World<PagedBucket>) -> Result<(Listing, u64), Fault>
     requires { IsAtRest world.now.state }
-    ensures ok { (records : ℕ) (file : FileSeen) → HoldsFile world.now records file →
+    ensures ok { (records : ℕ) (missed : Bool) (file : FileSeen) → HoldsFile world.now records missed file →
         IfOk result (λ it. IsImaged file (answer_line (Some (answer.Image it.1)) ++ image_text (Some it.0))) }
-    ensures err { (records : ℕ) (file : FileSeen) → HoldsFile world.now records file → IfErr result (IsUnimaged file) }
+    ensures err { (records : ℕ) (missed : Bool) (file : FileSeen) → HoldsFile world.now records missed file →
+        IfErr result (IsUnimaged file) }
 {
     let Ok(listing) = world.listing() else {
         return Err(Fault::Memory);
@@ -68,20 +76,21 @@ fn imaged(world: &World<PagedBucket>) -> Result<(Listing, u64), Fault>
 pub fn answer_to(
     world: &mut World<PagedBucket>,
     records: &mut u64,
+    missed: &mut bool,
     asked: Result<Option<ClientRequest>, Fault>,
 ) -> Said
     requires { IsAtRest world.old.state }
     ensures rest { IsAtRest world.new.state }
-    ensures answered { (file : FileSeen) → HoldsFile world.old records.old file →
+    ensures answered { (file : FileSeen) → HoldsFile world.old records.old missed.old file →
         (next : FileSeen) × AnswersLine file asked (answer_line result.answer ++ image_text result.image) next
-        × HoldsFile world.new records.new next }
+        × HoldsFile world.new records.new missed.new next }
 {
     match asked {
         Ok(None) => Said {
             answer: None,
             image: None,
         },
-        Ok(Some(ClientRequest::Call(call))) => only(serve_call(world, records, call)),
+        Ok(Some(ClientRequest::Call(call))) => only(serve_call(world, records, missed, call)),
         Ok(Some(ClientRequest::Buckets)) => only(LineAnswer::Buckets(world.root().buckets())),
         Ok(Some(ClientRequest::Records)) => only(LineAnswer::Records(*records)),
         Ok(Some(ClientRequest::Image)) => match imaged(world) {

@@ -1,3 +1,4 @@
 //! Conversations from bytes to bytes.
 mod conversations;
+mod long;
 mod turns;

@@ -64,6 +64,7 @@ abbrev pub OpenedFrom : List Lists → Bool → ShardFact
 OpenedFrom listings recording shard file hand =
     (listing : Lists) → slice_get listings shard ≡ Some listing →
     IsOpened listing.config (size listing) recording (min (count_of listing.lists) (2 ^ 64 - 1)) file hand
+    × (file.listing ≡ listing)
 
 -- the first hands of files that are opened from the listings of their places are hands of these files
 pub opened_are_of : (listings : List Lists) (recording : Bool) (files : List FileState) (hands : List HandState) →
@@ -75,5 +76,5 @@ opened_are_of listings recording files hands m n each =
     let lt : i < length files = slice_get_within files i f fi in
     let from : (x : Lists) × (slice_get listings i ≡ Some x) = there listings i (omega (arith, lt, m)) in
     let o : IsOpened from.0.config (size from.0) recording (min (count_of from.0.lists) (2 ^ 64 - 1)) f h =
-    each i f h fi hi from.0 from.1 in
+    (each i f h fi hi from.0 from.1).0 in
     (o.is_of, ap (λ (v : View). v.has_right) o.view, o.acts))

@@ -63,4 +63,6 @@ pub record AreOpened (listings : List Lists) (recording : Bool) (files : List Fi
   pub each : (shard : ℕ) (listing : Lists) (file : FileState) (hand : HandState) →
       slice_get listings shard ≡ Some listing → slice_get files shard ≡ Some file → slice_get hands shard ≡ Some hand →
       IsOpened listing.config (size listing) recording (min (count_of listing.lists) (2 ^ 64 - 1)) file hand
+  pub listing : (shard : ℕ) (listing : Lists) (file : FileState) → slice_get listings shard ≡ Some listing →
+      slice_get files shard ≡ Some file → file.listing ≡ listing
   pub of : AreOf files hands

@@ -17,4 +17,5 @@ mod stage;
 mod stamps;
 mod tasks;
 mod threads;
+mod visits;
 mod words;

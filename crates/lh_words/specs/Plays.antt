@@ -1,6 +1,7 @@
 -- What each kind of atomic step does to the hand that takes it, and tells: of the step, the seat before
 -- it, the number that it found, and the seat after
 use Rattle.std.specs.Prelude.{◌≡◌, ◌≢◌, ℕ, ◌+◌, ◌*◌, ◌%◌, ◌<◌, ◌≤◌, ◌^◌, Bool, true, false, List, [], ◌∷◌, length, All}
+use Rattle.std.specs.Prelude.{Option, None}
 use Rattle.atomic_table.specs.Table.{Me, Step}
 use Rattle.lh_addr.specs.RootWord.{buckets_of}
 use Rattle.lh_bucket.specs.Bucket.{Seen}
@@ -77,16 +78,16 @@ abbrev pub drawn_outside : Call → Reply → Telling
 drawn_outside call given step before stamp after =
     All (λ x. x < stamp) before.0.view.stamps
     × (before.0.view.inserted + before.0.view.deleted ≤ length before.0.view.stamps)
-    × (after ≡ (with_act true call given before.0.parts stamp before.0, before.1))
+    × (after ≡ (with_act true call given None before.0.parts stamp before.0, before.1))
 
--- an addition of 1 to the stamp word, for an act on the file's bucket that lies with the hand, and is this one now: the
--- hand was told of no more acts than the number found
-abbrev pub drawn : Call → Reply → Seen → Telling
-drawn call given bucket step before stamp after =
+-- an addition of 1 to the stamp word, for an act on the file's bucket that lies with the hand, and is this one now,
+-- where the act met this under its key: the hand was told of no more acts than the number found
+abbrev pub drawn : Call → Reply → Option (List ℕ) → Seen → Telling
+drawn call given was bucket step before stamp after =
     All (λ x. x < stamp) before.0.view.stamps
     × (before.0.view.floor ≤ stamp)
     × (before.0.view.inserted + before.0.view.deleted ≤ length before.0.view.stamps)
-    × (after ≡ (with_act false call given (bucket ∷ []) stamp before.0, before.1))
+    × (after ≡ (with_act false call given was (bucket ∷ []) stamp before.0, before.1))
 
 -- a load of the stamp word: the hand was told of a log of this many acts, which are no fewer than it was told before;
 -- and in a traced file that was opened from this listing, the log leaves just what the buckets hold that lie with the

@@ -1,8 +1,9 @@
 -- What the rule knows of a seat: how it begins, and how it is divided and joined
-use Rattle.std.specs.Prelude.{ℕ, ◌+◌, Bool, true, false, List, [], ◌∷◌, ◌++◌, map, Some, None, if◌then◌else◌}
+use Rattle.std.specs.Prelude.{ℕ, ◌+◌, Bool, true, false, List, [], ◌∷◌, ◌++◌, map, Option, Some, None, if◌then◌else◌}
+use Rattle.std.specs.FinMap.{get}
 use Rattle.std.specs.List.{range_with_len}
 use Rattle.lh_addr.specs.Growth.{level_of}
-use Rattle.lh_bucket.specs.Bucket.{Head, Seen}
+use Rattle.lh_bucket.specs.Bucket.{Head, Seen, content}
 use Rattle.lh_bucket.specs.Listing.{Lists, size, list_at}
 use Rattle.lh_bucket.specs.declared.call.Call.{Call}
 use Rattle.lh_bucket.specs.declared.call.Reply.{Reply}
@@ -52,11 +53,17 @@ holder parts = record { view = spent; entries = []; logs = []; parts = parts; mo
 abbrev pub with_view : SeatView → View → SeatView
 with_view seat view = record seat { view = view }
 
--- the seat made an act, outside or not: it has one stamp and one entry more, and these buckets
-abbrev pub with_act : Bool → Call → Reply → List Seen → ℕ → SeatView → SeatView
-with_act outside call given parts stamp seat = record {
+-- what the first of some buckets has under a key
+abbrev pub met_in : List Seen → List ℕ → Option (List ℕ)
+met_in [] key = None
+met_in (bucket ∷ buckets) key = get (content bucket) key
+
+-- the seat made an act, outside or not, that met this under its key: it has one stamp and one entry more, and these
+-- buckets
+abbrev pub with_act : Bool → Call → Reply → Option (List ℕ) → List Seen → ℕ → SeatView → SeatView
+with_act outside call given was parts stamp seat = record {
   view = stamped_with seat.view stamp;
-  entries = seat.entries ++ entry outside stamp call given ∷ [];
+  entries = seat.entries ++ entry outside stamp call given was ∷ [];
   logs = seat.logs;
   parts = parts;
   moved = seat.moved;

@@ -1,5 +1,5 @@
 //! The stamps of acts that the history has outside of it, and the counts of inserts and of deletes.
-ghost use Rattle.std.specs.Prelude.{◌≡◌, ◌+◌, ◌<◌, ◌≤◌, true, length, All};
+ghost use Rattle.std.specs.Prelude.{◌≡◌, ◌+◌, ◌<◌, ◌≤◌, true, None, length, All};
 ghost use Rattle.lh_bucket.specs.Change.{call_of, reply_of};
 
 use crate::mode::Mode;
@@ -31,7 +31,7 @@ impl<M: Mode> WordTable<M> {
         ensures newest { All (λ x. x < result) seat.old.me.0.view.stamps }
         ensures few { seat.old.me.0.view.inserted + seat.old.me.0.view.deleted ≤ length seat.old.me.0.view.stamps }
         ensures acted { seat.new.me
-            ≡ (with_act true D.call D.reply seat.old.me.0.parts result seat.old.me.0, seat.old.me.1) }
+            ≡ (with_act true D.call D.reply None seat.old.me.0.parts result seat.old.me.0, seat.old.me.1) }
     {
         self.words
             .shared
@@ -53,7 +53,7 @@ impl<M: Mode> WordTable<M> {
         ensures newest { All (λ x. x < result) seat.old.me.0.view.stamps }
         ensures few { seat.old.me.0.view.inserted + seat.old.me.0.view.deleted ≤ length seat.old.me.0.view.stamps }
         ensures acted { seat.new.me ≡ (
-          with_act true (call_of change.entry) (reply_of reply) seat.old.me.0.parts result seat.old.me.0,
+          with_act true (call_of change.entry) (reply_of reply) None seat.old.me.0.parts result seat.old.me.0,
           seat.old.me.1,
         ) }
     {

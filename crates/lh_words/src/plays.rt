@@ -1,6 +1,6 @@
 //! The kinds of atomic step that threads take on a file's words: what each does to the hand that takes
 //! it, and what it tells.
-ghost use Rattle.std.specs.Prelude.{ℕ, []};
+ghost use Rattle.std.specs.Prelude.{ℕ, List, [], Option, None};
 ghost use Rattle.lh_bucket.specs.Bucket.{Seen};
 ghost use Rattle.lh_bucket.specs.Listing.{Lists};
 ghost use Rattle.lh_bucket.specs.declared.call.Call.{Call};
@@ -53,6 +53,9 @@ pub trait Deed {
 
     ghost reply: { Reply };
 
+    // What it met under its key.
+    ghost was: { Option (List ℕ) };
+
     // The bucket as it is then.
     ghost bucket: { Seen };
 }
@@ -61,6 +64,8 @@ impl Deed for Brand {
     ghost call = { Search [] };
 
     ghost reply = { Absent };
+
+    ghost was = { None };
 
     ghost bucket = { unowned_bucket };
 }
@@ -108,7 +113,7 @@ pub struct DrawStamp<D> {
 }
 
 impl<D: Deed> Play<(), SeatView> for DrawStamp<D> {
-    ghost then = { drawn D.call D.reply D.bucket };
+    ghost then = { drawn D.call D.reply D.was D.bucket };
 }
 
 /// A load of the root word with which a hand takes in the seat of a bucket.

@@ -1,5 +1,6 @@
 //! The stamps of searches.
-ghost use Rattle.std.specs.Prelude.{◌≡◌, ◌+◌, ◌<◌, ◌≤◌, true, false, [], ◌∷◌, length, All};
+ghost use Rattle.std.specs.Prelude.{◌≡◌, ◌+◌, ◌<◌, ◌≤◌, true, false, None, [], ◌∷◌, length, All};
+ghost use Rattle.std.specs.FinMap.{get};
 ghost use Rattle.lh_addr.specs.Fnv.{code_of};
 ghost use Rattle.lh_bucket.specs.Bucket.{content};
 ghost use Rattle.lh_bucket.specs.PlainMap.{key_of, reply};
@@ -38,7 +39,7 @@ impl<M: Mode> WordTable<M> {
         ensures newest { All (λ x. x < result) seat.old.me.0.view.stamps }
         ensures few { seat.old.me.0.view.inserted + seat.old.me.0.view.deleted ≤ length seat.old.me.0.view.stamps }
         ensures acted { seat.new.me
-            ≡ (with_act true D.call D.reply seat.old.me.0.parts result seat.old.me.0, seat.old.me.1) }
+            ≡ (with_act true D.call D.reply None seat.old.me.0.parts result seat.old.me.0, seat.old.me.1) }
     {
         self.words
             .shared
@@ -61,7 +62,7 @@ impl<M: Mode> WordTable<M> {
         ensures newest { All (λ x. x < result) seat.old.me.0.view.stamps }
         ensures few { seat.old.me.0.view.inserted + seat.old.me.0.view.deleted ≤ length seat.old.me.0.view.stamps }
         ensures acted { seat.new.me ≡ (
-          with_act true (Search key.now) (reply (content bucket.now) (Search key.now)) seat.old.me.0.parts result
+          with_act true (Search key.now) (reply (content bucket.now) (Search key.now)) None seat.old.me.0.parts result
               seat.old.me.0,
           seat.old.me.1,
         ) }
@@ -84,12 +85,13 @@ impl<M: Mode> WordTable<M> {
         requires parts { seat.old.me.0.parts ≡ D.bucket ∷ [] }
         requires owned { owns (code_of (key_of D.call)) D.bucket ≡ true }
         requires serves { HasServedCall D.bucket D.call D.reply D.bucket }
+        requires met { D.was ≡ get (content D.bucket) (key_of D.call) }
         ensures at { seat.new.table_id ≡ seat.old.table_id }
         ensures newest { All (λ x. x < result) seat.old.me.0.view.stamps }
         ensures above { seat.old.me.0.view.floor ≤ result }
         ensures few { seat.old.me.0.view.inserted + seat.old.me.0.view.deleted ≤ length seat.old.me.0.view.stamps }
         ensures acted { seat.new.me
-            ≡ (with_act false D.call D.reply (D.bucket ∷ []) result seat.old.me.0, seat.old.me.1) }
+            ≡ (with_act false D.call D.reply D.was (D.bucket ∷ []) result seat.old.me.0, seat.old.me.1) }
     {
         self.words.shared.fetch_add::<DrawStamp<D>>(seat, STAMPS, 1)
     }
@@ -118,8 +120,8 @@ impl<M: Mode> WordTable<M> {
         ensures few { seat.old.me.0.view.inserted + seat.old.me.0.view.deleted ≤ length seat.old.me.0.view.stamps }
         ensures acted { seat.new.me
             ≡ (
-              with_act false (Search key.now) (reply (content bucket.now) (Search key.now)) [] result
-                  seat.old.me.0,
+              with_act false (Search key.now) (reply (content bucket.now) (Search key.now))
+                  (get (content bucket.now) key.now) [] result seat.old.me.0,
               [],
             ) }
     {

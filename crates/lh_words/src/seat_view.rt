@@ -1,6 +1,7 @@
 //! What the rule knows of a seat of the table.
 use crate::view::View;
 use lh_bucket::PagedBucket;
+use lh_page::Value;
 use lh_settling::ActLine;
 use std::collections::LinkedList;
 
@@ -10,6 +11,8 @@ pub struct Entry {
     pub line: ActLine,
     /// Outside the file's history: made by a call that isn't traced, or on a bucket that isn't the file's.
     pub outside: bool,
+    /// What the history has under the act's key just before it. Of an act outside nothing is said.
+    pub was: Option<Value>,
 }
 
 /// What the rule knows of a seat, which is a hand's or a bucket's. It stands in proofs alone: no value of it is ever

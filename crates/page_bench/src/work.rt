@@ -116,13 +116,26 @@ pub fn run<L: Layout>(
     let chains = chains::<L>(rt.alloc(), size)?;
     let hits = queries::<L>(rt.alloc(), size, true)?;
     let misses = queries::<L>(rt.alloc(), size, false)?;
+    look_up::<L>(rt, place, name, size, timed, &chains, &hits, &misses)
+}
+
+fn look_up<L: Layout>(
+    rt: &HostRuntime,
+    place: &str,
+    name: &str,
+    size: Size,
+    timed: bool,
+    chains: &[L],
+    hits: &[Query<L::Sought>],
+    misses: &[Query<L::Sought>],
+) -> io::Result<()> {
     if !timed {
-        let hit = found(&chains, &hits);
-        let miss = found(&chains, &misses);
+        let hit = found(chains, hits);
+        let miss = found(chains, misses);
         return println!(rt; "{name}: {hit} found, {miss} found of none");
     }
-    let (hit, hit_time) = nanoseconds(rt, &chains, &hits)?;
-    let (miss, miss_time) = nanoseconds(rt, &chains, &misses)?;
+    let (hit, hit_time) = nanoseconds(rt, chains, hits)?;
+    let (miss, miss_time) = nanoseconds(rt, chains, misses)?;
     let queries = (size.queries as u64).max(1);
     let tenths = hit_time.saturating_mul(10) / queries;
     let miss_tenths = miss_time.saturating_mul(10) / queries;
@@ -204,20 +217,49 @@ pub fn serve<S: Store>(
     let hits = queries::<S>(rt.alloc(), size, true)?;
     let mut gone = Vec::with_capacity(rt.alloc(), chains.len())?;
     let items = items::<S>(rt.alloc(), size)?;
+    use_all::<S>(
+        rt,
+        place,
+        name,
+        size,
+        timed,
+        &mut chains,
+        &mut gone,
+        &hits,
+        &items,
+    )
+}
+
+/// Nanoseconds since an instant.
+fn since(rt: &HostRuntime, start: Instant) -> io::Result<u64> {
+    Ok(u64::try_from(start.elapsed(rt)?.as_nanos()).unwrap_or(u64::MAX))
+}
+
+fn use_all<S: Store>(
+    rt: &HostRuntime,
+    place: &str,
+    name: &str,
+    size: Size,
+    timed: bool,
+    chains: &mut [S],
+    gone: &mut Vec<S>,
+    hits: &[Query<S::Sought>],
+    items: &[S::Item],
+) -> io::Result<()> {
     let start = Instant::now(rt)?;
-    insert::<S>(&mut chains, &items)?;
-    let filled = u64::try_from(start.elapsed(rt)?.as_nanos()).unwrap_or(u64::MAX);
+    insert::<S>(chains, items)?;
+    let filled = since(rt, start)?;
     let mut least = u64::MAX;
     let mut count = 0;
     for _ in 0..5 {
         let start = Instant::now(rt)?;
-        count = read::<S>(&chains, &hits);
-        least = least.min(u64::try_from(start.elapsed(rt)?.as_nanos()).unwrap_or(u64::MAX));
+        count = read::<S>(chains, hits);
+        least = least.min(since(rt, start)?);
     }
     let start = Instant::now(rt)?;
-    divide::<S>(&mut chains, &mut gone)?;
-    let divided = u64::try_from(start.elapsed(rt)?.as_nanos()).unwrap_or(u64::MAX);
-    let left = read::<S>(&chains, &hits);
+    divide::<S>(chains, gone)?;
+    let divided = since(rt, start)?;
+    let left = read::<S>(chains, hits);
     if !timed {
         return println!(rt; "{name}: {count} values, {left} of chains that were divided");
     }

@@ -89,25 +89,28 @@ fn expect_found(
     Ok(())
 }
 
-#[test]
-fn a_paged_bucket_serves_changes(rt: HostRuntime) -> Result<(), Fail> {
-    let mut bucket = PagedBucket::make(rt.alloc(), 1, 2, 0, Some(0))?;
+fn serve_changes(rt: &impl Abort, bucket: &mut PagedBucket) -> Result<(), Fail> {
     let Pair { key, value } = pair(b"a", b"1")?;
     let longer = Value::new(&[b'2'; 112])?;
     let insert = Change::Insert(&key, &value);
     let again = Change::Insert(&key, &longer);
     let replace = Change::Replace(&key, &longer);
     let delete = Change::Delete(&key);
-    expect_reply(&rt, &mut bucket, delete, Reply::Absent)?;
-    expect_reply(&rt, &mut bucket, replace, Reply::Absent)?;
+    expect_reply(rt, bucket, delete, Reply::Absent)?;
+    expect_reply(rt, bucket, replace, Reply::Absent)?;
     expect_eq!(rt; bucket.len(), 0);
-    expect_reply(&rt, &mut bucket, insert, Reply::Inserted)?;
-    expect_reply(&rt, &mut bucket, again, Reply::Exists)?;
-    expect_found(&rt, &bucket, &key, Reply::Found(value))?;
-    expect_reply(&rt, &mut bucket, replace, Reply::Replaced)?;
-    expect_found(&rt, &bucket, &key, Reply::Found(longer))?;
-    expect_reply(&rt, &mut bucket, delete, Reply::Deleted)?;
-    expect_found(&rt, &bucket, &key, Reply::Absent)
+    expect_reply(rt, bucket, insert, Reply::Inserted)?;
+    expect_reply(rt, bucket, again, Reply::Exists)?;
+    expect_found(rt, bucket, &key, Reply::Found(value))?;
+    expect_reply(rt, bucket, replace, Reply::Replaced)?;
+    expect_found(rt, bucket, &key, Reply::Found(longer))?;
+    expect_reply(rt, bucket, delete, Reply::Deleted)?;
+    expect_found(rt, bucket, &key, Reply::Absent)
+}
+
+#[test]
+fn a_paged_bucket_serves_changes(rt: HostRuntime) -> Result<(), Fail> {
+    serve_changes(&rt, &mut PagedBucket::make(rt.alloc(), 1, 2, 0, Some(0))?)
 }
 
 /// The home of a code at a bucket of level 0, and none at another bucket.

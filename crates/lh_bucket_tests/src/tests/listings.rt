@@ -9,6 +9,7 @@ use lh_bucket::{Bucket, Listing, ListingFault, PagedBucket};
 use lh_expect::expect_eq;
 use lh_page::Pair;
 use std::alloc::Global;
+use std::process::Abort;
 use std::test::Fail;
 
 /// Lists of records with these first bytes of keys.
@@ -77,22 +78,29 @@ fn listings_name_their_first_fault(rt: HostRuntime) -> Result<(), Fail> {
     Ok(())
 }
 
+/// Listings without a record.
+fn expect_empty(rt: &impl Abort, alloc: Global, config: Config) -> Result<(), Fail> {
+    let widest = Config::new(256, 14, 100, 256).ok().ok_or("config")?;
+    expect_eq!(rt; Listing::empty(alloc, widest)?.buckets(), 256);
+    let empty = Listing::empty(alloc, config)?;
+    expect_eq!(rt; empty.buckets(), 2);
+    expect_eq!(rt; empty.len(), 0);
+    Ok(())
+}
+
 #[test]
 fn listings_give_their_lists(rt: HostRuntime) -> Result<(), Fail> {
     let alloc = rt.alloc();
     let config = Config::new(2, 14, 100, 4).ok().ok_or("config")?;
-    let empty = Listing::empty(alloc, config)?;
-    expect_eq!(rt; empty.buckets(), 2);
-    expect_eq!(rt; empty.len(), 0);
-    let widest = Config::new(256, 14, 100, 256).ok().ok_or("config")?;
-    expect_eq!(rt; Listing::empty(alloc, widest)?.buckets(), 256);
+    expect_empty(&rt, alloc, config)?;
+    let due = pair(b"a", b"1")?;
     let listing = Listing::new(alloc, config, 2, lists_of(alloc, &[b"ca", b"b"])?)?;
     expect_eq!(rt; listing.config(), config);
     expect_eq!(rt; listing.buckets(), 2);
     expect_eq!(rt; Some(listing.root()), Root::new(2, 2));
     expect_eq!(rt; listing.len(), 3);
     expect_eq!(rt; listing.len_of(0), 2);
-    expect_eq!(rt; listing.pair_at(0, 1), pair(b"a", b"1")?);
+    expect_eq!(rt; listing.pair_at(0, 1), due);
     Ok(())
 }
 
@@ -114,6 +122,12 @@ fn bucket_of(alloc: Global, listing: &Listing, number: u32) -> Result<PagedBucke
     Ok(bucket)
 }
 
+fn expect_filled(rt: &impl Abort, alloc: Global, bucket: &PagedBucket) -> Result<(), Fail> {
+    expect_eq!(rt; keys_of(alloc, bucket)?.as_slice(), b"ca".as_slice());
+    expect_eq!(rt; (bucket.number(), bucket.level()), (0, Some(0)));
+    Ok(())
+}
+
 /// A file of two buckets that had them from the start, so both are at level 0.
 #[test]
 fn a_bucket_is_filled_with_a_list(rt: HostRuntime) -> Result<(), Fail> {
@@ -121,10 +135,7 @@ fn a_bucket_is_filled_with_a_list(rt: HostRuntime) -> Result<(), Fail> {
     let config = Config::new(2, 14, 100, 4).ok().ok_or("config")?;
     let listing = Listing::new(alloc, config, 2, lists_of(alloc, &[b"ca", b"b"])?)?;
     expect_eq!(rt; listing.pairs_of(0).len(), 2);
-    let bucket = bucket_of(alloc, &listing, 0)?;
-    expect_eq!(rt; keys_of(alloc, &bucket)?.as_slice(), b"ca".as_slice());
-    expect_eq!(rt; (bucket.number(), bucket.level()), (0, Some(0)));
-    Ok(())
+    expect_filled(&rt, alloc, &bucket_of(alloc, &listing, 0)?)
 }
 
 /// The one list of a file of one bucket, with a hundred records, of which the last has this number as its key.
@@ -139,16 +150,7 @@ fn long_list(alloc: Global, last: u8) -> Result<Vec<Vec<Pair>>, Fail> {
     Ok(lists)
 }
 
-/// Lists that are looked through by a set, and a bucket with more records than have marks, a page for each.
-#[test]
-fn long_lists_are_listings(rt: HostRuntime) -> Result<(), Fail> {
-    let alloc = rt.alloc();
-    let config = Config::new(1, 1, 100, 1).ok().ok_or("config")?;
-    let listing = Listing::new(alloc, config, 1, long_list(alloc, 99)?)?;
-    expect_eq!(rt; listing.len(), 100);
-    expect_eq!(rt; listing.buckets(), 1);
-    let bucket = bucket_of(alloc, &listing, 0)?;
-    expect_eq!(rt; bucket.len(), 100);
+fn expect_twice(rt: &impl Abort, alloc: Global, config: Config) -> Result<(), Fail> {
     expect_eq!(rt;
         Listing::new(alloc, config, 1, long_list(alloc, 0)?).err(),
         Some(ListingFault::Twice {
@@ -156,5 +158,19 @@ fn long_lists_are_listings(rt: HostRuntime) -> Result<(), Fail> {
             place: 99,
         })
     );
+    Ok(())
+}
+
+/// Lists that are looked through by a set, and a bucket with more records than have marks, a page for each.
+#[test]
+fn long_lists_are_listings(rt: HostRuntime) -> Result<(), Fail> {
+    let alloc = rt.alloc();
+    let config = Config::new(1, 1, 100, 1).ok().ok_or("config")?;
+    expect_twice(&rt, alloc, config)?;
+    let listing = Listing::new(alloc, config, 1, long_list(alloc, 99)?)?;
+    expect_eq!(rt; listing.len(), 100);
+    expect_eq!(rt; listing.buckets(), 1);
+    let bucket = bucket_of(alloc, &listing, 0)?;
+    expect_eq!(rt; bucket.len(), 100);
     Ok(())
 }

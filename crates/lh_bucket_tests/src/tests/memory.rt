@@ -67,18 +67,25 @@ fn split_again<B: Bucket>(
     }
 }
 
+/// Fills a bucket and splits it.
+fn grow<B: Bucket>(rt: &impl Abort, old: &mut B, new: &mut B) -> Result<(), Fail>
+    requires { CanSplit (B.seen old.old).head (B.seen new.old).head }
+{
+    let letters = b"abcdefghij";
+    for (place, letter) in letters.iter().enumerate() {
+        insert_again(rt, old, &letters[..place], pair(&[*letter], b"1")?)?;
+    }
+    split_again(rt, old, new, letters)?;
+    expect_records(rt, old, b"acegi")?;
+    expect_records(rt, new, b"bdfhj")?;
+    expect_eq!(rt; (old.level(), new.level()), (Some(1), Some(1)));
+    Ok(())
+}
+
 fn growth_may_be_refused<B: Bucket>(rt: &impl Abort, alloc: Global) -> Result<(), Fail> {
     let mut old = B::make(alloc, 1, 1, 0, Some(0))?;
     let mut new = B::make(alloc, 1, 1, 1, None)?;
-    let letters = b"abcdefghij";
-    for (place, letter) in letters.iter().enumerate() {
-        insert_again(rt, &mut old, &letters[..place], pair(&[*letter], b"1")?)?;
-    }
-    split_again(rt, &mut old, &mut new, letters)?;
-    expect_records(rt, &old, b"acegi")?;
-    expect_records(rt, &new, b"bdfhj")?;
-    expect_eq!(rt; (old.level(), new.level()), (Some(1), Some(1)));
-    Ok(())
+    grow(rt, &mut old, &mut new)
 }
 
 #[test]

@@ -34,32 +34,34 @@ fn buckets_compare_levels(rt: HostRuntime) -> Result<(), Fail> {
     bucket_compares_levels::<PagedBucket>(&rt, rt.alloc())
 }
 
-fn bucket_serves_calls<B: Bucket>(rt: &impl Abort, alloc: Global) -> Result<(), Fail> {
-    let mut bucket = B::make(alloc, 1, 2, 0, Some(0))?;
+fn serves_calls<B: Bucket>(rt: &impl Abort, bucket: &mut B) -> Result<(), Fail> {
     let a = pair(b"a", b"1")?;
     let other = Value::new(b"2")?;
-    expect_eq!(rt; reply_of(&mut bucket, Call::Delete(a.key))?, Reply::Absent);
+    expect_eq!(rt; reply_of(bucket, Call::Delete(a.key))?, Reply::Absent);
     expect_eq!(rt;
-        reply_of(&mut bucket, Call::Insert(a.key, a.value))?,
+        reply_of(bucket, Call::Insert(a.key, a.value))?,
         Reply::Inserted
     );
+    expect_eq!(rt; reply_of(bucket, Call::Insert(a.key, other))?, Reply::Exists);
     expect_eq!(rt;
-        reply_of(&mut bucket, Call::Insert(a.key, other))?,
-        Reply::Exists
-    );
-    expect_eq!(rt;
-        reply_of(&mut bucket, Call::Search(a.key))?,
+        reply_of(bucket, Call::Search(a.key))?,
         Reply::Found(a.value)
     );
     expect_eq!(rt; bucket.len(), 1);
-    fill(&mut bucket, b"bcdefg", 0)?;
+    fill(bucket, b"bcdefg", 0)?;
     for key in b"abcdefg" {
         let again = Call::Insert(Key::new(&[*key])?, other);
-        expect_eq!(rt; reply_of(&mut bucket, again)?, Reply::Exists);
+        expect_eq!(rt; reply_of(bucket, again)?, Reply::Exists);
     }
     expect_eq!(rt; bucket.len(), 7);
-    expect_eq!(rt; reply_of(&mut bucket, Call::Delete(a.key))?, Reply::Deleted);
-    expect_eq!(rt; reply_of(&mut bucket, Call::Search(a.key))?, Reply::Absent);
+    expect_eq!(rt; reply_of(bucket, Call::Delete(a.key))?, Reply::Deleted);
+    expect_eq!(rt; reply_of(bucket, Call::Search(a.key))?, Reply::Absent);
+    Ok(())
+}
+
+fn bucket_serves_calls<B: Bucket>(rt: &impl Abort, alloc: Global) -> Result<(), Fail> {
+    let mut bucket = B::make(alloc, 1, 2, 0, Some(0))?;
+    serves_calls(rt, &mut bucket)?;
     expect_eq!(rt; bucket.number(), 0);
     expect_eq!(rt; bucket.initial(), 1);
     expect_eq!(rt; bucket.capacity(), 2);
@@ -72,34 +74,37 @@ fn buckets_serve_calls(rt: HostRuntime) -> Result<(), Fail> {
     bucket_serves_calls::<PagedBucket>(&rt, rt.alloc())
 }
 
-fn bucket_replaces_values<B: Bucket>(rt: &impl Abort, alloc: Global) -> Result<(), Fail> {
-    let mut bucket = B::make(alloc, 1, 1, 0, Some(0))?;
+fn replaces_values<B: Bucket>(rt: &impl Abort, alloc: Global, bucket: &mut B) -> Result<(), Fail> {
     let b = pair(b"b", b"a longer value")?;
     let replace = Call::Replace(b.key, b.value);
-    expect_eq!(rt; reply_of(&mut bucket, replace)?, Reply::Absent);
+    expect_eq!(rt; reply_of(bucket, replace)?, Reply::Absent);
     expect_eq!(rt; bucket.len(), 0);
-    fill(&mut bucket, b"abc", 0)?;
-    expect_eq!(rt; reply_of(&mut bucket, replace)?, Reply::Replaced);
+    fill(bucket, b"abc", 0)?;
+    expect_eq!(rt; reply_of(bucket, replace)?, Reply::Replaced);
     expect_eq!(rt;
-        reply_of(&mut bucket, Call::Search(b.key))?,
+        reply_of(bucket, Call::Search(b.key))?,
         Reply::Found(b.value)
     );
-    expect_eq!(rt; keys_of(alloc, &bucket)?.as_slice(), b"abc".as_slice());
+    expect_eq!(rt; keys_of(alloc, bucket)?.as_slice(), b"abc".as_slice());
     let empty = Value::new(b"")?;
     expect_eq!(rt;
-        reply_of(&mut bucket, Call::Replace(b.key, empty))?,
+        reply_of(bucket, Call::Replace(b.key, empty))?,
         Reply::Replaced
     );
     expect_eq!(rt;
-        reply_of(&mut bucket, Call::Search(b.key))?,
+        reply_of(bucket, Call::Search(b.key))?,
         Reply::Found(empty)
     );
     let a = pair(b"a", b"a")?;
     expect_eq!(rt;
-        reply_of(&mut bucket, Call::Search(a.key))?,
+        reply_of(bucket, Call::Search(a.key))?,
         Reply::Found(a.value)
     );
     Ok(())
+}
+
+fn bucket_replaces_values<B: Bucket>(rt: &impl Abort, alloc: Global) -> Result<(), Fail> {
+    replaces_values(rt, alloc, &mut B::make(alloc, 1, 1, 0, Some(0))?)
 }
 
 #[test]

@@ -1,6 +1,8 @@
 -- Calls one after another, with the splits that they ask for
-use Rattle.std.proofs.Common.{◌≡◌, inl, inr, ℕ, ◌+◌, ◌-◌, ◌≤◌, Bool, true, false, cond, List, [], ◌∷◌, ◌++◌, Option}
+use Rattle.std.proofs.Common.{◌≡◌, ℕ, ◌+◌, ◌-◌, ◌≤◌, Bool, true, false, cond, List, [], ◌∷◌, ◌++◌, Option}
 use Rattle.std.proofs.Common.{Some, None, length, refl, sym, ap, subst, ◌∙◌, arith, length-append}
+use Rattle.std.specs.Prelude.{Result, Ok, Err, OnOk, OnErr, is_err}
+use Rattle.std.proofs.lemmas.Bool.{false≢true}
 use Rattle.std.specs.FinMap.{get, insert, remove, contains_key, empty, len, len-empty, len-insert, len-remove}
 use Rattle.std.specs.Ordering.{nat_cmp}
 use Rattle.std.specs.Cmp.Lexicographic.{slice_cmp, nat_list_cmp_total}
@@ -86,21 +88,41 @@ module _ (v u : WorldSeen) (m : Records) (c : Call) (y : Reply) (j k : ℕ) (b :
   }
 
   -- the split was given up
-  pub served_unsplit : (w : WorldSeen) → IsAtRest v.state → IsGivenUp u w → IsServedOn v m c y k w
-  served_unsplit w r g = record {
+  pub served_unsplit : (w : WorldSeen) → b ≡ true → IsAtRest v.state → IsGivenUp u w → IsServedOn v m c y k true w
+  served_unsplit w f r g = record {
     same = g.same ∙ h.same;
     rest = subst IsAtRest (sym (g.state ∙ h.state)) r;
-    size = inr (ap (λ (a : State). a.buckets) (g.state ∙ h.state));
+    size = ap (λ (a : State). a.buckets) (g.state ∙ h.state);
+    asked = λ _. sym tested ∙ f;
     stands = g.stands (after m c) (h.stands m stands);
     replied = h.replied m stands;
     count = counted;
   }
 
--- a call served with the split that it asked for counts as served with it unless memory ran out
+-- a call served with the split that it asked for is one of which no split is told as refused
 pub served_on : (v : WorldSeen) (m : Records) (c : Call) (y : Reply) (k : ℕ) (w : WorldSeen) → IsServed v m c y k w →
-    IsServedOn v m c y k w
-served_on v m c y k w h =
-    record { same = h.same; rest = h.rest; size = inl h.size; stands = h.stands; replied = h.replied; count = h.count }
+    IsServedOn v m c y k false w
+served_on v m c y k w h = record {
+  same = h.same;
+  rest = h.rest;
+  size = h.size;
+  asked = λ no. absurd (false≢true no);
+  stands = h.stands;
+  replied = h.replied;
+  count = h.count;
+}
+
+-- a call that was served alone, and asks for a split, is served, with the split told as refused where it was given up
+pub served_maybe : (v u : WorldSeen) (m : Records) (c : Call) (y : Reply) (j k : ℕ) (b : Bool)
+    (h : IsServedAlone v c y u) (stands : StandsFor v m) (was : j ≡ len m) (count : k ≡ count_after j y)
+    (test : b ≡ grows_after u.config k u.state.buckets y) (w : WorldSeen) {T E : Type 0} (r : Result T E) (n : Bool) →
+    IsAtRest v.state → b ≡ true → OnOk r (HasGrown u w) → OnErr r (IsGivenUp u w) → n ≡ is_err r →
+    IsServedOn v m c y k n w
+served_maybe v u m c y j k b h stands was count test w (Ok _) n r f ok err is =
+    subst (λ x. IsServedOn v m c y k x w) (sym is)
+    (served_on v m c y k w (served_grown v u m c y j k b h stands was count test w f ok))
+served_maybe v u m c y j k b h stands was count test w (Err _) n r f ok err is =
+    subst (λ x. IsServedOn v m c y k x w) (sym is) (served_unsplit v u m c y j k b h stands was count test w f r err)
 
 size_more : (s : Settings) (m : Records) (n : ℕ) (cs : List Call) (c : Call) →
     size_from s m n (cs ++ c ∷ []) ≡ size_after s (after (outcome m cs) c) (size_from s m n cs) (reply (outcome m cs) c)

@@ -139,19 +139,23 @@ fn step_again<B: Bucket>(
     }
 }
 
-/// A call of worker 0 and a split, where each step may be refused once.
-fn steps_go_on<B: Bucket>(rt: &impl Abort, alloc: Global) -> Result<(), Fail> {
-    let mut world = made_again::<B>(alloc, small()?)?;
+/// A call of worker 0 by each of eight letters, where each step may be refused once.
+fn calls_go_on<B: Bucket>(rt: &impl Abort, world: &mut World<B>) -> Result<(), Fail> {
     for letter in b"abcdefgh" {
         let call = insert(&[*letter], b"1")?;
         let events = [Event::Call(0, call), Event::Read(0), Event::Lock(0)];
         for event in &events {
-            step_again(rt, &mut world, event)?;
+            step_again(rt, world, event)?;
         }
-        let answered = step_again(rt, &mut world, &Event::Act(0))?;
+        let answered = step_again(rt, world, &Event::Act(0))?;
         expect_eq!(rt; answered, Effect::Answered(Reply::Inserted));
-        step_again(rt, &mut world, &Event::Release(0))?;
+        step_again(rt, world, &Event::Release(0))?;
     }
+    Ok(())
+}
+
+/// A split behind them.
+fn split_goes_on<B: Bucket>(rt: &impl Abort, world: &mut World<B>) -> Result<(), Fail> {
     let split = [
         Event::SplitBegin,
         Event::SplitLock,
@@ -160,7 +164,7 @@ fn steps_go_on<B: Bucket>(rt: &impl Abort, alloc: Global) -> Result<(), Fail> {
         Event::SplitPoint,
     ];
     for event in &split {
-        step_again(rt, &mut world, event)?;
+        step_again(rt, world, event)?;
     }
     let due = Shown {
         buckets: 2,
@@ -169,9 +173,16 @@ fn steps_go_on<B: Bucket>(rt: &impl Abort, alloc: Global) -> Result<(), Fail> {
         splitter: SplitState::Idle,
         records: 8,
     };
-    expect_eq!(rt; seen_of(&world), due);
-    expect_eq!(rt; listed_again(&world)?.len(), 8);
+    expect_eq!(rt; seen_of(world), due);
+    expect_eq!(rt; listed_again(world)?.len(), 8);
     Ok(())
+}
+
+/// Calls of worker 0 and a split, where each step may be refused once.
+fn steps_go_on<B: Bucket>(rt: &impl Abort, alloc: Global) -> Result<(), Fail> {
+    let mut world = made_again::<B>(alloc, small()?)?;
+    calls_go_on(rt, &mut world)?;
+    split_goes_on(rt, &mut world)
 }
 
 #[test]
@@ -208,7 +219,16 @@ fn calls_are_served<B: Bucket>(rt: &impl Abort, alloc: Global) -> Result<(), Fai
         Reply::Found(Value::new(b"2")?),
     ];
     let ran = serial_again::<B>(alloc, config, &calls)?;
-    expect_eq!(rt; ran.replies.as_slice(), replies.as_slice());
+    expect_served(rt, &ran, &replies)
+}
+
+/// Calls had these replies, and left three records in three buckets.
+fn expect_served<B: Bucket>(
+    rt: &impl Abort,
+    ran: &SerialRan<B>,
+    replies: &[Reply],
+) -> Result<(), Fail> {
+    expect_eq!(rt; ran.replies.as_slice(), replies);
     expect_eq!(rt; ran.world.root().buckets(), 3);
     expect_eq!(rt; listed_again(&ran.world)?.len(), 3);
     Ok(())
@@ -232,21 +252,25 @@ fn serial_from_again(
     }
 }
 
-#[test]
-fn refused_growth_ends_calls_on_a_listing(rt: HostRuntime) -> Result<(), Fail> {
-    let alloc = rt.alloc();
+/// The listing of a file of one record.
+fn listing_of_one(alloc: Global) -> Result<Listing, Fail> {
     let config = Config::new(1, 1, 100, 65536)?;
     let ran = serial_again::<PagedBucket>(alloc, config, &[insert(b"a", b"1")?])?;
-    let listing = listed_again(&ran.world)?;
+    listed_again(&ran.world)
+}
+
+#[test]
+fn refused_growth_ends_calls_on_a_listing(rt: HostRuntime) -> Result<(), Fail> {
     let calls = [insert(b"b", b"2")?, insert(b"c", b"3")?, search(b"a")?];
     let replies = [
         Reply::Inserted,
         Reply::Inserted,
         Reply::Found(Value::new(b"1")?),
     ];
-    let ran = serial_from_again(alloc, &listing, &calls)?;
-    expect_eq!(rt; ran.replies.as_slice(), replies.as_slice());
-    expect_eq!(rt; ran.world.root().buckets(), 3);
-    expect_eq!(rt; listed_again(&ran.world)?.len(), 3);
-    Ok(())
+    let listing = listing_of_one(rt.alloc())?;
+    expect_served(
+        &rt,
+        &serial_from_again(rt.alloc(), &listing, &calls)?,
+        &replies,
+    )
 }

@@ -30,40 +30,82 @@ fn are_same(rt: &impl Abort, one: &Listing, other: &Listing) {
     }
 }
 
-/// Wherever calls are cut, the second part goes on from the listing that the first one leaves.
-#[test]
-fn a_file_goes_on_from_a_listing(rt: HostRuntime) -> Result<(), Fail> {
-    let alloc = rt.alloc();
-    let config = Config::new(1, 2, 100, 65536)?;
-    let calls = calls(alloc)?;
-    let whole = serial::<PagedBucket>(alloc, config, calls.as_slice())?;
-    expect_eq!(rt; whole.replies.len(), calls.len());
-    for cut in 0..=calls.len() {
-        let (first, second) = calls.as_slice().split_at(cut);
-        let before = serial::<PagedBucket>(alloc, config, first)?
+/// The listing that calls leave.
+fn listing_after(alloc: Global, config: Config, calls: &[Call]) -> Result<Listing, Fail> {
+    Ok(
+        serial::<PagedBucket>(alloc, config, calls)?
             .world
-            .listing()?;
-        let SerialRan { replies, world } = serial_from(alloc, &before, second)?;
-        expect_eq!(rt; replies.as_slice(), &whole.replies.as_slice()[cut..]);
-        are_same(&rt, &world.listing()?, &whole.world.listing()?);
+            .listing()?,
+    )
+}
+
+/// Calls go on from a listing with these replies, and leave the other listing.
+fn goes_on(
+    rt: &impl Abort,
+    alloc: Global,
+    before: &Listing,
+    calls: &[Call],
+    due: &[Reply],
+    after: &Listing,
+) -> Result<(), Fail> {
+    let SerialRan { replies, world } = serial_from(alloc, before, calls)?;
+    expect_eq!(rt; replies.as_slice(), due);
+    are_same(rt, &world.listing()?, after);
+    Ok(())
+}
+
+/// Wherever calls are cut, the second part goes on from the listing that the first one leaves.
+fn goes_on_everywhere(
+    rt: &impl Abort,
+    alloc: Global,
+    config: Config,
+    calls: &[Call],
+    due: &[Reply],
+    after: &Listing,
+) -> Result<(), Fail> {
+    expect_eq!(rt; due.len(), calls.len());
+    for cut in 0..=calls.len() {
+        let (first, second) = calls.split_at(cut);
+        let before = listing_after(alloc, config, first)?;
+        goes_on(rt, alloc, &before, second, &due[cut..], after)?;
     }
     Ok(())
 }
 
 #[test]
-fn a_world_is_opened_from_a_listing(rt: HostRuntime) -> Result<(), Fail> {
-    let alloc = rt.alloc();
-    let config = Config::new(2, 2, 100, 65536)?;
+fn a_file_goes_on_from_a_listing(rt: HostRuntime) -> Result<(), Fail> {
+    let config = Config::new(1, 2, 100, 65536)?;
+    let calls = calls(rt.alloc())?;
+    let SerialRan { replies, world } = serial::<PagedBucket>(rt.alloc(), config, &calls)?;
+    goes_on_everywhere(&rt, rt.alloc(), config, &calls, &replies, &world.listing()?)
+}
+
+/// The listing that those calls leave.
+fn listing_after_all(alloc: Global, config: Config) -> Result<Listing, Fail> {
     let calls = calls(alloc)?;
-    let before = serial::<PagedBucket>(alloc, config, calls.as_slice())?
-        .world
-        .listing()?;
-    let world = World::open_from(alloc, &before)?;
+    listing_after(alloc, config, &calls)
+}
+
+#[test]
+fn a_world_is_opened_from_a_listing(rt: HostRuntime) -> Result<(), Fail> {
+    let config = Config::new(2, 2, 100, 65536)?;
+    let before = listing_after_all(rt.alloc(), config)?;
+    let world = World::open_from(rt.alloc(), &before)?;
     expect_eq!(rt; world.root().buckets(), before.buckets());
     expect_eq!(rt; world.filled(), before.buckets());
     expect_eq!(rt; world.worker(15), WorkerState::Idle);
     expect_eq!(rt; world.splitter(), SplitState::Idle);
     are_same(&rt, &world.listing()?, &before);
+    Ok(())
+}
+
+/// A key that is there changes nothing.
+fn expect_no_split(rt: &impl Abort, alloc: Global, before: &Listing) -> Result<(), Fail> {
+    let calls = [insert(b"a", b"5")?, search(b"a")?];
+    let found = Reply::Found(Value::new(b"1")?);
+    let ran = serial_from(alloc, before, &calls)?;
+    expect_eq!(rt; ran.replies.as_slice(), [Reply::Exists, found].as_slice());
+    expect_eq!(rt; ran.world.root().buckets(), 2);
     Ok(())
 }
 
@@ -78,15 +120,11 @@ fn records_of_a_listing_count_for_the_load(rt: HostRuntime) -> Result<(), Fail> 
         insert(b"c", b"3")?,
         insert(b"d", b"4")?,
     ];
-    let before = serial::<PagedBucket>(alloc, config, &four)?
-        .world
-        .listing()?;
+    let fifth = [insert(b"e", b"5")?];
+    let before = listing_after(alloc, config, &four)?;
     expect_eq!(rt; before.buckets(), 2);
-    let ran = serial_from(alloc, &before, &[insert(b"a", b"5")?, search(b"a")?])?;
-    let found = Reply::Found(Value::new(b"1")?);
-    expect_eq!(rt; ran.replies.as_slice(), [Reply::Exists, found].as_slice());
-    expect_eq!(rt; ran.world.root().buckets(), 2);
-    let ran = serial_from(alloc, &before, &[insert(b"e", b"5")?])?;
+    expect_no_split(&rt, alloc, &before)?;
+    let ran = serial_from(alloc, &before, &fifth)?;
     expect_eq!(rt; ran.world.root().buckets(), 3);
     Ok(())
 }

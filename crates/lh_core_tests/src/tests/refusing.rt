@@ -1,5 +1,6 @@
 //! A bucket without memory: what steps, runs and calls tell of it, and that they go on.
 use super::calls::{insert, search, small};
+use lh_addr::Config;
 use lh_bucket::{Answer, Bucket, Call, Listing, Memory, PagedBucket, Reply, Verdict};
 use lh_core::{Effect, Event, Ran, Refusal, SplitState, WorkerState, World, run, serial};
 use lh_expect::{expect, expect_eq};
@@ -146,16 +147,25 @@ fn a_run_tells_of_refused_memory_and_goes_on(rt: HostRuntime) -> Result<(), Fail
         events.push(event)?;
         due.push(entry)?;
     }
-    let Ran { entries, world } = run::<Refusing>(rt.alloc(), small()?, events.as_slice())?;
-    expect_eq!(rt; entries.as_slice(), due.as_slice());
+    expect_run(&rt, rt.alloc(), &events, &due)
+}
+
+/// A run of these events has these entries, and leaves one record in two buckets.
+fn expect_run(
+    rt: &impl Abort,
+    alloc: Global,
+    events: &[Event],
+    due: &[Result<Effect, Refusal>],
+) -> Result<(), Fail> {
+    let Ran { entries, world } = run::<Refusing>(alloc, small()?, events)?;
+    expect_eq!(rt; entries.as_slice(), due);
     expect_eq!(rt; world.root().buckets(), 2);
     expect_eq!(rt; listed(&world)?.len(), 1);
     Ok(())
 }
 
-#[test]
-fn a_refused_step_leaves_the_world_as_it_was(rt: HostRuntime) -> Result<(), Fail> {
-    let mut world = World::<Refusing>::new(rt.alloc(), small()?)?;
+/// An act and a move are refused once each, and made then.
+fn take_refused_steps(rt: &impl Abort, world: &mut World<Refusing>) -> Result<(), Fail> {
     let call = insert(b"a", b"1")?;
     let events = [
         Event::SplitBegin,
@@ -163,22 +173,27 @@ fn a_refused_step_leaves_the_world_as_it_was(rt: HostRuntime) -> Result<(), Fail
         Event::Read(3),
         Event::Lock(3),
     ];
-    take_all(&mut world, events.as_slice())?;
+    take_all(world, events.as_slice())?;
     let holding = WorkerState::Holding(call, 0, 0);
     expect_eq!(rt; world.worker(3), holding);
     expect_eq!(rt; world.step(Event::Act(3)), Err(Refusal::Memory));
     expect_eq!(rt; world.worker(3), holding);
-    expect_eq!(rt; records_in(&world), 0);
+    expect_eq!(rt; records_in(world), 0);
     let events = [Event::Act(3), Event::Release(3), Event::SplitLock];
-    take_all(&mut world, events.as_slice())?;
+    take_all(world, events.as_slice())?;
     let locked = world.splitter();
     expect_eq!(rt; world.step(Event::SplitMove), Err(Refusal::Memory));
     expect!(rt; world.splitter() == locked && locked != SplitState::Idle);
     expect_eq!(rt; (world.filled(), world.root().buckets()), (1, 1));
-    expect_eq!(rt; records_in(&world), 1);
-    take_all(&mut world, [Event::SplitMove].as_slice())?;
+    expect_eq!(rt; records_in(world), 1);
+    take_all(world, [Event::SplitMove].as_slice())?;
     expect_eq!(rt; world.filled(), 2);
     Ok(())
+}
+
+#[test]
+fn a_refused_step_leaves_the_world_as_it_was(rt: HostRuntime) -> Result<(), Fail> {
+    take_refused_steps(&rt, &mut World::<Refusing>::new(rt.alloc(), small()?)?)
 }
 
 #[test]
@@ -191,6 +206,22 @@ fn calls_one_after_another_end_without_memory(rt: HostRuntime) -> Result<(), Fai
     );
     let calls = [insert(b"a", b"1")?];
     expect!(rt; serial::<Refusing>(rt.alloc(), small()?, &calls).is_err());
+    Ok(())
+}
+
+#[test]
+fn a_caller_goes_on_without_memory(rt: HostRuntime) -> Result<(), Fail> {
+    let config = Config::new(1, 1, 100, 65536)?;
+    let mut world = World::<Refusing>::new(rt.alloc(), config)?;
+    expect!(rt; world.serve(insert(b"a", b"1")?, 0).is_err());
+    let served = world.serve(insert(b"a", b"1")?, 0)?;
+    expect_eq!(rt; (served.reply, served.records, served.split_refused), (Reply::Inserted, 1, false));
+    let served = world.serve(insert(b"b", b"1")?, 1)?;
+    expect_eq!(rt; (served.reply, served.records, served.split_refused), (Reply::Inserted, 2, true));
+    expect_eq!(rt; world.root().buckets(), 1);
+    let served = world.serve(insert(b"c", b"1")?, 2)?;
+    expect_eq!(rt; (served.reply, served.records, served.split_refused), (Reply::Inserted, 3, false));
+    expect_eq!(rt; world.root().buckets(), 2);
     Ok(())
 }
 

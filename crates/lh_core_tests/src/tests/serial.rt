@@ -1,11 +1,14 @@
 //! Calls served one after another.
+ghost use Rattle.lh_core.specs.Serial.{IsAtRest};
+
 use super::calls::{delete, insert, search, small};
 use lh_addr::Config;
-use lh_bucket::{Bucket, Call, PagedBucket, PlainBucket, Reply};
-use lh_core::{SerialRan, serial};
+use lh_bucket::{Bucket, Call, Listing, PagedBucket, PlainBucket, Reply};
+use lh_core::{SerialRan, World, serial};
 use lh_expect::expect_eq;
 use lh_page::Value;
 use std::alloc::Global;
+use std::process::Abort;
 use std::test::Fail;
 
 /// The replies to calls, and the number of buckets after them.
@@ -36,10 +39,19 @@ fn serial_answers_as_a_map(rt: HostRuntime) -> Result<(), Fail> {
         Reply::Deleted,
         Reply::Absent,
     ];
-    let (plain, _) = replies_of::<PlainBucket>(rt.alloc(), small()?, &calls)?;
-    let (paged, size) = replies_of::<PagedBucket>(rt.alloc(), small()?, &calls)?;
-    expect_eq!(rt; plain.as_slice(), want.as_slice());
-    expect_eq!(rt; paged.as_slice(), want.as_slice());
+    expect_replies::<PlainBucket>(&rt, rt.alloc(), &calls, &want)?;
+    expect_replies::<PagedBucket>(&rt, rt.alloc(), &calls, &want)
+}
+
+/// The replies to calls, after which a file has one bucket.
+fn expect_replies<B: Bucket>(
+    rt: &impl Abort,
+    alloc: Global,
+    calls: &[Call],
+    want: &[Reply],
+) -> Result<(), Fail> {
+    let (replies, size) = replies_of::<B>(alloc, small()?, calls)?;
+    expect_eq!(rt; replies.as_slice(), want);
     expect_eq!(rt; size, 1);
     Ok(())
 }
@@ -51,7 +63,10 @@ fn lengths_of<B: Bucket>(
     calls: &[Call],
 ) -> Result<Vec<usize>, Fail> {
     let SerialRan { replies: _, world } = serial::<B>(alloc, config, calls)?;
-    let listing = world.listing()?;
+    lengths_in(alloc, &world.listing()?)
+}
+
+fn lengths_in(alloc: Global, listing: &Listing) -> Result<Vec<usize>, Fail> {
     let mut lengths = Vec::new(alloc);
     for bucket in 0..listing.buckets() {
         lengths.push(listing.len_of(bucket))?;
@@ -106,14 +121,18 @@ fn buckets_hold_their_records_in_order(rt: HostRuntime) -> Result<(), Fail> {
     Ok(())
 }
 
-/// How many buckets a file has after forty inserts with pages of one record, and how many records are listed.
-fn after_forty<B: Bucket>(alloc: Global, max: u32) -> Result<(usize, u32, u64), Fail> {
+fn forty_inserts(alloc: Global) -> Result<Vec<Call>, Fail> {
     let mut calls = Vec::new(alloc);
     for key in 0..40_u8 {
         calls.push(insert(&[key], b"1")?)?;
     }
+    Ok(calls)
+}
+
+/// How many buckets a file has after forty inserts with pages of one record, and how many records are listed.
+fn after_forty<B: Bucket>(alloc: Global, max: u32) -> Result<(usize, u32, u64), Fail> {
     let config = Config::new(1, 1, 100, max)?;
-    let SerialRan { replies, world } = serial::<B>(alloc, config, calls.as_slice())?;
+    let SerialRan { replies, world } = serial::<B>(alloc, config, &forty_inserts(alloc)?)?;
     let inserted = replies.iter().filter(|reply| **reply == Reply::Inserted);
     let listing = world.listing()?;
     Ok((inserted.count(), world.root().buckets(), listing.len()))
@@ -127,5 +146,26 @@ fn many_calls_are_served(rt: HostRuntime) -> Result<(), Fail> {
     expect_eq!(rt; after_forty::<PagedBucket>(alloc, 65536)?, (40, 40, 40));
     expect_eq!(rt; after_forty::<PlainBucket>(alloc, 2)?, (40, 2, 40));
     expect_eq!(rt; after_forty::<PagedBucket>(alloc, 2)?, (40, 2, 40));
+    Ok(())
+}
+
+/// Serves an insert of the key of this number: the numbers of records and of buckets from then on, and whether a split was
+/// refused.
+fn inserted<B: Bucket>(world: &mut World<B>, number: u8) -> Result<(u64, u32, bool), Fail>
+    requires { IsAtRest world.old.state }
+    ensures { IsAtRest world.new.state }
+{
+    let served = world.serve(insert(&[number], b"1")?, u64::from(number))?;
+    Ok((served.records, world.root().buckets(), served.split_refused))
+}
+
+/// A caller who goes on where memory runs out has as many buckets as the policy wants, and is told of no refused split.
+#[test]
+fn each_served_call_splits_where_the_policy_wants_it(rt: HostRuntime) -> Result<(), Fail> {
+    let mut world = World::<PagedBucket>::new(rt.alloc(), Config::new(1, 1, 100, 65536)?)?;
+    expect_eq!(rt; inserted(&mut world, 0)?, (1, 1, false));
+    expect_eq!(rt; inserted(&mut world, 1)?, (2, 2, false));
+    expect_eq!(rt; inserted(&mut world, 2)?, (3, 3, false));
+    expect_eq!(rt; inserted(&mut world, 3)?, (4, 4, false));
     Ok(())
 }

@@ -31,7 +31,7 @@ use Rattle.lh_settling.specs.Laws.{OrderLaw, FilledLaw}
 use Rattle.lh_settling.specs.Settled.{map_in, HoldsMap, IsSettled}
 use Rattle.lh_settling.specs.declared.act.ActLine.{ActLine}
 use Rattle.lh_words.specs.Table.{IsEnd}
-use Rattle.lh_file.specs.Closing.{AreGathered, NoneOutside, HasHistory}
+use Rattle.lh_file.specs.Closing.{AreGathered, AreAmong, NoneOutside, HasHistory}
 use Rattle.lh_file.specs.FileState.{FileState}
 use Rattle.lh_words.specs.History.Buckets.{belongs, Mirrors, IsPlacedIn}
 use Rattle.lh_words.specs.History.History.{moves_in}
@@ -155,7 +155,7 @@ plain m (e ∷ log) none legal =
     let here : e.outside ≡ false = none 0 e refl in
     let rest = plain (passed m e) log (λ j x at. none (suc j) x at) legal.1 in
     let same : passed m e ≡ after m e.line.call = ap (λ b. cond b m (after m e.line.call)) here in (
-      (λ i. legal.0 here i ∷ (rest.0 ∙ ap (λ n. replies n (calls_of (lines_of log))) same) i),
+      (λ i. (legal.0 here).0 i ∷ (rest.0 ∙ ap (λ n. replies n (calls_of (lines_of log))) same) i),
       rest.1 ∙ ap (λ n. outcome n (calls_of (lines_of log))) same,
     )
 
@@ -195,22 +195,32 @@ stamp_read history i d z below =
     ∙ get_or-map (λ (a : ActLine). a.stamp) history i z
 
 -- a line that stands in a log at its stamp, of an act that isn't outside
-abbrev InLog : List Entry → ActLine → Type 0
-InLog log a = (e : Entry) × (e.line ≡ a) × (get_elem? log a.stamp ≡ some e) × (e.outside ≡ false)
+abbrev InLog : List Entry → List Entry → ActLine → Type 0
+InLog entries log a =
+    (e : Entry) × (e.line ≡ a) × (get_elem? log a.stamp ≡ some e) × (e.outside ≡ false)
+    × ((place : ℕ) × (get_elem? entries place ≡ some e))
 
 module _ (order_of : OrderLaw) (log entries : List Entry) (q : ℕ) (len : length log ≡ q)
     (stand : Each entries (StandsIn log)) (none : NoneOutside entries)
     (once : (x : ℕ) → times x (stamps_in entries) ≡ once_below x q) where
-  all_in : All (InLog log) (lines_of entries)
+  all_in : All (InLog entries log) (lines_of entries)
   all_in k d below =
       let at : get_elem? (lines_of entries) k ≡ some (get_or (lines_of entries) k d) =
       there_at (lines_of entries) k d below in
-      let b = back_at (λ (e : Entry). e.line) entries k (get_or (lines_of entries) k d) at in
-      (b.0, b.2, subst (λ (a : ActLine). get_elem? log a.stamp ≡ some b.0) b.2 (stand k b.0 b.1), none k b.0 b.1)
+      let b = back_at (λ (e : Entry). e.line) entries k (get_or (lines_of entries) k d) at in (
+        b.0,
+        b.2,
+        subst (λ (a : ActLine). get_elem? log a.stamp ≡ some b.0) b.2 (stand k b.0 b.1),
+        none k b.0 b.1,
+        (
+          k,
+          b.1,
+        ),
+      )
 
   -- the log is the acts in the order of their stamps, of which none is missing
   ordered : IsInOrder (lines_of entries) (lines_of log) × (stamps_of (lines_of log) ≡ range_with_len 0 q)
-      × NoneOutside log
+      × NoneOutside log × AreAmong entries log
   ordered =
       let z = no_act in
       let o = order_of (lines_of entries) in
@@ -219,7 +229,8 @@ module _ (order_of : OrderLaw) (log entries : List Entry) (q : ℕ) (len : lengt
       all_drawn (lines_of entries) history q o.1 (λ x. ap (times x) (stamps_of-lines entries) ∙ once x) in
       let size : length history ≡ q =
       sym (length-map history (λ (a : ActLine). a.stamp)) ∙ ap length is ∙ length-range_with_len 0 q in
-      let inside : All (InLog log) history = All-permutation (InLog log) (lines_of entries) history o.1.same all_in in
+      let inside : All (InLog entries log) history =
+      All-permutation (InLog entries log) (lines_of entries) history o.1.same all_in in
       let number : (t : ℕ) → t < q → (get_or history t z).stamp ≡ t =
       λ t below.
       (let a = stamp_read history t 0 z (omega arith) in
@@ -227,10 +238,11 @@ module _ (order_of : OrderLaw) (log entries : List Entry) (q : ℕ) (len : lengt
       let c = get_or-range_with_len 0 q t 0 below in
       omega arith) in
       let there : (t : ℕ) → t < q →
-      (e : Entry) × (e.line ≡ get_or history t z) × (get_elem? log t ≡ some e) × (e.outside ≡ false) =
+      (e : Entry) × (e.line ≡ get_or history t z) × (get_elem? log t ≡ some e) × (e.outside ≡ false)
+      × ((place : ℕ) × (get_elem? entries place ≡ some e)) =
       λ t below. (
       let i = inside t z (omega arith) in
-      (i.0, i.1, subst (λ (x : ℕ). get_elem? log x ≡ some i.0) (number t below) i.2, i.3)) in
+      (i.0, i.1, subst (λ (x : ℕ). get_elem? log x ≡ some i.0) (number t below) i.2, i.3, i.4)) in
       let alike : history ≡ lines_of log =
       same_rows history (lines_of log) (size ∙ sym (length-map log (λ (e : Entry). e.line) ∙ len)) (λ t a at.
       let below : t < q = (let b = below_end t history a at in omega arith) in
@@ -242,6 +254,12 @@ module _ (order_of : OrderLaw) (log entries : List Entry) (q : ℕ) (len : lengt
             let below : t < q = (let b = below_end t log e at in omega arith) in
             let x = there t below in
             subst (λ (y : Entry). y.outside ≡ false) (some-injective x.0 e (sym x.2 ∙ at)) x.3),
+        (λ t e at.
+            let below : t < q = (let b = below_end t log e at in omega arith) in
+            let x = there t below in
+            subst (λ (y : Entry). (place : ℕ) × (get_elem? entries place ≡ some y)) (some-injective x.0 e (sym x.2 ∙
+            at))
+            x.4),
       )
 
 -- a bucket in its place holds what the log leaves of its address
@@ -301,7 +319,7 @@ settles : OrderLaw → (file : FileState) (last : FileWords) (d : SeatView) (lis
     → IsSettled file.listing
     (record { config = file.config; root = last.root; stamps = last.stamps; lists = lists; gathered = gathered })
     (lines_of d.entries) (lines_of (e.history refl).log)
-    × NoneOutside (e.history refl).log
+    × NoneOutside (e.history refl).log × AreAmong d.entries (e.history refl).log
 settles order_of file last d lists gathered config e even none full held =
     let h = e.history refl in let m : Records = map_in file.listing in
     let once : (x : ℕ) → times x (stamps_in d.entries) ≡ once_below x last.stamps = λ x.
@@ -324,6 +342,7 @@ settles order_of file last d lists gathered config e even none full held =
             })) simple.1 held.1;
       },
       ord.2,
+      ord.3,
     )
 
 -- the acts that a hand keeps are its entries, also where the file doesn't record and no stamp was drawn
@@ -439,15 +458,18 @@ closes law order_of placed traced file last h H d lists whole clean gathered see
           let c = length-map own.entries (λ (x : Entry). x.line.stamp) in
           let s = ap length is.entered in
           let v = ap (λ (u : View). u.left) view in let w = ap (λ (u : View). length u.stamps) view in omega arith) in
-          subst
-          (λ ls.
-          IsSettled file.listing
-          (record {
-            config = file.config;
-            root = last.root;
-            stamps = last.stamps;
-            lists = lists;
-            gathered = gathered;
-          }) ls (lines_of log) × NoneOutside log) (ap lines_of entries ∙ sym lines)
-          (settles order_of file last d lists gathered config ends even apart home held),
+          let done = settles order_of file last d lists gathered config ends even apart home held in (
+            subst
+                (λ ls.
+                IsSettled file.listing
+                (record {
+                  config = file.config;
+                  root = last.root;
+                  stamps = last.stamps;
+                  lists = lists;
+                  gathered = gathered;
+                }) ls (lines_of log)) (ap lines_of entries ∙ sym lines) done.0,
+            done.1,
+            subst (λ es. AreAmong es log) (entries ∙ ap (λ (x : HandState). x.entries) seen) done.2,
+          ),
     )

@@ -25,7 +25,7 @@ use std::sync::Wait;
 
 /// Lends the value of the record at a place to a closure, if there is a record: what that returns.
 #[inline(always)]
-fn lend_found<T, F: FnOnce(&[u8]) -> T + Drop>(
+pub(crate) fn lend_found<T, F: FnOnce(&[u8]) -> T + Drop>(
     bucket: &PagedBucket,
     place: Option<usize>,
     then: F,

@@ -14,6 +14,7 @@ use crate::buckets::slot::Slot;
 use crate::calls::aim::defect;
 use crate::calls::split::is_numbered;
 use crate::fault::FileFault;
+use crate::gate::{Gate, Point};
 use crate::words::Words;
 use atomic_table::Seat;
 use lh_addr::Config;
@@ -183,9 +184,10 @@ impl<M: Mode> Words<M> {
     }
 }
 
-/// The records of buckets. Each is let go as soon as its records are copied, the first one first.
-pub(crate) fn copied_held<J: FileBrand>(
+/// The records of buckets. Each is let go as soon as its records are copied, the first one first, and the gate is told.
+pub(crate) fn copied_held<G: Gate, J: FileBrand>(
     alloc: Global,
+    gate: &G,
     mut guards: Vec<RwLockReadGuard<'_, Slot<J>>>,
 ) -> Result<Vec<Vec<Pair>>, Memory>
     ensures { IfOk result (λ lists. map (λ v. v.items) lists.items
@@ -194,7 +196,10 @@ pub(crate) fn copied_held<J: FileBrand>(
     let mut lists = Vec::with_capacity(alloc, guards.len())?;
     guards.reverse();
     while let Some(guard) = guards.pop() {
+        let bucket = guard.bucket().number();
         lists.push(copied_pairs(alloc, guard.bucket())?)?;
+        drop(guard);
+        gate.at(Point::Copied { bucket });
     }
     Ok(lists)
 }

@@ -65,7 +65,7 @@ impl<G: Gate, M: Mode, J: FileBrand> HashFile<G, M, J> {
         if seats < guards.len() {
             return Err(missing_bucket(seats as u32, 0));
         }
-        let lists = copied_held(words.alloc, guards)?;
+        let lists = copied_held(words.alloc, &self.gate, guards)?;
         let root = RootWord::new(size, false);
         Ok(Closed::ended(words.config, root, acts, lists, false))
     }

@@ -6,8 +6,10 @@ use super::made::made;
 use lh_addr::Config;
 use lh_bucket::Listing;
 use lh_expect::expect_eq;
-use lh_file::{FileFault, Hand, HashFile, JoinAllFault, NoGate, settle};
+use lh_file::{Acts, Closed, FileFault, Hand, HashFile, JoinAllFault, NoGate, settle};
 use lh_page::{Key, Value};
+use std::alloc::Global;
+use std::process::Abort;
 use std::sync::Wait;
 use std::test::Fail;
 use std::thread::{self, Threads};
@@ -90,17 +92,44 @@ pub(crate) fn added_in_threads<R: Threads + Wait + Sync>(
     join_again(file, hand, hands)
 }
 
+/// The acts of a closed file that began empty are settled, those of eight threads.
+fn expect_settled(
+    rt: &impl Abort,
+    alloc: Global,
+    config: Config,
+    closed: &Closed,
+    acts: &Acts,
+) -> Result<(), Fail> {
+    expect_eq!(rt; (closed.records(), acts.len()), (208, 208));
+    let history = settle(alloc, &Listing::empty(alloc, config)?, closed, acts)?;
+    expect_eq!(rt; history.len(), 208);
+    Ok(())
+}
+
 #[test]
 fn threads_work_with_hands_of_their_own(rt: HostRuntime) -> Result<(), Fail> {
-    let alloc = rt.alloc();
     let config = Config::new(1, 2, 100, 65536)?;
-    let (file, hand) = made(alloc, config, NoGate)?;
+    let (file, hand) = made(rt.alloc(), config, NoGate)?;
     let hand = added_in_threads(&rt, &file, hand, 8)?;
     expect_eq!(rt; hand.left(), (1 << 63) - 208);
     let (closed, acts) = file.close(&rt, hand)?;
-    expect_eq!(rt; (closed.records(), acts.len()), (208, 208));
-    let history = settle(alloc, &Listing::empty(alloc, config)?, &closed, &acts)?;
-    expect_eq!(rt; history.len(), 208);
+    expect_settled(&rt, rt.alloc(), config, &closed, &acts)
+}
+
+/// A hand of ten calls is split.
+fn split_ten(rt: &impl Abort, file: &HashFile<NoGate>, hand: &mut Hand) -> Result<(), Fail>
+    requires { IsOf file.now.state hand.old }
+{
+    expect_eq!(rt; file.split_hands(hand, 0, 20)?.len(), 0);
+    expect_eq!(rt; hand.left(), 10);
+    let refused = file.split_hands(hand, 3, 4).err();
+    expect_eq!(rt; refused, Some(FileFault::Spent { left: 10 }));
+    let refused = file.split_hands(hand, u32::MAX, u64::MAX).err();
+    expect_eq!(rt; refused, Some(FileFault::Spent { left: 10 }));
+    expect_eq!(rt; hand.left(), 10);
+    let hands = file.split_hands(hand, 2, 5)?;
+    expect_eq!(rt; (hands.len(), hands[0].left(), hands[1].left()), (2, 5, 5));
+    expect_eq!(rt; hand.left(), 0);
     Ok(())
 }
 
@@ -109,15 +138,5 @@ fn a_hand_is_split_only_into_the_calls_that_it_has(rt: HostRuntime) -> Result<()
     let config = Config::new(1, 2, 100, 65536)?;
     let (file, mut first) = made(rt.alloc(), config, NoGate)?;
     let mut hand = file.split_hand(&mut first, 10)?;
-    expect_eq!(rt; file.split_hands(&mut hand, 0, 20)?.len(), 0);
-    expect_eq!(rt; hand.left(), 10);
-    let refused = file.split_hands(&mut hand, 3, 4).err();
-    expect_eq!(rt; refused, Some(FileFault::Spent { left: 10 }));
-    let refused = file.split_hands(&mut hand, u32::MAX, u64::MAX).err();
-    expect_eq!(rt; refused, Some(FileFault::Spent { left: 10 }));
-    expect_eq!(rt; hand.left(), 10);
-    let hands = file.split_hands(&mut hand, 2, 5)?;
-    expect_eq!(rt; (hands.len(), hands[0].left(), hands[1].left()), (2, 5, 5));
-    expect_eq!(rt; hand.left(), 0);
-    Ok(())
+    split_ten(&rt, &file, &mut hand)
 }

@@ -7,7 +7,7 @@ use super::play::settled_acts;
 use lh_addr::Config;
 use lh_bucket::Reply;
 use lh_expect::{expect, expect_eq};
-use lh_file::{Gate, Hand, HashFile, Point};
+use lh_file::{Acts, Closed, Gate, Hand, HashFile, Point};
 use lh_page::{Key, Value};
 use std::alloc::Global;
 use std::sync::Wait;
@@ -195,6 +195,12 @@ fn crowd<R: Threads + Wait + Sync>(
     )
 }
 
+/// How many records a closed file has, and how many of the acts of one that began empty are settled.
+fn counted(alloc: Global, config: Config, closed: &Closed, acts: &Acts) -> Option<(u64, usize)> {
+    let settled = settled_acts(alloc, config, closed, acts)?;
+    Some((closed.records(), settled))
+}
+
 /// How many records eight threads leave in an empty file, and how many of their acts are settled.
 fn crowded<R: Threads + Wait + Sync>(
     rt: &R,
@@ -205,8 +211,7 @@ fn crowded<R: Threads + Wait + Sync>(
     let (file, hand) = made(alloc, config, GiveWay).ok()?;
     let all = crowd(rt, alloc, &file, hand, keys)?;
     let (closed, acts) = closed_by(rt, file, all)?;
-    let settled = settled_acts(alloc, config, &closed, &acts)?;
-    Some((closed.records(), settled))
+    counted(alloc, config, &closed, &acts)
 }
 
 #[test]

@@ -32,12 +32,22 @@ fn told_after<R: Threads + Wait + Sync>(
     Some(one(rt, file, &progress, &mut both.second, Task::Search(b'a')))
 }
 
+/// The same of a second hand that is split off.
+fn told_second<R: Threads + Wait + Sync>(
+    rt: &R,
+    file: &HashFile<NoGate>,
+    mut first: Hand,
+) -> Result<Told, Fail>
+    requires { IsOf file.now.state first }
+{
+    let second = second_of(file, &mut first, 10).ok_or("no second hand")?;
+    Ok(told_after(rt, file, first, second).ok_or("a thread was refused")?)
+}
+
 #[test]
 fn a_record_outlives_the_thread_of_its_writer(rt: HostRuntime) -> Result<(), Fail> {
     let config = Config::new(1, 14, 100, 65536)?;
-    let (file, mut first) = made(rt.alloc(), config, NoGate)?;
-    let second = second_of(&file, &mut first, 10).ok_or("no second hand")?;
-    let told = told_after(&rt, &file, first, second).ok_or("a thread was refused")?;
-    expect_eq!(rt; told, Told::Found);
+    let (file, first) = made(rt.alloc(), config, NoGate)?;
+    expect_eq!(rt; told_second(&rt, &file, first)?, Told::Found);
     Ok(())
 }

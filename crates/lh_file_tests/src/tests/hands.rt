@@ -1,5 +1,5 @@
 //! Hands of one thread: the right to split, sizes, acts and their counts, and running out of memory.
-ghost use Rattle.std.specs.Prelude.{◌≡◌, ◌≤◌, true, OnOk};
+ghost use Rattle.std.specs.Prelude.{◌≡◌, ◌≤◌, true, IfOk, OnOk};
 ghost use Rattle.lh_file.specs.FileState.{IsOf};
 
 use super::made::{file_of, join_again, split_once};
@@ -113,15 +113,28 @@ fn one_hand_at_a_time_has_the_right(rt: HostRuntime) -> Result<(), Fail> {
     Ok(())
 }
 
-#[test]
-fn a_file_is_closed_with_the_right(rt: HostRuntime) -> Result<(), Fail> {
-    let (file, mut first) = file_of(rt.alloc(), 65536)?;
+/// All hands of a file in one, which got the right before.
+fn joined_with_the_right(
+    rt: &impl Abort,
+    file: &HashFile<NoGate>,
+    mut first: Hand,
+) -> Result<Hand, Fail>
+    requires { IsOf file.now.state first }
+    ensures { IfOk result (IsOf file.now.state) }
+{
     let second = file.split_hand(&mut first, 10)?;
     file.try_split_right(&mut first);
-    let mut all = join_again(&file, first, second)?;
+    let mut all = join_again(file, first, second)?;
     expect!(rt; all.has_right());
     let load = file.load(&mut all);
     expect_eq!(rt; (load.inserted, load.deleted), (0, 0));
+    Ok(all)
+}
+
+#[test]
+fn a_file_is_closed_with_the_right(rt: HostRuntime) -> Result<(), Fail> {
+    let (file, first) = file_of(rt.alloc(), 65536)?;
+    let all = joined_with_the_right(&rt, &file, first)?;
     let (closed, acts) = file.close(&rt, all)?;
     expect_eq!(rt;
         (closed.buckets(), closed.split_open(), closed.stamps()),
@@ -222,6 +235,31 @@ fn hands_see_what_others_did(rt: HostRuntime) -> Result<(), Fail> {
     Ok(())
 }
 
+/// Inserts five records by a hand that is dropped then.
+fn lose_five<R: Wait>(rt: &R, file: &HashFile<NoGate>, mut hand: Hand) -> Result<(), Fail>
+    requires { IsOf file.now.state hand }
+{
+    call(rt, file, &mut hand, &insert(b"a")?)?;
+    call(rt, file, &mut hand, &insert(b"b")?)?;
+    call(rt, file, &mut hand, &insert(b"c")?)?;
+    call(rt, file, &mut hand, &insert(b"d")?)?;
+    call(rt, file, &mut hand, &insert(b"e")?)?;
+    Ok(())
+}
+
+/// The hand that closes the file knows of its first bucket alone.
+#[test]
+fn a_file_closes_with_buckets_that_its_hand_never_saw(rt: HostRuntime) -> Result<(), Fail> {
+    let config = Config::new(1, 2, 100, 65536)?;
+    let (file, mut first) = HashFile::create(rt.alloc(), config, false, NoGate)?;
+    let second = file.split_hand(&mut first, 5)?;
+    lose_five(&rt, &file, second)?;
+    let (closed, _) = file.close(&rt, first)?;
+    expect_eq!(rt; (closed.buckets(), closed.records()), (3, 5));
+    expect_eq!(rt; closed.into_listing()?.len(), 5);
+    Ok(())
+}
+
 /// The records of seven letters in five buckets of a file that began with three.
 fn seven_letters(alloc: Global) -> Result<Listing, Fail> {
     let mut lists = Vec::new(alloc);
@@ -290,11 +328,17 @@ fn are_five_acts(acts: &Acts) -> Result<bool, Fail> {
     Ok(acts.len() == kept.len())
 }
 
-#[test]
-fn acts_are_counted_and_kept(rt: HostRuntime) -> Result<(), Fail> {
-    let (file, mut first) = file_of(rt.alloc(), 8)?;
+/// All hands of a file in one, after those five calls.
+fn joined_after_five<R: Wait + Abort>(
+    rt: &R,
+    file: &HashFile<NoGate>,
+    mut first: Hand,
+) -> Result<Hand, Fail>
+    requires { IsOf file.now.state first }
+    ensures { IfOk result (IsOf file.now.state) }
+{
     let mut second = file.split_hand(&mut first, 10)?;
-    let replies = five_acts(&rt, &file, &mut first, &mut second)?;
+    let replies = five_acts(rt, file, &mut first, &mut second)?;
     let due = [
         Reply::Absent,
         Reply::Inserted,
@@ -304,10 +348,17 @@ fn acts_are_counted_and_kept(rt: HostRuntime) -> Result<(), Fail> {
     ];
     expect_eq!(rt; replies, due);
     expect!(rt; !second.has_right());
-    let mut all = join_again(&file, first, second)?;
+    let mut all = join_again(file, first, second)?;
     expect_eq!(rt; all.left(), (1 << 63) - 5);
     let load = file.load(&mut all);
     expect_eq!(rt; (load.inserted, load.deleted), (1, 1));
+    Ok(all)
+}
+
+#[test]
+fn acts_are_counted_and_kept(rt: HostRuntime) -> Result<(), Fail> {
+    let (file, first) = file_of(rt.alloc(), 8)?;
+    let all = joined_after_five(&rt, &file, first)?;
     let (closed, acts) = file.close(&rt, all)?;
     expect_eq!(rt;
         (closed.buckets(), closed.split_open(), closed.stamps()),
@@ -317,15 +368,22 @@ fn acts_are_counted_and_kept(rt: HostRuntime) -> Result<(), Fail> {
     Ok(())
 }
 
+/// One insert, which is counted.
+fn insert_one<R: Wait + Abort>(rt: &R, file: &HashFile<NoGate>, hand: &mut Hand) -> Result<(), Fail>
+    requires { IsOf file.now.state hand.old }
+    ensures { IsOf file.now.state hand.new }
+{
+    let reply = note(rt, file, hand, &insert(b"a")?)?;
+    expect_eq!(rt; reply, Reply::Inserted);
+    let load = file.load(hand);
+    expect_eq!(rt; (load.inserted, load.deleted), (1, 0));
+    Ok(())
+}
+
 #[test]
 fn acts_of_a_file_that_does_not_record_are_counted(rt: HostRuntime) -> Result<(), Fail> {
     let (file, mut hand) = HashFile::new(rt.alloc(), Config::new(1, 14, 100, 8)?)?;
-    expect_eq!(rt;
-        note(&rt, &file, &mut hand, &insert(b"a")?)?,
-        Reply::Inserted
-    );
-    let load = file.load(&mut hand);
-    expect_eq!(rt; (load.inserted, load.deleted), (1, 0));
+    insert_one(&rt, &file, &mut hand)?;
     let (closed, acts) = file.close(&rt, hand)?;
     expect_eq!(rt; closed.stamps(), 1);
     expect_eq!(rt; acts.len(), 0);

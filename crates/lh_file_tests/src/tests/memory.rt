@@ -2,6 +2,8 @@
 ghost use Rattle.std.specs.Prelude.{IfOk, IfSome};
 ghost use Rattle.lh_file.specs.FileState.{IsOf};
 
+mod at_once;
+
 use super::crew::added_in_threads;
 use super::made::{made_again, second_of};
 use super::stage::Progress;

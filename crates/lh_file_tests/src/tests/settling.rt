@@ -112,10 +112,15 @@ pub(crate) fn history_of(
     stamps: &[u64],
 ) -> Result<History, Fail> {
     let closed = closed(alloc, root, stamps.len() as u64, lists)?;
-    let opening = opening(alloc, &[&[]])?;
     let acts = inserts(alloc, stamps)?;
+    history_by(alloc, &closed, &acts)
+}
+
+/// The history of the acts of a file that began without records and is settled.
+fn history_by(alloc: Global, closed: &Closed, acts: &Acts) -> Result<History, Fail> {
+    let opening = opening(alloc, &[&[]])?;
     Ok(
-        settle(alloc, &opening, &closed, &acts)
+        settle(alloc, &opening, closed, acts)
             .ok()
             .ok_or("not settled")?,
     )

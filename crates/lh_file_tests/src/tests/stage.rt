@@ -75,6 +75,7 @@ fn number_of(point: Point) -> u64 {
         Point::Moved { old, new: _ } => 5 + 8 * u64::from(old),
         Point::Pointed { buckets } => 6 + 8 * u64::from(buckets),
         Point::Surveyed { buckets } => 7 + 8 * u64::from(buckets),
+        Point::Copied { bucket } => 8 + 8 * u64::from(bucket),
     }
 }
 

@@ -150,9 +150,10 @@ fn calls_of_a_traced_file_pass_the_same_points(rt: HostRuntime) -> Result<(), Fa
         progress: &progress,
         log: &log,
     };
+    let due = due()?;
     let listing = Listing::empty(rt.alloc(), Config::new(1, 2, 100, 65536)?)?;
     let opening = Opening::of(rt.alloc(), &listing, true, gate)?;
-    assert_eq!(rt; told_of::<Brand, _>(&rt, opening), Some(due()?));
+    assert_eq!(rt; told_of::<Brand, _>(&rt, opening), Some(due));
     expect!(rt; log.is_just(&POINTS));
     Ok(())
 }

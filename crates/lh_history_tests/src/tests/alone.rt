@@ -84,13 +84,13 @@ fn a_traced_file_need_not_record(rt: HostRuntime) -> Result<(), Fail> {
     Ok(())
 }
 
-/// A hand that may make one of the calls of another.
-fn part_of<J: FileBrand>(file: &File<NoGate, J>, hand: &mut Hand) -> Option<Hand>
+/// A hand that may make some of the calls of another.
+fn part_of<J: FileBrand>(file: &File<NoGate, J>, hand: &mut Hand, calls: u64) -> Option<Hand>
     requires { IsOf file.now.state hand.old }
     ensures old { IsOf file.now.state hand.new }
     ensures new { IfSome result (IsOf file.now.state) }
 {
-    file.split_hand(hand, 1).ok()
+    file.split_hand(hand, calls).ok()
 }
 
 /// Inserts one record by a hand that is dropped then. Says whether it was told what is due.
@@ -116,7 +116,7 @@ fn loss_of<J: FileBrand, R: Wait>(
     requires { IsBrandOf true J.named J.tables opening }
 {
     let (file, mut hand) = opening.file::<J>().ok()?;
-    let lost = part_of(&file, &mut hand)?;
+    let lost = part_of(&file, &mut hand, 1)?;
     if !lose(rt, &file, lost) {
         return None;
     }
@@ -134,6 +134,60 @@ fn a_traced_file_tells_what_is_missing(rt: HostRuntime) -> Result<(), Fail> {
         told: 1,
         gathered: true,
         records: 1,
+        settled: None,
+    };
+    expect_eq!(rt; ended, due);
+    Ok(())
+}
+
+/// Inserts one record. None where the call isn't told so.
+fn insert<J: FileBrand, R: Wait>(
+    rt: &R,
+    file: &File<NoGate, J>,
+    hand: &mut Hand,
+    key: &[u8],
+) -> Option<()>
+    requires { IsOf file.now.state hand.old }
+    ensures { IsOf file.now.state hand.new }
+{
+    let key = Key::new(key).ok()?;
+    let value = Value::new(b"1").ok()?;
+    match file.insert(rt, hand, key, value).ok()?.reply() {
+        Reply::Inserted => Some(()),
+        _ => None,
+    }
+}
+
+/// What a file tells that is closed after five records were inserted by a hand that was lost.
+fn five_of<J: FileBrand, R: Wait>(
+    rt: &R,
+    alloc: Global,
+    listing: &Listing,
+    opening: Opening<'_, NoGate>,
+) -> Option<Ended>
+    requires { IsBrandOf true J.named J.tables opening }
+{
+    let (file, mut hand) = opening.file::<J>().ok()?;
+    let mut lost = part_of(&file, &mut hand, 5)?;
+    insert(rt, &file, &mut lost, b"a")?;
+    insert(rt, &file, &mut lost, b"b")?;
+    insert(rt, &file, &mut lost, b"c")?;
+    insert(rt, &file, &mut lost, b"d")?;
+    insert(rt, &file, &mut lost, b"e")?;
+    close(rt, alloc, listing, file, hand)
+}
+
+/// The hand that closes the file knows of its first bucket alone, and meets all three.
+#[test]
+fn a_traced_file_closes_with_buckets_that_its_hand_never_saw(rt: HostRuntime) -> Result<(), Fail> {
+    let alloc = rt.alloc();
+    let listing = empty(alloc)?;
+    let opening = Opening::of(alloc, &listing, true, NoGate)?;
+    let ended = five_of::<Brand, _>(&rt, alloc, &listing, opening).ok_or("a call went wrong")?;
+    let due = Ended {
+        told: 5,
+        gathered: true,
+        records: 5,
         settled: None,
     };
     expect_eq!(rt; ended, due);

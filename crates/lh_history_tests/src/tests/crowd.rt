@@ -27,11 +27,13 @@ impl Gate for GiveWay {
     }
 }
 
-/// A hand that has done its share, and whether each of its calls was answered and told from then on.
+/// A hand that has done its share, whether each of its calls was answered and told from then on, and beside how many of
+/// them others acted.
 #[derive(Drop)]
 struct Finished {
     hand: Hand,
     is_well: bool,
+    beside: u64,
 }
 
 /// The hand that comes back is one of this file, and hasn't the right to split.
@@ -56,19 +58,19 @@ fn call_of(first: u32, turn: u32) -> Option<Call> {
     })
 }
 
-/// Makes the call of a turn, and says whether it was answered and more acts are told than before it.
+/// Makes the call of a turn: how many acts more are told than before it, which are none where it wasn't answered.
 fn take_turn<J: FileBrand, R: Wait>(
     rt: &R,
     file: &File<GiveWay, J>,
     hand: &mut Hand,
     first: u32,
     turn: u32,
-) -> bool
+) -> u64
     requires { IsFree file.now.state hand.old }
     ensures { IsFree file.now.state hand.new }
 {
     let Some(call) = call_of(first, turn) else {
-        return false;
+        return 0;
     };
     let told = file.told(hand);
     let answer = match call {
@@ -77,7 +79,10 @@ fn take_turn<J: FileBrand, R: Wait>(
         Call::Delete(key) => file.delete(rt, hand, key),
         Call::Replace(key, value) => file.replace(rt, hand, key, value),
     };
-    answer.is_ok() && told < file.told(hand)
+    if answer.is_err() {
+        return 0;
+    }
+    file.told(hand).saturating_sub(told)
 }
 
 /// Splits a bucket, where the right to do so is there to be got.
@@ -102,13 +107,22 @@ fn share<J: FileBrand, R: Wait>(
     ensures { IsFree file.now.state result.hand }
 {
     let mut is_well = true;
+    let mut beside = 0_u64;
     for turn in 0..2000_u32 {
-        is_well = take_turn(rt, file, &mut hand, first, turn) && is_well;
+        let acts = take_turn(rt, file, &mut hand, first, turn);
+        is_well = acts > 0 && is_well;
+        if acts > 1 {
+            beside = beside.saturating_add(1);
+        }
         if turn % 16 == 0 {
             is_well = grow(rt, file, &mut hand) && is_well;
         }
     }
-    Finished { hand, is_well }
+    Finished {
+        hand,
+        is_well,
+        beside,
+    }
 }
 
 /// Keeps a worker beside the others, or answers that there is no memory for it.
@@ -124,12 +138,14 @@ fn keep<'a, J: FileBrand>(
     workers.push(worker).is_ok()
 }
 
-/// Waits for a worker, and makes one hand of its hand and another one. None where one of its calls went wrong.
+/// Waits for a worker, adds up the calls beside which others acted, and makes one hand of its hand and another one. None
+/// where one of its calls went wrong.
 fn join<J: FileBrand, R: Threads + Wait>(
     rt: &R,
     file: &File<GiveWay, J>,
     hand: Hand,
     worker: PromisedHandle<Finished, OfCrowd<'_, J>>,
+    all_beside: &mut u64,
 ) -> Option<Hand>
     requires hand { IsOf file.now.state hand }
     requires worker { worker.promise.0.now.state ≡ file.now.state }
@@ -138,7 +154,9 @@ fn join<J: FileBrand, R: Threads + Wait>(
     let Finished {
         hand: part,
         is_well,
+        beside,
     } = worker.join(rt);
+    *all_beside = all_beside.saturating_add(beside);
     if !is_well {
         return None;
     }
@@ -151,16 +169,16 @@ fn shares<J: FileBrand + Send + Sync, R: Threads + Wait + Sync>(
     alloc: Global,
     file: &File<GiveWay, J>,
     hand: Hand,
-) -> Option<Hand>
+) -> Option<Finished>
     requires { IsOf file.now.state hand }
-    ensures { IfSome result (IsOf file.now.state) }
+    ensures { IfSome result (λ all. IsOf file.now.state all.hand) }
 {
     thread::scope(
         thread::scope_env(),
         rt,
-        |scope| -> Option<Hand>
+        |scope| -> Option<Finished>
             requires { IsOf file.now.state hand }
-            ensures { IfSome result (IsOf file.entry.now.state) }
+            ensures { IfSome result (λ all. IsOf file.entry.now.state all.hand) }
         {
             let mut all = hand;
             let mut workers = Vec::new(alloc);
@@ -179,36 +197,48 @@ fn shares<J: FileBrand + Send + Sync, R: Threads + Wait + Sync>(
                     return None;
                 }
             }
+            let mut beside = 0_u64;
             for worker in workers {
-                all = join(rt, file, all, worker)?;
+                all = join(rt, file, all, worker, &mut beside)?;
             }
-            Some(all)
+            Some(Finished {
+                hand: all,
+                is_well: true,
+                beside,
+            })
         },
     )
 }
 
-/// What a file tells that is closed after eight threads have done their shares.
+/// What a file tells that is closed after eight threads have done their shares, and beside how many calls others acted.
 fn crowded<J: FileBrand + Send + Sync, R: Threads + Wait + Sync>(
     rt: &R,
     alloc: Global,
     listing: &Listing,
     opening: Opening<'_, GiveWay>,
-) -> Option<Ended>
+) -> Option<(Ended, u64)>
     requires { IsBrandOf true J.named J.tables opening }
 {
     let (file, hand) = opening.file::<J>().ok()?;
     let all = shares(rt, alloc, &file, hand)?;
-    close(rt, alloc, listing, file, all)
+    Some((close(rt, alloc, listing, file, all.hand)?, all.beside))
 }
 
-/// All calls are told in the midst, and are one history at the end; settling the recorded acts says the same.
+/// Beside so many calls others act, before enough was tried.
+const ENOUGH: u64 = 100_000;
+
+/// All calls are told in the midst, and are one history at the end; settling the recorded acts says the same. A round has
+/// 16,000 calls, and most have others that act beside them.
 #[test]
-fn eight_threads_leave_one_history_a_hundred_times(rt: HostRuntime) -> Result<(), Fail> {
+fn eight_threads_leave_one_history_until_enough_met(rt: HostRuntime) -> Result<(), Fail> {
     let alloc = rt.alloc();
     let listing = Listing::empty(alloc, Config::new(1, 1, 100, 65536)?)?;
+    let mut beside = 0_u64;
     for _ in 0..100 {
         let opening = Opening::of(alloc, &listing, true, GiveWay)?;
-        let ended = crowded::<Brand, _>(&rt, alloc, &listing, opening).ok_or("a call went wrong")?;
+        let (ended, more) = crowded::<Brand, _>(&rt, alloc, &listing, opening).ok_or(
+            "a call went wrong",
+        )?;
         let due = Ended {
             told: 16_000,
             gathered: true,
@@ -217,6 +247,10 @@ fn eight_threads_leave_one_history_a_hundred_times(rt: HostRuntime) -> Result<()
         };
         expect_eq!(rt; ended, due);
         expect!(rt; ended.records <= 50);
+        beside = beside.saturating_add(more);
+        if beside >= ENOUGH {
+            return Ok(());
+        }
     }
-    Ok(())
+    Err(Fail::from("others acted beside too few calls"))
 }

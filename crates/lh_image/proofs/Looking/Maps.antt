@@ -101,8 +101,15 @@ along v key (x ∷ xs) (suc n) p path few none =
 
 -- ---- the plain map
 
-kept : (m : Records) (f : List ℕ → Bool) (q : List ℕ) → f q ≡ true → get (retain_keys m f) q ≡ get m q
+-- a map of some keys has what the whole map has of each of these
+pub kept : (m : Records) (f : List ℕ → Bool) (q : List ℕ) → f q ≡ true → get (retain_keys m f) q ≡ get m q
 kept m f q e =
+    get-retain_keys m f q (λ x h. ap f (sym (slice_cmp-IsAntisymmetric nat_cmp-IsAntisymmetric q x h)))
+    ∙ ap (λ b. cond b (get m q) None) e
+
+-- and nothing of any other
+pub not_kept : (m : Records) (f : List ℕ → Bool) (q : List ℕ) → f q ≡ false → get (retain_keys m f) q ≡ None
+not_kept m f q e =
     get-retain_keys m f q (λ x h. ap f (sym (slice_cmp-IsAntisymmetric nat_cmp-IsAntisymmetric q x h)))
     ∙ ap (λ b. cond b (get m q) None) e
 

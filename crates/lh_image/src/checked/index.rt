@@ -20,11 +20,12 @@ use lh_page::format::{Format, VERSION_2};
 use std::alloc::Global;
 
 /// The most records that a page of either version has.
-const MOST: usize = VERSION_2.slots;
+pub(crate) const MOST: usize = VERSION_2.slots;
 
 /// What is kept of a page: how many records it has, the next page of its chain, and the mark of each of its keys.
+#[repr(C)]
 #[derive(Clone, Copy)]
-pub(crate) struct PageIndex {
+pub struct PageIndex {
     pub marks: [u8; MOST],
     pub used: u8,
     pub next: u32,

@@ -71,6 +71,17 @@ pub(crate) fn value_in(slot: &[u8], format: Format) -> &[u8]
     &slot[start..start + slot[1] as usize]
 }
 
+/// Whether a slot's record has the key.
+#[inline]
+pub(crate) fn has_key(slot: &[u8], format: Format, key: &[u8]) -> bool
+    requires size { length slot.now ≡ slot_size format }
+    requires limits { IsWithinLimits format }
+    requires short { key_length slot.now ≤ format.key }
+    ensures { result ≡ bytes_eq (pair_of format slot.now).key key.now }
+{
+    slot[0] as usize == key.len() && &slot[LENGTHS..LENGTHS + key.len()] == key
+}
+
 /// Whether a key's address is another bucket. That of the key that is looked for is known.
 fn is_away(key: &[u8], is_sought: bool, root: &Root, bucket: u32) -> bool
     requires { is_sought ≡ true → is_home root.now bucket key.now ≡ true }

@@ -16,6 +16,21 @@ pub(crate) fn pair(key: &[u8], value: &[u8]) -> Result<Pair, Fail> {
     })
 }
 
+/// A record, and one with another key and no value.
+pub(crate) fn two_records(
+    alloc: Global,
+    key: &[u8],
+    value: &[u8],
+    second: &[u8],
+) -> Result<Vec<Pair>, Fail> {
+    let first = pair(key, value)?;
+    let second = pair(second, &[])?;
+    let mut records = Vec::new(alloc);
+    records.push(first)?;
+    records.push(second)?;
+    Ok(records)
+}
+
 /// Records with keys and values of one byte: each record is its key, then its value.
 fn letters(alloc: Global, records: &[u8]) -> Result<Vec<Pair>, Fail> {
     let mut pairs = Vec::new(alloc);

@@ -1,7 +1,7 @@
 //! Look-ups in images of either version that were checked, and bytes that are refused.
 use crate::tests::building::{
-    empty, listing_of, numbered, pair, six_pages, three_buckets, three_buckets_image, two_pages,
-    two_pages_image,
+    empty, listing_of, numbered, six_pages, three_buckets, three_buckets_image, two_pages,
+    two_pages_image, two_records,
 };
 use crate::tests::pages::{VERSION_1, VERSION_2, falling_chain, four_pages, set, two_buckets};
 use crate::tests::streams::Sink;
@@ -9,7 +9,7 @@ use crate::tests::version_2::{three_buckets_image_2, two_pages_image_2};
 use lh_bucket::Listing;
 use lh_expect::{expect, expect_eq};
 use lh_image::*;
-use lh_page::{Key, Value};
+use lh_page::{Key, Pair, Value};
 use std::alloc::{AllocGlobal, Global};
 use std::process::Abort;
 use std::test::Fail;
@@ -43,7 +43,15 @@ fn expect_listing(
     listing: &Listing,
     absent: &[&[u8]],
 ) -> Result<(), Fail> {
-    let image = checked(rt.alloc(), bytes)?;
+    expect_records(rt, &checked(rt.alloc(), bytes)?, listing, absent)
+}
+
+fn expect_records(
+    rt: &impl Abort,
+    image: &CheckedImage<'_>,
+    listing: &Listing,
+    absent: &[&[u8]],
+) -> Result<(), Fail> {
     expect_eq!(rt; image.config(), listing.config());
     expect!(rt; image.buckets() == listing.buckets());
     expect!(rt; image.len() == listing.len());
@@ -51,7 +59,7 @@ fn expect_listing(
     for bucket in 0..listing.buckets() {
         for place in 0..listing.len_of(bucket) {
             let pair = listing.pair_at(bucket, place);
-            expect_value(rt, &image, &pair.key, pair.value.bytes());
+            expect_value(rt, image, &pair.key, pair.value.bytes());
         }
     }
     for key in absent {
@@ -76,6 +84,18 @@ fn expect_both(
     expect_listing(rt, sink.bytes.as_slice(), listing, absent)
 }
 
+/// The images of both versions of these records, in a file of these settings.
+fn expect_both_of(
+    rt: &(impl Abort + AllocGlobal),
+    settings: [u32; 4],
+    buckets: u32,
+    records: &[Pair],
+    absent: &[&[u8]],
+) -> Result<(), Fail> {
+    let listing = listing_of(rt.alloc(), settings, buckets, records)?;
+    expect_both(rt, &listing, absent)
+}
+
 /// Empty buckets, keys in primary and in overflow pages, and keys that differ from one in length or in the last byte.
 #[test]
 fn worked_listings(rt: HostRuntime) -> Result<(), Fail> {
@@ -88,55 +108,79 @@ fn worked_listings(rt: HostRuntime) -> Result<(), Fail> {
     )?;
     expect_both(&rt, &two_pages(alloc)?, &[b"b", b"d", b"f", b"ac"])?;
     expect_both(&rt, &six_pages(alloc)?, &[b"c", b"f", b"g", b"h"])?;
-    let some = listing_of(alloc, [4, 2, 100, 65_536], 9, &numbered(alloc, 3)?)?;
-    expect_both(&rt, &some, &[b"\0\0\0\x03", b"\0\0\0", b"a"])
+    let absent: [&[u8]; 3] = [b"\0\0\0\x03", b"\0\0\0", b"a"];
+    expect_both_of(&rt, [4, 2, 100, 65_536], 9, &numbered(alloc, 3)?, &absent)
+}
+
+fn expect_long(rt: &(impl Abort + AllocGlobal), records: &[Pair]) -> Result<(), Fail> {
+    let absent: [&[u8]; 3] = [b"\0\0\0\x3c", b"\0\0\0", b"\0\0\0\0\0"];
+    expect_both_of(rt, [1, 2, 200, 1], 1, records, &absent)?;
+    let absent: [&[u8]; 3] = [b"\0\0\0\x3c", b"\x01\0\0\0", b"a"];
+    expect_both_of(rt, [2, 3, 100, 65_536], 5, records, &absent)
 }
 
 /// Each record of a chain of many pages, and of a file where each other bucket was split.
 #[test]
 fn long_chains(rt: HostRuntime) -> Result<(), Fail> {
-    let records = numbered(rt.alloc(), 60)?;
-    let one = listing_of(rt.alloc(), [1, 2, 200, 1], 1, &records)?;
-    expect_both(&rt, &one, &[b"\0\0\0\x3c", b"\0\0\0", b"\0\0\0\0\0"])?;
-    let some = listing_of(rt.alloc(), [2, 3, 100, 65_536], 5, &records)?;
-    expect_both(&rt, &some, &[b"\0\0\0\x3c", b"\x01\0\0\0", b"a"])
+    expect_long(&rt, &numbered(rt.alloc(), 60)?)
+}
+
+fn longest_of_2(rt: &(impl Abort + AllocGlobal), records: &[Pair]) -> Result<(), Fail> {
+    let mut last = [7; 56];
+    last[55] = 8;
+    let listing = listing_of(rt.alloc(), [1, 24, 100, 1], 1, records)?;
+    let mut sink = Sink::new(rt.alloc(), usize::MAX, 0);
+    expect_eq!(rt; write_image(&listing, &mut sink), Ok(()));
+    let absent = [[7; 54].as_slice(), &last, &[8; 56]];
+    expect_listing(rt, sink.bytes.as_slice(), &listing, &absent)
 }
 
 /// The longest key and value of each version, a key of which it is the front, and keys that differ in the last byte.
 #[test]
 fn longest_records(rt: HostRuntime) -> Result<(), Fail> {
-    let alloc = rt.alloc();
-    let mut records = Vec::new(alloc);
-    records.push(pair(&[7; 30], &[9; 40])?)?;
-    records.push(pair(&[7; 29], &[])?)?;
-    let listing = listing_of(alloc, [1, 14, 100, 1], 1, &records)?;
-    expect_both(&rt, &listing, &[&[7; 28], &[7; 31], &[7; 56]])?;
-    let mut last = [7; 56];
-    last[55] = 8;
-    let mut records = Vec::new(alloc);
-    records.push(pair(&[7; 56], &[9; 112])?)?;
-    records.push(pair(&[7; 55], &[])?)?;
-    let listing = listing_of(alloc, [1, 24, 100, 1], 1, &records)?;
-    let mut sink = Sink::new(alloc, usize::MAX, 0);
-    expect_eq!(rt; write_image(&listing, &mut sink), Ok(()));
-    let absent = [[7; 54].as_slice(), &last, &[8; 56]];
-    expect_listing(&rt, sink.bytes.as_slice(), &listing, &absent)
+    let absent: [&[u8]; 3] = [&[7; 28], &[7; 31], &[7; 56]];
+    expect_both_of(
+        &rt,
+        [1, 14, 100, 1],
+        1,
+        &two_records(rt.alloc(), &[7; 30], &[9; 40], &[7; 29])?,
+        &absent,
+    )?;
+    longest_of_2(
+        &rt,
+        &two_records(rt.alloc(), &[7; 56], &[9; 112], &[7; 55])?,
+    )
 }
 
-/// Overflow pages in any order are those of an image.
-#[test]
-fn falling_chains(rt: HostRuntime) -> Result<(), Fail> {
-    let bytes = falling_chain(rt.alloc(), &VERSION_2, 30)?;
-    let image = checked(rt.alloc(), &bytes)?;
+fn expect_falling(rt: &impl Abort, image: &CheckedImage<'_>) -> Result<(), Fail> {
     for page in 1..=30_u32 {
         let found = image.find(&Key::new(&page.to_be_bytes())?);
         expect_eq!(rt; found, Some(Value::empty()));
     }
     expect_eq!(rt; image.find(&Key::new(b"\0\0\0\x1f")?), None);
-    let bytes = four_pages(rt.alloc(), &VERSION_1)?;
-    let image = checked(rt.alloc(), &bytes)?;
+    Ok(())
+}
+
+fn falling_of_2(rt: &(impl Abort + AllocGlobal)) -> Result<(), Fail> {
+    let bytes = falling_chain(rt.alloc(), &VERSION_2, 30)?;
+    expect_falling(rt, &checked(rt.alloc(), &bytes)?)
+}
+
+fn expect_last(rt: &impl Abort, image: &CheckedImage<'_>) -> Result<(), Fail> {
     expect_eq!(rt; image.find(&Key::new(b"g")?), Some(Value::new(b"7")?));
     Ok(())
+}
+
+fn four_of_1(rt: &(impl Abort + AllocGlobal)) -> Result<(), Fail> {
+    let bytes = four_pages(rt.alloc(), &VERSION_1)?;
+    expect_last(rt, &checked(rt.alloc(), &bytes)?)
+}
+
+/// Overflow pages in any order are those of an image.
+#[test]
+fn falling_chains(rt: HostRuntime) -> Result<(), Fail> {
+    falling_of_2(&rt)?;
+    four_of_1(&rt)
 }
 
 /// Each row: a byte that is set, and the fault.
@@ -154,11 +198,10 @@ fn expect_refused(
     Ok(())
 }
 
-#[test]
-fn forged_images_are_refused(rt: HostRuntime) -> Result<(), Fail> {
+fn expect_three_refused(rt: &(impl Abort + AllocGlobal), image: &Vec<u8>) -> Result<(), Fail> {
     expect_refused(
-        &rt,
-        &three_buckets_image_2(rt.alloc())?,
+        rt,
+        image,
         &[
             (24, 5, ImageFault::Short),
             (4096, 2, ImageFault::Kind(1)),
@@ -171,10 +214,13 @@ fn forged_images_are_refused(rt: HostRuntime) -> Result<(), Fail> {
             (4114, b'b', ImageFault::Misfit(1)),
             (4114 + 170, b'a', ImageFault::Misfit(1)),
         ],
-    )?;
+    )
+}
+
+fn expect_two_refused(rt: &(impl Abort + AllocGlobal), image: &Vec<u8>) -> Result<(), Fail> {
     expect_refused(
-        &rt,
-        &two_pages_image(rt.alloc())?,
+        rt,
+        image,
         &[
             (1032, 9, ImageFault::Next(1)),
             (2056, 1, ImageFault::Next(2)),
@@ -182,19 +228,35 @@ fn forged_images_are_refused(rt: HostRuntime) -> Result<(), Fail> {
             (1032, 0, ImageFault::Never(2)),
             (2066, b'a', ImageFault::Misfit(2)),
         ],
-    )?;
+    )
+}
+
+fn expect_crossed_refused(rt: &(impl Abort + AllocGlobal), image: &Vec<u8>) -> Result<(), Fail> {
+    let page = image.len() / 5;
+    expect_refused(
+        rt,
+        image,
+        &[
+            (page + 8, 4, ImageFault::Next(1)),
+            (page * 2 + 8, 0, ImageFault::Never(4)),
+        ],
+    )
+}
+
+#[test]
+fn forged_images_are_refused(rt: HostRuntime) -> Result<(), Fail> {
+    expect_three_refused(&rt, &three_buckets_image_2(rt.alloc())?)?;
+    expect_two_refused(&rt, &two_pages_image(rt.alloc())?)?;
     for shape in [&VERSION_1, &VERSION_2] {
-        let bytes = two_buckets(rt.alloc(), shape)?;
-        let page = bytes.len() / 5;
-        expect_refused(
-            &rt,
-            &bytes,
-            &[
-                (page + 8, 4, ImageFault::Next(1)),
-                (page * 2 + 8, 0, ImageFault::Never(4)),
-            ],
-        )?;
+        expect_crossed_refused(&rt, &two_buckets(rt.alloc(), shape)?)?;
     }
+    Ok(())
+}
+
+fn expect_unmet(rt: &(impl Abort + AllocGlobal), bytes: &[u8]) -> Result<(), Fail> {
+    let found = Image::open(bytes)?.find(&Key::new(b"a")?);
+    expect_eq!(rt; found, Ok(Some(Value::new(b"1")?)));
+    expect_eq!(rt; checked(rt.alloc(), bytes).err(), Some(ImageFault::Used(0)));
     Ok(())
 }
 
@@ -203,17 +265,7 @@ fn forged_images_are_refused(rt: HostRuntime) -> Result<(), Fail> {
 fn faults_that_no_look_up_meets(rt: HostRuntime) -> Result<(), Fail> {
     let mut bytes = two_pages_image_2(rt.alloc())?;
     set(&mut bytes, 8193, 0);
-    let found = Image::open(&bytes)?.find(&Key::new(b"a")?);
-    expect_eq!(rt; found, Ok(Some(Value::new(b"1")?)));
-    expect_eq!(rt;
-        checked(rt.alloc(), &bytes).err(),
-        Some(ImageFault::Used(0))
-    );
-    let mut bytes = three_buckets_image(rt.alloc())?;
-    set(&mut bytes, 4095, 1);
-    expect_eq!(rt;
-        checked(rt.alloc(), &bytes).err(),
-        Some(ImageFault::Slot(3))
-    );
-    Ok(())
+    expect_unmet(&rt, &bytes)?;
+    let image = three_buckets_image(rt.alloc())?;
+    expect_refused(&rt, &image, &[(4095, 1, ImageFault::Slot(3))])
 }

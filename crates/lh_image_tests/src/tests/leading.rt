@@ -3,7 +3,7 @@ use crate::tests::building::{
     empty, empty_image, expect_same, three_buckets, three_buckets_image, two_pages, two_pages_image,
 };
 use crate::tests::pages::set;
-use crate::tests::streams::reader_of;
+use crate::tests::streams::{Slow, reader_of};
 use crate::tests::version_2::{three_buckets_image_2, two_pages_image_2};
 use lh_bucket::Listing;
 use lh_expect::expect_eq;
@@ -11,6 +11,27 @@ use lh_image::*;
 use std::alloc::{AllocGlobal, Global};
 use std::process::Abort;
 use std::test::Fail;
+
+/// Some bytes and others behind them.
+fn joined(alloc: Global, first: &[u8], second: &[u8]) -> Result<Vec<u8>, Fail> {
+    let mut bytes = Vec::new(alloc);
+    bytes.extend_from_slice(first)?;
+    bytes.extend_from_slice(second)?;
+    Ok(bytes)
+}
+
+/// A reader gives this listing first, and these bytes are left.
+fn expect_left_by(
+    rt: &impl Abort,
+    alloc: Global,
+    reader: &mut Slow<'_>,
+    behind: &[u8],
+    wanted: &Listing,
+) -> Result<(), Fail> {
+    expect_same(rt, &read_leading_image(alloc, reader)?, wanted);
+    expect_eq!(rt; reader.bytes, behind);
+    Ok(())
+}
 
 /// An image with these bytes behind it is read as its listing, however few bytes a read gives, and they are left.
 fn expect_left(
@@ -20,14 +41,9 @@ fn expect_left(
     behind: &[u8],
     wanted: &Listing,
 ) -> Result<(), Fail> {
-    let mut bytes = Vec::new(alloc);
-    bytes.extend_from_slice(image)?;
-    bytes.extend_from_slice(behind)?;
+    let bytes = joined(alloc, image, behind)?;
     for most in [1, 7, 1024, 4095] {
-        let mut reader = reader_of(&bytes, most);
-        let listing = read_leading_image(alloc, &mut reader)?;
-        expect_same(rt, &listing, wanted);
-        expect_eq!(rt; reader.bytes, behind);
+        expect_left_by(rt, alloc, &mut reader_of(&bytes, most), behind, wanted)?;
     }
     Ok(())
 }
@@ -56,18 +72,33 @@ fn what_follows_is_left(rt: HostRuntime) -> Result<(), Fail> {
     expect_all_left(&rt, &two_pages_image_2(alloc)?, &two_pages(alloc)?)
 }
 
+/// The input gives an image of the first listing, and then one of the second.
+fn expect_both(
+    rt: &impl Abort,
+    alloc: Global,
+    mut input: &[u8],
+    first: &Listing,
+    second: &Listing,
+) -> Result<(), Fail> {
+    expect_same(rt, &read_leading_image(alloc, &mut input)?, first);
+    expect_same(rt, &read_image(alloc, &mut input)?, second);
+    Ok(())
+}
+
+fn expect_two_images(rt: &impl Abort, alloc: Global, input: &[u8]) -> Result<(), Fail> {
+    expect_both(rt, alloc, input, &two_pages(alloc)?, &three_buckets(alloc)?)
+}
+
 /// Two images, one behind the other, are read one after the other.
 #[test]
 fn two_images(rt: HostRuntime) -> Result<(), Fail> {
     let alloc = rt.alloc();
-    let mut bytes = two_pages_image(alloc)?;
-    bytes.extend_from_slice(&three_buckets_image_2(alloc)?)?;
-    let mut input = bytes.as_slice();
-    let first = read_leading_image(alloc, &mut input)?;
-    let second = read_image(alloc, &mut input)?;
-    expect_same(&rt, &first, &two_pages(alloc)?);
-    expect_same(&rt, &second, &three_buckets(alloc)?);
-    Ok(())
+    let bytes = joined(
+        alloc,
+        &two_pages_image(alloc)?,
+        &three_buckets_image_2(alloc)?,
+    )?;
+    expect_two_images(&rt, alloc, &bytes)
 }
 
 /// Each row: a byte that is set, and the fault, whatever stands behind the image.
@@ -77,11 +108,9 @@ fn expect_faults(
     rows: &[(usize, u8, ImageFault)],
 ) -> Result<(), Fail> {
     for (at, byte, want) in rows {
-        let mut bytes = image.clone()?;
-        set(&mut bytes, *at, *byte);
         for behind in [b"".as_slice(), b"\0", b"search 61\n"] {
-            let mut bytes = bytes.clone()?;
-            bytes.extend_from_slice(behind)?;
+            let mut bytes = joined(rt.alloc(), image, behind)?;
+            set(&mut bytes, *at, *byte);
             let mut input = bytes.as_slice();
             let fault = read_leading_image(rt.alloc(), &mut input).err();
             assert_eq!(rt; fault, Some(*want), "{at}");

@@ -4,7 +4,9 @@ use crate::tests::streams::Sink;
 use lh_bucket::Listing;
 use lh_expect::expect_eq;
 use lh_image::*;
+use lh_page::Pair;
 use std::alloc::{AllocGlobal, Global};
+use std::fmt::Display;
 use std::process::Abort;
 use std::test::Fail;
 
@@ -22,15 +24,22 @@ fn expect_refused(
     Ok(())
 }
 
+/// The listing of these records in a file of these settings, refused for its capacity.
+fn expect_old_capacity(
+    rt: &(impl Abort + AllocGlobal),
+    settings: [u32; 4],
+    records: &[Pair],
+) -> Result<(), Fail> {
+    let listing = listing_of(rt.alloc(), settings, 1, records)?;
+    expect_refused(rt, &listing, WriteImageFault::OldCapacity)
+}
+
 #[test]
 fn a_page_of_more_than_14_records(rt: HostRuntime) -> Result<(), Fail> {
-    let alloc = rt.alloc();
-    let listing = listing_of(alloc, [1, 15, 100, 65_536], 1, &[])?;
-    expect_refused(&rt, &listing, WriteImageFault::OldCapacity)?;
+    expect_old_capacity(&rt, [1, 15, 100, 65_536], &[])?;
     // it comes before a long record
     let records = [pair(&[b'k'; 31], b"")?];
-    let listing = listing_of(alloc, [1, 24, 100, 65_536], 1, &records)?;
-    expect_refused(&rt, &listing, WriteImageFault::OldCapacity)
+    expect_old_capacity(&rt, [1, 24, 100, 65_536], &records)
 }
 
 /// One bucket with these records.
@@ -67,25 +76,28 @@ fn a_long_key_or_value(rt: HostRuntime) -> Result<(), Fail> {
     Ok(())
 }
 
+/// The second record of this bucket is told of these records in two buckets.
+fn expect_second_told(
+    rt: &(impl Abort + AllocGlobal),
+    records: &[Pair],
+    bucket: u32,
+) -> Result<(), Fail> {
+    let listing = listing_of(rt.alloc(), [2, 14, 100, 2], 2, records)?;
+    expect_refused(
+        rt,
+        &listing,
+        WriteImageFault::OldRecord { bucket, place: 1 },
+    )
+}
+
 /// The least bucket is told, whatever the places are.
 #[test]
 fn long_records_in_two_buckets(rt: HostRuntime) -> Result<(), Fail> {
-    let alloc = rt.alloc();
     let value = [b'v'; 41];
     let records = [pair(b"b", &value)?, pair(b"a", b"1")?, pair(b"c", &value)?];
-    let listing = listing_of(alloc, [2, 14, 100, 2], 2, &records)?;
-    let wanted = WriteImageFault::OldRecord {
-        bucket: 0,
-        place: 1,
-    };
-    expect_refused(&rt, &listing, wanted)?;
+    expect_second_told(&rt, &records, 0)?;
     let records = [pair(b"a", b"1")?, pair(b"b", b"2")?, pair(b"d", &value)?];
-    let listing = listing_of(alloc, [2, 14, 100, 2], 2, &records)?;
-    let wanted = WriteImageFault::OldRecord {
-        bucket: 1,
-        place: 1,
-    };
-    expect_refused(&rt, &listing, wanted)
+    expect_second_told(&rt, &records, 1)
 }
 
 /// What fits the slots of version 1 is written.
@@ -100,29 +112,35 @@ fn the_longest_old_record(rt: HostRuntime) -> Result<(), Fail> {
     Ok(())
 }
 
+fn expect_printed(
+    rt: &(impl Abort + AllocGlobal),
+    fault: &impl Display,
+    text: &str,
+) -> Result<(), Fail> {
+    let told = format!(in rt.alloc(); "{fault}")?;
+    expect_eq!(rt; told.as_str(), text);
+    Ok(())
+}
+
 #[test]
 fn refusals_are_printed(rt: HostRuntime) -> Result<(), Fail> {
-    let capacity = format!(in rt.alloc(); "{}", WriteImageFault::OldCapacity)?;
-    expect_eq!(rt; capacity.as_str(), "image V1");
-    let fault = WriteImageFault::OldRecord {
+    let long = WriteImageFault::OldRecord {
         bucket: 65_535,
         place: 12,
     };
-    let record = format!(in rt.alloc(); "{fault}")?;
-    expect_eq!(rt; record.as_str(), "image V2 at bucket 65535 place 12");
     for (fault, text) in [
+        (WriteImageFault::OldCapacity, "image V1"),
+        (long, "image V2 at bucket 65535 place 12"),
         (WriteImageFault::WriteFault, "write failed"),
         (WriteImageFault::Memory, "no memory"),
     ] {
-        let told = format!(in rt.alloc(); "{fault}")?;
-        expect_eq!(rt; told.as_str(), text);
+        expect_printed(&rt, &fault, text)?;
     }
     for (fault, text) in [
         (ImageFault::ReadFault, "read failed"),
         (ImageFault::Memory, "no memory"),
     ] {
-        let told = format!(in rt.alloc(); "{fault}")?;
-        expect_eq!(rt; told.as_str(), text);
+        expect_printed(&rt, &fault, text)?;
     }
     Ok(())
 }

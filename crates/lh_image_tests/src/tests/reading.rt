@@ -38,18 +38,33 @@ fn reads_through_any_reader(rt: HostRuntime) -> Result<(), Fail> {
     reads_as(&rt, alloc, &empty_image(alloc)?, &empty(alloc)?)
 }
 
-#[test]
-fn reads_records_by_bucket(rt: HostRuntime) -> Result<(), Fail> {
-    let alloc = rt.alloc();
-    let listing = read_again(alloc, &three_buckets_image(alloc)?)?;
+/// The records of a bucket are these.
+fn expect_shown(
+    rt: &impl Abort,
+    alloc: Global,
+    listing: &Listing,
+    bucket: u32,
+    records: &[u8],
+) -> Result<(), Fail> {
+    expect!(rt; *shown(alloc, listing, bucket)?.as_slice() == *records);
+    Ok(())
+}
+
+fn expect_three_buckets(rt: &impl Abort, alloc: Global, listing: &Listing) -> Result<(), Fail> {
     expect_eq!(rt; listing.buckets(), 3);
     expect_eq!(rt; listing.config().capacity(), 2);
     expect_eq!(rt; listing.config().load(), 100);
     expect_eq!(rt; listing.config().max(), 65536);
-    expect!(rt; *shown(alloc, &listing, 0)?.as_slice() == *b"a1e5".as_slice());
-    expect!(rt; *shown(alloc, &listing, 1)?.as_slice() == *b"b2d4".as_slice());
-    expect!(rt; *shown(alloc, &listing, 2)?.as_slice() == *b"c3".as_slice());
+    for (bucket, records) in [(0, "a1e5"), (1, "b2d4"), (2, "c3")] {
+        expect_shown(rt, alloc, listing, bucket, records.as_bytes())?;
+    }
     Ok(())
+}
+
+#[test]
+fn reads_records_by_bucket(rt: HostRuntime) -> Result<(), Fail> {
+    let bytes = three_buckets_image(rt.alloc())?;
+    expect_three_buckets(&rt, rt.alloc(), &read_again(rt.alloc(), &bytes)?)
 }
 
 #[test]
@@ -92,27 +107,27 @@ fn faults_of_the_header_come_before_a_failed_read(rt: HostRuntime) -> Result<(),
     Ok(())
 }
 
+fn expect_two_buckets(rt: &impl Abort, alloc: Global, listing: &Listing) -> Result<(), Fail> {
+    expect_shown(rt, alloc, listing, 0, b"a1c3")?;
+    expect_shown(rt, alloc, listing, 1, b"b2d4")
+}
+
 #[test]
 fn overflow_pages_in_any_order(rt: HostRuntime) -> Result<(), Fail> {
-    let alloc = rt.alloc();
-    let listing = read_again(alloc, &two_buckets_exchanged(alloc, &VERSION_1)?)?;
-    expect!(rt; *shown(alloc, &listing, 0)?.as_slice() == *b"a1c3".as_slice());
-    expect!(rt; *shown(alloc, &listing, 1)?.as_slice() == *b"b2d4".as_slice());
+    let bytes = two_buckets_exchanged(rt.alloc(), &VERSION_1)?;
+    expect_two_buckets(&rt, rt.alloc(), &read_again(rt.alloc(), &bytes)?)
+}
+
+fn expect_long(rt: &impl Abort, listing: &Listing) -> Result<(), Fail> {
+    expect!(rt; listing.buckets() == 1);
+    expect!(rt; listing.len_of(0) == 300);
+    expect_eq!(rt; listing.pair_at(0, 1).key, Key::new(&300_u32.to_be_bytes())?);
+    expect_eq!(rt; listing.pair_at(0, 299).key, Key::new(&2_u32.to_be_bytes())?);
     Ok(())
 }
 
 #[test]
 fn long_chain(rt: HostRuntime) -> Result<(), Fail> {
-    let listing = read_again(rt.alloc(), &falling_chain(rt.alloc(), &VERSION_1, 300)?)?;
-    expect!(rt; listing.buckets() == 1);
-    expect!(rt; listing.len_of(0) == 300);
-    expect_eq!(rt;
-        listing.pair_at(0, 1).key,
-        Key::new(&300_u32.to_be_bytes())?
-    );
-    expect_eq!(rt;
-        listing.pair_at(0, 299).key,
-        Key::new(&2_u32.to_be_bytes())?
-    );
-    Ok(())
+    let bytes = falling_chain(rt.alloc(), &VERSION_1, 300)?;
+    expect_long(&rt, &read_again(rt.alloc(), &bytes)?)
 }

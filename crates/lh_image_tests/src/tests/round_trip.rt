@@ -78,15 +78,28 @@ fn exchanged_pages_are_written_in_order(rt: HostRuntime) -> Result<(), Fail> {
     Ok(())
 }
 
+/// An image of one version is written in this version as these bytes.
+fn expect_exchanged(
+    rt: &impl Abort,
+    alloc: Global,
+    version: u32,
+    image: &[u8],
+    other: &[u8],
+) -> Result<(), Fail> {
+    let written = written(rt, alloc, version, &read_again(alloc, image)?);
+    expect_eq!(rt; written.as_slice(), other);
+    Ok(())
+}
+
+fn expect_exchanges(rt: &impl Abort, alloc: Global, old: &[u8], new: &[u8]) -> Result<(), Fail> {
+    expect_exchanged(rt, alloc, 2, old, new)?;
+    expect_exchanged(rt, alloc, 1, new, old)
+}
+
 /// An image of one version is written in the other.
 #[test]
 fn versions_are_exchanged(rt: HostRuntime) -> Result<(), Fail> {
     let alloc = rt.alloc();
     let old = two_buckets(alloc, &VERSION_1)?;
-    let new = two_buckets(alloc, &VERSION_2)?;
-    let from_old = written(&rt, alloc, 2, &read_again(alloc, &old)?);
-    expect_eq!(rt; from_old.as_slice(), new.as_slice());
-    let from_new = written(&rt, alloc, 1, &read_again(alloc, &new)?);
-    expect_eq!(rt; from_new.as_slice(), old.as_slice());
-    Ok(())
+    expect_exchanges(&rt, alloc, &old, &two_buckets(alloc, &VERSION_2)?)
 }

@@ -117,23 +117,35 @@ fn overflow_pages_stand_by_bucket_and_place(rt: HostRuntime) -> Result<(), Fail>
     Ok(())
 }
 
-/// A page of 24 records, the last of them with the longest key and value.
-#[test]
-fn the_largest_page_is_written(rt: HostRuntime) -> Result<(), Fail> {
-    let alloc = rt.alloc();
+/// The page of 24 records, the last of them with the longest key and value.
+fn largest_page(alloc: Global) -> Result<Listing, Fail> {
+    let last = pair(&[b'k'; 56], &[b'v'; 112])?;
     let mut records = numbered(alloc, 23)?;
-    records.push(pair(&[b'k'; 56], &[b'v'; 112])?)?;
-    let listing = listing_of(alloc, [1, 24, 100, 1], 1, &records)?;
-    let mut sink = Sink::new(alloc, usize::MAX, 0);
-    expect_eq!(rt; write_image(&listing, &mut sink), Ok(()));
-    let image = sink.bytes.as_slice();
+    records.push(last)?;
+    listing_of(alloc, [1, 24, 100, 1], 1, &records)
+}
+
+fn expect_largest(
+    rt: &impl Abort,
+    alloc: Global,
+    image: &[u8],
+    listing: &Listing,
+) -> Result<(), Fail> {
     expect_eq!(rt; image.len(), 2 * 4096);
     expect_eq!(rt; image.get(4096..4098), Some(b"\x01\x18".as_slice()));
     expect_eq!(rt; image.get(8022..8025), Some(b"\x38\x70k".as_slice()));
     expect_eq!(rt; image.get(8079..8081), Some(b"kv".as_slice()));
     expect_eq!(rt; image.get(8191), Some(&b'v'));
-    expect_same(&rt, &read_again(alloc, image)?, &listing);
+    expect_same(rt, &read_again(alloc, image)?, listing);
     Ok(())
+}
+
+#[test]
+fn the_largest_page_is_written(rt: HostRuntime) -> Result<(), Fail> {
+    let listing = largest_page(rt.alloc())?;
+    let mut sink = Sink::new(rt.alloc(), usize::MAX, 0);
+    expect_eq!(rt; write_image(&listing, &mut sink), Ok(()));
+    expect_largest(&rt, rt.alloc(), &sink.bytes, &listing)
 }
 
 #[test]
@@ -171,7 +183,6 @@ fn reads_through_any_reader(rt: HostRuntime) -> Result<(), Fail> {
 #[test]
 fn reads_overflow_pages_in_any_order(rt: HostRuntime) -> Result<(), Fail> {
     let alloc = rt.alloc();
-    let listing = read_again(alloc, &two_buckets_exchanged(alloc, &VERSION_2)?)?;
     let records = [
         pair(b"a", b"1")?,
         pair(b"b", b"2")?,
@@ -179,7 +190,8 @@ fn reads_overflow_pages_in_any_order(rt: HostRuntime) -> Result<(), Fail> {
         pair(b"d", b"4")?,
     ];
     let wanted = listing_of(alloc, [2, 1, 100, 2], 2, &records)?;
-    expect_same(&rt, &listing, &wanted);
+    let bytes = two_buckets_exchanged(alloc, &VERSION_2)?;
+    expect_same(&rt, &read_again(alloc, &bytes)?, &wanted);
     Ok(())
 }
 

@@ -96,34 +96,55 @@ impl KeySet for Early {
     }
 }
 
-#[test]
-fn a_delete_moves_the_last_record(rt: HostRuntime) -> Result<(), Fail> {
-    let mut chain = Chain::new(rt.alloc(), 2)?;
+/// Deletes the record of a key of one byte, whose value is one, and then the keys are these in so many pages.
+fn expect_moved(
+    rt: &impl Abort,
+    chain: &mut Chain,
+    key: &[u8],
+    keys: &[u8],
+    pages: usize,
+) -> Result<(), Fail> {
+    expect_eq!(rt; delete(rt, chain, key)?, pair_of(key, b"1")?);
+    expect_keys(rt, chain, keys);
+    expect_eq!(rt; chain.pages(), pages);
+    Ok(())
+}
+
+fn fill_and_delete(rt: &impl Abort, chain: &mut Chain) -> Result<(), Fail> {
     expect_eq!(rt; chain.pages(), 1);
     for key in [b"a", b"c", b"e", b"g"] {
-        add(&rt, &mut chain, key, b"1")?;
+        add(rt, chain, key, b"1")?;
     }
-    expect_keys(&rt, &chain, b"aceg");
+    expect_keys(rt, chain, b"aceg");
     expect_eq!(rt; chain.pages(), 2);
-    expect_eq!(rt; delete(&rt, &mut chain, b"a")?, pair_of(b"a", b"1")?);
-    expect_keys(&rt, &chain, b"gce");
-    expect_eq!(rt; chain.pages(), 2);
-    expect_eq!(rt; delete(&rt, &mut chain, b"e")?, pair_of(b"e", b"1")?);
-    expect_keys(&rt, &chain, b"gc");
-    expect_eq!(rt; chain.pages(), 1);
+    expect_moved(rt, chain, b"a", b"gce", 2)?;
+    expect_moved(rt, chain, b"e", b"gc", 1)?;
     expect_eq!(rt; chain.capacity(), 2);
     Ok(())
 }
 
 #[test]
-fn finds_replaces_and_divides(rt: HostRuntime) -> Result<(), Fail> {
-    let mut chain = Chain::new(rt.alloc(), 14)?;
+fn a_delete_moves_the_last_record(rt: HostRuntime) -> Result<(), Fail> {
+    fill_and_delete(&rt, &mut Chain::new(rt.alloc(), 2)?)
+}
+
+/// What a division takes off, asked for once more where memory was refused: the chain has these keys then.
+fn early_of(rt: &impl Abort, chain: &mut Chain, keys: &[u8]) -> Result<Chain, Fail> {
+    match chain.split_off(&Early) {
+        Ok(gone) => Ok(gone),
+        Err(Memory) => {
+            expect_keys(rt, chain, keys);
+            Ok(chain.split_off(&Early)?)
+        }
+    }
+}
+
+fn fill_and_replace(rt: &impl Abort, chain: &mut Chain, key: &Key) -> Result<(), Fail> {
     for letter in b'a'..=b'z' {
-        add(&rt, &mut chain, &[letter, b'0'], &[letter])?;
+        add(rt, chain, &[letter, b'0'], &[letter])?;
     }
     expect_eq!(rt; chain.pages(), 2);
-    let key = Key::new(b"y0")?;
-    let Some(place) = chain.find(&key) else {
+    let Some(place) = chain.find(key) else {
         return Err(Fail::from("no record has the key"));
     };
     expect_eq!(rt; place, 24);
@@ -131,20 +152,35 @@ fn finds_replaces_and_divides(rt: HostRuntime) -> Result<(), Fail> {
         chain.replace_at(place, Value::new(b"new")?),
         Value::new(b"y")?
     );
-    expect_eq!(rt; chain.find(&key), Some(24));
+    expect_eq!(rt; chain.find(key), Some(24));
     expect!(rt; 24 < chain.len());
     expect_eq!(rt; chain.pair_at(24), pair_of(b"y0", b"new")?);
-    let gone = match chain.split_off(&Early) {
-        Ok(gone) => gone,
-        Err(Memory) => {
-            expect_keys(&rt, &chain, b"abcdefghijklmnopqrstuvwxyz");
-            chain.split_off(&Early)?
-        }
-    };
-    expect_keys(&rt, &gone, b"abcdef");
-    expect_keys(&rt, &chain, b"ghijklmnopqrstuvwxyz");
+    Ok(())
+}
+
+fn divide(rt: &impl Abort, chain: &mut Chain, key: &Key) -> Result<(), Fail> {
+    let gone = early_of(rt, chain, b"abcdefghijklmnopqrstuvwxyz")?;
+    expect_keys(rt, &gone, b"abcdef");
+    expect_keys(rt, chain, b"ghijklmnopqrstuvwxyz");
     expect_eq!(rt; gone.capacity(), 14);
-    expect_eq!(rt; chain.find(&key), Some(18));
+    expect_eq!(rt; chain.find(key), Some(18));
+    Ok(())
+}
+
+#[test]
+fn finds_replaces_and_divides(rt: HostRuntime) -> Result<(), Fail> {
+    let key = Key::new(b"y0")?;
+    let mut chain = Chain::new(rt.alloc(), 14)?;
+    fill_and_replace(&rt, &mut chain, &key)?;
+    divide(&rt, &mut chain, &key)
+}
+
+fn add_second(rt: &impl Abort, chain: &mut Chain) -> Result<(), Fail> {
+    add(rt, chain, b"b", b"2")?;
+    expect_keys(rt, chain, b"ab");
+    expect_eq!(rt; chain.pages(), 2);
+    expect_eq!(rt; chain.find(&Key::new(b"a")?), Some(0));
+    expect_eq!(rt; chain.pair_at(0), pair_of(b"a", b"1")?);
     Ok(())
 }
 
@@ -155,12 +191,7 @@ fn a_chain_is_made_of_records(rt: HostRuntime) -> Result<(), Fail> {
         Ok(chain) => chain,
         Err(Memory) => Chain::from_pairs(rt.alloc(), 1, &pairs)?,
     };
-    add(&rt, &mut chain, b"b", b"2")?;
-    expect_keys(&rt, &chain, b"ab");
-    expect_eq!(rt; chain.pages(), 2);
-    expect_eq!(rt; chain.find(&Key::new(b"a")?), Some(0));
-    expect_eq!(rt; chain.pair_at(0), pair_of(b"a", b"1")?);
-    Ok(())
+    add_second(&rt, &mut chain)
 }
 
 #[test]
@@ -171,61 +202,60 @@ fn counts_the_pages_of_records(rt: HostRuntime) {
     expect_eq!(rt; pages_needed(usize::MAX, 1), usize::MAX);
 }
 
-#[test]
-fn a_value_crosses_from_the_line_and_back(rt: HostRuntime) -> Result<(), Fail> {
-    for len in [1, 16, 55, 56] {
-        let mut chain = Chain::new(rt.alloc(), 24)?;
-        add_records(&rt, &mut chain, b"abcde")?;
-        let key = key_of(b'x', len)?;
-        let mut before = value_of(0, 3)?;
-        add(&rt, &mut chain, key.bytes(), before.bytes())?;
-        for length in [7, 112, 6, 47, 61, 0, 111, 46, 62, 5] {
-            let Some(place) = chain.find(&key) else {
-                return Err(Fail::from("no record has the key"));
-            };
-            let value = value_of(length as u8, length)?;
-            expect_eq!(rt; chain.replace_at(place, value), before);
-            expect_eq!(rt; chain.find(&key), Some(5));
-            expect!(rt; place < chain.len());
-            expect_eq!(rt; chain.pair_at(place), Pair { key, value });
-            before = value;
-        }
-        expect_eq!(rt;
-            delete(&rt, &mut chain, record_of(b'a')?.key.bytes())?,
-            record_of(b'a')?
-        );
-        expect_eq!(rt; chain.find(&key), Some(0));
-        expect!(rt; 0 < chain.len());
-        expect_eq!(rt; chain.pair_at(0), Pair { key, value: before });
+/// The key is found at this place, with this value.
+fn expect_record(rt: &impl Abort, chain: &Chain, key: &Key, value: &Value, place: usize) {
+    expect_eq!(rt; chain.find(key), Some(place));
+    expect!(rt; place < chain.len());
+    expect_eq!(rt; chain.pair_at(place), Pair { key: *key, value: *value });
+}
+
+/// A sixth record's value is replaced by longer and shorter ones, and then the first record goes.
+fn cross(rt: &impl Abort, chain: &mut Chain, len: usize) -> Result<(), Fail> {
+    add_records(rt, chain, b"abcde")?;
+    let key = key_of(b'x', len)?;
+    let mut before = value_of(0, 3)?;
+    add(rt, chain, key.bytes(), before.bytes())?;
+    for length in [7, 112, 6, 47, 61, 0, 111, 46, 62, 5] {
+        let Some(place) = chain.find(&key) else {
+            return Err(Fail::from("no record has the key"));
+        };
+        let value = value_of(length as u8, length)?;
+        expect_eq!(rt; chain.replace_at(place, value), before);
+        expect_record(rt, chain, &key, &value, 5);
+        before = value;
     }
+    expect_eq!(rt;
+        delete(rt, chain, record_of(b'a')?.key.bytes())?,
+        record_of(b'a')?
+    );
+    expect_record(rt, chain, &key, &before, 0);
     Ok(())
 }
 
 #[test]
-fn the_longest_keys_have_six_bytes_behind_them(rt: HostRuntime) -> Result<(), Fail> {
-    let mut chain = Chain::new(rt.alloc(), 2)?;
-    for (letter, len) in [
-        (b'a', 6),
-        (b'b', 7),
-        (b'c', 6),
-        (b'd', 7),
-        (b'e', 0),
-        (b'f', 112),
-    ] {
-        let value = value_of(letter, len)?;
-        add(&rt, &mut chain, key_of(letter, 56)?.bytes(), value.bytes())?;
+fn a_value_crosses_from_the_line_and_back(rt: HostRuntime) -> Result<(), Fail> {
+    for len in [1, 16, 55, 56] {
+        cross(&rt, &mut Chain::new(rt.alloc(), 24)?, len)?;
     }
-    for (place, (letter, len)) in [
-        (b'a', 6),
-        (b'b', 7),
-        (b'c', 6),
-        (b'd', 7),
-        (b'e', 0),
-        (b'f', 112),
-    ]
-    .iter()
-    .enumerate()
-    {
+    Ok(())
+}
+
+/// Records with the longest keys, each with a letter, and values of these lengths.
+const LONGEST: [(u8, usize); 6] = [
+    (b'a', 6),
+    (b'b', 7),
+    (b'c', 6),
+    (b'd', 7),
+    (b'e', 0),
+    (b'f', 112),
+];
+
+fn add_longest(rt: &impl Abort, chain: &mut Chain) -> Result<(), Fail> {
+    for (letter, len) in LONGEST {
+        let value = value_of(letter, len)?;
+        add(rt, chain, key_of(letter, 56)?.bytes(), value.bytes())?;
+    }
+    for (place, (letter, len)) in LONGEST.iter().enumerate() {
         let pair = Pair {
             key: key_of(*letter, 56)?,
             value: value_of(*letter, *len)?,
@@ -233,7 +263,11 @@ fn the_longest_keys_have_six_bytes_behind_them(rt: HostRuntime) -> Result<(), Fa
         expect!(rt; place < chain.len());
         expect_eq!(rt; chain.pair_at(place), pair);
     }
-    // A key that differs in its last byte alone, one that differs at the end of its first half, and a shorter one.
+    Ok(())
+}
+
+/// A key that differs in its last byte alone, one that differs at the end of its first half, and a shorter one.
+fn expect_others_absent(rt: &impl Abort, chain: &Chain) -> Result<(), Fail> {
     let mut bytes = [b'-'; 56];
     bytes[0] = b'a';
     expect_eq!(rt; chain.find(&Key::new(&bytes)?), Some(0));
@@ -247,52 +281,82 @@ fn the_longest_keys_have_six_bytes_behind_them(rt: HostRuntime) -> Result<(), Fa
 }
 
 #[test]
-fn a_delete_moves_a_record_to_another_unit(rt: HostRuntime) -> Result<(), Fail> {
-    let mut chain = Chain::new(rt.alloc(), 24)?;
+fn the_longest_keys_have_six_bytes_behind_them(rt: HostRuntime) -> Result<(), Fail> {
+    let mut chain = Chain::new(rt.alloc(), 2)?;
+    add_longest(&rt, &mut chain)?;
+    expect_others_absent(&rt, &chain)
+}
+
+fn delete_at_places(rt: &impl Abort, chain: &mut Chain) -> Result<(), Fail> {
     let mut letters = *b"abcdefghijklm";
-    add_records(&rt, &mut chain, &letters)?;
+    add_records(rt, chain, &letters)?;
     for (removed, place) in [0, 11, 3, 4, 7, 1, 5, 0, 4, 2, 0, 1, 0].iter().enumerate() {
         expect!(rt; removed < 13 && *place < 13);
         let pair = record_of(letters[*place])?;
         expect_eq!(rt; chain.find(&pair.key), Some(*place));
-        expect_eq!(rt; delete(&rt, &mut chain, pair.key.bytes())?, pair);
+        expect_eq!(rt; delete(rt, chain, pair.key.bytes())?, pair);
         letters[*place] = letters[12 - removed];
-        expect_records(&rt, &chain, &letters[..12 - removed])?;
+        expect_records(rt, chain, &letters[..12 - removed])?;
     }
+    Ok(())
+}
+
+fn add_again(rt: &impl Abort, chain: &mut Chain) -> Result<(), Fail> {
     expect_eq!(rt; chain.len(), 0);
-    add_records(&rt, &mut chain, b"nop")?;
-    expect_records(&rt, &chain, b"nop")
+    add_records(rt, chain, b"nop")?;
+    expect_records(rt, chain, b"nop")
+}
+
+#[test]
+fn a_delete_moves_a_record_to_another_unit(rt: HostRuntime) -> Result<(), Fail> {
+    let mut chain = Chain::new(rt.alloc(), 24)?;
+    delete_at_places(&rt, &mut chain)?;
+    add_again(&rt, &mut chain)
+}
+
+/// What a division takes off, asked for once more where memory was refused: the chain has these records then.
+pub fn early_records_of(rt: &impl Abort, chain: &mut Chain, letters: &[u8]) -> Result<Chain, Fail> {
+    match chain.split_off(&Early) {
+        Ok(gone) => Ok(gone),
+        Err(Memory) => {
+            expect_records(rt, chain, letters)?;
+            Ok(chain.split_off(&Early)?)
+        }
+    }
+}
+
+fn fill_and_split(rt: &impl Abort, chain: &mut Chain) -> Result<(), Fail> {
+    let letters = b"ABCDEFGHIJKLMNOPQRSTUVWXYZabcdefghijklmnopqrstuvwxyz";
+    add_records(rt, chain, letters)?;
+    expect_eq!(rt; chain.pages(), 3);
+    expect_records(rt, chain, letters)?;
+    // Those below `g` are more than half.
+    let gone = early_records_of(rt, chain, letters)?;
+    expect_records(rt, &gone, b"ABCDEFGHIJKLMNOPQRSTUVWXYZabcdef")
 }
 
 #[test]
 fn a_split_takes_long_values_along(rt: HostRuntime) -> Result<(), Fail> {
-    let letters = b"ABCDEFGHIJKLMNOPQRSTUVWXYZabcdefghijklmnopqrstuvwxyz";
     let mut chain = Chain::new(rt.alloc(), 24)?;
-    add_records(&rt, &mut chain, letters)?;
-    expect_eq!(rt; chain.pages(), 3);
-    expect_records(&rt, &chain, letters)?;
-    let gone = match chain.split_off(&Early) {
-        Ok(gone) => gone,
-        Err(Memory) => {
-            expect_records(&rt, &chain, letters)?;
-            chain.split_off(&Early)?
-        }
-    };
-    // Those below `g` are more than half.
-    expect_records(&rt, &gone, b"ABCDEFGHIJKLMNOPQRSTUVWXYZabcdef")?;
+    fill_and_split(&rt, &mut chain)?;
     expect_records(&rt, &chain, b"ghijklmnopqrstuvwxyz")
 }
 
-/// No number of records is too many for a chain, nor for a split of it.
-#[test]
-fn a_chain_has_many_records(rt: HostRuntime) -> Result<(), Fail> {
-    let mut chain = Chain::new(rt.alloc(), 24)?;
+fn push_many(rt: &impl Abort, chain: &mut Chain) -> Result<(), Fail> {
     for number in 0..5000_u16 {
         let pair = pair_of(&number.wrapping_mul(13).to_be_bytes(), b"1")?;
         expect_eq!(rt; chain.find(&pair.key), None);
         chain.push(pair)?;
     }
     expect_eq!(rt; (chain.len(), chain.pages()), (5000, 209));
+    Ok(())
+}
+
+/// No number of records is too many for a chain, nor for a split of it.
+#[test]
+fn a_chain_has_many_records(rt: HostRuntime) -> Result<(), Fail> {
+    let mut chain = Chain::new(rt.alloc(), 24)?;
+    push_many(&rt, &mut chain)?;
     let gone = chain.split_off(&Early)?;
     // The first byte is below `g` for a number below 103 * 256 / 13.
     expect_eq!(rt; (gone.len(), chain.len()), (2029, 2971));
@@ -338,16 +402,19 @@ fn expect_value(rt: &impl Abort, chain: &Chain, place: usize, bytes: &[u8]) {
     expect_eq!(rt; chain.value_bytes(place), bytes);
 }
 
+fn change_by_parts(rt: &impl Abort, chain: &mut Chain) -> Result<(), Fail> {
+    append_records(rt, chain, b"abcdefg")?;
+    discard_at(rt, chain, 1);
+    expect_records(rt, chain, b"agcdef")?;
+    discard_at(rt, chain, 5);
+    expect_records(rt, chain, b"agcde")?;
+    set_value_at(rt, chain, 1, &value_of(7, 112)?);
+    expect_value(rt, chain, 1, &[7; 112]);
+    expect_value(rt, chain, 4, record_of(b'e')?.value.bytes());
+    Ok(())
+}
+
 #[test]
 fn a_chain_is_changed_by_parts(rt: HostRuntime) -> Result<(), Fail> {
-    let mut chain = Chain::new(rt.alloc(), 2)?;
-    append_records(&rt, &mut chain, b"abcdefg")?;
-    discard_at(&rt, &mut chain, 1);
-    expect_records(&rt, &chain, b"agcdef")?;
-    discard_at(&rt, &mut chain, 5);
-    expect_records(&rt, &chain, b"agcde")?;
-    set_value_at(&rt, &mut chain, 1, &value_of(7, 112)?);
-    expect_value(&rt, &chain, 1, &[7; 112]);
-    expect_value(&rt, &chain, 4, record_of(b'e')?.value.bytes());
-    Ok(())
+    change_by_parts(&rt, &mut Chain::new(rt.alloc(), 2)?)
 }

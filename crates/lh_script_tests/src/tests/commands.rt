@@ -5,7 +5,8 @@ use lh_bucket::Call;
 use lh_expect::expect_eq;
 use lh_page::{Key, Value};
 use lh_script::{ParseError, parse};
-use std::alloc::{AllocError, Global};
+use std::alloc::{AllocError, AllocGlobal, Global};
+use std::process::Abort;
 use std::test::Fail;
 
 /// A text of one byte, again and again.
@@ -25,10 +26,15 @@ fn with_zeros(
     after: &[u8],
 ) -> Result<Vec<u8>, AllocError> {
     let zeros = repeated(alloc, b'0', digits)?;
+    joined(alloc, [before, &zeros, after])
+}
+
+/// One part after another.
+fn joined(alloc: Global, parts: [&[u8]; 3]) -> Result<Vec<u8>, AllocError> {
     let mut text = Vec::new(alloc);
-    text.extend_from_slice(before)?;
-    text.extend_from_slice(zeros.as_slice())?;
-    text.extend_from_slice(after)?;
+    for part in parts {
+        text.extend_from_slice(part)?;
+    }
     Ok(text)
 }
 
@@ -42,6 +48,24 @@ fn outcome(alloc: Global, text: &[u8]) -> Result<String, AllocError> {
         Err(ParseError::Fault(fault)) => fault.to_string(alloc),
         Err(ParseError::Memory) => Err(AllocError),
     }
+}
+
+/// A text has so many calls, or this is wrong with it.
+fn expect_outcome(rt: &(impl Abort + AllocGlobal), text: &[u8], want: &str) -> Result<(), Fail> {
+    expect_eq!(rt; outcome(rt.alloc(), text)?.as_str(), want);
+    Ok(())
+}
+
+/// The same of a line with so many zeros in it.
+fn expect_of_zeros(
+    rt: &(impl Abort + AllocGlobal),
+    before: &str,
+    digits: usize,
+    after: &str,
+    want: &str,
+) -> Result<(), Fail> {
+    let text = with_zeros(rt.alloc(), before.as_bytes(), digits, after.as_bytes())?;
+    expect_outcome(rt, &text, want)
 }
 
 #[test]
@@ -82,172 +106,86 @@ fn a_dash_is_the_empty_value(rt: HostRuntime) -> Result<(), Fail> {
 
 #[test]
 fn faulty_words(rt: HostRuntime) -> Result<(), Fail> {
-    let alloc = rt.alloc();
-    expect_eq!(rt;
-        outcome(alloc, b"# x\n\nfrob\n".as_slice())?.as_str(),
-        "line 3: unknown word"
-    );
-    expect_eq!(rt;
-        outcome(alloc, b"Search 61\n".as_slice())?.as_str(),
-        "line 1: unknown word"
-    );
-    expect_eq!(rt;
-        outcome(alloc, b"search\n".as_slice())?.as_str(),
-        "line 1: wrong number of words"
-    );
-    expect_eq!(rt;
-        outcome(alloc, b"search 61 62\n".as_slice())?.as_str(),
-        "line 1: wrong number of words"
-    );
-    expect_eq!(rt;
-        outcome(alloc, b"insert 6g\n".as_slice())?.as_str(),
-        "line 1: wrong number of words"
-    );
-    expect_eq!(rt;
-        outcome(alloc, b"insert 61 31 # x\n".as_slice())?.as_str(),
-        "line 1: wrong number of words"
-    );
-    expect_eq!(rt;
-        outcome(alloc, b"replace 61\n".as_slice())?.as_str(),
-        "line 1: wrong number of words"
-    );
+    for (text, want) in [
+        ("# x\n\nfrob\n", "line 3: unknown word"),
+        ("Search 61\n", "line 1: unknown word"),
+        ("search\n", "line 1: wrong number of words"),
+        ("search 61 62\n", "line 1: wrong number of words"),
+        ("insert 6g\n", "line 1: wrong number of words"),
+        ("insert 61 31 # x\n", "line 1: wrong number of words"),
+        ("replace 61\n", "line 1: wrong number of words"),
+    ] {
+        expect_outcome(&rt, text.as_bytes(), want)?;
+    }
     Ok(())
 }
 
 #[test]
 fn faulty_operands(rt: HostRuntime) -> Result<(), Fail> {
-    let alloc = rt.alloc();
-    expect_eq!(rt;
-        outcome(alloc, b"insert 6g 31\n".as_slice())?.as_str(),
-        "line 1: bad hexadecimal"
-    );
-    expect_eq!(rt;
-        outcome(alloc, b"insert 61 3\n".as_slice())?.as_str(),
-        "line 1: bad hexadecimal"
-    );
-    expect_eq!(rt;
-        outcome(alloc, b"insert - 3\n".as_slice())?.as_str(),
-        "line 1: key length 0"
-    );
-    expect_eq!(rt;
-        outcome(alloc, b"delete 6\xe9\n".as_slice())?.as_str(),
-        "line 1: bad hexadecimal"
-    );
-    expect_eq!(rt;
-        outcome(alloc, b"delete --\n".as_slice())?.as_str(),
-        "line 1: bad hexadecimal"
-    );
-    expect_eq!(rt;
-        outcome(alloc, b"search 61\nsearch 6\nfrob\n".as_slice())?.as_str(),
-        "line 2: bad hexadecimal"
-    );
-    Ok(())
+    for (text, want) in [
+        ("insert 6g 31\n", "line 1: bad hexadecimal"),
+        ("insert 61 3\n", "line 1: bad hexadecimal"),
+        ("insert - 3\n", "line 1: key length 0"),
+        ("delete --\n", "line 1: bad hexadecimal"),
+        ("search 61\nsearch 6\nfrob\n", "line 2: bad hexadecimal"),
+    ] {
+        expect_outcome(&rt, text.as_bytes(), want)?;
+    }
+    expect_outcome(&rt, b"delete 6\xe9\n", "line 1: bad hexadecimal")
 }
 
 #[test]
 fn keys_have_56_bytes_at_most(rt: HostRuntime) -> Result<(), Fail> {
-    let alloc = rt.alloc();
-    let text = with_zeros(alloc, b"search ", 112, b"\n")?;
-    expect_eq!(rt; outcome(alloc, text.as_slice())?.as_str(), "1 calls");
-    let text = with_zeros(alloc, b"search ", 114, b"\n")?;
-    expect_eq!(rt;
-        outcome(alloc, text.as_slice())?.as_str(),
-        "line 1: key length 57"
-    );
-    let text = with_zeros(alloc, b"search ", 115, b"\n")?;
-    expect_eq!(rt;
-        outcome(alloc, text.as_slice())?.as_str(),
-        "line 1: bad hexadecimal"
-    );
-    let text = with_zeros(alloc, b"search ", 114, b"0g\n")?;
-    expect_eq!(rt;
-        outcome(alloc, text.as_slice())?.as_str(),
-        "line 1: bad hexadecimal"
-    );
-    let text = with_zeros(alloc, b"insert ", 114, b" 3\n")?;
-    expect_eq!(rt;
-        outcome(alloc, text.as_slice())?.as_str(),
-        "line 1: key length 57"
-    );
+    for (before, digits, after, want) in [
+        ("search ", 112, "\n", "1 calls"),
+        ("search ", 114, "\n", "line 1: key length 57"),
+        ("search ", 115, "\n", "line 1: bad hexadecimal"),
+        ("search ", 114, "0g\n", "line 1: bad hexadecimal"),
+        ("insert ", 114, " 3\n", "line 1: key length 57"),
+    ] {
+        expect_of_zeros(&rt, before, digits, after, want)?;
+    }
     Ok(())
 }
 
 #[test]
 fn values_have_112_bytes_at_most(rt: HostRuntime) -> Result<(), Fail> {
-    let alloc = rt.alloc();
-    let text = with_zeros(alloc, b"insert 61 ", 224, b"\n")?;
-    expect_eq!(rt; outcome(alloc, text.as_slice())?.as_str(), "1 calls");
-    let text = with_zeros(alloc, b"insert 61 ", 226, b"\n")?;
-    expect_eq!(rt;
-        outcome(alloc, text.as_slice())?.as_str(),
-        "line 1: value length 113"
-    );
-    let text = with_zeros(alloc, b"insert 61 ", 227, b"\n")?;
-    expect_eq!(rt;
-        outcome(alloc, text.as_slice())?.as_str(),
-        "line 1: bad hexadecimal"
-    );
+    for (digits, want) in [
+        (224, "1 calls"),
+        (226, "line 1: value length 113"),
+        (227, "line 1: bad hexadecimal"),
+    ] {
+        expect_of_zeros(&rt, "insert 61 ", digits, "\n", want)?;
+    }
     Ok(())
 }
 
 #[test]
 fn long_words_have_their_length(rt: HostRuntime) -> Result<(), Fail> {
-    let alloc = rt.alloc();
-    let text = with_zeros(alloc, b"delete ", 1_000_000, b"\n")?;
-    expect_eq!(rt;
-        outcome(alloc, text.as_slice())?.as_str(),
-        "line 1: key length 500000"
-    );
-    Ok(())
+    expect_of_zeros(&rt, "delete ", 1_000_000, "\n", "line 1: key length 500000")
 }
 
 #[test]
 fn blanks_comments_and_line_ends(rt: HostRuntime) -> Result<(), Fail> {
-    let alloc = rt.alloc();
-    expect_eq!(rt; outcome(alloc, b"".as_slice())?.as_str(), "0 calls");
-    expect_eq!(rt;
-        outcome(alloc, b"\n \t\n\r\n".as_slice())?.as_str(),
-        "0 calls"
-    );
-    expect_eq!(rt;
-        outcome(alloc, b" \tsearch\t 61 \t\r\n".as_slice())?.as_str(),
-        "1 calls"
-    );
-    expect_eq!(rt;
-        outcome(alloc, b"search 61".as_slice())?.as_str(),
-        "1 calls"
-    );
-    expect_eq!(rt;
-        outcome(alloc, b" #search 61\n#\nsearch 61\n".as_slice())?.as_str(),
-        "1 calls"
-    );
-    expect_eq!(rt;
-        outcome(alloc, b"search 61\r\r\n".as_slice())?.as_str(),
-        "line 1: bad hexadecimal"
-    );
-    expect_eq!(rt;
-        outcome(alloc, b"search 61\r".as_slice())?.as_str(),
-        "line 1: bad hexadecimal"
-    );
-    expect_eq!(rt;
-        outcome(alloc, b"\r".as_slice())?.as_str(),
-        "line 1: unknown word"
-    );
-    expect_eq!(rt;
-        outcome(alloc, b"search 61\r \n".as_slice())?.as_str(),
-        "line 1: bad hexadecimal"
-    );
+    for (text, want) in [
+        ("", "0 calls"),
+        ("\n \t\n\r\n", "0 calls"),
+        (" \tsearch\t 61 \t\r\n", "1 calls"),
+        ("search 61", "1 calls"),
+        (" #search 61\n#\nsearch 61\n", "1 calls"),
+        ("search 61\r\r\n", "line 1: bad hexadecimal"),
+        ("search 61\r", "line 1: bad hexadecimal"),
+        ("\r", "line 1: unknown word"),
+        ("search 61\r \n", "line 1: bad hexadecimal"),
+    ] {
+        expect_outcome(&rt, text.as_bytes(), want)?;
+    }
     Ok(())
 }
 
 #[test]
 fn scripts_have_16_777_216_bytes_at_most(rt: HostRuntime) -> Result<(), Fail> {
-    let alloc = rt.alloc();
-    let text = repeated(alloc, b' ', 16_777_217)?;
-    expect_eq!(rt;
-        outcome(alloc, text.as_slice())?.as_str(),
-        "script too long"
-    );
-    expect_eq!(rt; outcome(alloc, &text.as_slice()[1..])?.as_str(), "0 calls");
-    Ok(())
+    let text = repeated(rt.alloc(), b' ', 16_777_217)?;
+    expect_outcome(&rt, &text, "script too long")?;
+    expect_outcome(&rt, &text.as_slice()[1..], "0 calls")
 }

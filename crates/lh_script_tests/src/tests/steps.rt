@@ -95,13 +95,18 @@ fn what_is_seldom_told_has_a_text(rt: HostRuntime) -> Result<(), Fail> {
         level: 16,
         bucket: 65_535,
     };
-    let text = EntryText(&Ok(aim)).to_string(alloc)?;
-    expect_eq!(rt; text.as_str(), "aim 16 65535");
-    let text = EntryText(&Err(Refusal::Memory)).to_string(alloc)?;
-    expect_eq!(rt; text.as_str(), "refused C7");
+    expect_eq!(rt;
+        EntryText(&Ok(aim)).to_string(alloc)?.as_str(),
+        "aim 16 65535"
+    );
+    let refused = Err(Refusal::Memory);
+    expect_eq!(rt; EntryText(&refused).to_string(alloc)?.as_str(), "refused C7");
     let length = LineFault::ValueLength(8_388_608);
     expect_eq!(rt; length.to_string(alloc)?.as_str(), "value length 8388608");
-    let text = ScriptFault::AtLine(16_777_216, length).to_string(alloc)?;
-    expect_eq!(rt; text.as_str(), "line 16777216: value length 8388608");
+    let fault = ScriptFault::AtLine(16_777_216, length);
+    expect_eq!(rt;
+        fault.to_string(alloc)?.as_str(),
+        "line 16777216: value length 8388608"
+    );
     Ok(())
 }

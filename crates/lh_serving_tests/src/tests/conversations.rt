@@ -73,6 +73,24 @@ fn lines_that_come_byte_by_byte_have_the_same_answers(rt: HostRuntime) -> Result
     Ok(())
 }
 
+/// Three records in pages of one have three buckets, and no split is missed.
+#[test]
+fn a_conversation_splits_where_the_policy_wants_it(rt: HostRuntime) -> Result<(), Fail> {
+    let Ok(mut talk) = Conversation::new(rt.alloc(), Config::new(1, 1, 100, 65536)?) else {
+        return Err(Fail::from("no conversation"));
+    };
+    hear(
+        &mut talk,
+        b"insert 61 31\ninsert 62 31\ninsert 63 31\nbuckets\n",
+    )?;
+    expect_eq!(rt;
+        talk.waiting(),
+        b"inserted\ninserted\ninserted\nbuckets 3\n".as_slice()
+    );
+    expect!(rt; !talk.has_missed_a_split());
+    Ok(())
+}
+
 #[test]
 fn a_line_is_answered_with_its_lf(rt: HostRuntime) -> Result<(), Fail> {
     let mut talk = conversation(rt.alloc())?;

@@ -17,6 +17,7 @@ use lh_shards::{
 };
 use std::alloc::Global;
 use std::marker::Brand;
+use std::process::Abort;
 use std::sync::Wait;
 use std::test::Fail;
 
@@ -42,6 +43,27 @@ fn divided_again(shards: &Shards, hands: &mut Hands) -> Result<Hands, SplitFault
     }
 }
 
+/// Adds a record by one of four calls: whether it is new.
+fn added<R: Wait>(
+    rt: &R,
+    shards: &Shards,
+    hands: &mut Hands,
+    key: &Key,
+    value: &Value,
+) -> Result<bool, FileFault>
+    requires { AreOf shards.now hands.old }
+    ensures { AreOf shards.now hands.new }
+{
+    match key.bytes() {
+        b"a" | b"e" | b"i" => shards.upsert(rt, hands, key, value),
+        b"b" | b"f" | b"j" => shards
+            .get_or_put(rt, hands, key, value)
+            .map(|there| there.is_none()),
+        b"c" | b"g" | b"k" => shards.merge(rt, hands, key, value, |_bytes: &[u8]| Value::empty()),
+        _ => shards.put(rt, hands, key, value),
+    }
+}
+
 /// Inserts a letter: whether all went as it has to. Where the insert was refused, the other hands don't find the
 /// letter.
 fn put_again<R: Wait>(
@@ -59,12 +81,12 @@ fn put_again<R: Wait>(
     let (Ok(key), Ok(value)) = (Key::new(&[letter]), Value::new(&[letter])) else {
         return false;
     };
-    let mut put = shards.put(rt, hands, &key, &value);
+    let mut put = added(rt, shards, hands, &key, &value);
     if put == Err(FileFault::Memory) {
         if shards.get(rt, other, &key) != Ok(None) {
             return false;
         }
-        put = shards.put(rt, hands, &key, &value);
+        put = added(rt, shards, hands, &key, &value);
     }
     put == Ok(true)
 }
@@ -162,6 +184,20 @@ fn settled_again(
     }
 }
 
+/// All that was done in closed shards is settled.
+fn expect_settled(
+    rt: &impl Abort,
+    alloc: Global,
+    config: Config,
+    closed: &ClosedShards,
+) -> Result<(), Fail> {
+    expect_eq!(rt; records_in(closed), 24);
+    let openings = openings_again(alloc, config, closed)?;
+    let histories = settled_again(alloc, &openings, closed)?;
+    expect!(rt; acts_in(&histories) == 24 || acts_in(&histories) == 25);
+    Ok(())
+}
+
 #[test]
 fn refused_growth_loses_nothing(rt: HostRuntime) -> Result<(), Fail> {
     let config = Config::new(1, 2, 100, 16)?;
@@ -171,11 +207,7 @@ fn refused_growth_loses_nothing(rt: HostRuntime) -> Result<(), Fail> {
         Ok(closed) => closed,
         Err(Memory) => filled_and_closed(&rt, rt.alloc(), config).ok_or("a call went wrong")??,
     };
-    expect_eq!(rt; records_in(&closed), 24);
-    let openings = openings_again(rt.alloc(), config, &closed)?;
-    let histories = settled_again(rt.alloc(), &openings, &closed)?;
-    expect!(rt; acts_in(&histories) == 24 || acts_in(&histories) == 25);
-    Ok(())
+    expect_settled(&rt, rt.alloc(), config, &closed)
 }
 
 /// How many records a snapshot of a shard has.
@@ -266,18 +298,27 @@ fn looked_again<R: Wait>(
     Ok((taken, met))
 }
 
+/// Two callers fill the shards, and the first looks.
+fn fill_and_look<R: Wait + Abort>(
+    rt: &R,
+    alloc: Global,
+    shards: &Shards,
+    first: &mut Hands,
+) -> Result<(), Fail>
+    requires { AreOf shards.now first.old }
+{
+    let mut second = divided_again(shards, first)?;
+    expect!(rt; fill_again(rt, shards, first, &mut second));
+    expect_eq!(rt; looked_again(rt, alloc, shards, first)?, (24, 24));
+    Ok(())
+}
+
 /// A refused look is told as such, and the same look is taken as well after it.
 #[test]
 fn memory_refused_in_a_look_loses_nothing(rt: HostRuntime) -> Result<(), Fail> {
     let config = Config::new(1, 2, 100, 16)?;
     let (shards, mut first) = made_again(rt.alloc(), config)?;
-    let mut second = divided_again(&shards, &mut first)?;
-    expect!(rt; fill_again(&rt, &shards, &mut first, &mut second));
-    expect_eq!(rt;
-        looked_again(&rt, rt.alloc(), &shards, &mut first)?,
-        (24, 24)
-    );
-    Ok(())
+    fill_and_look(&rt, rt.alloc(), &shards, &mut first)
 }
 
 /// How many shards there are once traced ones are open.

@@ -1,4 +1,6 @@
 //! Shards that are opened from listings, and listings that are refused.
+ghost use Rattle.lh_shards.specs.Hands.{AreOf};
+
 use super::calls::{insert_letters, shards_of};
 use super::whole::{openings, records_in};
 use lh_addr::{Config, fnv1a};
@@ -6,8 +8,10 @@ use lh_bucket::Listing;
 use lh_expect::{expect, expect_eq};
 use lh_file::Load;
 use lh_page::{Key, Pair, Value};
-use lh_shards::{OpenFault, Shards, empty_listings, shard_of};
+use lh_shards::{ClosedShards, Hands, OpenFault, Shards, empty_listings, shard_of};
 use std::alloc::Global;
+use std::process::Abort;
+use std::sync::Wait;
 use std::test::Fail;
 
 /// Why listings are not taken.
@@ -18,32 +22,76 @@ fn fault_of(alloc: Global, listings: &[Listing]) -> Result<OpenFault, Fail> {
     }
 }
 
-#[test]
-fn settled_shards_are_opened_again(rt: HostRuntime) -> Result<(), Fail> {
-    let (shards, mut hands) = shards_of(rt.alloc(), 8)?;
-    insert_letters(&rt, &shards, &mut hands)?;
-    let closed = shards.close(&rt, hands)?;
-    let openings = openings(rt.alloc(), &closed)?;
-    let _ = closed.settle(rt.alloc(), &openings)?;
+/// The acts of closed shards are settled.
+fn settle(alloc: Global, closed: &ClosedShards) -> Result<(), Fail> {
+    let openings = openings(alloc, closed)?;
+    let _ = closed.settle(alloc, &openings)?;
+    Ok(())
+}
+
+/// The listings of closed shards with 25 letters, whose acts are settled.
+fn settled_listings(
+    rt: &impl Abort,
+    alloc: Global,
+    closed: ClosedShards,
+) -> Result<Vec<Listing>, Fail> {
+    settle(alloc, &closed)?;
     expect_eq!(rt; records_in(&closed), 25);
-    let listings = closed.into_listings()?;
-    let (shards, mut hands) = Shards::open_from(rt.alloc(), &listings, true)?;
+    Ok(closed.into_listings()?)
+}
+
+/// The listings of eight shards with 25 letters.
+fn filled<R: Abort + Wait>(rt: &R, alloc: Global) -> Result<Vec<Listing>, Fail> {
+    let (shards, mut hands) = shards_of(alloc, 8)?;
+    insert_letters(rt, &shards, &mut hands)?;
+    settled_listings(rt, alloc, shards.close(rt, hands)?)
+}
+
+/// One of those letters is removed.
+fn remove_letter<R: Abort + Wait>(rt: &R, shards: &Shards, hands: &mut Hands) -> Result<(), Fail>
+    requires { AreOf shards.now hands.old }
+    ensures { AreOf shards.now hands.new }
+{
     expect_eq!(rt; shards.count(), 8);
     let load = Load {
         opening: 25,
         inserted: 0,
         deleted: 0,
     };
-    expect_eq!(rt; shards.load(&mut hands), load);
+    expect_eq!(rt; shards.load(hands), load);
     let (key, value) = (Key::new(b"q")?, Value::new(b"qq")?);
-    expect_eq!(rt; shards.get(&rt, &mut hands, &key)?, Some(value));
-    expect!(rt; shards.remove(&rt, &mut hands, &key)?);
-    let closed = shards.close(&rt, hands)?;
-    expect_eq!(rt; listings.len(), closed.count() as usize);
-    let histories = closed.settle(rt.alloc(), &listings)?;
-    expect_eq!(rt; histories.len(), 8);
-    expect_eq!(rt; records_in(&closed), 24);
+    expect_eq!(rt; shards.get(rt, hands, &key)?, Some(value));
+    expect!(rt; shards.remove(rt, hands, &key)?);
     Ok(())
+}
+
+/// What was done since shards were opened from listings is settled.
+fn expect_one_less(
+    rt: &impl Abort,
+    alloc: Global,
+    listings: &[Listing],
+    closed: &ClosedShards,
+) -> Result<(), Fail> {
+    expect_eq!(rt; listings.len(), closed.count() as usize);
+    let histories = closed.settle(alloc, listings)?;
+    expect_eq!(rt; histories.len(), 8);
+    expect_eq!(rt; records_in(closed), 24);
+    Ok(())
+}
+
+fn open_and_close<R: Abort + Wait>(
+    rt: &R,
+    alloc: Global,
+    listings: &[Listing],
+) -> Result<(), Fail> {
+    let (shards, mut hands) = Shards::open_from(alloc, listings, true)?;
+    remove_letter(rt, &shards, &mut hands)?;
+    expect_one_less(rt, alloc, listings, &shards.close(rt, hands)?)
+}
+
+#[test]
+fn settled_shards_are_opened_again(rt: HostRuntime) -> Result<(), Fail> {
+    open_and_close(&rt, rt.alloc(), &filled(&rt, rt.alloc())?)
 }
 
 #[test]

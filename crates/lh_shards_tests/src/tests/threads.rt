@@ -8,7 +8,7 @@ use lh_bucket::{Call, Reply};
 use lh_expect::expect_eq;
 use lh_file::{ActLine, History};
 use lh_page::{Key, Value};
-use lh_shards::{Hands, Shards};
+use lh_shards::{ClosedShards, Hands, Shards};
 use std::alloc::{AllocError, Global};
 use std::collections::BTreeMap;
 use std::process::Abort;
@@ -197,18 +197,30 @@ fn records_of_runs(rt: &impl Abort, alloc: Global, histories: &[History]) -> Res
     Ok(map.len() as u64)
 }
 
+/// The histories of shards merge into those of one map, which leaves this many records.
+fn expect_one_map(
+    rt: &impl Abort,
+    alloc: Global,
+    histories: &[History],
+    records: u64,
+) -> Result<(), Fail> {
+    expect_eq!(rt; acts_in(histories), 8 * 60 * 5);
+    expect_eq!(rt; records_of_turns(rt, alloc, histories)?, records);
+    expect_eq!(rt; records_of_runs(rt, alloc, histories)?, records);
+    Ok(())
+}
+
+fn expect_settled(rt: &impl Abort, alloc: Global, closed: &ClosedShards) -> Result<(), Fail> {
+    let openings = openings(alloc, closed)?;
+    let histories = closed.settle(alloc, &openings)?;
+    expect_one_map(rt, alloc, &histories, records_in(closed))
+}
+
 #[test]
 fn eight_threads_make_one_map(rt: HostRuntime) -> Result<(), Fail> {
     let (shards, hands) = shards_of(rt.alloc(), 8)?;
     let Some(hands) = work_in_threads(&rt, rt.alloc(), &shards, hands) else {
         return Err(Fail::new("a hand was lost"));
     };
-    let closed = shards.close(&rt, hands)?;
-    let openings = openings(rt.alloc(), &closed)?;
-    let histories = closed.settle(rt.alloc(), &openings)?;
-    expect_eq!(rt; acts_in(&histories), 8 * 60 * 5);
-    let records = records_in(&closed);
-    expect_eq!(rt; records_of_turns(&rt, rt.alloc(), &histories)?, records);
-    expect_eq!(rt; records_of_runs(&rt, rt.alloc(), &histories)?, records);
-    Ok(())
+    expect_settled(&rt, rt.alloc(), &shards.close(&rt, hands)?)
 }

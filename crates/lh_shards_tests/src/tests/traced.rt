@@ -36,17 +36,22 @@ fn fault_of(alloc: Global, listings: &[Listing]) -> Result<OpenFault, Fail> {
     }
 }
 
-#[test]
-fn traced_shards_are_refused_as_others_are(rt: HostRuntime) -> Result<(), Fail> {
-    let alloc = rt.alloc();
-    let config = Config::new(1, 2, 100, 16)?;
-    let mut listings = empty_listings(alloc, config, 0)?;
-    expect_eq!(rt; fault_of(alloc, &listings)?, OpenFault::Count);
+/// No listings are refused, and two of which the second has another configuration.
+fn expect_refused(rt: &impl Abort, alloc: Global, listings: &mut Vec<Listing>) -> Result<(), Fail> {
+    expect_eq!(rt; fault_of(alloc, listings)?, OpenFault::Count);
     for capacity in [2, 3] {
         let config = Config::new(1, capacity, 100, 16)?;
         listings.push(Listing::empty(alloc, config)?)?;
     }
-    expect_eq!(rt; fault_of(alloc, &listings)?, OpenFault::Config { shard: 1 });
+    expect_eq!(rt; fault_of(alloc, listings)?, OpenFault::Config { shard: 1 });
+    Ok(())
+}
+
+#[test]
+fn traced_shards_are_refused_as_others_are(rt: HostRuntime) -> Result<(), Fail> {
+    let alloc = rt.alloc();
+    let config = Config::new(1, 2, 100, 16)?;
+    expect_refused(&rt, alloc, &mut empty_listings(alloc, config, 0)?)?;
     let (listings, place) = listings_astray(alloc)?;
     expect_eq!(rt;
         fault_of(alloc, &listings)?,
@@ -123,6 +128,26 @@ fn called<J: FileBrand, R: Abort + Wait>(
     Ok((shards.close(rt, hands)?, buckets, records))
 }
 
+/// What was done since traced shards were opened from listings is settled.
+fn expect_settled(
+    rt: &impl Abort,
+    alloc: Global,
+    listings: &[Listing],
+    closed: &ClosedShards,
+    records: u64,
+) -> Result<(), Fail>
+    requires { length listings.now ≡ length closed.now }
+{
+    for shard in 0..closed.count() {
+        expect!(rt; closed.shard(shard).closed.gathered());
+    }
+    expect_eq!(rt; records_in(closed), records);
+    let histories = closed.settle(alloc, listings)?;
+    expect_eq!(rt; histories.len(), 3);
+    expect_eq!(rt; acts_in(&histories), 605);
+    Ok(())
+}
+
 #[test]
 fn traced_shards_close_with_their_histories(rt: HostRuntime) -> Result<(), Fail> {
     let alloc = rt.alloc();
@@ -130,14 +155,7 @@ fn traced_shards_close_with_their_histories(rt: HostRuntime) -> Result<(), Fail>
     let openings = Openings::of(alloc, &listings, true)?;
     let (closed, buckets, records) = called::<Brand, _>(&rt, alloc, openings)?;
     expect!(rt; buckets > 3);
-    for shard in 0..closed.count() {
-        expect!(rt; closed.shard(shard).closed.gathered());
-    }
-    expect_eq!(rt; records_in(&closed), records);
-    let histories = closed.settle(alloc, &listings)?;
-    expect_eq!(rt; histories.len(), 3);
-    expect_eq!(rt; acts_in(&histories), 605);
-    Ok(())
+    expect_settled(&rt, alloc, &listings, &closed, records)
 }
 
 /// What a thread brings back: its hands, and whether all went as it has to.
@@ -400,28 +418,58 @@ fn check_orders(
     Ok(ordered)
 }
 
+/// Room for all messages.
+fn messages_of(alloc: Global) -> Result<Vec<OnceLock<u64>>, Fail> {
+    let mut messages = Vec::new(alloc);
+    for _ in 0..MESSAGES {
+        messages.push(OnceLock::new())?;
+    }
+    Ok(messages)
+}
+
+/// How many pairs of an act and a message have an order, in the histories of all shards.
+fn ordered_in(
+    rt: &impl Abort,
+    histories: &[History],
+    messages: &[OnceLock<u64>],
+) -> Result<u64, Fail> {
+    expect_eq!(rt; histories.len(), 3);
+    let mut ordered = 0_u64;
+    for (shard, history) in histories.iter().enumerate() {
+        // 20 messages, before each of which there is an act, and two acts beside each of the 60.
+        expect_eq!(rt; history.len(), 140);
+        ordered = ordered.saturating_add(check_orders(rt, history, messages, shard as u8)?);
+    }
+    Ok(ordered)
+}
+
+fn expect_ordered(
+    rt: &impl Abort,
+    alloc: Global,
+    listings: &[Listing],
+    closed: &ClosedShards,
+    messages: &[OnceLock<u64>],
+) -> Result<(), Fail>
+    requires { length listings.now ≡ length closed.now }
+{
+    let histories = closed.settle(alloc, listings)?;
+    // Of 3 * 140 * 20 pairs those have no order that are of two acts and a message beside which they were made.
+    expect_eq!(rt;
+        ordered_in(rt, &histories, messages)?,
+        8_400 - 2 * (57 * 3 + 2 + 1)
+    );
+    Ok(())
+}
+
 /// Each thread hears of one shard from the thread before it, acts in the next shard, and tells the next thread of that.
 /// No shard knows of another one, but whatever was done before a message has stamps below the number that it says, in
 /// the history of its shard, and whatever was done after it has none of those.
 #[test]
 fn told_numbers_order_acts_of_two_shards(rt: HostRuntime) -> Result<(), Fail> {
     let alloc = rt.alloc();
+    let messages = messages_of(alloc)?;
     let listings = empty_listings(alloc, Config::new(1, 2, 100, 1_024)?, 3)?;
     let openings = Openings::of(alloc, &listings, true)?;
-    let mut messages = Vec::new(alloc);
-    for _ in 0..MESSAGES {
-        messages.push(OnceLock::new())?;
-    }
     let closed = exchanged::<Brand, _>(&rt, alloc, openings, &messages).ok_or("a call went wrong")?;
-    let histories = closed.settle(alloc, &listings)?;
-    expect_eq!(rt; histories.len(), 3);
-    let mut ordered = 0_u64;
-    for (shard, history) in histories.iter().enumerate() {
-        // 20 messages, before each of which there is an act, and two acts beside each of the 60.
-        expect_eq!(rt; history.len(), 140);
-        ordered = ordered.saturating_add(check_orders(&rt, history, &messages, shard as u8)?);
-    }
-    // Of 3 * 140 * 20 pairs those have no order that are of two acts and a message beside which they were made.
-    expect_eq!(rt; ordered, 8_400 - 2 * (57 * 3 + 2 + 1));
-    Ok(())
+    expect_ordered(&rt, alloc, &listings, &closed, &messages)
 }

@@ -1,6 +1,7 @@
 -- Each kind of step on the stamp word and on the counts keeps the rule
 use Rattle.std.proofs.Common.{◌≡◌, ℕ, ◌+◌, ◌%◌, ◌^◌, ◌<◌, ◌≤◌, Bool, true, false, List, [], ◌∷◌, map, length, set}
-use Rattle.std.proofs.Common.{get_or, sym, refl, ap, ◌∙◌, inl, arith, cond, length-append, All}
+use Rattle.std.proofs.Common.{get_or, sym, refl, ap, ◌∙◌, inl, arith, cond, length-append, All, Option, None}
+use Rattle.std.specs.FinMap.{get}
 use mathlib.Core.Option.{none, some}
 use lib.ListN.{get_elem?}
 use lib.Seq.{set-get_or}
@@ -8,7 +9,7 @@ use Rattle.atomic_table.specs.Table.{step, keeps, stepped, Allows}
 use Rattle.atomic_table.proofs.Lists.{at_map}
 use Rattle.lh_addr.specs.Fnv.{code_of}
 use Rattle.lh_addr.specs.RootWord.{buckets_of}
-use Rattle.lh_bucket.specs.Bucket.{Seen}
+use Rattle.lh_bucket.specs.Bucket.{Seen, content}
 use Rattle.lh_bucket.specs.Listing.{Lists}
 use Rattle.lh_bucket.specs.PlainMap.{key_of}
 use Rattle.lh_bucket.specs.declared.call.Call.{Call}
@@ -176,20 +177,21 @@ module _ (traced : Bool) (k : Lists) where
       )
 
   -- a stamp is drawn, by a seat that enters an act with it
-  draws : (slots id : ℕ) (m : Seated) (outside : Bool) (call : Call) (given : Reply) (parts : List Seen) →
-      0 < m.0.view.initial → 0 < m.0.view.left
+  draws : (slots id : ℕ) (m : Seated) (outside : Bool) (call : Call) (given : Reply) (was : Option (List ℕ))
+      (parts : List Seen) → 0 < m.0.view.initial → 0 < m.0.view.left
       → (s : Words) → IsFileTable traced k s → get_elem? s.views id ≡ some m.0
       → (let q : ℕ =
       get_or s.words STAMPS 0 in
       traced ≡ true → History k (words_of s.words) s.views →
       History k (record (words_of s.words) { stamps = q + 1 })
-      (set s.views id (with_act outside call given parts q m.0)))
+      (set s.views id (with_act outside call given was parts q m.0)))
       → (let q : ℕ =
       get_or s.words STAMPS 0 in
-      IsFileTable traced k (stepped s STAMPS ((q + 1) % 2 ^ 64) id m.1 (with_act outside call given parts q m.0) keeps)
+      IsFileTable traced k
+      (stepped s STAMPS ((q + 1) % 2 ^ 64) id m.1 (with_act outside call given was parts q m.0) keeps)
       × All (λ x. x < q) m.0.view.stamps × (m.0.view.floor ≤ q)
       × (m.0.view.inserted + m.0.view.deleted ≤ length m.0.view.stamps))
-  draws slots id m outside call given parts live some_left s o me past =
+  draws slots id m outside call given was parts live some_left s o me past =
       let q : ℕ = get_or s.words STAMPS 0 in let rule = o.rule in let v : View = m.0.view in
       let vs : List View = map shown s.views in let there = at_map shown s.views id m.0 me in
       let b = rule.budget in let t = term_le (λ (u : View). u.left) vs id v there in let f = rule.few id v there in
@@ -197,7 +199,7 @@ module _ (traced : Bool) (k : Lists) where
       let n : ℕ = (q + 1) % 2 ^ 64 in
       let new : FileWords = record (words_of s.words) { stamps = q + 1 } in
       let len = length-append v.stamps (q ∷ []) in (
-        after_step traced k s o STAMPS id n m (with_act outside call given parts q m.0) new me
+        after_step traced k s o STAMPS id n m (with_act outside call given was parts q m.0) new me
             (stamps_stored s.words n (q + 1) o.wide (omega arith))
             (recounted k.config.initial k.config.max (words_of s.words) new vs rule id v w there live refl
             (refl, refl, refl, refl) (omega arith) (let fl = rule.floors id v there in omega arith)
@@ -214,11 +216,11 @@ module _ (traced : Bool) (k : Lists) where
       0 < m.0.view.left → Allows (IsFileTable traced k) slots id m STAMPS (λ n. (n + 1) % 2 ^ 64)
       (drawn_outside call given (step slots STAMPS 1 0 none) m)
   draws_outside slots id m call given live some_left s o _ me _ = let q : ℕ = get_or s.words STAMPS 0 in
-      let drawn = draws slots id m true call given m.0.parts live some_left s o me
+      let drawn = draws slots id m true call given None m.0.parts live some_left s o me
       (λ _.
       stays_outside k (words_of s.words) (record (words_of s.words) { stamps = q + 1 }) s.views id m.0 me refl refl call
       given) in (
-        with_act true call given m.0.parts q m.0,
+        with_act true call given None m.0.parts q m.0,
         keeps,
         tt,
         drawn.0,
@@ -226,17 +228,18 @@ module _ (traced : Bool) (k : Lists) where
       )
 
   -- to draw one for an act of the history,
-  pub draws_stamp : (slots id : ℕ) (m : Seated) (p r : Seen) (call : Call) (given : Reply) → m.0.parts ≡ p ∷ [] →
-      owns (code_of (key_of call)) p ≡ true → HasServedCall p call given r → 0 < m.0.view.initial → 0 < m.0.view.left
+  pub draws_stamp : (slots id : ℕ) (m : Seated) (p r : Seen) (call : Call) (given : Reply) (was : Option (List ℕ)) →
+      m.0.parts ≡ p ∷ [] → owns (code_of (key_of call)) p ≡ true → HasServedCall p call given r →
+      was ≡ get (content p) (key_of call) → 0 < m.0.view.initial → 0 < m.0.view.left
       → Allows (IsFileTable traced k) slots id m STAMPS (λ n. (n + 1) % 2 ^ 64)
-      (drawn call given r (step slots STAMPS 1 0 none) m)
-  draws_stamp slots id m p r call given has own served live some_left s o _ me _ =
+      (drawn call given was r (step slots STAMPS 1 0 none) m)
+  draws_stamp slots id m p r call given was has own served met live some_left s o _ me _ =
       let q : ℕ = get_or s.words STAMPS 0 in
-      let did = draws slots id m false call given (r ∷ []) live some_left s o me
+      let did = draws slots id m false call given was (r ∷ []) live some_left s o me
       (λ _.
       acts k (words_of s.words) (record (words_of s.words) { stamps = q + 1 }) s.views id m.0 me refl refl p r call
-      given has own served) in (
-        with_act false call given (r ∷ []) q m.0,
+      given was has own served met) in (
+        with_act false call given was (r ∷ []) q m.0,
         keeps,
         tt,
         did.0,

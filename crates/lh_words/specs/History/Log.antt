@@ -1,17 +1,18 @@
 -- A log of acts, of which those outside the history change nothing
-use Rattle.std.specs.Prelude.{◌≡◌, ℕ, Bool, false, List, [], ◌∷◌, ◌++◌, map, if◌then◌else◌}
+use Rattle.std.specs.Prelude.{◌≡◌, ℕ, Bool, false, List, [], ◌∷◌, ◌++◌, Option, map, if◌then◌else◌}
+use Rattle.std.specs.FinMap.{get}
 use mathlib.Core.Option.{some}
 use lib.ListN.{get_elem?}
-use Rattle.lh_bucket.specs.PlainMap.{Records, reply, after}
+use Rattle.lh_bucket.specs.PlainMap.{Records, reply, after, key_of}
 use Rattle.lh_bucket.specs.declared.call.Call.{Call}
 use Rattle.lh_bucket.specs.declared.call.Reply.{Reply}
 use Rattle.lh_settling.specs.declared.act.ActLine.{ActLine}
 use Rattle.lh_words.specs.declared.seat_view.Entry.{Entry}
 
--- an act of this call with this reply, outside or not, at this stamp
-abbrev pub entry : Bool → ℕ → Call → Reply → Entry
-entry outside stamp call given =
-    record { line = record { stamp = stamp; call = call; reply = given }; outside = outside }
+-- an act of this call with this reply, outside or not, at this stamp, that met this value under its key, or none
+abbrev pub entry : Bool → ℕ → Call → Reply → Option (List ℕ) → Entry
+entry outside stamp call given was =
+    record { line = record { stamp = stamp; call = call; reply = given }; outside = outside; was = was }
 
 -- the lines of some acts
 abbrev pub lines_of : List Entry → List ActLine
@@ -30,10 +31,14 @@ abbrev pub left_after : Records → List Entry → Records
 left_after m [] = m
 left_after m (e ∷ log) = left_after (passed m e) log
 
--- each act that isn't outside was answered as the map answers there
+-- the act was answered as the map answers, and met what the map has under its key
+abbrev pub IsLegalAct : Records → Entry → Type 0
+IsLegalAct m e = (e.line.reply ≡ reply m e.line.call) × (e.was ≡ get m (key_of e.line.call))
+
+-- each act that isn't outside was answered as the map answers there, and met what the map has there under its key
 abbrev pub IsLegalLog : Records → List Entry → Type 0
 IsLegalLog m [] = Unit {0}
-IsLegalLog m (e ∷ log) = (e.outside ≡ false → e.line.reply ≡ reply m e.line.call) × IsLegalLog (passed m e) log
+IsLegalLog m (e ∷ log) = (e.outside ≡ false → IsLegalAct m e) × IsLegalLog (passed m e) log
 
 -- the act stands in the log at its stamp
 abbrev pub StandsIn : List Entry → Entry → Type 0

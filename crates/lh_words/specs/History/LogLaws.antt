@@ -2,9 +2,9 @@
 use Rattle.std.proofs.Common.{◌≡◌, ℕ, zero, suc, ◌<◌, List, [], ◌∷◌, ◌++◌, length, false, refl, sym, ap, arith}
 use mathlib.Core.Option.{some, some-ne-none}
 use lib.ListN.{get_elem?}
-use Rattle.lh_bucket.specs.PlainMap.{Records, reply}
+use Rattle.lh_bucket.specs.PlainMap.{Records}
 use Rattle.lh_settling.specs.Acts.{stamps_of}
-use Rattle.lh_words.specs.History.Log.{passed, left_after, IsLegalLog, lines_of, stamps_in}
+use Rattle.lh_words.specs.History.Log.{passed, left_after, IsLegalAct, IsLegalLog, lines_of, stamps_in}
 use Rattle.lh_words.specs.declared.seat_view.Entry.{Entry}
 
 -- one act more: what the log leaves, and that it is legal
@@ -13,9 +13,9 @@ pub left_after-snoc : (m : Records) (log : List Entry) (e : Entry) →
 left_after-snoc m [] e = refl
 left_after-snoc m (b ∷ log) e = left_after-snoc (passed m b) log e
 
--- a legal log stays so with one act more that, unless it is outside, was answered as the map answers there
+-- a legal log stays so with one act more that, unless it is outside, is legal there
 pub legal-snoc : (m : Records) (log : List Entry) (e : Entry) → IsLegalLog m log →
-    (e.outside ≡ false → e.line.reply ≡ reply (left_after m log) e.line.call) → IsLegalLog m (log ++ e ∷ [])
+    (e.outside ≡ false → IsLegalAct (left_after m log) e) → IsLegalLog m (log ++ e ∷ [])
 legal-snoc m [] e legal is = (is, tt)
 legal-snoc m (b ∷ log) e legal is = (legal.0, legal-snoc (passed m b) log e legal.1 is)
 

@@ -202,15 +202,41 @@ fn fails_at_each_turn(
     fails_at_each_write(rt, words, image, 1, told.len().saturating_add(1), told)
 }
 
+fn draw_fails_at_each_turn(
+    rt: &(impl Abort + AllocGlobal + Threads + Wait + Sync),
+    image: &[u8],
+) -> Result<(), Fail> {
+    let draw = ["lhash", "draw"];
+    let (_, drawing, _) = ran(rt, &draw, image)?;
+    expect!(rt; drawing.len() > 1_000);
+    fails_at_each_turn(rt, &draw, image, &drawing)
+}
+
+/// Each failed turn ends each subcommand that reads an image and writes text.
+fn each_fails_at_each_turn(
+    rt: &(impl Abort + AllocGlobal + Threads + Wait + Sync),
+    image: &[u8],
+) -> Result<(), Fail> {
+    fails_at_each_turn(rt, &["lhash", "check"], image, FIVE_CENSUS.as_bytes())?;
+    fails_at_each_turn(rt, &["lhash", "dump"], image, FIVE_RECORDS.as_bytes())?;
+    draw_fails_at_each_turn(rt, image)
+}
+
 #[test]
 fn each_failed_turn_ends_what_reads_an_image(rt: HostRuntime) -> Result<(), Fail> {
-    let image = built(&rt, FIVE_WORDS, FIVE)?;
-    fails_at_each_turn(&rt, &["lhash", "check"], &image, FIVE_CENSUS.as_bytes())?;
-    fails_at_each_turn(&rt, &["lhash", "dump"], &image, FIVE_RECORDS.as_bytes())?;
-    let draw = ["lhash", "draw"];
-    let (_, drawing, _) = ran(&rt, &draw, &image)?;
-    expect!(rt; drawing.len() > 1_000);
-    fails_at_each_turn(&rt, &draw, &image, &drawing)
+    each_fails_at_each_turn(&rt, &built(&rt, FIVE_WORDS, FIVE)?)
+}
+
+fn replay_fails_at_each_turn(
+    rt: &(impl Abort + AllocGlobal + Threads + Wait + Sync),
+    words: &[&str],
+    steps: &[u8],
+    picture: &[u8],
+) -> Result<(), Fail> {
+    expect!(rt; picture.len() > 500);
+    fails_at_each_read(rt, words, steps, 1, picture)?;
+    let writes = picture.len().saturating_add(1);
+    fails_at_each_write(rt, words, steps, 1, writes, picture)
 }
 
 #[test]
@@ -218,71 +244,128 @@ fn each_failed_turn_ends_replay(rt: HostRuntime) -> Result<(), Fail> {
     let replay = ["lhash", "replay"];
     let steps = b"call 0 search 61\nread 0\n";
     let (_, picture, _) = ran(&rt, &replay, steps)?;
-    expect!(rt; picture.len() > 500);
-    fails_at_each_read(&rt, &replay, steps, 1, &picture)?;
-    let writes = picture.len().saturating_add(1);
-    fails_at_each_write(&rt, &replay, steps, 1, writes, &picture)
+    replay_fails_at_each_turn(&rt, &replay, steps, &picture)
 }
 
 /// An image of either version is turned into one of version 2 of four pages.
+fn migrate_fails_at_each_turn(
+    rt: &(impl Abort + AllocGlobal + Threads + Wait + Sync),
+    words: &[&str],
+    old: &[u8],
+    new: &[u8],
+) -> Result<(), Fail> {
+    expect_eq!(rt; new.len(), 16_384);
+    fails_at_each_read(rt, words, old, 7, new)?;
+    fails_at_each_read(rt, words, old, 1_024, new)?;
+    fails_at_each_read(rt, words, new, 1_024, new)?;
+    fails_at_each_write(rt, words, old, 64, 257, new)?;
+    fails_at_each_write(rt, words, old, 4_096, 5, new)
+}
+
 #[test]
 fn each_failed_turn_ends_migrate(rt: HostRuntime) -> Result<(), Fail> {
     let migrate = ["lhash", "migrate"];
     let old = built(&rt, FIVE_WORDS, FIVE)?;
     let (_, new, _) = ran(&rt, &migrate, &old)?;
-    expect_eq!(rt; new.len(), 16_384);
-    fails_at_each_read(&rt, &migrate, &old, 7, &new)?;
-    fails_at_each_read(&rt, &migrate, &old, 1_024, &new)?;
-    fails_at_each_read(&rt, &migrate, &new, 1_024, &new)?;
-    fails_at_each_write(&rt, &migrate, &old, 64, 257, &new)?;
-    fails_at_each_write(&rt, &migrate, &old, 4_096, 5, &new)
+    migrate_fails_at_each_turn(&rt, &migrate, &old, &new)
+}
+
+fn query_fails_at_each_turn(
+    rt: &(impl Abort + AllocGlobal + Threads + Wait + Sync),
+    input: &[u8],
+) -> Result<(), Fail> {
+    let query = ["lhash", "query"];
+    let replies = b"found 31\ninserted\ninserted\nbuckets 4\n";
+    for at_once in [7, 1_024] {
+        fails_at_each_read(rt, &query, input, at_once, replies)?;
+    }
+    let writes = replies.len().saturating_add(1);
+    fails_at_each_write(rt, &query, input, 1, writes, replies)
+}
+
+fn apply_fails_at_each_turn(
+    rt: &(impl Abort + AllocGlobal + Threads + Wait + Sync),
+    words: &[&str],
+    input: &[u8],
+    left: &[u8],
+) -> Result<(), Fail> {
+    expect_eq!(rt; left.len(), 20_480);
+    for at_once in [7, 1_024] {
+        fails_at_each_read(rt, words, input, at_once, left)?;
+    }
+    fails_at_each_write(rt, words, input, 64, 321, left)?;
+    fails_at_each_write(rt, words, input, 4_096, 6, left)
 }
 
 /// Four pages of version 1, and a script behind them.
 #[test]
 fn each_failed_turn_ends_what_goes_on_from_an_image(rt: HostRuntime) -> Result<(), Fail> {
     let script = "search 61\ninsert 66 36\ninsert 67 37\n";
-    let input = behind(&rt, &built(&rt, FIVE_WORDS, FIVE)?, script)?;
-    let query = ["lhash", "query"];
-    let replies = b"found 31\ninserted\ninserted\nbuckets 4\n";
-    for at_once in [7, 1_024] {
-        fails_at_each_read(&rt, &query, &input, at_once, replies)?;
-    }
-    let writes = replies.len().saturating_add(1);
-    fails_at_each_write(&rt, &query, &input, 1, writes, replies)?;
     let apply = ["lhash", "apply"];
+    let input = behind(&rt, &built(&rt, FIVE_WORDS, FIVE)?, script)?;
+    query_fails_at_each_turn(&rt, &input)?;
     let (_, left, _) = ran(&rt, &apply, &input)?;
-    expect_eq!(rt; left.len(), 20_480);
-    for at_once in [7, 1_024] {
-        fails_at_each_read(&rt, &apply, &input, at_once, &left)?;
+    apply_fails_at_each_turn(&rt, &apply, &input, &left)
+}
+
+/// A read that fails behind an image, where a fault of the script would stand, ends the run with this status.
+fn ends_behind(
+    rt: &(impl Abort + AllocGlobal + Threads + Wait + Sync),
+    image: &[u8],
+    code: u8,
+) -> Result<(), Fail> {
+    let input = behind(rt, image, "frob\n")?;
+    for words in [["lhash", "query"], ["lhash", "apply"]] {
+        let mut source = Source {
+            bytes: &input,
+            at_once: 1_024,
+            reads: 0,
+            failing_read: 5,
+        };
+        let mut output = Vec::new(rt.alloc());
+        let status = run(rt, words.as_slice(), &mut source, &mut output);
+        expect!(rt; status.code() == code && output.is_empty());
     }
-    fails_at_each_write(&rt, &apply, &input, 64, 321, &left)?;
-    fails_at_each_write(&rt, &apply, &input, 4_096, 6, &left)
+    Ok(())
 }
 
 /// The faults of an image come before a read that fails behind it, and that before a fault of the script.
 #[test]
 fn a_failed_read_stands_between_image_and_script(rt: HostRuntime) -> Result<(), Fail> {
-    let image = built(&rt, FIVE_WORDS, FIVE)?;
-    let mut forged = behind(&rt, &image, "")?;
+    let mut image = built(&rt, FIVE_WORDS, FIVE)?;
+    ends_behind(&rt, &image, 3)?;
     // The level of the first bucket.
-    if let Some(level) = forged.get_mut(1_026) {
+    if let Some(level) = image.get_mut(1_026) {
         *level = 7;
     }
-    for (image, code) in [(&image, 3), (&forged, 1)] {
-        let input = behind(&rt, image, "frob\n")?;
-        for words in [["lhash", "query"], ["lhash", "apply"]] {
-            let mut source = Source {
-                bytes: &input,
-                at_once: 1_024,
-                reads: 0,
-                failing_read: 5,
-            };
-            let mut output = Vec::new(rt.alloc());
-            let status = run(&rt, words.as_slice(), &mut source, &mut output);
-            expect!(rt; status.code() == code && output.is_empty());
-        }
+    ends_behind(&rt, &image, 1)
+}
+
+/// An image with a byte in the place of another.
+fn forged(rt: &impl AllocGlobal, image: &[u8], place: usize, byte: u8) -> Result<Vec<u8>, Fail> {
+    let mut forged = behind(rt, image, "")?;
+    if let Some(old) = forged.get_mut(place) {
+        *old = byte;
     }
+    Ok(forged)
+}
+
+/// The second read fails, and the fault of the first page is told.
+fn first_page_fails(
+    rt: &(impl Abort + AllocGlobal + Threads + Wait + Sync),
+    bytes: &[u8],
+    text: &str,
+) -> Result<(), Fail> {
+    let mut source = Source {
+        bytes,
+        at_once: 1_024,
+        reads: 0,
+        failing_read: 2,
+    };
+    let mut output = Vec::new(rt.alloc());
+    let status = run(rt, &["lhash", "check"], &mut source, &mut output);
+    expect!(rt; status.code() == 1 && output.is_empty());
+    expect_eq!(rt; status.to_string(rt.alloc())?.as_str(), text);
     Ok(())
 }
 
@@ -297,21 +380,7 @@ fn faults_of_the_first_page_come_before_a_failed_read(rt: HostRuntime) -> Result
         (28, 7, "image I3"),
     ];
     for (place, byte, text) in faults {
-        let mut forged = Vec::new(rt.alloc());
-        forged.extend_from_slice(&image)?;
-        if let Some(old) = forged.get_mut(place) {
-            *old = byte;
-        }
-        let mut source = Source {
-            bytes: &forged,
-            at_once: 1_024,
-            reads: 0,
-            failing_read: 2,
-        };
-        let mut output = Vec::new(rt.alloc());
-        let status = run(&rt, &["lhash", "check"], &mut source, &mut output);
-        expect!(rt; status.code() == 1 && output.is_empty());
-        expect_eq!(rt; status.to_string(rt.alloc())?.as_str(), text);
+        first_page_fails(&rt, &forged(&rt, &image, place, byte)?, text)?;
     }
     Ok(())
 }

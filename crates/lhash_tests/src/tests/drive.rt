@@ -174,6 +174,9 @@ struct MeetAll {
 /// How many turns a call is held before the test fails.
 const TURNS: u32 = 1_000_000;
 
+/// How many turns something that may not happen is given to happen.
+const REST: u32 = 10_000;
+
 impl Gate for MeetAll {
     fn at(&self, point: Point) {
         let Point::Holding { .. } = point else {
@@ -363,6 +366,72 @@ fn a_snapshot_is_taken_while_calls_are_made(rt: HostRuntime) -> Result<(), Fail>
     let driven = drive_with_snapshots(&rt, rt.alloc(), config, calls.as_slice(), 1, 1, &gate);
     expect_eq!(rt; driven, Ok(all_inserted(4)));
     expect_eq!(rt; gate.taken.load(Ordering::SeqCst), 1);
+    expect_eq!(rt; gate.late.load(Ordering::SeqCst), 0);
+    Ok(())
+}
+
+/// Counts calls and snapshots. It holds a thread that has made two calls until there is a snapshot, and one that has made
+/// four until there are two; one that has made three gives a second snapshot turns to come too soon.
+#[derive(Drop)]
+struct HoldsApart {
+    made: AtomicU64,
+    taken: AtomicU64,
+    early: AtomicU64,
+    late: AtomicU64,
+}
+
+impl HoldsApart {
+    fn new() -> HoldsApart {
+        HoldsApart {
+            made: AtomicU64::new(0),
+            taken: AtomicU64::new(0),
+            early: AtomicU64::new(0),
+            late: AtomicU64::new(0),
+        }
+    }
+
+    /// Whether there are so many snapshots within some turns.
+    fn comes_to(&self, taken: u64, turns: u32) -> bool {
+        for _turn in 0..turns {
+            if self.taken.load(Ordering::SeqCst) >= taken {
+                return true;
+            }
+            thread::yield_now();
+        }
+        false
+    }
+}
+
+impl Gate for HoldsApart {
+    fn at(&self, point: Point) {
+        match point {
+            Point::Surveyed { .. } => {
+                self.taken.fetch_add(1, Ordering::SeqCst);
+            }
+            Point::Released { .. } => {
+                let made = self.made.fetch_add(1, Ordering::SeqCst);
+                if made == 2 && self.comes_to(2, REST) {
+                    self.early.fetch_add(1, Ordering::SeqCst);
+                }
+                if made == 1 && !self.comes_to(1, TURNS) || made == 3 && !self.comes_to(2, TURNS) {
+                    self.late.fetch_add(1, Ordering::SeqCst);
+                }
+            }
+            _ => {}
+        }
+    }
+}
+
+/// Of six calls in one thread and two snapshots, one comes after the second call and one after the fourth.
+#[test]
+fn snapshots_are_spread_over_the_calls(rt: HostRuntime) -> Result<(), Fail> {
+    let calls = inserts_of(rt.alloc(), b"abcdef")?;
+    let config = Config::new(1, 14, 100, 65536)?;
+    let gate = HoldsApart::new();
+    let driven = drive_with_snapshots(&rt, rt.alloc(), config, calls.as_slice(), 1, 2, &gate);
+    expect_eq!(rt; driven, Ok(all_inserted(6)));
+    expect_eq!(rt; gate.taken.load(Ordering::SeqCst), 2);
+    expect_eq!(rt; gate.early.load(Ordering::SeqCst), 0);
     expect_eq!(rt; gate.late.load(Ordering::SeqCst), 0);
     Ok(())
 }

@@ -20,15 +20,33 @@ const AT_ONCE: usize = 5;
 
 #[test]
 fn serve_has_the_replies_of_commands(rt: HostRuntime) -> Result<(), Fail> {
-    let (code, replies, _) = ran(&rt, COMMANDS.as_slice(), CALLS.as_bytes())?;
+    let input = joined(rt.alloc(), CALLS.as_bytes(), b"buckets\n")?;
+    let replies = replies_of(&rt, COMMANDS.as_slice(), CALLS.as_bytes())?;
+    serves(&rt, SERVE.as_slice(), &input, &replies)
+}
+
+/// What a run wrote that ended well.
+fn replies_of(
+    rt: &(impl Abort + AllocGlobal + Threads + Wait + Sync),
+    words: &[&str],
+    input: &[u8],
+) -> Result<Vec<u8>, Fail> {
+    let (code, replies, _) = ran(rt, words, input)?;
     expect_eq!(rt; code, 0);
-    let mut input = Vec::new(rt.alloc());
-    input.extend_from_slice(CALLS.as_bytes())?;
-    input.extend_from_slice(b"buckets\n")?;
-    let (code, answers, text) = ran(&rt, SERVE.as_slice(), &input)?;
+    Ok(replies)
+}
+
+/// A conversation ends well, with these answers.
+fn serves(
+    rt: &(impl Abort + AllocGlobal + Threads + Wait + Sync),
+    words: &[&str],
+    input: &[u8],
+    due: &[u8],
+) -> Result<(), Fail> {
+    let (code, answers, text) = ran(rt, words, input)?;
     expect_eq!(rt; text.as_str(), "");
     expect_eq!(rt; code, 0);
-    expect_eq!(rt; answers, replies);
+    expect_eq!(rt; answers.as_slice(), due);
     Ok(())
 }
 
@@ -71,34 +89,40 @@ fn joined(alloc: Global, first: &[u8], second: &[u8]) -> Result<Vec<u8>, Fail> {
 
 const FROM_IMAGE: [&str; 3] = ["lhash", "serve", "--image"];
 
+/// The replies of `query`, and then the image that `apply` leaves.
+fn due_of(alloc: Global, replies: &[u8], left: &[u8]) -> Result<Vec<u8>, Fail> {
+    let head = format!(in alloc; "image {}\n", left.len())?;
+    joined(alloc, &joined(alloc, replies, head.as_bytes())?, left)
+}
+
+/// What `query` and `apply` make of an image and the calls.
+fn due_from(
+    rt: &(impl Abort + AllocGlobal + Threads + Wait + Sync),
+    image: &[u8],
+) -> Result<Vec<u8>, Fail> {
+    let input = joined(rt.alloc(), image, CALLS.as_bytes())?;
+    let replies = replies_of(rt, &["lhash", "query"], &input)?;
+    due_of(
+        rt.alloc(),
+        &replies,
+        &replies_of(rt, &["lhash", "apply"], &input)?,
+    )
+}
+
+fn goes_on_from(
+    rt: &(impl Abort + AllocGlobal + Threads + Wait + Sync),
+    image: &[u8],
+) -> Result<(), Fail> {
+    let lines = joined(rt.alloc(), CALLS.as_bytes(), b"buckets\nimage\n")?;
+    let input = joined(rt.alloc(), image, &lines)?;
+    serves(rt, FROM_IMAGE.as_slice(), &input, &due_from(rt, image)?)
+}
+
 #[test]
 fn serve_goes_on_from_an_image_as_query_and_apply_do(rt: HostRuntime) -> Result<(), Fail> {
     for version in ["1", "2"] {
         let image = image_of(&rt, version, "insert 61 31\ninsert 65 35\n")?;
-        let (code, replies, _) = ran(
-            &rt,
-            ["lhash", "query"].as_slice(),
-            &joined(rt.alloc(), &image, CALLS.as_bytes())?,
-        )?;
-        expect_eq!(rt; code, 0);
-        let (code, left, _) = ran(
-            &rt,
-            ["lhash", "apply"].as_slice(),
-            &joined(rt.alloc(), &image, CALLS.as_bytes())?,
-        )?;
-        expect_eq!(rt; code, 0);
-        let lines = joined(rt.alloc(), CALLS.as_bytes(), b"buckets\nimage\n")?;
-        let (code, answers, text) = ran(
-            &rt,
-            FROM_IMAGE.as_slice(),
-            &joined(rt.alloc(), &image, &lines)?,
-        )?;
-        expect_eq!(rt; text.as_str(), "");
-        expect_eq!(rt; code, 0);
-        let head = format!(in rt.alloc(); "image {}\n", left.len())?;
-        let mut due = joined(rt.alloc(), &replies, head.as_bytes())?;
-        due.extend_from_slice(&left)?;
-        expect_eq!(rt; answers, due);
+        goes_on_from(&rt, &image)?;
     }
     Ok(())
 }

@@ -1,10 +1,15 @@
-use Rattle.std.proofs.Common.{refl}
+use Rattle.std.proofs.Common.{refl, sym, ◌∙◌}
 use Rattle.lh_bucket.proofs.Chained.{stands_there, stands_nowhere}
 use Rattle.lh_bucket.proofs.paged_bucket.delete_from.Goals as goal
 
 pub returns-in-Some-clause-reply : goal.returns-in-Some-clause-reply
 returns-in-Some-clause-reply c =
-    rw (stands_there c.args.chain.now.pairs c.args.key.now c.in-Some.place c.in-Some.ensures.place).2 refl
+    rw (stands_there c.args.chain.now.pairs c.args._key.now c.in-Some.place (sym c.in-Some.is ∙ c.requires)).2 refl
 
 pub returns-in-None-clause-reply : goal.returns-in-None-clause-reply
-returns-in-None-clause-reply c = rw (stands_nowhere c.args.chain.now.pairs c.args.key.now c.in-None.ensures.place) refl
+returns-in-None-clause-reply c = rw (stands_nowhere c.args.chain.now.pairs c.args._key.now (sym c.in-None.is ∙
+    c.requires)) refl
+
+pub discard-requires : goal.discard-requires
+discard-requires c =
+    (stands_there c.args.chain.now.pairs c.args._key.now c.in-Some.place (sym c.in-Some.is ∙ c.requires)).0

@@ -1,4 +1,4 @@
-use Rattle.std.proofs.Common.{◌≡◌, refl}
+use Rattle.std.proofs.Common.{◌≡◌, refl, sym, ◌∙◌}
 use Rattle.std.specs.Prelude.{Result, Ok, Err, OnErr}
 use Rattle.lh_bucket.specs.declared.call.Call.TheVariants.{Insert}
 use Rattle.lh_bucket.specs.declared.call.Reply.TheVariants.{Inserted}
@@ -9,11 +9,11 @@ use Rattle.lh_bucket.proofs.paged_bucket.insert_into.Goals as goal
 
 pub returns-in-Some-clause-reply : goal.returns-in-Some-clause-reply
 returns-in-Some-clause-reply c =
-    rw (stands_there c.args.chain.now.pairs c.args.key.now c.in-Some.field-0 c.in-Some.ensures.place).2 refl
+    rw (stands_there c.args.chain.now.pairs c.args.key.now c.in-Some.field-0 (sym c.in-Some.is ∙ c.requires)).2 refl
 
 pub returns-in_ok-append-in-None-clause-reply : goal.returns-in_ok-append-in-None-clause-reply
 returns-in_ok-append-in-None-clause-reply c =
-    rw (stands_nowhere c.args.chain.now.pairs c.args.key.now c.in-None.ensures.place) refl
+    rw (stands_nowhere c.args.chain.now.pairs c.args.key.now (sym c.in-None.is ∙ c.requires)) refl
 
 on_err : {X E P : Type 0} (r : Result X E) → P → OnErr r P
 on_err (Ok x) p = tt
@@ -22,5 +22,5 @@ on_err (Err e) p = p
 pub returns-in_err-append-in-None-clause-new_key : goal.returns-in_err-append-in-None-clause-new_key
 returns-in_err-append-in-None-clause-new_key c =
     let new : reply (map_of c.args.chain.now.pairs) (Insert c.args.key.now c.args.value.now) ≡ Inserted =
-    rw (stands_nowhere c.args.chain.now.pairs c.args.key.now c.in-None.ensures.place) refl in
+    rw (stands_nowhere c.args.chain.now.pairs c.args.key.now (sym c.in-None.is ∙ c.requires)) refl in
     on_err c.from_residual.result new

@@ -7,9 +7,9 @@ use Rattle.lh_serving.proofs.CallsServed.{copied}
 use Rattle.lh_serving.proofs.serving.imaged.Goals as goal
 
 pub returns-in-Ok-image_len-clause-ok : goal.returns-in-Ok-image_len-clause-ok
-returns-in-Ok-image_len-clause-ok c = λ n file h. record {
+returns-in-Ok-image_len-clause-ok c = λ n b file h. record {
   listing = c.in-Ok.listing;
-  listed = copied c.args.world.now n file c.in-Ok.listing h c.in-Ok.ensures.listed;
+  listed = copied c.args.world.now n b file c.in-Ok.listing h c.in-Ok.ensures.listed;
   fits = c.in-Ok-image_len.ensures.ok.0;
   text = ap (λ (k : ℕ). answer_line (Some (answer.Image k)) ++ canonical Two c.in-Ok.listing)
       c.in-Ok-image_len.ensures.ok.1;
@@ -17,5 +17,5 @@ returns-in-Ok-image_len-clause-ok c = λ n file h. record {
 
 pub returns-in-Err-clause-err : goal.returns-in-Err-clause-err
 returns-in-Err-clause-err c =
-    λ n file h.
-    (c.in-Ok.listing, copied c.args.world.now n file c.in-Ok.listing h c.in-Ok.ensures.listed, c.in-Err.ensures.err)
+    λ n b file h.
+    (c.in-Ok.listing, copied c.args.world.now n b file c.in-Ok.listing h c.in-Ok.ensures.listed, c.in-Err.ensures.err)

@@ -10,8 +10,8 @@ use std::thread::Threads;
 /// Bytes that are put into an image: from which place on, and what.
 pub type Edit = (usize, &'static [u8]);
 
-/// Edits of one image, and the fault that it has then.
-pub type Row = (&'static [Edit], &'static str);
+/// An edit of one image, and the fault that it has then.
+pub type Row = (usize, &'static [u8], &'static str);
 
 /// A subcommand refuses these bytes, and writes nothing.
 fn refused_by(
@@ -46,14 +46,24 @@ pub fn edited(rt: &impl AllocGlobal, bytes: &[u8], edits: &[Edit]) -> Result<Vec
     Ok(edited)
 }
 
-/// Each row's edits of an image are refused with the row's fault.
+/// An image with these edits is refused.
+pub fn edits_refused(
+    rt: &(impl Abort + AllocGlobal + Threads + Wait + Sync),
+    image: &[u8],
+    edits: &[Edit],
+    fault: &str,
+) -> Result<(), Fail> {
+    refused(rt, &edited(rt, image, edits)?, fault)
+}
+
+/// Each row's edit of an image is refused with the row's fault.
 pub fn rows(
     rt: &(impl Abort + AllocGlobal + Threads + Wait + Sync),
     image: &[u8],
     rows: &[Row],
 ) -> Result<(), Fail> {
-    for (edits, fault) in rows {
-        refused(rt, &edited(rt, image, edits)?, fault)?;
+    for (place, part, fault) in rows {
+        edits_refused(rt, image, &[(*place, *part)], fault)?;
     }
     Ok(())
 }
@@ -77,77 +87,103 @@ pub fn beginnings(
     Ok(())
 }
 
+fn shorter_and_longer(
+    rt: &(impl Abort + AllocGlobal + Threads + Wait + Sync),
+    image: &mut Vec<u8>,
+) -> Result<(), Fail> {
+    beginnings(rt, image, 0, 4, "image I1")?;
+    beginnings(rt, image, 4, 4_096, "image I4")?;
+    image.push(0)?;
+    refused(rt, image, "image I5")
+}
+
 #[test]
 fn too_few_and_too_many_bytes(rt: HostRuntime) -> Result<(), Fail> {
-    let mut image = built(&rt, FIVE_WORDS, FIVE)?;
-    beginnings(&rt, &image, 0, 4, "image I1")?;
-    beginnings(&rt, &image, 4, 4_096, "image I4")?;
-    image.push(0)?;
-    refused(&rt, &image, "image I5")
+    shorter_and_longer(&rt, &mut built(&rt, FIVE_WORDS, FIVE)?)
 }
 
 const FIELDS: &[Row] = &[
-    (&[(0, b"LHF3")], "image I1"),
-    (&[(4, b"\0")], "image I2 at offset 4"),
-    (&[(4, b"\xfe")], "image I2 at offset 16"),
-    (&[(8, b"\x0f")], "image I2 at offset 8"),
-    (&[(12, b"\x09")], "image I2 at offset 12"),
-    (&[(16, b"\0")], "image I2 at offset 16"),
-    (&[(20, b"\x02\0\0")], "image I2 at offset 20"),
-    (&[(1_023, b"\x01")], "image I2 at offset 36"),
-    (&[(24, b"\x03")], "image I3"),
-    (&[(28, b"\x07")], "image I3"),
-    (&[(24, b"\x05")], "image I4"),
-    (&[(28, b"\x06")], "image I9 at page 0"),
+    (0, b"LHF3", "image I1"),
+    (4, b"\0", "image I2 at offset 4"),
+    (4, b"\xfe", "image I2 at offset 16"),
+    (8, b"\x0f", "image I2 at offset 8"),
+    (12, b"\x09", "image I2 at offset 12"),
+    (16, b"\0", "image I2 at offset 16"),
+    (20, b"\x02\0\0", "image I2 at offset 20"),
+    (1_023, b"\x01", "image I2 at offset 36"),
+    (24, b"\x03", "image I3"),
+    (28, b"\x07", "image I3"),
+    (24, b"\x05", "image I4"),
+    (28, b"\x06", "image I9 at page 0"),
 ];
+
+fn fields_refused(
+    rt: &(impl Abort + AllocGlobal + Threads + Wait + Sync),
+    image: &[u8],
+) -> Result<(), Fail> {
+    rows(rt, image, FIELDS)?;
+    let endless = edited(rt, image, &[(24, b"\xff\xff\xff\xff")])?;
+    refused(rt, beginning(&endless, 1_024), "image I3")
+}
 
 #[test]
 fn fields_of_the_header(rt: HostRuntime) -> Result<(), Fail> {
-    let image = built(&rt, FIVE_WORDS, FIVE)?;
-    rows(&rt, &image, FIELDS)?;
-    let endless = edited(&rt, &image, &[(24, b"\xff\xff\xff\xff")])?;
-    refused(&rt, beginning(&endless, 1_024), "image I3")
+    fields_refused(&rt, &built(&rt, FIVE_WORDS, FIVE)?)
 }
 
 const PAGES: &[Row] = &[
-    (&[(2_048, b"\x02")], "image I6 at page 2"),
-    (&[(1_027, b"\x01")], "image I6 at page 1"),
-    (&[(3_076, b"\x01")], "image I7 at page 3"),
-    (&[(3_073, b"\0")], "image I9 at page 0"),
-    (&[(1_043, b"\x01")], "image I13 at page 1"),
-    (&[(1_032, b"\x01")], "image I10 at page 1"),
-    // Of two faults the first in the order of the faults.
-    (&[(2_050, b"\x02"), (2_056, b"\x01")], "image I8 at page 2"),
+    (2_048, b"\x02", "image I6 at page 2"),
+    (1_027, b"\x01", "image I6 at page 1"),
+    (3_076, b"\x01", "image I7 at page 3"),
+    (3_073, b"\0", "image I9 at page 0"),
+    (1_043, b"\x01", "image I13 at page 1"),
+    (1_032, b"\x01", "image I10 at page 1"),
 ];
+
+fn pages_refused(
+    rt: &(impl Abort + AllocGlobal + Threads + Wait + Sync),
+    image: &[u8],
+) -> Result<(), Fail> {
+    rows(rt, image, PAGES)?;
+    // Of two faults the first in the order of the faults.
+    let two = [(2_050, b"\x02".as_slice()), (2_056, b"\x01")];
+    edits_refused(rt, image, &two, "image I8 at page 2")
+}
 
 #[test]
 fn pages_by_themselves(rt: HostRuntime) -> Result<(), Fail> {
-    let image = built(&rt, FIVE_WORDS, FIVE)?;
-    rows(&rt, &image, PAGES)
+    pages_refused(&rt, &built(&rt, FIVE_WORDS, FIVE)?)
 }
 
 const CHAINS: &[Row] = &[
-    (&[(2_056, b"\x01")], "image I10 at page 2"),
-    (&[(2_056, b"\x02")], "image I11 at page 2"),
-    (&[(1_032, b"\0")], "image I12 at page 2"),
-    // The first record of the second page is that of the first page once more.
-    (&[(2_066, b"a"), (2_096, b"1")], "image I14 at page 2"),
+    (2_056, b"\x01", "image I10 at page 2"),
+    (2_056, b"\x02", "image I11 at page 2"),
+    (1_032, b"\0", "image I12 at page 2"),
 ];
+
+fn chains_refused(
+    rt: &(impl Abort + AllocGlobal + Threads + Wait + Sync),
+    image: &[u8],
+) -> Result<(), Fail> {
+    rows(rt, image, CHAINS)?;
+    // The first record of the second page is that of the first page once more.
+    let twice = [(2_066, b"a".as_slice()), (2_096, b"1")];
+    edits_refused(rt, image, &twice, "image I14 at page 2")
+}
 
 #[test]
 fn chains_of_two_pages(rt: HostRuntime) -> Result<(), Fail> {
-    let image = built(&rt, CHAIN_WORDS, CHAIN)?;
-    rows(&rt, &image, CHAINS)
+    chains_refused(&rt, &built(&rt, CHAIN_WORDS, CHAIN)?)
 }
 
-const APART: &[Row] = &[(&[(2_056, b"\0"), (4_104, b"\x03")], "image I12 at page 3")];
+const APART: &[Edit] = &[(2_056, b"\0"), (4_104, b"\x03")];
 
 #[test]
 fn a_loop_apart(rt: HostRuntime) -> Result<(), Fail> {
     let words = ["lhash", "build", "--capacity=1", "--max=1", "--image=1"];
     let script = "insert 61 31\ninsert 63 33\ninsert 65 35\ninsert 67 37\n";
     let image = built(&rt, words.as_slice(), script)?;
-    rows(&rt, &image, APART)
+    edits_refused(&rt, &image, APART, "image I12 at page 3")
 }
 
 /// Two buckets with an overflow page each.
@@ -164,23 +200,25 @@ fn two_buckets(rt: &(impl Abort + AllocGlobal + Threads + Wait + Sync)) -> Resul
     built(rt, words.as_slice(), script)
 }
 
-const CROSSED: &[Row] = &[
-    (&[(1_032, b"\x04")], "image I10 at page 1"),
-    // The pages belong to the other bucket then, and their records don't.
-    (
-        &[
-            (1_032, b"\x04"),
-            (2_056, b"\x03"),
-            (3_076, b"\x01"),
-            (4_100, b"\0"),
-        ],
-        "image I14 at page 3",
-    ),
+/// The pages belong to the other bucket then, and their records don't.
+const CROSSED: &[Edit] = &[
+    (1_032, b"\x04"),
+    (2_056, b"\x03"),
+    (3_076, b"\x01"),
+    (4_100, b"\0"),
 ];
+
+fn crossed_refused(
+    rt: &(impl Abort + AllocGlobal + Threads + Wait + Sync),
+    image: &[u8],
+) -> Result<(), Fail> {
+    rows(rt, image, &[(1_032, b"\x04", "image I10 at page 1")])?;
+    edits_refused(rt, image, CROSSED, "image I14 at page 3")
+}
 
 #[test]
 fn crossed_chains(rt: HostRuntime) -> Result<(), Fail> {
-    rows(&rt, &two_buckets(&rt)?, CROSSED)
+    crossed_refused(&rt, &two_buckets(&rt)?)
 }
 
 /// Pages 3 and 4 exchanged: what tells one from the other is their bucket, their key and their value.

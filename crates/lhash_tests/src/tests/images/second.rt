@@ -1,11 +1,14 @@
 //! Images of version 2, and what becomes of those of version 1.
-use super::forged::{Row, beginning, beginnings, edited, refused, rows};
+use super::forged::{Row, beginning, beginnings, edited, edits_refused, refused, rows};
 use super::{
     CHAIN, CHAIN_WORDS, FIVE, FIVE_CENSUS, FIVE_RECORDS, FIVE_WORDS, HOLE, HOLE_RECORDS, Part,
     accepted, builds, built, told,
 };
 use crate::tests::support::fails;
+use std::process::Abort;
+use std::sync::Wait;
 use std::test::Fail;
+use std::thread::Threads;
 
 const SECOND_FIVE_WORDS: &[&str] = &["lhash", "build", "--capacity", "2"];
 
@@ -53,16 +56,28 @@ fn a_record_goes_into_the_hole(rt: HostRuntime) -> Result<(), Fail> {
     told(&rt, &["lhash", "dump"], &image, HOLE_RECORDS)
 }
 
+/// The image that this script builds by one command, migrated, is the one that it builds by the other.
+fn migrated(
+    rt: &(impl Abort + AllocGlobal + Threads + Wait + Sync),
+    script: &str,
+    words: &[&str],
+    others: &[&str],
+) -> Result<(), Fail> {
+    let image = built(rt, words, script)?;
+    told(
+        rt,
+        &["lhash", "migrate"],
+        &image,
+        &built(rt, others, script)?,
+    )
+}
+
 #[test]
 fn an_image_of_either_version_is_migrated(rt: HostRuntime) -> Result<(), Fail> {
     let migrate = ["lhash", "migrate"].as_slice();
-    let first = built(&rt, FIVE_WORDS, FIVE)?;
-    let second = built(&rt, SECOND_FIVE_WORDS, FIVE)?;
-    told(&rt, migrate, &first, &second)?;
-    told(&rt, migrate, &second, &second)?;
-    let first = built(&rt, CHAIN_WORDS, CHAIN)?;
-    let second = built(&rt, SECOND_CHAIN_WORDS, CHAIN)?;
-    told(&rt, migrate, &first, &second)?;
+    migrated(&rt, FIVE, FIVE_WORDS, SECOND_FIVE_WORDS)?;
+    migrated(&rt, FIVE, SECOND_FIVE_WORDS, SECOND_FIVE_WORDS)?;
+    migrated(&rt, CHAIN, CHAIN_WORDS, SECOND_CHAIN_WORDS)?;
     fails(&rt, migrate, "LHF3", 1, "image I1")?;
     fails(&rt, migrate, "LHF1", 1, "image I4")
 }
@@ -100,75 +115,100 @@ fn a_file_may_have_no_image_of_version_1(rt: HostRuntime) -> Result<(), Fail> {
     Ok(())
 }
 
+fn shorter_and_longer(
+    rt: &(impl Abort + AllocGlobal + Threads + Wait + Sync),
+    image: &mut Vec<u8>,
+) -> Result<(), Fail> {
+    beginnings(rt, image, 0, 4, "image I1")?;
+    for (from, to) in [(4, 40), (1_020, 1_030), (4_090, 4_100), (16_380, 16_384)] {
+        beginnings(rt, image, from, to, "image I4")?;
+    }
+    image.push(0)?;
+    refused(rt, image, "image I5")
+}
+
 #[test]
 fn too_few_and_too_many_bytes_of_version_2(rt: HostRuntime) -> Result<(), Fail> {
-    let mut image = built(&rt, SECOND_FIVE_WORDS, FIVE)?;
-    beginnings(&rt, &image, 0, 4, "image I1")?;
-    beginnings(&rt, &image, 4, 40, "image I4")?;
-    beginnings(&rt, &image, 1_020, 1_030, "image I4")?;
-    beginnings(&rt, &image, 4_090, 4_100, "image I4")?;
-    beginnings(&rt, &image, 16_380, 16_384, "image I4")?;
-    image.push(0)?;
-    refused(&rt, &image, "image I5")
+    shorter_and_longer(&rt, &mut built(&rt, SECOND_FIVE_WORDS, FIVE)?)
 }
 
 const FIELDS: &[Row] = &[
-    (&[(0, b"LHF3")], "image I1"),
+    (0, b"LHF3", "image I1"),
     // As an image of version 1 the header ends at 1,024, and there are too many bytes.
-    (&[(0, b"LHF1")], "image I5"),
-    (&[(4, b"\0")], "image I2 at offset 4"),
-    (&[(4, b"\xfe")], "image I2 at offset 16"),
-    (&[(8, b"\x19")], "image I2 at offset 8"),
-    (&[(12, b"\x09")], "image I2 at offset 12"),
-    (&[(16, b"\0")], "image I2 at offset 16"),
-    (&[(20, b"\x02\0\0")], "image I2 at offset 20"),
-    (&[(1_024, b"\x01")], "image I2 at offset 36"),
-    (&[(4_095, b"\x01")], "image I2 at offset 36"),
-    (&[(24, b"\x03")], "image I3"),
-    (&[(28, b"\x07")], "image I3"),
-    (&[(24, b"\x05")], "image I4"),
-    (&[(28, b"\x06")], "image I9 at page 0"),
+    (0, b"LHF1", "image I5"),
+    (4, b"\0", "image I2 at offset 4"),
+    (4, b"\xfe", "image I2 at offset 16"),
+    (8, b"\x19", "image I2 at offset 8"),
+    (12, b"\x09", "image I2 at offset 12"),
+    (16, b"\0", "image I2 at offset 16"),
+    (20, b"\x02\0\0", "image I2 at offset 20"),
+    (1_024, b"\x01", "image I2 at offset 36"),
+    (4_095, b"\x01", "image I2 at offset 36"),
+    (24, b"\x03", "image I3"),
+    (28, b"\x07", "image I3"),
+    (24, b"\x05", "image I4"),
+    (28, b"\x06", "image I9 at page 0"),
 ];
+
+fn fields_refused(
+    rt: &(impl Abort + AllocGlobal + Threads + Wait + Sync),
+    image: &[u8],
+) -> Result<(), Fail> {
+    rows(rt, image, FIELDS)?;
+    let endless = edited(rt, image, &[(24, b"\xff\xff\xff\xff")])?;
+    refused(rt, beginning(&endless, 4_096), "image I3")
+}
 
 #[test]
 fn fields_of_the_header_of_version_2(rt: HostRuntime) -> Result<(), Fail> {
-    let image = built(&rt, SECOND_FIVE_WORDS, FIVE)?;
-    rows(&rt, &image, FIELDS)?;
-    let endless = edited(&rt, &image, &[(24, b"\xff\xff\xff\xff")])?;
-    refused(&rt, beginning(&endless, 4_096), "image I3")
+    fields_refused(&rt, &built(&rt, SECOND_FIVE_WORDS, FIVE)?)
 }
 
 const PAGES: &[Row] = &[
-    (&[(8_192, b"\x02")], "image I6 at page 2"),
-    (&[(4_099, b"\x01")], "image I6 at page 1"),
-    (&[(12_292, b"\x01")], "image I7 at page 3"),
-    (&[(12_289, b"\0")], "image I9 at page 0"),
-    (&[(4_104, b"\x01")], "image I10 at page 1"),
-    (&[(4_112, b"\x39")], "image I13 at page 1"),
-    (&[(4_113, b"\x71")], "image I13 at page 1"),
-    (&[(4_115, b"\x01")], "image I13 at page 1"),
-    (&[(4_452, b"\x01")], "image I13 at page 1"),
-    (&[(8_191, b"\x01")], "image I13 at page 1"),
-    // Of two faults the first in the order of the faults.
-    (&[(8_194, b"\x02"), (8_200, b"\x01")], "image I8 at page 2"),
+    (8_192, b"\x02", "image I6 at page 2"),
+    (4_099, b"\x01", "image I6 at page 1"),
+    (12_292, b"\x01", "image I7 at page 3"),
+    (12_289, b"\0", "image I9 at page 0"),
+    (4_104, b"\x01", "image I10 at page 1"),
+    (4_112, b"\x39", "image I13 at page 1"),
+    (4_113, b"\x71", "image I13 at page 1"),
+    (4_115, b"\x01", "image I13 at page 1"),
+    (4_452, b"\x01", "image I13 at page 1"),
+    (8_191, b"\x01", "image I13 at page 1"),
 ];
+
+fn pages_refused(
+    rt: &(impl Abort + AllocGlobal + Threads + Wait + Sync),
+    image: &[u8],
+) -> Result<(), Fail> {
+    rows(rt, image, PAGES)?;
+    // Of two faults the first in the order of the faults.
+    let two = [(8_194, b"\x02".as_slice()), (8_200, b"\x01")];
+    edits_refused(rt, image, &two, "image I8 at page 2")
+}
 
 #[test]
 fn pages_of_version_2_by_themselves(rt: HostRuntime) -> Result<(), Fail> {
-    let image = built(&rt, SECOND_FIVE_WORDS, FIVE)?;
-    rows(&rt, &image, PAGES)
+    pages_refused(&rt, &built(&rt, SECOND_FIVE_WORDS, FIVE)?)
 }
 
 const CHAINS: &[Row] = &[
-    (&[(8_200, b"\x01")], "image I10 at page 2"),
-    (&[(8_200, b"\x02")], "image I11 at page 2"),
-    (&[(4_104, b"\0")], "image I12 at page 2"),
-    // The first record of the second page is that of the first page once more.
-    (&[(8_210, b"a"), (8_266, b"1")], "image I14 at page 2"),
+    (8_200, b"\x01", "image I10 at page 2"),
+    (8_200, b"\x02", "image I11 at page 2"),
+    (4_104, b"\0", "image I12 at page 2"),
 ];
+
+fn chains_refused(
+    rt: &(impl Abort + AllocGlobal + Threads + Wait + Sync),
+    image: &[u8],
+) -> Result<(), Fail> {
+    rows(rt, image, CHAINS)?;
+    // The first record of the second page is that of the first page once more.
+    let twice = [(8_210, b"a".as_slice()), (8_266, b"1")];
+    edits_refused(rt, image, &twice, "image I14 at page 2")
+}
 
 #[test]
 fn chains_of_two_pages_of_version_2(rt: HostRuntime) -> Result<(), Fail> {
-    let image = built(&rt, SECOND_CHAIN_WORDS, CHAIN)?;
-    rows(&rt, &image, CHAINS)
+    chains_refused(&rt, &built(&rt, SECOND_CHAIN_WORDS, CHAIN)?)
 }

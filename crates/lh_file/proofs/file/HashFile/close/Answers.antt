@@ -1,4 +1,4 @@
-use Rattle.std.proofs.Common.{◌≡◌, ◌≤◌, ◌%◌, true, map, sym, ap, ◌∙◌, subst}
+use Rattle.std.proofs.Common.{◌≡◌, ◌≤◌, ◌%◌, true, length, map, sym, ap, ◌∙◌, subst}
 use Rattle.std.proofs.lemmas.Bool.{false≢true}
 use Rattle.std.proofs.lemmas.Map.Views.{exact_unsigned_eq}
 use Rattle.lh_addr.specs.RootWord.{buckets_of}
@@ -26,6 +26,20 @@ returns-clause-closed g c = record {
       (rule_of g.M.Mode.traced c.self.inside.words c.end-last.result c.copied.new.seat.me.0 c.args.hand.view
       c.end-last.ensures.config c.end-last.ensures.end
       (ap (λ (m : Seated). m.0.view) c.copied.ensures.kept ∙ ap (λ (h : HandState). h.view) c.hand.view_is));
+  each = λ all.
+      let is : c.if-clean.gathered ≡ true = sym (ap (λ (f : ClosedFile). f.gathered) c.ended-closed.ensures) ∙ all in
+      let whole : c.in_ok-lists.field-0.whole ≡ buckets_of c.end-last.result.root =
+      elim c.if-clean.branch [
+        | then-clean w ↦
+            exact_unsigned_eq c.in_ok-lists.field-0.whole w.buckets_of.result (sym w.gathered-is ∙ is)
+            ∙ w.buckets_of.ensures
+        | else-clean w ↦ absurd (false≢true (sym w.if-clean.false ∙ sym w.gathered-is ∙ is))
+      ] in
+      let lists = ap (λ (f : ClosedFile). f.lists) c.ended-closed.ensures in
+      let within : c.in_ok-lists.field-0.whole ≤ length (map (λ v. v.items) c.in_ok-lists.field-0.lists.items) =
+      c.in_ok-lists.ensures.gathered.within in
+      subst (λ ls. buckets_of c.end-last.result.root ≤ length ls) (sym lists)
+      (subst (λ n. n ≤ length (map (λ v. v.items) c.in_ok-lists.field-0.lists.items)) whole within);
 }
 
 pub returns-clause-none_is_lost : goal.returns-clause-none_is_lost

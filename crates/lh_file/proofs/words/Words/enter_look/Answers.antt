@@ -11,8 +11,8 @@ use Rattle.lh_file.proofs.words.Words.enter_look.Goals as goal
 pub returns-then-self-clause-acted : goal.returns-then-self-clause-acted
 returns-then-self-clause-acted g c =
     let stamp = c.draw_search_with_seat-stamp.result in
-    let given = found_at c.args.bucket.now.pairs c.find-place.result in
-    let is = c.find-place.ensures.found in
+    let given = found_at c.args.bucket.now.pairs c.in_bucket-place.result in
+    let is = c.in_bucket-place.ensures.found in
     let none = uncounted (content c.args.bucket.now) (Search c.args.key.now) refl in (
       stamp,
       record {
@@ -44,8 +44,8 @@ returns-then-self-clause-acted g c =
 pub returns-else-self-clause-acted : goal.returns-else-self-clause-acted
 returns-else-self-clause-acted g c =
     let stamp = c.draw_search_with_seat-stamp.result in
-    let given = found_at c.args.bucket.now.pairs c.find-place.result in
-    let is = c.find-place.ensures.found in
+    let given = found_at c.args.bucket.now.pairs c.in_bucket-place.result in
+    let is = c.in_bucket-place.ensures.found in
     let none = uncounted (content c.args.bucket.now) (Search c.args.key.now) refl in (
       stamp,
       record {
@@ -74,8 +74,8 @@ returns-else-self-clause-acted g c =
       },
     )
 
-pub returns-then-self-clause-entered : goal.returns-then-self-clause-entered
-returns-then-self-clause-entered g c = (
+pub returns-then-self-clause-met : goal.returns-then-self-clause-met
+returns-then-self-clause-met g c = (
   c.draw_search_with_seat-stamp.result,
   search rules,
   search rules,
@@ -83,8 +83,8 @@ returns-then-self-clause-entered g c = (
       ∙ ap (λ (h : HandState). h.view.stamps ++ c.draw_search_with_seat-stamp.result ∷ []) c.hand.view_is,
 )
 
-pub returns-else-self-clause-entered : goal.returns-else-self-clause-entered
-returns-else-self-clause-entered g c = (
+pub returns-else-self-clause-met : goal.returns-else-self-clause-met
+returns-else-self-clause-met g c = (
   c.draw_search_with_seat-stamp.result,
   search rules,
   search rules,

@@ -1,9 +1,9 @@
 -- A file and its first hand more, from the listing whose turn it is, and what stands there at the end
-use Rattle.std.proofs.Common.{◌≡◌, ◌+◌, ◌-◌, ◌^◌, ◌≤◌, ◌∷◌, ◌++◌, [], List, length, map, min, Some, refl, sym, ap, ◌∙◌}
-use Rattle.std.proofs.Common.{subst, arith}
+use Rattle.std.proofs.Common.{◌≡◌, ◌+◌, ◌-◌, ◌^◌, ◌<◌, ◌≤◌, ◌∷◌, ◌++◌, [], List, length, map, min, Some, refl, sym}
+use Rattle.std.proofs.Common.{ap, ◌∙◌, subst, arith}
 use Rattle.std.specs.List.{slice_get}
 use Rattle.std.proofs.lemmas.List.{length_push}
-use Rattle.std.proofs.lemmas.Option.{same_Some, slice_get_read}
+use Rattle.std.proofs.lemmas.Option.{same_Some, slice_get_read, slice_get_within}
 use Rattle.lh_bucket.specs.Listing.{Lists, count_of, size}
 use Rattle.lh_file.specs.FileState.{IsOpened}
 use Rattle.lh_file.specs.HashFile.{Shared}
@@ -11,7 +11,7 @@ use Rattle.lh_file.specs.Words.HandState.{HandState}
 use Rattle.lh_shards.specs.Hands.{EachShard, ShardFact}
 use Rattle.lh_shards.proofs.Homes.{OpenedFrom, opened_are_of}
 use Rattle.lh_shards.proofs.OneShard.{grown_files}
-use Rattle.lh_shards.proofs.Places.{length_mapped}
+use Rattle.lh_shards.proofs.Places.{length_mapped, there}
 use Rattle.lh_shards.proofs.opening.Shards.opened.Goals as goal
 
 pub loop-shard-preserved : goal.loop-shard-preserved
@@ -48,7 +48,8 @@ loop-shard-preserved c =
           subst
           (λ (l : Lists).
           IsOpened l.config (size l) c.args.recording (min (count_of l.lists) (2 ^ 64 - 1))
-          c.in_ok-file.file.state c.in_ok-file.hand) same c.in_ok-file.ensures)));
+          c.in_ok-file.file.state c.in_ok-file.hand × (c.in_ok-file.file.state.listing ≡ l)) same
+          (c.in_ok-file.ensures.opened, c.in_ok-file.ensures.listing))));
     }
 
 pub returns : goal.returns
@@ -62,7 +63,14 @@ returns c =
     seen ∙ c.loop-shard.invariant.files ∙ all in
     record {
       count = count;
-      each = λ i listing file hand li fi hi. c.loop-shard.invariant.each i file hand fi hi listing li;
+      each = λ i listing file hand li fi hi. (c.loop-shard.invariant.each i file hand fi hi listing li).0;
+      listing = λ i listing file li fi.
+          let below : i < length (map (λ (file : Shared). file.state) fs) =
+          slice_get_within (map (λ (file : Shared). file.state) fs) i file fi in
+          let hand : (x : HandState) × (slice_get c.loop-shard.hands.items i ≡ Some x) =
+          there c.loop-shard.hands.items i
+          (omega (arith, below, seen, c.loop-shard.invariant.files, c.loop-shard.invariant.hands)) in
+          (c.loop-shard.invariant.each i file hand.0 fi hand.1 listing li).1;
       of =
           opened_are_of c.args.listings.now c.args.recording (map (λ (file : Shared). file.state) fs)
           c.loop-shard.hands.items count (c.loop-shard.invariant.hands ∙ all) c.loop-shard.invariant.each;

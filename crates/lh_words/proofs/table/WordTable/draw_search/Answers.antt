@@ -9,5 +9,6 @@ fetch_add-requires g c = (
   c.requires.at ∙ sym (ap (λ (f : TableState). f.id) c.self.view_is),
   has_word c.self.inside c.self.invariant _ (omega arith),
   draws_stamp g.M.Mode.traced c.self.inside.words.shared.key _ _ c.args.seat.now.me g.D.Deed.bucket g.D.Deed.bucket
-      g.D.Deed.call g.D.Deed.reply c.requires.parts c.requires.owned c.requires.serves c.requires.live c.requires.left,
+      g.D.Deed.call g.D.Deed.reply g.D.Deed.was c.requires.parts c.requires.owned c.requires.serves c.requires.met
+      c.requires.live c.requires.left,
 )

@@ -1,3 +1,4 @@
+use Rattle.std.proofs.Common.{None}
 use Rattle.lh_bucket.specs.Bucket.{content}
 use Rattle.lh_bucket.specs.PlainMap.{reply}
 use Rattle.lh_bucket.specs.declared.call.Call.TheVariants.{Search}
@@ -9,5 +10,6 @@ ghosts-draw_search_for g a =
     record {
       call = Search a._key.now;
       reply = reply (content a._bucket.now) (Search a._key.now);
+      was = None;
       bucket = unowned_bucket;
     }

@@ -1,5 +1,0 @@
-use Rattle.std.proofs.Common.{◌≡◌}
-use Rattle.lh_bucket_tests.proofs.tests.splitting.split_divides_many_records.Given as goal
-
-abbrev pub invariant-loop-number : goal.invariant-loop-number
-invariant-loop-number g l = (g.B.Bucket.seen l.old).head ≡ (g.B.Bucket.seen l.initial.old).head

@@ -1,0 +1,5 @@
+pub mod Codes
+pub mod Handles
+pub mod Replies
+pub mod Many
+pub mod Built
