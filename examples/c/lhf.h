@@ -11,9 +11,9 @@
  *         }
  *     }
  *
- * No call keeps anything, takes a lock or fails by crashing, and there is nothing to close. Only lhf_check and lhf_build take
- * memory, while they run, and give it back. Any number of threads may look keys up in one image. Bytes and index have to stay where they are,
- * and as they are, while a handle has them. */
+ * No call keeps anything, takes a lock or fails by crashing, and there is nothing to close. Only lhf_build takes memory while
+ * it runs, and lhf_check where a page has a fault or a chain has 64 pages or more; they give it back. Any number of threads may
+ * look keys up in one image. Bytes and index have to stay where they are, and as they are, while a handle has them. */
 #ifndef LHF_H
 #define LHF_H
 #include <stddef.h>
@@ -119,7 +119,7 @@ uint32_t lhf_open(struct lhf *image, const void *bytes, size_t size);
 size_t lhf_index_len(const struct lhf *image);
 
 /* Looks at each page of an opened image once, and writes its index. LHF_OK, or the first fault at its least page, or
- * LHF_NO_MEMORY, or LHF_CHANGED where `len` isn't lhf_index_len. */
+ * LHF_NO_MEMORY, or LHF_CHANGED where `len` isn't lhf_index_len; after a fault the index has entries of some pages. */
 uint32_t lhf_check(struct lhf *image, struct lhf_page *index, size_t len);
 
 /* The value of a key in a checked image: LHF_OK, with the value, or LHF_ABSENT, or LHF_CHANGED. */

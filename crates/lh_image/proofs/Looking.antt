@@ -8,5 +8,8 @@ pub mod Maps
 pub mod Loops
 pub mod Checked
 pub mod Indexed
+pub mod Plain
+pub mod Apart
+pub mod Sound
 pub mod Places
 pub mod Walks

@@ -21,5 +21,6 @@ pub mod RoundTrip
 pub mod LookUp
 pub mod Checked
 pub mod Indexed
+pub mod Plain
 pub mod Writing
 pub mod Texts

@@ -1,5 +1,5 @@
 //! Look-ups in the bytes of an image that was checked.
-ghost use Rattle.std.specs.Prelude.{◌≡◌, ◌==◌, IfErr, IfOk, IfSome, MatchOption, None, Some};
+ghost use Rattle.std.specs.Prelude.{◌≡◌, ◌==◌, length, IfErr, IfOk, IfSome, MatchOption, None, Some};
 ghost use Rattle.std.specs.FinMap.{get};
 ghost use Rattle.lh_bucket.specs.Listing.{all_of, count_of, size};
 ghost use Rattle.lh_bucket.specs.Records.{map_of};
@@ -10,11 +10,15 @@ ghost use Rattle.lh_image.specs.Image.{IsImage};
 ghost use Rattle.lh_image.specs.Listed.{IsMemoryOr};
 ghost use Rattle.lh_image.specs.LookUp.{IsOpenedImage};
 
+mod apart;
 pub(crate) mod index;
 mod pages;
+mod plain;
+mod whole;
 
-use crate::checked::index::{PageIndex, index_in};
+use crate::checked::index::{NOTHING, PageIndex, put_index};
 use crate::checked::pages::pages_in;
+use crate::checked::whole::is_plain;
 use crate::fault::ImageFault;
 use crate::header::Header;
 use crate::indexed::find_in;
@@ -58,24 +62,30 @@ impl<'a> Model for CheckedImage<'a> {
     ghost invariant = { λ i. IsChecked i.bytes.now i.header i.root i.index.items };
 }
 
-/// Looks at all pages of bytes that were opened, and keeps what look-ups want of them.
-pub(crate) fn index_checked(
+/// Looks at all pages of bytes that were opened, and puts what look-ups want of them into an index.
+pub(crate) fn check_pages(
     alloc: Global,
     bytes: &[u8],
     header: &Header,
     root: &Root,
-) -> Result<Vec<PageIndex>, ImageFault>
-    requires { IsOpenedImage bytes.now header.now root.now }
-    ensures checked { IfOk result (λ index. IsChecked bytes.now header.now root.now index.items) }
+    index: &mut [PageIndex],
+) -> Result<(), ImageFault>
+    requires opened { IsOpenedImage bytes.now header.now root.now }
+    requires size { length index.old ≡ header.now.pages }
+    ensures checked { IfOk result (λ _. IsChecked bytes.now header.now root.now index.new) }
     ensures fault { IfErr result (λ fault. IsMemoryOr fault (image_fault bytes.now)) }
 {
-    // Their laws: bytes without a fault are an image, and of the one listing that they show.
+    if is_plain(bytes, header, root, index) {
+        return Ok(());
+    }
+    // Some page has a fault, or a chain is long. Their laws: bytes without a fault are an image, and of the one listing
+    // that they show.
     faultless_bytes_are_an_image();
     image_is_of_only_listing();
     let (table, faults) = pages_in(alloc, bytes, header, root)?;
     listing_of_pages(alloc, header, &table, &faults)?;
-    let index = index_in(alloc, bytes, header, root)?;
-    Ok(index)
+    put_index(bytes, header, root, index);
+    Ok(())
 }
 
 impl<'a> CheckedImage<'a> {
@@ -90,11 +100,13 @@ impl<'a> CheckedImage<'a> {
         ensures image { IfOk result (λ checked. IsImage bytes.now checked) }
         ensures fault { IfErr result (λ fault. IsMemoryOr fault (image_fault bytes.now)) }
     {
+        let mut index = vec![in alloc; NOTHING; header.pages as usize]?;
+        check_pages(alloc, bytes, header, root, &mut index)?;
         Ok(CheckedImage {
             bytes,
             header: *header,
             root: *root,
-            index: index_checked(alloc, bytes, header, root)?,
+            index,
         })
     }
 

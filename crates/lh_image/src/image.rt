@@ -20,7 +20,7 @@ pub(crate) mod slots;
 pub(crate) mod walk;
 
 use crate::checked::index::PageIndex;
-use crate::checked::{CheckedImage, index_checked};
+use crate::checked::{CheckedImage, check_pages};
 use crate::fault::ImageFault;
 use crate::header::Header;
 use crate::image::opening::{check_size, header_in};
@@ -76,7 +76,8 @@ impl<'a> Image<'a> {
 
     /// Looks at all pages once, for look-ups that then have no fault and look at no more than they need.
     ///
-    /// While it runs it takes memory for the records; 32 bytes for each page are kept. The fault is that of
+    /// It takes 32 bytes for each page, which are kept. Records are looked at where they stand; only where a page has a
+    /// fault or a chain has 64 pages or more are they copied while it runs. The fault is that of
     /// [`check_image`](crate::check_image).
     pub fn check(&self, alloc: Global) -> Result<CheckedImage<'a>, ImageFault>
         ensures image { IfOk result (λ checked. IsImage self.now checked) }
@@ -116,15 +117,14 @@ impl<'a> Image<'a> {
     }
 
     /// Looks at all pages once, as [`check`](Image::check) does, and puts what look-ups want of them into the caller's
-    /// memory: an entry for each page.
+    /// memory: an entry for each page. Where no page has a fault and no chain has 64 pages it asks for none. After a
+    /// fault the index has entries of some pages.
     pub fn check_into(&self, alloc: Global, index: &mut [PageIndex]) -> Result<(), ImageFault>
         requires { length index.old ≡ (header_of self.now).pages }
         ensures checked { IfOk result (λ _. IsChecked self.now (header_of self.now) (extent_of self.now) index.new) }
         ensures fault { IfErr result (λ fault. IsMemoryOr fault (image_fault self.now)) }
     {
-        let own = index_checked(alloc, self.bytes, &self.header, &self.root)?;
-        index.copy_from_slice(&own);
-        Ok(())
+        check_pages(alloc, self.bytes, &self.header, &self.root, index)
     }
 
     /// The number of records, as the header has it.

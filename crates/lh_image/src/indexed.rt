@@ -15,7 +15,7 @@ ghost use Rattle.lh_image.specs.Checked.{IsChecked, code_mark, index_at};
 ghost use Rattle.lh_image.specs.declared.header.Header.{Header};
 ghost use Rattle.lh_image.specs.Indexed.{AnswersLookUp, IsGoodPage, IsNext, IsStart};
 ghost use Rattle.lh_image.specs.Layout.{page};
-ghost use Rattle.lh_image.specs.LookUp.{IsSlotOf};
+ghost use Rattle.lh_image.specs.LookUp.{IsSlotOf, first_pairs};
 ghost use Rattle.lh_image.specs.Version.{page_bytes, version_of};
 
 use crate::checked::index::{MOST, PageIndex, mark_of};
@@ -45,20 +45,28 @@ fn has_key_at(page: &[u8], format: Format, place: usize, key: &[u8]) -> bool
     slot[0] as usize <= format.key && has_key(slot, format, key)
 }
 
-/// The place of the key among the records of a page.
+/// The place of the key among the first records of a page.
 #[inline]
-fn place_in(page: &[u8], format: Format, entry: &PageIndex, key: &[u8], mark: u8) -> Option<usize>
+pub(crate) fn place_among(
+    page: &[u8],
+    format: Format,
+    entry: &PageIndex,
+    until: usize,
+    key: &[u8],
+    mark: u8,
+) -> Option<usize>
     requires size { length page.now ≡ page_size format }
     requires limits { IsWithinLimits format }
+    requires until { until ≤ format.slots }
     ensures within { IfSome result (λ place. place < format.slots) }
-    ensures found { IsGoodPage format page.now entry.now → mark ≡ code_mark (code_of key.now) →
-        IsSlotOf format page.now key.now (pairs_of format page.now) result }
+    ensures found { IsGoodPage format page.now entry.now → until ≤ used_of page.now →
+        mark ≡ code_mark (code_of key.now) →
+        IsSlotOf format page.now key.now (first_pairs format page.now until) result }
 {
-    let used = (entry.used as usize).min(format.slots);
     let mut left = places_of(&entry.marks, mark);
     while left != 0 {
         let place = lowest(left);
-        if place >= used {
+        if place >= until {
             return None;
         }
         if has_key_at(page, format, place, key) {
@@ -67,6 +75,31 @@ fn place_in(page: &[u8], format: Format, entry: &PageIndex, key: &[u8], mark: u8
         left = without(left, place);
     }
     None
+}
+
+/// The place of the key among the records of a page.
+#[inline]
+pub(crate) fn place_in(
+    page: &[u8],
+    format: Format,
+    entry: &PageIndex,
+    key: &[u8],
+    mark: u8,
+) -> Option<usize>
+    requires size { length page.now ≡ page_size format }
+    requires limits { IsWithinLimits format }
+    ensures within { IfSome result (λ place. place < format.slots) }
+    ensures found { IsGoodPage format page.now entry.now → mark ≡ code_mark (code_of key.now) →
+        IsSlotOf format page.now key.now (pairs_of format page.now) result }
+{
+    place_among(
+        page,
+        format,
+        entry,
+        (entry.used as usize).min(format.slots),
+        key,
+        mark,
+    )
 }
 
 /// The value at a place of a page, if its length is one that a value may have there.
@@ -87,7 +120,7 @@ fn value_at(page: &[u8], format: Format, place: usize) -> Result<&[u8], Changed>
 
 /// The bytes of a page, if there are as many.
 #[inline]
-fn page_in(bytes: &[u8], version: Version, number: u32) -> Option<&[u8]>
+pub(crate) fn page_in(bytes: &[u8], version: Version, number: u32) -> Option<&[u8]>
     ensures size { IfSome result (λ page. length page.now ≡ page_bytes version) }
     ensures page { version ≡ version_of bytes.now → IfSome result (λ own. own.now ≡ page bytes.now number) }
     ensures there { page_bytes version * number + page_bytes version ≤ length bytes.now → IsSome result }

@@ -20,7 +20,9 @@ use Rattle.lh_image.specs.Misplaced.{IsLeastAmong, IsSetOf, lesser_of}
 
 -- ---- keys
 
-flip : (x y : List ℕ) → bytes_eq x y ≡ bytes_eq y x
+-- two keys are compared as well the other way round
+
+pub flip : (x y : List ℕ) → bytes_eq x y ≡ bytes_eq y x
 flip x y = elim (cases_Bool (bytes_eq x y)) [
   | inl same ↦ let e : x ≡ y = (bytes_eq-Decides x y).0 same in rw e refl
   | inr other ↦ elim (cases_Bool (bytes_eq y x)) [
@@ -90,7 +92,8 @@ stands_last : (pages : List ℕ) (x q : ℕ) → stands_in (pages ++ x ∷ []) q
 unfolding stands_in
 stands_last pages x q = any_last (λ y. eqb y q) pages x
 
-before_or_last : (pages : List ℕ) (x q : ℕ) → stands_in (pages ++ x ∷ []) q ≡ true →
+-- a page that stands in pages with one more is one of them, or that one
+pub before_or_last : (pages : List ℕ) (x q : ℕ) → stands_in (pages ++ x ∷ []) q ≡ true →
     (stands_in pages q ≡ true) ⊎ (x ≡ q)
 before_or_last pages x q here = elim (or_cases (stands_in pages q) (eqb x q) (sym (stands_last pages x q) ∙ here)) [
   | inl old ↦ inl old

@@ -1,16 +1,16 @@
 -- An image that was checked: no page that is met has a fault, and no key is found elsewhere than in its first record
 use Rattle.std.proofs.Common.{◌≡◌, ℕ, zero, suc, ◌+◌, ◌-◌, ◌<◌, ◌≤◌, true, false, List, [], ◌∷◌, ◌++◌}
-use Rattle.std.proofs.Common.{Option, Some, None, Result, Ok, Err, refl, sym, ap, subst, ◌∙◌, inl, inr}
+use Rattle.std.proofs.Common.{Option, Some, None, Result, Ok, Err, refl, sym, ap, subst, ◌∙◌, inl, inr, set, length}
 use Rattle.std.proofs.Common.{arith}
 use Rattle.std.specs.Option.{is_some, option_or}
 use Rattle.std.specs.Str.{bytes_eq}
 use Rattle.std.proofs.lemmas.Bool.{cases_lt}
-use Rattle.std.proofs.lemmas.List.{get_or_append_left, get_or_at, length-append}
+use Rattle.std.proofs.lemmas.List.{get_or-set_other, get_or-set_same}
 use Rattle.lh_addr.specs.Extent.{Extent}
 use Rattle.lh_page.specs.declared.format.Format.{Format}
 use Rattle.lh_page.specs.declared.head.PageHead.{PageHead}
 use Rattle.lh_page.specs.declared.pair.Pair.{Pair}
-use Rattle.lh_page.specs.PageFields.{bad_slot, is_bad_record, is_bad_slot, pair_of, pairs_of, used_of}
+use Rattle.lh_page.specs.PageFields.{bad_slot, is_bad_record, is_bad_slot, pair_of, used_of}
 use Rattle.lh_page.specs.PageTable.{slot}
 use Rattle.lh_bucket.specs.Listing.{Lists}
 use Rattle.lh_image.specs.declared.fault.ImageFault.{ImageFault}
@@ -19,7 +19,7 @@ use Rattle.lh_image.specs.declared.header.Header.{Header}
 use Rattle.lh_image.specs.declared.judge.page_checks.PageFaults.{PageFaults}
 use Rattle.lh_image.specs.declared.table.PageEntry.{PageEntry}
 use Rattle.lh_image.specs.declared.checked.index.PageIndex.{PageIndex}
-use Rattle.lh_image.specs.Checked.{AreIndexed, IsIndexed, no_index}
+use Rattle.lh_image.specs.Checked.{IsIndexed, index_at, no_index}
 use Rattle.lh_image.specs.Faults.{bad_used, first_fault_of, has_bad_slot, image_fault}
 use Rattle.lh_image.specs.Image.{ImageLaw, IsImage, OneListingLaw, listing_of}
 use Rattle.lh_image.specs.Layout.{page, view_of}
@@ -33,7 +33,7 @@ use Rattle.lh_image.specs.View.{View, capacity, next, page_count}
 use Rattle.lh_image.proofs.Faults.FirstAnswers.{none_first}
 use Rattle.lh_image.proofs.Faults.Ranges.{find_none}
 use Rattle.lh_image.proofs.Faults.Sound.{IsSound, sound_law}
-use Rattle.lh_image.proofs.Looking.Scans.{first_pairs-all, first_pairs-more, value_more}
+use Rattle.lh_image.proofs.Looking.Scans.{first_pairs-more, value_more}
 use Rattle.lh_image.proofs.Looking.Slots.{bad_used_slot}
 use Rattle.lh_image.proofs.Looking.Steps.{IsOnItsWay, format_is, found_twice, head_is, here, pages_is, so_none}
 use Rattle.lh_image.proofs.Looking.Values.{value_in-append}
@@ -134,7 +134,8 @@ module _ (f : Format) (bytes key : List ℕ) (n : ℕ) (before : value_in key (f
         ∙ value_more key (first_pairs f bytes n) (pair_of f (slot f bytes n)) true (sym same)
         ∙ ap (λ o. option_or o (Some (pair_of f (slot f bytes n)).value)) before
 
-    found_still : (k m : ℕ) → m ≡ (n + 1) + k →
+    -- a key that none of the first slots has is found in the next one, and still is with more slots behind it
+    pub found_still : (k m : ℕ) → m ≡ (n + 1) + k →
         value_in key (first_pairs f bytes m) ≡ Some (pair_of f (slot f bytes n)).value
     found_still zero m e =
         let at : m ≡ n + 1 = omega arith in ap (λ j. value_in key (first_pairs f bytes j)) at ∙ found_here
@@ -144,18 +145,6 @@ module _ (f : Format) (bytes key : List ℕ) (n : ℕ) (before : value_in key (f
         ∙ value_in-append key (first_pairs f bytes ((n + 1) + k)) _
         ∙ ap (λ o. option_or o (value_in key (pair_of f (slot f bytes ((n + 1) + k)) ∷ [])))
         (found_still k ((n + 1) + k) refl)
-
-    -- the value of the first used slot that has the key is what is found in the page
-    pub found_first_there : (used : ℕ) → used ≡ used_of bytes → n < used →
-        value_in key (pairs_of f bytes) ≡ Some (pair_of f (slot f bytes n)).value
-    found_first_there used is low =
-        ap (value_in key) (sym (first_pairs-all f bytes used is)) ∙ found_still (used - (n + 1)) used (omega arith)
-
--- a key that no used slot has isn't found in the page
-pub not_found_there : (f : Format) (bytes key : List ℕ) (n used : ℕ) → value_in key (first_pairs f bytes n) ≡ None →
-    n ≡ used → used ≡ used_of bytes → value_in key (pairs_of f bytes) ≡ None
-not_found_there f bytes key n used before all is =
-    ap (value_in key) (sym (first_pairs-all f bytes n (all ∙ is))) ∙ before
 
 -- ---- along a chain
 
@@ -211,24 +200,20 @@ image_page one bytes header root l o image p low high f pg fe pe =
           ∙ sound.clean.slots p low below) fits less,
     )
 
--- with the entry of one page more, the first pages and that one have their entries
-pub pages_more : (bytes : List ℕ) (entries : List PageIndex) (n : ℕ) (entry : PageIndex) (f : Format) (pg : List ℕ) →
-    f ≡ format_of (version_of bytes) → pg ≡ page bytes n → AreIndexed bytes n entries → IsIndexed f pg entry →
-    AreIndexed bytes (n + 1) (entries ++ entry ∷ [])
-pages_more bytes entries n entry f pg fe pe are is = record {
-  size = omega (arith, length-append entries (entry ∷ []), are.size);
-  pages = λ p low high. elim (cases_lt p n) [
-    | inl before ↦
-        rw (get_or_append_left entries (entry ∷ []) no_index p (omega (arith, before, are.size)))
-        (are.pages p low before)
-    | inr there ↦
-        let at : p ≡ n = omega arith in
-        let own : IsIndexed (format_of (version_of bytes)) (page bytes n) entry =
-        subst (λ b. IsIndexed (format_of (version_of bytes)) b entry) pe
-        (subst (λ g. IsIndexed g pg entry) fe is) in
-        rw (at, get_or_at entries entry [] no_index n are.size) own
-  ];
-}
+-- with the entry of one page more put into its place, the first pages and that one have their entries
+pub entry_set : (bytes : List ℕ) (index : List PageIndex) (n : ℕ) (entry : PageIndex) (f : Format) (pg : List ℕ) →
+    f ≡ format_of (version_of bytes) → pg ≡ page bytes n → n < length index →
+    ((p : ℕ) → 1 ≤ p → p < n → IsIndexed (format_of (version_of bytes)) (page bytes p) (index_at index p)) →
+    IsIndexed f pg entry → (p : ℕ) → 1 ≤ p → p < n + 1 →
+    IsIndexed (format_of (version_of bytes)) (page bytes p) (index_at (set index n entry) p)
+entry_set bytes index n entry f pg fe pe within are is p low high = elim (cases_lt p n) [
+  | inl before ↦ rw (get_or-set_other index n p entry no_index (λ z. omega (arith, before, z))) (are p low before)
+  | inr there ↦
+      let at : p ≡ n = omega arith in
+      let own : IsIndexed (format_of (version_of bytes)) (page bytes n) entry =
+      subst (λ b. IsIndexed (format_of (version_of bytes)) b entry) pe (subst (λ g. IsIndexed g pg entry) fe is) in
+      rw (at, get_or-set_same index n entry no_index within) own
+]
 
 -- the entry of a page in the bytes is the entry of the page that was cut out of them
 pub indexed_as : (bytes : List ℕ) (p : ℕ) (entry : PageIndex) (f : Format) (pg : List ℕ) →

@@ -18,10 +18,11 @@ abbrev pub OnChains : View → Type 0
 OnChains v = (p : ℕ) → 1 ≤ p → p < page_count v → (i : ℕ) × (i < buckets v) × (stands_in (chain_of v i) p ≡ true)
 
 -- over plain numbers: b and c are a page's bucket and its next page's
-bucket_rule : (b p S : ℕ) → ((leb p S && not (eqb b (p - 1))) || leb S b ≡ false) ↔ ((p ≤ S → b ≡ p - 1) × (b < S))
+pub bucket_rule : (b p S : ℕ) → ((leb p S && not (eqb b (p - 1))) || leb S b ≡ false) ↔ ((p ≤ S → b ≡ p - 1) × (b < S))
 bucket_rule b p S = (λ e. (λ l. grind (arith, nat_tests), grind (arith, nat_tests)), λ (e, f). grind (arith, nat_tests))
 
-next_rule : (x S P b c : ℕ) →
+-- x is the next page
+pub next_rule : (x S P b c : ℕ) →
     (not (eqb x 0) && (leb x S || leb P x || not (eqb c b)) ≡ false) ↔ (x ≢ 0 → (S < x) × (x < P) × (c ≡ b))
 next_rule x S P b c = (
   λ e more.

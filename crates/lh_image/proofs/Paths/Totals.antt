@@ -2,7 +2,8 @@
 use Rattle.std.proofs.Common.{◌≡◌, ℕ, zero, suc, ◌+◌, ◌-◌, ◌<◌, ◌≤◌, inl, inr, Bool, true, false, cond, ◌||◌, eqb, List}
 use Rattle.std.proofs.Common.{[], ◌∷◌, length, drop, refl, sym, ap, ◌∙◌, arith, length-drop}
 use Rattle.std.specs.List.{list_any, range_with_len, sum_by}
-use Rattle.std.proofs.lemmas.Bool.{cases_eq, eqb-true, eq-eqb, ne_eqb, or_left, or_right, both_ways, false_from_ne_true}
+use Rattle.std.proofs.lemmas.Bool.{cases_Bool, cases_eq, eqb-true, eq-eqb, ne_eqb, or_left, or_right, both_ways}
+use Rattle.std.proofs.lemmas.Bool.{false_from_ne_true}
 use Rattle.std.proofs.lemmas.List.Sums.{sum_by-cons}
 use Rattle.lh_image.specs.Chains.{stands_in, IsPath, IsCovered}
 use Rattle.lh_image.proofs.Paths.Walks.{path_at, path_only}
@@ -79,8 +80,13 @@ sum_path next f a n (x ∷ xs) p path within =
     (λ e. ap (stands_in xs) (sym (eqb-true x q e)) ∙ tail_clear next x xs p path)) in
     omega (arith, sum_by-cons f x xs, sum_one f x a n here.0 here.1)
 
+-- each bucket has a path from its head, of pages of its bucket alone
+pub record AreOwnPaths (next bucket : ℕ → ℕ) (S P : ℕ) (path : ℕ → List ℕ) : Type 0 where
+  pub follows : (i : ℕ) → i < S → IsPath next (1 + i) (path i)
+  pub own : (i p : ℕ) → i < S → stands_in (path i) p ≡ true → (1 ≤ p) × (p < P) × (bucket p ≡ i)
+
 -- the sum over the first m buckets' paths is the sum over the pages of these buckets
-sum_buckets : (next bucket : ℕ → ℕ) (S P : ℕ) (path : ℕ → List ℕ) (f : ℕ → ℕ) → IsCovered next bucket S P path →
+sum_buckets : (next bucket : ℕ → ℕ) (S P : ℕ) (path : ℕ → List ℕ) (f : ℕ → ℕ) → AreOwnPaths next bucket S P path →
     (m i : ℕ) → i + m ≤ S →
     sum_by (λ j. sum_by f (path j)) (range_with_len i m) ≡
     sum_by (λ p. sum_by (λ j. only (path j) f p) (range_with_len i m)) (range_with_len 1 (P - 1))
@@ -96,18 +102,80 @@ sum_buckets next bucket S P path f covered (suc m) i le =
     (λ p l h. sum_by-cons (λ j. only (path j) f p) i (range_with_len (i + 1) m)) in
     omega (arith, sum_by-cons (λ j. sum_by f (path j)) i (range_with_len (i + 1) m))
 
+-- a page counts in the path of its own bucket alone
+own_sum : (next bucket : ℕ → ℕ) (S P : ℕ) (path : ℕ → List ℕ) (f : ℕ → ℕ) → AreOwnPaths next bucket S P path →
+    (p : ℕ) → bucket p < S →
+    sum_by (λ j. only (path j) f p) (range_with_len 0 S) ≡ only (path (bucket p)) f p
+own_sum next bucket S P path f paths p below =
+    sum_same (λ j. only (path j) f p) (λ j. cond (eqb (bucket p) j) (only (path (bucket p)) f p) 0) 0 S
+    (λ j l h. elim (cases_eq (bucket p) j) [
+      | inl same ↦ rw (eq-eqb (bucket p) j same, ← same) refl
+      | inr other ↦
+          let off : stands_in (path j) p ≡ false =
+          false_from_ne_true (stands_in (path j) p) (λ t. other (paths.own j p (omega arith) t).2) in
+          rw (ne_eqb (bucket p) j other, off) refl
+    ]) ∙ sum_one (λ _. only (path (bucket p)) f p) (bucket p) 0 S (omega arith) (omega (arith, below))
+
 -- the sum over the paths of all buckets is the sum over all pages
 pub sum_covered : (next bucket : ℕ → ℕ) (S P : ℕ) (path : ℕ → List ℕ) (f : ℕ → ℕ) → IsCovered next bucket S P path →
     sum_by (λ j. sum_by f (path j)) (range_with_len 0 S) ≡ sum_by f (range_with_len 1 (P - 1))
 sum_covered next bucket S P path f covered =
-    sum_buckets next bucket S P path f covered S 0 (omega arith)
+    let paths : AreOwnPaths next bucket S P path = record { follows = covered.follows; own = covered.own } in
+    sum_buckets next bucket S P path f paths S 0 (omega arith)
     ∙ sum_same (λ p. sum_by (λ j. only (path j) f p) (range_with_len 0 S)) f 1 (P - 1) (λ p low high.
     let at = covered.all p low (omega arith) in
-    sum_same (λ j. only (path j) f p) (λ j. cond (eqb (bucket p) j) (f p) 0) 0 S
-    (λ j l h. elim (cases_eq (bucket p) j) [
-      | inl same ↦ rw (eq-eqb (bucket p) j same, ← same, at.1) refl
-      | inr other ↦
-          let off : stands_in (path j) p ≡ false =
-          false_from_ne_true (stands_in (path j) p) (λ t. other (covered.own j p (omega arith) t).2) in
-          rw (ne_eqb (bucket p) j other, off) refl
-    ]) ∙ sum_one (λ _. f p) (bucket p) 0 S (omega arith) (omega (arith, at.0)))
+    own_sum next bucket S P path f paths p at.0 ∙ rw at.1 refl)
+
+-- ---- paths that have as many pages as there are
+
+-- no more pass a test than there are
+passed_few : (t : ℕ → Bool) (a n : ℕ) → sum_by (λ p. cond (t p) 1 0) (range_with_len a n) ≤ n
+passed_few t a zero = omega arith
+passed_few t a (suc n) =
+    let rest = passed_few t (a + 1) n in
+    let cut = sum_by-cons (λ p. cond (t p) 1 0) a (range_with_len (a + 1) n) in
+    elim (cases_Bool (t a)) [
+      | inl passes ↦ let one : ◌≡◌ {A = ℕ} (cond (t a) 1 0) 1 = rw passes refl in omega (arith, rest, cut, one)
+      | inr fails ↦ let one : ◌≡◌ {A = ℕ} (cond (t a) 1 0) 0 = rw fails refl in omega (arith, rest, cut, one)
+    ]
+
+-- where as many pass a test as there are, all pass it
+all_passed : (t : ℕ → Bool) (a n : ℕ) → sum_by (λ p. cond (t p) 1 0) (range_with_len a n) ≡ n → (p : ℕ) → a ≤ p →
+    p < a + n → t p ≡ true
+all_passed t a zero e p low high = absurd (omega arith)
+all_passed t a (suc n) e p low high =
+    let rest = passed_few t (a + 1) n in
+    let cut = sum_by-cons (λ p. cond (t p) 1 0) a (range_with_len (a + 1) n) in
+    elim (cases_Bool (t a)) [
+      | inl passes ↦
+          let one : ◌≡◌ {A = ℕ} (cond (t a) 1 0) 1 = rw passes refl in
+          elim (cases_eq p a) [
+            | inl same ↦ ap t same ∙ passes
+            | inr other ↦ all_passed t (a + 1) n (omega (arith, e, cut, one)) p (omega arith) (omega arith)
+          ]
+      | inr fails ↦
+          let one : ◌≡◌ {A = ℕ} (cond (t a) 1 0) 0 = rw fails refl in
+          absurd (omega (arith, e, cut, one, rest))
+    ]
+
+ones : (xs : List ℕ) → sum_by (λ _. 1) xs ≡ length xs
+ones [] = refl
+ones (x ∷ xs) = sum_by-cons (λ _. 1) x xs ∙ omega (arith, ones xs)
+
+-- Where the paths of all buckets have as many pages as there are, each page stands on one.
+pub covered_by_count : (next bucket : ℕ → ℕ) (S P : ℕ) (path : ℕ → List ℕ) → AreOwnPaths next bucket S P path →
+    ((p : ℕ) → 1 ≤ p → p < P → bucket p < S) →
+    sum_by (λ i. length (path i)) (range_with_len 0 S) ≡ P - 1 → IsCovered next bucket S P path
+covered_by_count next bucket S P path paths below count =
+    let counted : sum_by (λ p. only (path (bucket p)) (λ _. 1) p) (range_with_len 1 (P - 1)) ≡ P - 1 =
+    sym (sum_same (λ p. sum_by (λ j. only (path j) (λ _. 1) p) (range_with_len 0 S))
+    (λ p. only (path (bucket p)) (λ _. 1) p) 1 (P - 1)
+    (λ p low high. own_sum next bucket S P path (λ _. 1) paths p (below p low (omega arith))))
+    ∙ sym (sum_buckets next bucket S P path (λ _. 1) paths S 0 (omega arith))
+    ∙ sum_same (λ j. sum_by (λ _. 1) (path j)) (λ j. length (path j)) 0 S (λ j low high. ones (path j)) ∙ count in
+    record {
+      follows = paths.follows;
+      own = paths.own;
+      all = λ p low high.
+          (below p low high, all_passed (λ q. stands_in (path (bucket q)) q) 1 (P - 1) counted p low (omega arith));
+    }

@@ -1,5 +1,5 @@
 //! What is kept of the pages of an image that was checked, so that a look-up goes to few of them.
-ghost use Rattle.std.specs.Prelude.{◌≡◌, ◌<◌, ◌≤◌, false, ℕ, length, IfErr, IfOk};
+ghost use Rattle.std.specs.Prelude.{◌≡◌, ◌<◌, ◌≤◌, false, ℕ, length};
 ghost use Rattle.lh_addr.specs.Fnv.{code_of};
 ghost use Rattle.lh_page.specs.Format.{IsWithinLimits, page_size};
 ghost use Rattle.lh_page.specs.PageFields.{is_bad_record, pair_of, used_of};
@@ -9,7 +9,6 @@ ghost use Rattle.lh_image.specs.Image.{IsImage, listing_of};
 ghost use Rattle.lh_image.specs.Layout.{view_of};
 ghost use Rattle.lh_image.specs.LookUp.{IsOpenedImage};
 
-use crate::fault::ImageFault;
 use crate::header::Header;
 use crate::image::slots::{key_in, slot_at};
 use crate::image::walk::page_at;
@@ -17,10 +16,16 @@ use crate::laws::image_is_of_only_listing;
 use crate::reading::page::{next_of, used_of};
 use lh_addr::{Root, fnv1a};
 use lh_page::format::{Format, VERSION_2};
-use std::alloc::Global;
 
 /// The most records that a page of either version has.
 pub(crate) const MOST: usize = VERSION_2.slots;
+
+/// What is kept of the header's page, and of any before it is looked at: nothing.
+pub(crate) const NOTHING: PageIndex = PageIndex {
+    marks: [0; MOST],
+    used: 0,
+    next: 0,
+};
 
 /// What is kept of a page: how many records it has, the next page of its chain, and the mark of each of its keys.
 #[repr(C)]
@@ -71,29 +76,17 @@ fn index_of(page: &[u8], format: Format) -> PageIndex
     }
 }
 
-/// The entries of all pages of an image.
-pub(crate) fn index_in(
-    alloc: Global,
-    bytes: &[u8],
-    header: &Header,
-    root: &Root,
-) -> Result<Vec<PageIndex>, ImageFault>
+/// Puts the entries of all pages of an image into an index.
+pub(crate) fn put_index(bytes: &[u8], header: &Header, root: &Root, index: &mut [PageIndex])
     requires opened { IsOpenedImage bytes.now header.now root.now }
     requires image { IsImage bytes.now (listing_of (view_of bytes.now)) }
-    ensures index { IfOk result (λ index. AreIndexed bytes.now header.now.pages index.items) }
-    ensures fault { IfErr result (λ f. f ≡ ImageFault.Memory) }
+    requires size { length index.old ≡ header.now.pages }
+    ensures { AreIndexed bytes.now header.now.pages index.new }
 {
     // Its law: an image has no fault, and so none of its pages has one.
     image_is_of_only_listing();
     let format = header.version.format();
-    let mut index = Vec::new(alloc);
-    index.push(PageIndex {
-        marks: [0; MOST],
-        used: 0,
-        next: 0,
-    })?;
     for page in 1..header.pages {
-        index.push(index_of(page_at(bytes, header, root, page), format))?;
+        index[page as usize] = index_of(page_at(bytes, header, root, page), format);
     }
-    Ok(index)
 }

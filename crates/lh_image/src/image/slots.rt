@@ -35,7 +35,7 @@ pub(crate) fn slot_at(page: &[u8], format: Format, place: usize) -> &[u8]
 
 /// Whether a slot in use has no record: a length out of its range, or a byte behind key or value that isn't zero.
 #[tactic(auto, unfolding(lh_page::specs::PageFields::is_bad_record))]
-fn is_bad_record(slot: &[u8], format: Format) -> bool
+pub(crate) fn is_bad_record(slot: &[u8], format: Format) -> bool
     requires size { length slot.now ≡ slot_size format }
     requires limits { IsWithinLimits format }
     ensures { result ≡ is_bad_record format slot.now }

@@ -30,7 +30,7 @@ pub(crate) fn page_at<'a>(bytes: &'a [u8], header: &Header, root: &Root, number:
 }
 
 /// The head of a page.
-fn head_at(bytes: &[u8], header: &Header, root: &Root, number: u32) -> PageHead
+pub(crate) fn head_at(bytes: &[u8], header: &Header, root: &Root, number: u32) -> PageHead
     requires opened { IsOpenedImage bytes.now header.now root.now }
     requires from { 1 ≤ number }
     requires below { number < header.now.pages }
@@ -40,7 +40,7 @@ fn head_at(bytes: &[u8], header: &Header, root: &Root, number: u32) -> PageHead
 }
 
 /// The first fault of a page by its head.
-fn fault_of_head(
+pub(crate) fn fault_of_head(
     bytes: &[u8],
     header: &Header,
     root: &Root,
@@ -68,7 +68,13 @@ fn fault_of_head(
 }
 
 /// Whether the next page that a page names is no overflow page of its bucket.
-fn names_bad_next(bytes: &[u8], header: &Header, root: &Root, number: u32, head: &PageHead) -> bool
+pub(crate) fn names_bad_next(
+    bytes: &[u8],
+    header: &Header,
+    root: &Root,
+    number: u32,
+    head: &PageHead,
+) -> bool
     requires opened { IsOpenedImage bytes.now header.now root.now }
     requires head { head.now ≡ (view_of bytes.now).head number }
     ensures { result ≡ bad_next (links (view_of bytes.now)) number }

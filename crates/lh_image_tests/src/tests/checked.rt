@@ -125,6 +125,33 @@ fn long_chains(rt: HostRuntime) -> Result<(), Fail> {
     expect_long(&rt, &numbered(rt.alloc(), 60)?)
 }
 
+fn longest_chain_of(
+    rt: &(impl Abort + AllocGlobal),
+    pages: u32,
+    twice: bool,
+) -> Result<Option<ImageFault>, Fail> {
+    let listing = listing_of(rt.alloc(), [1, 1, 100, 1], 1, &numbered(rt.alloc(), pages)?)?;
+    let mut sink = Sink::new(rt.alloc(), usize::MAX, 0);
+    expect_eq!(rt; write_image_v1(&listing, &mut sink), Ok(()));
+    let mut bytes = sink.bytes;
+    if twice {
+        // The key of the last page becomes that of the first one.
+        let last = 1024 * pages as usize;
+        set(&mut bytes, last + 21, 0);
+    }
+    Ok(checked(rt.alloc(), &bytes).err())
+}
+
+/// Chains of fewer pages than are compared one with another, and of more, without a key twice and with one.
+#[test]
+fn chains_around_64_pages(rt: HostRuntime) -> Result<(), Fail> {
+    for pages in 63..66 {
+        expect_eq!(rt; longest_chain_of(&rt, pages, false)?, None);
+        expect_eq!(rt; longest_chain_of(&rt, pages, true)?, Some(ImageFault::Misfit(pages)));
+    }
+    Ok(())
+}
+
 fn longest_of_2(rt: &(impl Abort + AllocGlobal), records: &[Pair]) -> Result<(), Fail> {
     let mut last = [7; 56];
     last[55] = 8;

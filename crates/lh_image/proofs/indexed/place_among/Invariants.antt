@@ -3,7 +3,7 @@ use Rattle.lh_addr.specs.Fnv.{code_of}
 use Rattle.lh_image.specs.Checked.{code_mark}
 use Rattle.lh_image.specs.Indexed.{IsGoodPage}
 use Rattle.lh_image.proofs.Looking.Indexed.{IsElsewhere}
-use Rattle.lh_image.proofs.indexed.place_in.Given as goal
+use Rattle.lh_image.proofs.indexed.place_among.Given as goal
 
 abbrev pub invariant-loop-left : goal.invariant-loop-left
 invariant-loop-left l =
