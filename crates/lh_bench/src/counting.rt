@@ -1,4 +1,5 @@
 //! Counters, to which several threads add.
+ghost use Rattle.std.specs.Prelude.{◌≡◌, length};
 
 use crate::crew::play_in_threads;
 use crate::order::Order;
@@ -15,7 +16,9 @@ use std::thread::Threads;
 use std::time::CpuClock;
 
 /// The value of a counter: its number in 16 bytes.
-pub fn counter(number: u128) -> Value {
+pub fn counter(number: u128) -> Value
+    ensures { length result ≡ 16 }
+{
     match Value::new(&number.to_le_bytes()) {
         Ok(value) => value,
         Err(_) => unreachable!(),
@@ -32,7 +35,9 @@ fn number_of(bytes: &[u8]) -> u128 {
 
 /// The value of the next number.
 #[inline]
-pub fn one_more(bytes: &[u8]) -> Value {
+pub fn one_more(bytes: &[u8]) -> Value
+    ensures { length result ≡ 16 }
+{
     counter(number_of(bytes).wrapping_add(1))
 }
 

@@ -1,19 +1,20 @@
 //! The workloads on tables of each kind: an untraced file, a traced one, and several as one.
 ghost use Rattle.std.specs.Prelude.{true};
+ghost use Rattle.lh_page.specs.Slots.{IsRoom};
 ghost use Rattle.lh_file.specs.Buckets.Brands.{IsBrandOf};
 
 use crate::counting::counts;
 use crate::meter::resident_bytes;
 use crate::on_file::OnFile;
 use crate::on_shards::OnShards;
-use crate::order::{Order, Workload};
+use crate::order::{Order, Room, Workload};
 use crate::replacing::replaces;
 use crate::report::Outcome;
 use crate::table::Table;
-use crate::workloads::{empty_file, empty_shards, inserts, searches, settings, shared};
+use crate::workloads::{empty_shards, empty_sized_file, inserts, searches, settings, shared};
 use anyhow::Result;
 use lh_bucket::Listing;
-use lh_file::{FileBrand, NoGate, Opening};
+use lh_file::{FileBrand, NoGate, Opening, WIDEST_ROOM};
 use std::marker::Brand;
 use std::rt::{Clock, Files};
 use std::sync::Wait;
@@ -41,14 +42,26 @@ where
     Ok(outcome)
 }
 
+/// Runs a workload on an untraced file whose records have this much room.
+fn run_sized<R, const ROOM: usize>(rt: &R, order: &Order) -> Result<Outcome>
+where
+    R: Threads + Wait + Sync + Clock + CpuClock + Files + AllocGlobal,
+    requires { IsRoom ROOM }
+{
+    let before = resident_bytes(rt);
+    let (file, hand) = empty_sized_file::<ROOM>(rt.alloc())?;
+    run_on(rt, OnFile::new(&file, hand), order, before)
+}
+
 /// Runs a workload on an untraced file.
 pub fn run_untraced<R>(rt: &R, order: &Order) -> Result<Outcome>
 where
     R: Threads + Wait + Sync + Clock + CpuClock + Files + AllocGlobal,
 {
-    let before = resident_bytes(rt);
-    let (file, hand) = empty_file(rt.alloc(), false)?;
-    run_on(rt, OnFile::new(&file, hand), order, before)
+    match order.room {
+        Room::Any => run_sized::<R, WIDEST_ROOM>(rt, order),
+        Room::Bytes32 => run_sized::<R, 32>(rt, order),
+    }
 }
 
 /// Runs a workload on this many untraced files as one.

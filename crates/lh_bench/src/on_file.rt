@@ -1,5 +1,6 @@
 //! The workloads' calls on a file.
-ghost use Rattle.std.specs.Prelude.{◌≡◌};
+ghost use Rattle.std.specs.Prelude.{◌≡◌, OnOk};
+ghost use Rattle.lh_page.specs.Slots.{FitsRoom};
 ghost use Rattle.lh_file.specs.FileState.{IsOf};
 
 use crate::contents::Contents;
@@ -7,20 +8,20 @@ use crate::counting::{counter, one_more};
 use crate::passes::Met;
 use crate::table::{CALLS, Table};
 use anyhow::Result;
-use lh_bucket::Answer;
-use lh_file::{Closed, FileBrand, FileFault, Hand, HashFile, Mode, NoGate, Scan};
+use lh_bucket::{Answer, SizedBucket};
+use lh_file::{Closed, FileBrand, FileFault, Hand, Mode, NoGate, Scan, SizedFile};
 use lh_page::{Key, Value};
 use std::marker::Model;
 use std::sync::Wait;
 
 /// A file, and a hand of it.
 #[derive(Drop)]
-pub struct OnFile<'a, M: Mode, J: FileBrand> {
-    file: &'a HashFile<NoGate, M, J>,
+pub struct OnFile<'a, M: Mode, J: FileBrand, const ROOM: usize> {
+    file: &'a SizedFile<NoGate, M, J, ROOM>,
     hand: Hand,
 }
 
-impl<'a, M: Mode, J: FileBrand> Model for OnFile<'a, M, J> {
+impl<'a, M: Mode, J: FileBrand, const ROOM: usize> Model for OnFile<'a, M, J, ROOM> {
     ghost use Rattle.lh_file.specs.FileState.{IsOf};
     ghost use Rattle.lh_file.specs.Words.HandState.{HandState};
 
@@ -31,8 +32,8 @@ impl<'a, M: Mode, J: FileBrand> Model for OnFile<'a, M, J> {
     ghost invariant = { λ own. IsOf own.file.now.state own.hand };
 }
 
-impl<'a, M: Mode, J: FileBrand> OnFile<'a, M, J> {
-    pub fn new(file: &'a HashFile<NoGate, M, J>, hand: Hand) -> OnFile<'a, M, J>
+impl<'a, M: Mode, J: FileBrand, const ROOM: usize> OnFile<'a, M, J, ROOM> {
+    pub fn new(file: &'a SizedFile<NoGate, M, J, ROOM>, hand: Hand) -> OnFile<'a, M, J, ROOM>
         requires { IsOf file.now.state hand }
         ensures { result ≡ hand }
     {
@@ -40,10 +41,22 @@ impl<'a, M: Mode, J: FileBrand> OnFile<'a, M, J> {
     }
 }
 
+/// Makes sure that a record has room. A workload with longer records is run with room for any alone.
+#[inline(always)]
+fn check_room<const ROOM: usize>(key: &Key, value: &Value) -> Result<(), FileFault>
+    ensures { OnOk result (FitsRoom ROOM key.now value.now) }
+{
+    if SizedBucket::<ROOM>::fits(key, value) {
+        Ok(())
+    } else {
+        Err(FileFault::Memory)
+    }
+}
+
 /// What a scan meets.
-fn met_by_scan<M: Mode, J: FileBrand, R: Wait + AllocGlobal>(
+fn met_by_scan<M: Mode, J: FileBrand, R: Wait + AllocGlobal, const ROOM: usize>(
     rt: &R,
-    file: &HashFile<NoGate, M, J>,
+    file: &SizedFile<NoGate, M, J, ROOM>,
     hand: &mut Hand,
 ) -> Result<Met>
     requires { IsOf file.now.state hand.old }
@@ -60,7 +73,7 @@ fn met_by_scan<M: Mode, J: FileBrand, R: Wait + AllocGlobal>(
     Ok(met)
 }
 
-impl<'a, M: Mode, J: FileBrand> Table for OnFile<'a, M, J> {
+impl<'a, M: Mode, J: FileBrand, const ROOM: usize> Table for OnFile<'a, M, J, ROOM> {
     #[inline(always)]
     fn search<R: Wait>(&mut self, rt: &R, key: Key) -> Result<Answer, FileFault> {
         self.file.search(rt, &mut self.hand, key)
@@ -68,6 +81,7 @@ impl<'a, M: Mode, J: FileBrand> Table for OnFile<'a, M, J> {
 
     #[inline(always)]
     fn insert<R: Wait>(&mut self, rt: &R, key: Key, value: Value) -> Result<Answer, FileFault> {
+        check_room::<ROOM>(&key, &value)?;
         self.file.insert(rt, &mut self.hand, key, value)
     }
 
@@ -78,6 +92,7 @@ impl<'a, M: Mode, J: FileBrand> Table for OnFile<'a, M, J> {
 
     #[inline(always)]
     fn replace<R: Wait>(&mut self, rt: &R, key: Key, value: Value) -> Result<Answer, FileFault> {
+        check_room::<ROOM>(&key, &value)?;
         self.file.replace(rt, &mut self.hand, key, value)
     }
 
@@ -95,11 +110,13 @@ impl<'a, M: Mode, J: FileBrand> Table for OnFile<'a, M, J> {
 
     #[inline(always)]
     fn put<R: Wait>(&mut self, rt: &R, key: &Key, value: &Value) -> Result<bool, FileFault> {
+        check_room::<ROOM>(key, value)?;
         self.file.put(rt, &mut self.hand, key, value)
     }
 
     #[inline(always)]
     fn set<R: Wait>(&mut self, rt: &R, key: &Key, value: &Value) -> Result<bool, FileFault> {
+        check_room::<ROOM>(key, value)?;
         self.file.set(rt, &mut self.hand, key, value)
     }
 
@@ -110,13 +127,17 @@ impl<'a, M: Mode, J: FileBrand> Table for OnFile<'a, M, J> {
 
     #[inline(always)]
     fn count<R: Wait>(&mut self, rt: &R, key: &Key) -> Result<bool, FileFault> {
-        self.file
-            .merge(rt, &mut self.hand, key, &counter(1), one_more)
+        let first = counter(1);
+        check_room::<ROOM>(key, &first)?;
+        self.file.merge(rt, &mut self.hand, key, &first, one_more)
     }
 
-    fn divide(&mut self) -> Result<OnFile<'a, M, J>> {
+    fn divide(&mut self) -> Result<OnFile<'a, M, J, ROOM>> {
         let hand = self.file.split_hand(&mut self.hand, CALLS)?;
-        Ok(OnFile::new(self.file, hand))
+        Ok(OnFile {
+            file: self.file,
+            hand,
+        })
     }
 
     fn buckets(&mut self) -> u64 {

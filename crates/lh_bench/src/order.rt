@@ -179,6 +179,14 @@ impl Workload {
     }
 }
 
+/// The room of each record, for key and value together.
+#[derive(Clone, Copy, Debug, PartialEq, Eq)]
+pub enum Room {
+    /// Enough for any record: 168 bytes.
+    Any,
+    Bytes32,
+}
+
 /// What is to be run.
 #[derive(Clone, Copy)]
 pub struct Order {
@@ -196,6 +204,7 @@ pub struct Order {
     pub image: Version,
     /// Whether each insert is timed, so that the longest is told.
     pub longest: bool,
+    pub room: Room,
 }
 
 /// How many calls a workload times at least.
@@ -242,6 +251,8 @@ impl Order {
             Some("its files are untraced")
         } else if is_sharded && !self.workload.may_shard() {
             Some("it has one file")
+        } else if self.room != Room::Any && !self.may_have_little_room() {
+            Some("its records, or files, have room for any record")
         } else if self.longest && self.workload != Workload::Inserts {
             Some("W1 alone tells its longest insert")
         } else {
@@ -252,6 +263,13 @@ impl Order {
     /// Whether it can be run on a traced file.
     pub fn may_trace(&self) -> bool {
         self.workload.may_trace() && self.shards.is_none()
+    }
+
+    /// Whether it can be run with room for its records alone: on an untraced file, with keys and values of 16 bytes.
+    fn may_have_little_room(&self) -> bool {
+        self.may_trace()
+            && !self.traced
+            && !matches!(self.workload, Workload::Replaces | Workload::LongRecords)
     }
 
     /// Whether an image is written of another version than a program writes that isn't asked for one.
@@ -280,6 +298,8 @@ const WORDS: [&str; 18] = [
     "W1", "W2", "W3", "W4", "W5", "W6", "W7", "W8", "W9", "W10", "W11", "W12", "W13", "W14", "hot",
     "steps", "settle", "all",
 ];
+
+const ROOMS: [&str; 2] = ["32", "168"];
 
 fn number<'a>(
     alloc: Global,
@@ -321,6 +341,12 @@ fn command<'a>(alloc: Global) -> Result<Command<'a>, Error> {
         .long("longest")
         .help("Time each insert of W1 by the clock, and tell the longest")
         .action(ArgAction::SetTrue);
+    let room = Arg::new(alloc, "room")
+        .long("room")
+        .help("Bytes of room that a record has")
+        .action(ArgAction::Set)
+        .value_parser(ValueParser::Names(&ROOMS))
+        .default_value("168");
     let threads = ValueParser::Unsigned(1, 64);
     let records = ValueParser::Unsigned(1, 1_000_000_000);
     let seed = ValueParser::Unsigned(0, u64::MAX);
@@ -348,6 +374,7 @@ fn command<'a>(alloc: Global) -> Result<Command<'a>, Error> {
             .arg(traced)?
             .arg(lent)?
             .arg(longest)?
+            .arg(room)?
             .arg(counts)?,
     )
 }
@@ -366,6 +393,10 @@ fn order_of(matches: &ArgMatches<'_>) -> Order {
             _ => Version::Two,
         },
         longest: matches.get_flag("longest"),
+        room: match matches.get_str("room") {
+            Some("32") => Room::Bytes32,
+            _ => Room::Any,
+        },
     }
 }
 

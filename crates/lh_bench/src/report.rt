@@ -2,7 +2,7 @@
 
 use crate::lengths::Lengths;
 use crate::meter::TimeSpent;
-use crate::order::{Order, Workload};
+use crate::order::{Order, Room, Workload};
 use crate::passes::Passes;
 use crate::tally::Tally;
 use crate::units::Seconds;
@@ -86,6 +86,9 @@ impl Outcome {
         }
         if order.traced {
             print!(rt; ",\"traced\":true")?;
+        }
+        if order.room == Room::Bytes32 {
+            print!(rt; ",\"room\":32")?;
         }
         if order.lends {
             print!(rt; ",\"lent\":true")?;

@@ -1,5 +1,6 @@
 //! The workloads on a table in memory, which is empty at first.
 ghost use Rattle.std.specs.Prelude.{IfOk};
+ghost use Rattle.lh_page.specs.Slots.{IsRoom};
 ghost use Rattle.lh_file.specs.FileState.{IsOf};
 ghost use Rattle.lh_shards.specs.Hands.{AreOf};
 
@@ -15,7 +16,7 @@ use crate::table::Table;
 use crate::tally::Tally;
 use anyhow::{Result, bail};
 use lh_addr::Config;
-use lh_file::{Hand, HashFile, NoGate};
+use lh_file::{Hand, HashFile, NoGate, SizedFile, Unbranded, Untraced};
 use lh_shards::{Hands, Shards};
 use std::alloc::Global;
 use std::rt::{Clock, Files};
@@ -36,6 +37,16 @@ pub fn empty_file(alloc: Global, recording: bool) -> Result<(HashFile<NoGate>, H
     ensures { IfOk result (λ made. IsOf made.0.state made.1) }
 {
     Ok(HashFile::create(alloc, settings()?, recording, NoGate)?)
+}
+
+/// An empty file with these settings whose records have this much room.
+pub fn empty_sized_file<const ROOM: usize>(
+    alloc: Global,
+) -> Result<(SizedFile<NoGate, Untraced, Unbranded, ROOM>, Hand)>
+    requires { IsRoom ROOM }
+    ensures { IfOk result (λ made. IsOf made.0.state made.1) }
+{
+    Ok(SizedFile::create(alloc, settings()?, false, NoGate)?)
 }
 
 /// This many empty files with these settings, as one table.

@@ -3,7 +3,7 @@ ghost use Rattle.std.specs.Prelude.{◌≤◌};
 ghost use Rattle.lh_addr.specs.Limits.{IsInitial, most_level};
 
 use lh_addr::{fnv1a, hash_at};
-use lh_page::{Key, KeySet};
+use lh_page::KeySet;
 
 /// The keys whose code leads to another bucket than `number` at a level.
 #[derive(Drop)]
@@ -21,7 +21,7 @@ impl KeySet for Leaving {
 
     ghost member = { λ s key. not (leads_to s.initial s.level s.number key) };
 
-    fn contains(&self, key: &Key) -> bool {
-        hash_at(self.initial, self.level, fnv1a(key.bytes())) != self.number
+    fn contains(&self, key: &[u8]) -> bool {
+        hash_at(self.initial, self.level, fnv1a(key)) != self.number
     }
 }

@@ -242,7 +242,7 @@ fn select(
 {
     let mut moved = BTreeMap::new(alloc);
     for (key, value) in records {
-        if leaving.contains(key) {
+        if leaving.contains(key.bytes()) {
             moved.insert(*key, *value)?;
         }
     }
@@ -256,5 +256,5 @@ fn keep_others(records: &mut BTreeMap<Key, Value>, leaving: &Leaving)
         (leads_to leaving.now.initial leaving.now.level leaving.now.number) }
     ensures ordered { IsOrdered (slice_cmp nat_cmp) records.new }
 {
-    records.retain(|key, _| !leaving.contains(key));
+    records.retain(|key, _| !leaving.contains(key.bytes()));
 }

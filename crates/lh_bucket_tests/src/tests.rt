@@ -5,5 +5,6 @@ mod changes;
 mod equality;
 mod listings;
 mod memory;
+mod rooms;
 mod serving;
 mod splitting;

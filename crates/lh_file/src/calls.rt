@@ -3,7 +3,6 @@ pub(crate) mod aim;
 mod answered;
 pub(crate) mod atomic;
 pub(crate) mod coded;
-mod hold;
 mod lean;
 pub mod parts;
 mod serve;

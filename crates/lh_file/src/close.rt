@@ -7,16 +7,17 @@ ghost use Rattle.lh_file.specs.HashFile.{IsClosing};
 ghost use Rattle.lh_words.specs.Seats.{holder, with_parts};
 
 use crate::buckets::brand::FileBrand;
+use crate::buckets::copied::copied_pairs;
 use crate::buckets::segments::Segments;
 use crate::buckets::slot::Slot;
-use crate::file::HashFile;
+use crate::file::SizedFile;
 use crate::gate::Gate;
 use crate::words::Words;
 use crate::words::hand::Hand;
 use atomic_table::Seat;
 use lh_addr::RootWord;
 use lh_addr::laws::address_is_only_bucket;
-use lh_bucket::{Memory, copied_pairs};
+use lh_bucket::Memory;
 use lh_page::Pair;
 use lh_settling::laws::{acts_have_an_order, full_buckets_are_placed};
 use lh_settling::{Acts, Closed};
@@ -36,11 +37,11 @@ struct Copies {
 
 impl Copies {
     /// Takes in the seat of the next bucket, where the seats of all buckets before it came in: whether it did.
-    fn gather<M: Mode, J: FileBrand>(
+    fn gather<M: Mode, J: FileBrand, const ROOM: usize>(
         &self,
         words: &Words<M>,
         seat: &mut Seat<(), SeatView>,
-        slot: &Slot<J>,
+        slot: &Slot<J, ROOM>,
     ) -> bool
         requires at { seat.old.table_id ≡ words.now.table }
         requires brand { M.traced ≡ true → words.now.table ≡ J.tables words.now.shard }
@@ -58,12 +59,12 @@ impl Copies {
     }
 
     /// Copies the next bucket. In a traced file its seat is taken in, if those of all buckets before it were.
-    fn add<M: Mode, J: FileBrand>(
+    fn add<M: Mode, J: FileBrand, const ROOM: usize>(
         &mut self,
         alloc: Global,
         words: &Words<M>,
         seat: &mut Seat<(), SeatView>,
-        slot: &Slot<J>,
+        slot: &Slot<J, ROOM>,
     ) -> Result<(), Memory>
         requires at { seat.old.table_id ≡ words.now.table }
         requires brand { M.traced ≡ true → words.now.table ≡ J.tables words.now.shard }
@@ -87,7 +88,7 @@ impl Copies {
     }
 }
 
-impl<J: FileBrand> Segments<J> {
+impl<J: FileBrand, const ROOM: usize> Segments<J, ROOM> {
     /// The records of each bucket that was made, each copied under its lock. In a traced file the seats of the buckets
     /// come into this one.
     fn copied<M: Mode, R: Wait>(
@@ -121,7 +122,7 @@ impl<J: FileBrand> Segments<J> {
     }
 }
 
-impl<G: Gate, M: Mode, J: FileBrand> HashFile<G, M, J> {
+impl<G: Gate, M: Mode, J: FileBrand, const ROOM: usize> SizedFile<G, M, J, ROOM> {
     /// Closes the file: how far it has grown, with the records of its buckets, and the acts of the hand
     /// that closes it. A hand that was not joined into this one is lost with its acts. Without memory
     /// for the records, the file and the hand are gone.
@@ -147,7 +148,7 @@ impl<G: Gate, M: Mode, J: FileBrand> HashFile<G, M, J> {
         address_is_only_bucket();
         acts_have_an_order();
         full_buckets_are_placed();
-        let HashFile {
+        let SizedFile {
             words,
             segments,
             gate: _,

@@ -8,7 +8,7 @@ ghost use Rattle.lh_words.specs.Views.{lessened};
 
 use crate::buckets::brand::FileBrand;
 use crate::fault::{FileFault, JoinAllFault};
-use crate::file::HashFile;
+use crate::file::SizedFile;
 use crate::gate::Gate;
 use crate::words::Words;
 use crate::words::hand::Hand;
@@ -86,7 +86,7 @@ impl<M: Mode> Words<M> {
     }
 }
 
-impl<G: Gate, M: Mode, J: FileBrand> HashFile<G, M, J> {
+impl<G: Gate, M: Mode, J: FileBrand, const ROOM: usize> SizedFile<G, M, J, ROOM> {
     /// Moves `calls` of the calls that the hand may make to each of `count` new hands, one for each of several threads.
     /// Where the hand may make fewer, or memory runs out, it stays as it was.
     pub fn split_hands(

@@ -10,6 +10,7 @@ mod gates;
 mod hands;
 mod made;
 mod memory;
+mod narrow;
 mod opened;
 mod outer;
 mod play;

@@ -1,10 +1,10 @@
 pub mod Places
 pub mod Distinct
 pub mod Parts
+pub mod GoingBits
+pub mod Moving
 pub mod Marking
 pub mod Masks
-pub mod Lines
-pub mod Units
 pub mod Pieces
 pub mod Words
 pub mod Zeros

@@ -3,7 +3,8 @@ pub mod Rows
 pub mod Mark
 pub mod Records
 pub mod PackedList
-pub mod Lines
+pub mod Slots
+pub mod Going
 pub mod Marks
 pub mod Format
 pub mod PageTable

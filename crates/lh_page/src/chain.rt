@@ -1,16 +1,19 @@
 //! Packed chains of records.
-ghost use Rattle.std.specs.Prelude.{not, ◌≡◌, ◌+◌, ◌%◌, ◌<◌, [], ◌∷◌, ◌++◌, length, slice_get, slice_index_or, Some};
+ghost use Rattle.std.specs.Prelude.{not, ◌≡◌, ◌+◌, ◌%◌, ◌<◌, ◌≤◌, [], ◌∷◌, ◌++◌, length, slice_get, slice_index_or, Some};
 ghost use Rattle.std.specs.Prelude.{None, IsOk, IfOk, IfSome, IfNone, OnOk, OnErr};
 ghost use Rattle.std.specs.List.{IsDistinct, filter, swap_remove};
 ghost use Rattle.std.specs.Str.{bytes_eq};
 ghost use Rattle.lh_page.specs.Limits.{IsPageCapacity, IsValue};
-ghost use Rattle.lh_page.specs.Lines.{unit_size};
+ghost use Rattle.lh_page.specs.Slots.{slot_step, IsRoom, FitsRoom, FitAll};
 ghost use Rattle.lh_page.specs.PackedList.{IsPackedList, pages_of};
-ghost use Rattle.lh_page.specs.Records.{keys_of, no_pair, place_of, value_at, with_value, AbsentBelow, StandsFirst};
+ghost use Rattle.lh_page.specs.Records.{key_at, keys_of, no_pair, place_of, value_at, with_value, AbsentBelow};
+ghost use Rattle.lh_page.specs.Records.{StandsFirst};
 
-use crate::division::{Division, Part, copied, divided};
+use crate::division::{Part, copied, gone_of, keep_rest};
+use crate::going::Going;
 use crate::key::Key;
 use crate::key_set::KeySet;
+use crate::limits::WIDEST_ROOM;
 use crate::marks::{MARKED, find_marked, marks_of, move_mark, put_mark};
 use crate::memory::Memory;
 use crate::packing::pages_needed;
@@ -20,37 +23,44 @@ use crate::value::Value;
 use std::alloc::Global;
 use std::marker::Model;
 
+/// A chain with room for every key and every value.
+pub type Chain = SizedChain<WIDEST_ROOM>;
+
 /// The records of one bucket, in a primary page and overflow pages of `capacity` records each.
 ///
 /// The record at place `i` stands in page `i / capacity`, so every page but the last is full and only the primary
-/// page may be empty. No key stands twice. Memory is taken by units of four records, and none before the first one.
+/// page may be empty. No key stands twice. Memory is taken for four records at a time, and none before the first
+/// one.
 #[derive(Debug, Drop)]
-pub struct Chain {
+pub struct SizedChain<const ROOM: usize> {
     capacity: u32,
     // The marks of the first records, so that a look-up touches few others.
     marks: [u8; MARKED],
-    pairs: RecordList,
+    pairs: RecordList<ROOM>,
 }
 
-impl Model for Chain {
+impl<const ROOM: usize> Model for SizedChain<ROOM> {
     ghost use Rattle.lh_page.specs.PackedList.{PackedList};
+    ghost use Rattle.std.specs.Prelude.{◌≡◌};
     ghost use Rattle.lh_page.specs.Marks.{IsChain};
+    ghost use Rattle.lh_page.specs.Slots.{IsRoom};
 
     ghost Value = { PackedList };
 
     ghost view = { λ c. record { capacity = c.capacity; pairs = c.pairs } };
 
-    ghost invariant = { λ c. IsChain c.capacity c.marks c.pairs };
+    ghost invariant = { λ c. IsRoom ROOM × IsChain c.capacity c.marks c.pairs };
 }
 
-impl Chain {
+impl<const ROOM: usize> SizedChain<ROOM> {
     /// An empty chain, with pages of 1 to 24 records.
     pub fn new(alloc: Global, capacity: u32) -> Result<Self, Memory>
-        requires { IsPageCapacity capacity }
+        requires capacity { IsPageCapacity capacity }
+        requires room { IsRoom ROOM }
         ensures succeeds { IsOk result }
         ensures empty { IfOk result (λ chain. chain ≡ record { capacity = capacity; pairs = [] }) }
     {
-        Ok(Chain {
+        Ok(SizedChain {
             capacity,
             marks: [0; MARKED],
             pairs: RecordList::new(alloc),
@@ -62,10 +72,12 @@ impl Chain {
     pub fn from_pairs(alloc: Global, capacity: u32, pairs: &[Pair]) -> Result<Self, Memory>
         requires capacity { IsPageCapacity capacity }
         requires distinct { IsDistinct bytes_eq (keys_of pairs.now) }
+        requires room { IsRoom ROOM }
+        requires fit { FitAll ROOM pairs.now }
         ensures chain { IfOk result (λ chain. chain ≡ record { capacity = capacity; pairs = pairs.now }) }
         ensures none { length pairs.now ≡ 0 → IsOk result }
     {
-        let mut chain = Chain::new(alloc, capacity)?;
+        let mut chain = SizedChain::new(alloc, capacity)?;
         chain.pairs = copied(alloc, pairs)?;
         chain.marks = marks_of(&chain.pairs);
         Ok(chain)
@@ -133,10 +145,11 @@ impl Chain {
 
     /// Appends a record whose key is not there yet. After an error the chain is as it was.
     pub fn push(&mut self, pair: Pair) -> Result<(), Memory>
-        requires { place_of self.old.pairs pair.key ≡ None }
+        requires absent { place_of self.old.pairs pair.key ≡ None }
+        requires fits { FitsRoom ROOM pair.key pair.value }
         ensures ok { OnOk result (self.new ≡ record self.old { pairs = self.old.pairs ++ pair ∷ [] }) }
         ensures err { OnErr result (self.new ≡ self.old) }
-        ensures full { OnErr result (length self.old.pairs % unit_size ≡ 0) }
+        ensures full { OnErr result (length self.old.pairs % slot_step ≡ 0) }
     {
         self.append(&pair.key, &pair.value)
     }
@@ -144,11 +157,12 @@ impl Chain {
     /// Appends a record whose key is not there yet, without a pair being made. After an error the chain is as it was.
     #[inline]
     pub fn append(&mut self, key: &Key, value: &Value) -> Result<(), Memory>
-        requires { place_of self.old.pairs key.now ≡ None }
+        requires absent { place_of self.old.pairs key.now ≡ None }
+        requires fits { FitsRoom ROOM key.now value.now }
         ensures ok { OnOk result (
             self.new ≡ record self.old { pairs = self.old.pairs ++ record { key = key.now; value = value.now } ∷ [] }) }
         ensures err { OnErr result (self.new ≡ self.old) }
-        ensures full { OnErr result (length self.old.pairs % unit_size ≡ 0) }
+        ensures full { OnErr result (length self.old.pairs % slot_step ≡ 0) }
     {
         let place = self.pairs.len();
         self.pairs.append(key, value)?;
@@ -191,12 +205,10 @@ impl Chain {
         ensures err { OnErr result (self.new ≡ self.old) }
         ensures none { length self.old.pairs ≡ 0 → IsOk result }
     {
-        let Division { gone, kept } = divided(self.pairs.allocator(), &self.pairs, keys)?;
-        let Part { pairs, marks } = kept;
-        self.pairs = pairs;
-        self.marks = marks;
-        let Part { pairs, marks } = gone;
-        Ok(Chain {
+        let going = Going::among(&self.pairs, keys);
+        let Part { pairs, marks } = gone_of(&self.pairs, &self.marks, keys, going)?;
+        keep_rest(&mut self.pairs, &mut self.marks, keys, going);
+        Ok(SizedChain {
             capacity: self.capacity,
             marks,
             pairs,
@@ -205,7 +217,8 @@ impl Chain {
 
     /// Puts a value in the place of the one under a record's key, which is handed out.
     pub fn replace_at(&mut self, place: usize, value: Value) -> Value
-        requires { place < length self.old.pairs }
+        requires within { place < length self.old.pairs }
+        requires fits { FitsRoom ROOM (key_at self.old.pairs place) value }
         ensures replaced { result ≡ value_at self.old.pairs place }
         ensures changed { self.new ≡ record self.old { pairs = with_value self.old.pairs place value } }
     {
@@ -217,7 +230,8 @@ impl Chain {
     /// Puts a value in the place of the one under a record's key.
     #[inline]
     pub fn set_value(&mut self, place: usize, value: &Value)
-        requires { place < length self.old.pairs }
+        requires within { place < length self.old.pairs }
+        requires fits { FitsRoom ROOM (key_at self.old.pairs place) value.now }
         ensures { self.new ≡ record self.old { pairs = with_value self.old.pairs place value.now } }
     {
         self.pairs.set_value(place, value);
@@ -225,7 +239,7 @@ impl Chain {
 }
 
 /// The place of the first record with a key, which stands behind those with marks.
-fn find_unmarked(pairs: &RecordList, key: &Key) -> Option<usize>
+fn find_unmarked<const ROOM: usize>(pairs: &RecordList<ROOM>, key: &Key) -> Option<usize>
     requires { AbsentBelow pairs.now MARKED key.now }
     ensures found { IfSome result (λ place. StandsFirst pairs.now place key.now) }
     ensures absent { IfNone result (AbsentBelow pairs.now (length pairs.now) key.now) }

@@ -1,32 +1,28 @@
 //! Dividing a list of records in two, each part in the order of the whole.
-ghost use Rattle.std.specs.Prelude.{not, ◌≡◌, ◌<◌, [], ◌∷◌, ◌++◌, length, slice_index_or, IsOk, IfOk, OnOk};
+ghost use Rattle.std.specs.Prelude.{not, ◌≡◌, ◌<◌, ◌≤◌, [], ◌∷◌, ◌++◌, length, slice_index_or, IsOk, IfOk, OnOk};
 ghost use Rattle.std.specs.List.{filter};
-ghost use Rattle.lh_page.specs.Records.{key_at, no_pair};
+ghost use Rattle.lh_page.specs.Going.{AreBitsOf};
+ghost use Rattle.lh_page.specs.Marks.{IsMarked};
+ghost use Rattle.lh_page.specs.Records.{no_pair};
+ghost use Rattle.lh_page.specs.Slots.{IsRoom, FitAll};
 
-use crate::key::Key;
+use crate::going::Going;
 use crate::key_set::KeySet;
-use crate::marks::{MARKED, put_mark};
+use crate::marks::{MARKED, mark_from, move_mark};
 use crate::memory::Memory;
 use crate::pair::Pair;
 use crate::record_list::RecordList;
 use std::alloc::Global;
 use std::marker::Model;
 
-/// The two parts of a list of records.
-#[derive(Drop)]
-pub struct Division {
-    pub gone: Part,
-    pub kept: Part,
-}
-
 /// Records and their marks.
 #[derive(Drop)]
-pub struct Part {
-    pub pairs: RecordList,
+pub struct Part<const ROOM: usize> {
+    pub pairs: RecordList<ROOM>,
     pub marks: [u8; MARKED],
 }
 
-impl Model for Part {
+impl<const ROOM: usize> Model for Part<ROOM> {
     ghost use Rattle.std.specs.Prelude.{◌≡◌, List, length};
     ghost use Rattle.lh_page.specs.declared.pair.Pair.{Pair};
     ghost use Rattle.lh_page.specs.Marks.{marked_room, IsMarked};
@@ -38,9 +34,10 @@ impl Model for Part {
     ghost invariant = { λ p. (length p.marks ≡ marked_room) × IsMarked p.marks p.pairs };
 }
 
-impl Part {
+impl<const ROOM: usize> Part<ROOM> {
     /// No records, with memory for as many as are to come.
     fn with_room(alloc: Global, records: usize) -> Result<Self, Memory>
+        requires { IsRoom ROOM }
         ensures empty { IfOk result (λ part. part ≡ []) }
         ensures none { records ≡ 0 → IsOk result }
     {
@@ -50,22 +47,31 @@ impl Part {
         })
     }
 
-    /// Appends the record at a place of a list, whose key is at hand. After an error nothing has changed.
+    /// Appends the record at a place of a list, and its mark. After an error nothing has changed.
     #[inline]
-    fn push_from(&mut self, pairs: &RecordList, place: usize, key: &Key) -> Result<(), Memory>
+    fn push_from(
+        &mut self,
+        pairs: &RecordList<ROOM>,
+        marks: &[u8; MARKED],
+        place: usize,
+    ) -> Result<(), Memory>
         requires within { place < length pairs.now }
-        requires key { key.now ≡ key_at pairs.now place }
+        requires marked { IsMarked marks.now pairs.now }
         ensures { OnOk result (self.new ≡ self.old ++ slice_index_or pairs.now place no_pair ∷ []) }
     {
         let last = self.pairs.len();
         self.pairs.push_from(pairs, place)?;
-        put_mark(&mut self.marks, last, key);
+        if last < MARKED {
+            self.marks[last] = mark_from(marks, pairs, place);
+        }
         Ok(())
     }
 }
 
-/// A copy of records, in the memory of as many units as they fill.
-pub fn copied(alloc: Global, pairs: &[Pair]) -> Result<RecordList, Memory>
+/// A copy of records that fit.
+pub fn copied<const ROOM: usize>(alloc: Global, pairs: &[Pair]) -> Result<RecordList<ROOM>, Memory>
+    requires room { IsRoom ROOM }
+    requires fit { FitAll ROOM pairs.now }
     ensures copy { IfOk result (λ copy. copy ≡ pairs.now) }
     ensures none { length pairs.now ≡ 0 → IsOk result }
 {
@@ -76,24 +82,50 @@ pub fn copied(alloc: Global, pairs: &[Pair]) -> Result<RecordList, Memory>
     Ok(copy)
 }
 
-/// Divides records into those whose keys are in a set and the others. Each part gets the memory of as many units
-/// as half of the records fill, and more where it has more of them.
+/// A copy of the records that go, with memory for no others where it is known how many they are.
 #[tactic(auto, using(crate::proofs::Parts::filter_taken, crate::proofs::Parts::filter_left))]
-pub fn divided<S: KeySet>(alloc: Global, pairs: &RecordList, keys: &S) -> Result<Division, Memory>
-    ensures gone { IfOk result (λ parts. parts.gone ≡ filter (λ p. S.member keys.now p.key) pairs.now) }
-    ensures kept { IfOk result (λ parts. parts.kept ≡ filter (λ p. not (S.member keys.now p.key)) pairs.now) }
+pub fn gone_of<S: KeySet, const ROOM: usize>(
+    pairs: &RecordList<ROOM>,
+    marks: &[u8; MARKED],
+    keys: &S,
+    going: Going,
+) -> Result<Part<ROOM>, Memory>
+    requires room { IsRoom ROOM }
+    requires marked { IsMarked marks.now pairs.now }
+    requires bits { AreBitsOf (S.member keys.now) going pairs.now }
+    ensures gone { IfOk result (λ part. part ≡ filter (λ p. S.member keys.now p.key) pairs.now) }
     ensures none { length pairs.now ≡ 0 → IsOk result }
 {
-    let room = pairs.len().div_ceil(2);
-    let mut gone = Part::with_room(alloc, room)?;
-    let mut kept = Part::with_room(alloc, room)?;
+    let mut gone = Part::with_room(pairs.allocator(), going.guess(pairs.len()))?;
     for place in 0..pairs.len() {
-        let key = pairs.key_at(place);
-        if keys.contains(&key) {
-            gone.push_from(pairs, place, &key)?;
-        } else {
-            kept.push_from(pairs, place, &key)?;
+        if going.takes(pairs, keys, place) {
+            gone.push_from(pairs, marks, place)?;
         }
     }
-    Ok(Division { gone, kept })
+    Ok(gone)
+}
+
+/// Moves the records that stay together, in their order and in the memory that they are in, and their marks with them.
+/// The memory behind them is given back.
+pub fn keep_rest<S: KeySet, const ROOM: usize>(
+    pairs: &mut RecordList<ROOM>,
+    marks: &mut [u8; MARKED],
+    keys: &S,
+    going: Going,
+)
+    requires marked { IsMarked marks.old pairs.old }
+    requires bits { AreBitsOf (S.member keys.now) going pairs.old }
+    ensures kept { pairs.new ≡ filter (λ p. not (S.member keys.now p.key)) pairs.old }
+    ensures marked { IsMarked marks.new pairs.new }
+    ensures room { length marks.new ≡ length marks.old }
+{
+    let mut kept = 0;
+    for place in 0..pairs.len() {
+        if !going.takes(pairs, keys, place) {
+            pairs.move_to(kept, place);
+            move_mark(marks, pairs, kept, place);
+            kept += 1;
+        }
+    }
+    pairs.truncate(kept);
 }

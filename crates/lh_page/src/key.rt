@@ -12,7 +12,6 @@ ghost use Rattle.lh_page.specs.Mark.{mark_of, mixed_words, same_words, word_at};
 
 use crate::comparing::{STRIDE, common_front};
 use crate::limits::LONGEST_KEY;
-use crate::line::LINE_ROOM;
 use crate::rows::{KEY_ROOM, PaddedBytes};
 use byteorder::{ByteOrder, LittleEndian};
 use std::cmp::Ordering;
@@ -95,8 +94,10 @@ impl Key {
     }
 
     /// Whether this key is the first `len` of some bytes.
-    #[inline]
-    pub(crate) fn is_front(&self, bytes: &[u8; LINE_ROOM], len: u8) -> bool
+    #[inline(always)]
+    pub(crate) fn is_front(&self, bytes: &[u8], len: u8) -> bool
+        requires stride { STRIDE ≤ length bytes.now }
+        requires len { len ≤ length bytes.now }
         ensures { result ≡ bytes_eq (take len bytes.now) self.now }
     {
         self.bytes.len() == len as usize && starts_alike(self.bytes.row(), bytes, len as usize)
@@ -119,17 +120,19 @@ impl Key {
 
 /// Whether the first bytes are the same in both. The second half of them is looked at only where it counts, since it
 /// may be in another line of the cache.
-#[inline]
-fn starts_alike(a: &[u8; KEY_ROOM], b: &[u8; LINE_ROOM], len: usize) -> bool
-    requires { len ≤ KEY_ROOM }
+#[inline(always)]
+fn starts_alike(a: &[u8; KEY_ROOM], b: &[u8], len: usize) -> bool
+    requires key { len ≤ KEY_ROOM }
+    requires stride { STRIDE ≤ length b.now }
+    requires len { len ≤ length b.now }
     ensures same { OnTrue result ((i : ℕ) → i < len → slice_index a.now i ≡ slice_index b.now i) }
     ensures other { OnFalse result ((i : ℕ) × (i < len) × (slice_index a.now i ≢ slice_index b.now i)) }
 {
     let front = common_front(a, b);
-    if len <= STRIDE || front < STRIDE {
+    if b.len() == STRIDE || len <= STRIDE || front < STRIDE {
         return front >= len;
     }
-    let rest = KEY_ROOM - STRIDE;
+    let rest = b.len().min(KEY_ROOM) - STRIDE;
     rest + common_front(&a[rest..], &b[rest..]) >= len
 }
 

@@ -13,7 +13,7 @@ use crate::record_list::RecordList;
 pub const MARKED: usize = 48;
 
 /// Marks the record at a place, where one stands there and its mark has room.
-pub fn mark_at(marks: &mut [u8; MARKED], pairs: &RecordList, place: usize)
+pub fn mark_at<const ROOM: usize>(marks: &mut [u8; MARKED], pairs: &RecordList<ROOM>, place: usize)
     ensures { IsMarkedAt marks.old marks.new pairs.now place }
 {
     if place < MARKED && place < pairs.len() {
@@ -32,8 +32,31 @@ pub fn put_mark(marks: &mut [u8; MARKED], place: usize, key: &Key)
     }
 }
 
+/// The mark of the record at a place. It is made of the key only where the row has none.
+#[inline]
+pub fn mark_from<const ROOM: usize>(
+    marks: &[u8; MARKED],
+    pairs: &RecordList<ROOM>,
+    from: usize,
+) -> u8
+    requires within { from < length pairs.now }
+    requires marked { IsMarked marks.now pairs.now }
+    ensures { result ≡ mark_of (key_at pairs.now from) }
+{
+    if from < MARKED {
+        marks[from]
+    } else {
+        pairs.key_at(from).mark()
+    }
+}
+
 /// Marks the record that has moved from the last place to this one, where one stands there and its mark has room.
-pub fn move_mark(marks: &mut [u8; MARKED], pairs: &RecordList, place: usize, last: usize)
+pub fn move_mark<const ROOM: usize>(
+    marks: &mut [u8; MARKED],
+    pairs: &RecordList<ROOM>,
+    place: usize,
+    last: usize,
+)
     requires order { place ≤ last }
     requires moved { last < MARKED → place < length pairs.now →
         slice_index marks.old last ≡ mark_of (key_at pairs.now place) }
@@ -49,7 +72,7 @@ pub fn move_mark(marks: &mut [u8; MARKED], pairs: &RecordList, place: usize, las
 }
 
 /// The marks of the first records.
-pub fn marks_of(pairs: &RecordList) -> [u8; MARKED]
+pub fn marks_of<const ROOM: usize>(pairs: &RecordList<ROOM>) -> [u8; MARKED]
     ensures marked { IsMarked result pairs.now }
     ensures room { length result ≡ MARKED }
 {
@@ -61,7 +84,11 @@ pub fn marks_of(pairs: &RecordList) -> [u8; MARKED]
 }
 
 /// The place of the first record with a key among those with marks.
-pub fn find_marked(marks: &[u8; MARKED], pairs: &RecordList, key: &Key) -> Option<usize>
+pub fn find_marked<const ROOM: usize>(
+    marks: &[u8; MARKED],
+    pairs: &RecordList<ROOM>,
+    key: &Key,
+) -> Option<usize>
     requires { IsMarked marks.now pairs.now }
     ensures found { IfSome result (λ place. StandsFirst pairs.now place key.now) }
     ensures absent { IfNone result (AbsentBelow pairs.now MARKED key.now) }

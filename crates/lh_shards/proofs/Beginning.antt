@@ -3,10 +3,12 @@ use Rattle.std.proofs.Common.{◌≡◌, ℕ, ◌-◌, ◌^◌, ◌<◌, Bool, t
 use Rattle.std.proofs.Common.{refl, sym, ap, ◌∙◌, subst, ⊎_elim, arith}
 use Rattle.std.specs.List.{slice_get}
 use Rattle.std.proofs.lemmas.Option.{same_Some, slice_get_within}
-use Rattle.lh_bucket.specs.Listing.{Lists, count_of}
+use Rattle.lh_bucket.specs.Listing.{Lists, EachPlace, count_of}
+use Rattle.lh_file.specs.Buckets.Rooms.{FitsAt}
 use Rattle.lh_file.specs.FileState.{FileState}
 use Rattle.lh_file.specs.FileState.{IsBegun}
 use Rattle.lh_shards.specs.Openings.{AreBegun, AreBrandsOf, table_of, tables_of}
+use Rattle.lh_shards.specs.Rooms.{FitFiles, FitListings}
 use Rattle.lh_shards.proofs.Places.{at_push, there}
 
 -- the file is begun from a listing as this shard
@@ -47,3 +49,13 @@ brands_of listings recording files begun shard file at =
       named_is = refl;
       own_is = λ traced. sym (ap table_of (ap (slice_get files) own ∙ at));
     }
+
+-- where the records of the listings have room, so have those that the files begin from
+pub fit_of : (room : ℕ) (listings : List Lists) (recording : Bool) (files : List FileState) →
+    AreBegun listings recording files → FitListings room listings → FitFiles room files
+fit_of room listings recording files begun fit narrow shard file at =
+    let lt : shard < length files = slice_get_within files shard file at in
+    let from : (x : Lists) × (slice_get listings shard ≡ Some x) =
+    there listings shard (omega (arith, lt, begun.count)) in
+    subst (λ (l : Lists). EachPlace (FitsAt room) l.lists) (sym (begun.each shard from.0 file from.1 at).0.listing_is)
+    (fit narrow shard from.0 from.1)

@@ -11,6 +11,7 @@ pub mod OpenFault
 pub mod Opening
 pub mod Openings
 pub mod Own
+pub mod Rooms
 pub mod Settling
 pub mod Snapshots
 pub mod Told

@@ -7,14 +7,14 @@ ghost use Rattle.lh_shards.specs.Hands.{AreOf};
 use crate::closed::ClosedShards;
 use crate::closed_shard::ClosedShard;
 use crate::hands::Hands;
-use crate::shards::Shards;
-use lh_file::{FileBrand, Hand, HashFile, Memory, Mode, NoGate};
+use crate::shards::SizedShards;
+use lh_file::{FileBrand, Hand, Memory, Mode, NoGate, SizedFile};
 use std::sync::Wait;
 
 /// Closes one file by its hand.
-fn close_shard<M: Mode, J: FileBrand, R: Wait>(
+fn close_shard<M: Mode, J: FileBrand, R: Wait, const ROOM: usize>(
     rt: &R,
-    file: HashFile<NoGate, M, J>,
+    file: SizedFile<NoGate, M, J, ROOM>,
     hand: Hand,
 ) -> Result<ClosedShard, Memory>
     requires { IsOf file.state hand }
@@ -24,7 +24,7 @@ fn close_shard<M: Mode, J: FileBrand, R: Wait>(
     Ok(ClosedShard { closed, acts })
 }
 
-impl<M: Mode, J: FileBrand> Shards<M, J> {
+impl<M: Mode, J: FileBrand, const ROOM: usize> SizedShards<M, J, ROOM> {
     /// Closes all files, each by the hand of its shard: how far each has grown, with the records of its buckets, and
     /// the acts of that hand. Hands that were not joined into these are lost with their acts. Without memory for the
     /// records, the files and the hands are gone.
@@ -36,7 +36,7 @@ impl<M: Mode, J: FileBrand> Shards<M, J> {
         ensures { IfOk result (AreClosedBy M.traced self hands) }
     {
         let count = self.count() as usize;
-        let Shards { files } = self;
+        let SizedShards { files } = self;
         let Hands { hands } = hands;
         let mut shards = Vec::with_capacity(*files.allocator(), count)?;
         let mut files = files.into_iter();

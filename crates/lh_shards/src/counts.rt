@@ -4,7 +4,7 @@ ghost use Rattle.lh_shards.specs.Counts.{IsBucketSum, AreLoads, capped};
 ghost use Rattle.lh_shards.specs.Hands.{AreOf};
 
 use crate::hands::Hands;
-use crate::shards::Shards;
+use crate::shards::SizedShards;
 use lh_file::{FileBrand, Load, Mode};
 
 /// What two loads say together.
@@ -22,7 +22,7 @@ fn added(first: Load, second: Load) -> Load
     }
 }
 
-impl<M: Mode, J: FileBrand> Shards<M, J> {
+impl<M: Mode, J: FileBrand, const ROOM: usize> SizedShards<M, J, ROOM> {
     /// The number of buckets of all shards: what each file answers to its hand, one after another. While other hands
     /// work it may be a number that the shards never had at one time.
     pub fn buckets(&self, hands: &mut Hands) -> u64

@@ -8,8 +8,8 @@ ghost use Rattle.lh_shards.specs.Hands.{AreOf};
 
 use crate::fault::SplitFault;
 use crate::hands::Hands;
-use crate::shards::Shards;
-use lh_file::{FileBrand, Hand, HashFile, Memory, Mode, NoGate};
+use crate::shards::SizedShards;
+use lh_file::{FileBrand, Hand, Memory, Mode, NoGate, SizedFile};
 
 /// The first hand that may make fewer calls than these.
 fn first_short(hands: &[Hand], calls: u64) -> Option<SplitFault>
@@ -30,7 +30,11 @@ fn first_short(hands: &[Hand], calls: u64) -> Option<SplitFault>
 }
 
 /// Divides one hand, which may make so many calls.
-fn divide<M: Mode, J: FileBrand>(file: &HashFile<NoGate, M, J>, hand: &mut Hand, calls: u64) -> Hand
+fn divide<M: Mode, J: FileBrand, const ROOM: usize>(
+    file: &SizedFile<NoGate, M, J, ROOM>,
+    hand: &mut Hand,
+    calls: u64,
+) -> Hand
     requires of { IsOf file.now.state hand.old }
     requires enough { calls ≤ hand.old.view.left }
     ensures given { IsBranch calls hand.old result }
@@ -55,7 +59,7 @@ fn put(hands: &mut Vec<Hand>, hand: Hand)
     }
 }
 
-impl<M: Mode, J: FileBrand> Shards<M, J> {
+impl<M: Mode, J: FileBrand, const ROOM: usize> SizedShards<M, J, ROOM> {
     /// Moves `calls` of the calls that each hand may make to a new hand of the same file, for another thread say. Where
     /// a hand may make fewer, or memory runs out, all hands stay as they were.
     pub fn split_hands(&self, hands: &mut Hands, calls: u64) -> Result<Hands, SplitFault>

@@ -3,7 +3,7 @@ ghost use Rattle.std.specs.Prelude.{◌≡◌};
 
 use crate::hands::Hands;
 use lh_bucket::{ListingFault, Memory};
-use lh_file::SettleFault;
+use lh_file::{RoomFault, SettleFault};
 use thiserror::Error;
 
 /// Why shards are not created.
@@ -100,6 +100,15 @@ impl From<Memory> for OpenFault {
     fn from(_memory: Memory) -> Self {
         OpenFault::Memory
     }
+}
+
+/// Shards were to be opened from listings, and a record of the one at this place, the first such one, has no room in their
+/// buckets: the first such record there. The records of [`Shards`](crate::Shards) have room for all.
+#[derive(Clone, Copy, Debug, PartialEq, Eq, Error)]
+#[error("shard {shard}: {fault}")]
+pub struct ShardRoomFault {
+    pub shard: usize,
+    pub fault: RoomFault,
 }
 
 /// Why the listings of closed shards are not there: the fault that the closed file of this shard, the first such one,

@@ -7,8 +7,8 @@ ghost use Rattle.lh_shards.specs.Joining.{AllHaveRoom, AreJoinedByShard, AreSame
 
 use crate::fault::JoinShardsFault;
 use crate::hands::Hands;
-use crate::shards::Shards;
-use lh_file::{FileBrand, Hand, HashFile, Mode, NoGate};
+use crate::shards::SizedShards;
+use lh_file::{FileBrand, Hand, Mode, NoGate, SizedFile};
 use std::collections::VecDeque;
 
 /// Makes room in each first hand for the acts of the second, up to the first that gets none.
@@ -30,7 +30,11 @@ fn make_room(first: &mut Hands, second: &Hands) -> Option<u32>
 }
 
 /// Joins two hands of one file, the first of which has room for the acts of the second.
-fn join<M: Mode, J: FileBrand>(file: &HashFile<NoGate, M, J>, first: Hand, second: Hand) -> Hand
+fn join<M: Mode, J: FileBrand, const ROOM: usize>(
+    file: &SizedFile<NoGate, M, J, ROOM>,
+    first: Hand,
+    second: Hand,
+) -> Hand
     requires first { IsOf file.now.state first }
     requires second { IsOf file.now.state second }
     requires right { second.view.has_right ≡ false }
@@ -43,7 +47,7 @@ fn join<M: Mode, J: FileBrand>(file: &HashFile<NoGate, M, J>, first: Hand, secon
     }
 }
 
-impl<M: Mode, J: FileBrand> Shards<M, J> {
+impl<M: Mode, J: FileBrand, const ROOM: usize> SizedShards<M, J, ROOM> {
     /// Makes of two hands of each shard one: what they may do and what they did is added. Where there is no memory for
     /// the acts of a second hand, the first shard where that is so is named, and all hands come back as they were.
     pub fn join_hands(&self, mut first: Hands, second: Hands) -> Result<Hands, JoinShardsFault>

@@ -32,6 +32,7 @@ mod listings;
 mod number;
 mod opening;
 mod openings;
+mod room;
 mod scan;
 mod settling;
 mod shards;
@@ -40,10 +41,12 @@ mod told;
 
 pub use closed::ClosedShards;
 pub use closed_shard::ClosedShard;
-pub use fault::{CreateFault, JoinShardsFault, ListingsFault, OpenFault, ShardFault, SplitFault};
+pub use fault::{
+    CreateFault, JoinShardsFault, ListingsFault, OpenFault, ShardFault, ShardRoomFault, SplitFault,
+};
 pub use hands::Hands;
 pub use listings::empty_listings;
 pub use number::{MOST_SHARDS, mixed, shard_of};
 pub use openings::Openings;
 pub use scan::ShardScan;
-pub use shards::Shards;
+pub use shards::{Shards, SizedShards};

@@ -2,19 +2,21 @@
 ghost use Rattle.std.specs.Prelude.{◌≡◌, ◌≢◌, ℕ, ◌<◌, length, IfOk, OnOk, IfErr, IfSome, IfNone};
 ghost use Rattle.std.specs.Bool.{OnTrue, OnFalse};
 ghost use Rattle.lh_bucket.specs.Listing.{EachPlace, IsFirst};
+ghost use Rattle.lh_page.specs.Slots.{IsRoom};
 ghost use Rattle.lh_shards.specs.Hands.{IsCount};
 ghost use Rattle.lh_shards.specs.Opening.{AreAlike, AreHome, AreOpened, IsAwayIn, IsFirstOfOtherShard, IsFirstOther};
 ghost use Rattle.lh_shards.specs.Opening.{IsHomeIn, whole_of};
 ghost use Rattle.lh_shards.specs.OpenFault.{IsOpenFault};
+ghost use Rattle.lh_shards.specs.Rooms.{FitListings};
 ghost use Rattle.lh_shards.specs.Settling.{AreParts};
 
 use crate::fault::OpenFault;
 use crate::hands::Hands;
 use crate::number::{MOST_SHARDS, shard_of};
-use crate::shards::Shards;
+use crate::shards::SizedShards;
 use lh_addr::{Config, fnv1a};
 use lh_bucket::Listing;
-use lh_file::{HashFile, Memory, NoGate};
+use lh_file::{Memory, NoGate, SizedFile, Unbranded, Untraced};
 use lh_page::Pair;
 use std::alloc::Global;
 
@@ -110,17 +112,20 @@ pub(crate) fn check(listings: &[Listing]) -> Result<(), OpenFault>
     Ok(())
 }
 
-impl Shards {
+impl<const ROOM: usize> SizedShards<Untraced, Unbranded, ROOM> {
     /// Shards with the records of listings, one a shard, each record in the bucket where it stands, and the first hand
     /// of each, which may make 2^63 calls. With `recording` each hand keeps its acts.
     ///
     /// It is the way back from closed shards: the listings of shards that were settled have each record in its own
-    /// shard.
+    /// shard. Of shards with less room than [`Shards`](crate::Shards), see first by [`fit_listings`](Self::fit_listings)
+    /// that the records have it.
     pub fn open_from(
         alloc: Global,
         listings: &[Listing],
         recording: bool,
-    ) -> Result<(Shards, Hands), OpenFault>
+    ) -> Result<(Self, Hands), OpenFault>
+        requires room { IsRoom ROOM }
+        requires fits { FitListings ROOM listings.now }
         ensures opened { IfOk result (λ made. AreOpened listings.now recording made.0 made.1) }
         ensures alike { OnOk result (AreAlike listings.now) }
         ensures home { OnOk result (AreHome listings.now) }
@@ -128,25 +133,23 @@ impl Shards {
         ensures err { IfErr result (IsOpenFault listings.now) }
     {
         check(listings)?;
-        Ok(Shards::opened(alloc, listings, recording)?)
+        Ok(SizedShards::opened(alloc, listings, recording)?)
     }
 
     /// The same, of listings without a fault.
-    fn opened(
-        alloc: Global,
-        listings: &[Listing],
-        recording: bool,
-    ) -> Result<(Shards, Hands), Memory>
-        requires { IsCount (length listings.now) }
+    fn opened(alloc: Global, listings: &[Listing], recording: bool) -> Result<(Self, Hands), Memory>
+        requires count { IsCount (length listings.now) }
+        requires room { IsRoom ROOM }
+        requires fits { FitListings ROOM listings.now }
         ensures { IfOk result (λ made. AreOpened listings.now recording made.0 made.1) }
     {
         let mut files = Vec::with_capacity(alloc, listings.len())?;
         let mut hands = Vec::with_capacity(alloc, listings.len())?;
         for shard in 0..listings.len() {
-            let (file, hand) = HashFile::open_from(alloc, &listings[shard], recording, NoGate)?;
+            let (file, hand) = SizedFile::open_from(alloc, &listings[shard], recording, NoGate)?;
             files.push(file)?;
             hands.push(hand)?;
         }
-        Ok((Shards { files }, Hands { hands }))
+        Ok((SizedShards { files }, Hands { hands }))
     }
 }

@@ -1,17 +1,19 @@
 //! Traced shards that are being opened.
-ghost use Rattle.std.specs.Prelude.{◌≡◌, true, length, IfOk, OnOk, IfErr};
+ghost use Rattle.std.specs.Prelude.{◌≡◌, ℕ, true, length, IfOk, OnOk, IfErr};
+ghost use Rattle.lh_page.specs.Slots.{IsRoom};
 ghost use Rattle.lh_shards.specs.Hands.{IsCount};
 ghost use Rattle.lh_shards.specs.OpenFault.{IsOpenFault};
 ghost use Rattle.lh_shards.specs.Opening.{AreAlike, AreHome, whole_of};
 ghost use Rattle.lh_shards.specs.Openings.{AreBegun, AreBrandsOf, AreTraced, tables_of};
+ghost use Rattle.lh_shards.specs.Rooms.{FitFiles, FitListings};
 ghost use Rattle.lh_shards.specs.Settling.{AreParts};
 
 use crate::fault::OpenFault;
 use crate::hands::Hands;
 use crate::opening::check;
-use crate::shards::Shards;
+use crate::shards::{Shards, SizedShards};
 use lh_bucket::Listing;
-use lh_file::{FileBrand, Memory, NoGate, Opening, Traced};
+use lh_file::{FileBrand, Memory, NoGate, Opening, Traced, WIDEST_ROOM};
 use std::alloc::Global;
 use std::marker::Model;
 
@@ -56,6 +58,7 @@ impl<'a> Openings<'a> {
     ) -> Result<Openings<'a>, OpenFault>
         ensures begun { IfOk result (AreBegun listings.now recording) }
         ensures brands { IfOk result (λ openings. AreBrandsOf true (tables_of openings) openings) }
+        ensures fit { IfOk result (λ openings. (room : ℕ) → FitListings room listings.now → FitFiles room openings) }
         ensures alike { OnOk result (AreAlike listings.now) }
         ensures home { OnOk result (AreHome listings.now) }
         ensures parts { OnOk result (AreParts (whole_of listings.now) listings.now) }
@@ -94,6 +97,18 @@ impl<'a> Openings<'a> {
         requires { AreBrandsOf J.named J.tables self }
         ensures traced { IfOk result (λ made. AreTraced self.entry made.0 made.1) }
     {
+        self.sized_shards::<J, WIDEST_ROOM>()
+    }
+
+    /// The same, of shards whose records have `ROOM` bytes each.
+    pub fn sized_shards<J: FileBrand, const ROOM: usize>(
+        self,
+    ) -> Result<(SizedShards<Traced, J, ROOM>, Hands), Memory>
+        requires brands { AreBrandsOf J.named J.tables self }
+        requires room { IsRoom ROOM }
+        requires fits { FitFiles ROOM self }
+        ensures traced { IfOk result (λ made. AreTraced self.entry made.0 made.1) }
+    {
         let count = self.openings.len();
         let Openings { openings } = self;
         let mut files = Vec::with_capacity(*openings.allocator(), count)?;
@@ -103,10 +118,10 @@ impl<'a> Openings<'a> {
             let Some(opening) = left.next() else {
                 unreachable!()
             };
-            let (file, hand) = opening.file::<J>()?;
+            let (file, hand) = opening.sized_file::<J, ROOM>()?;
             files.push(file)?;
             hands.push(hand)?;
         }
-        Ok((Shards { files }, Hands { hands }))
+        Ok((SizedShards { files }, Hands { hands }))
     }
 }

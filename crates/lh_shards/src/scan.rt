@@ -6,7 +6,7 @@ ghost use Rattle.lh_shards.specs.Hands.{AreOf, AtShard};
 ghost use Rattle.lh_shards.specs.Snapshots.{IsScanOf};
 
 use crate::hands::Hands;
-use crate::shards::Shards;
+use crate::shards::SizedShards;
 use lh_file::{BucketCopy, FileBrand, FileFault, Memory, Mode, Scan};
 use std::alloc::Global;
 use std::marker::Model;
@@ -38,9 +38,9 @@ impl Model for ShardScan {
 
 impl ShardScan {
     /// A scan of a shard, counted from 0, which has met no code.
-    pub fn new<M: Mode, J: FileBrand>(
+    pub fn new<M: Mode, J: FileBrand, const ROOM: usize>(
         alloc: Global,
-        shards: &Shards<M, J>,
+        shards: &SizedShards<M, J, ROOM>,
         shard: u32,
     ) -> Result<ShardScan, Memory>
         requires { shard < length shards.now }
@@ -53,10 +53,10 @@ impl ShardScan {
     }
 
     /// A copy of the next bucket of the shard, or none where each code was met. After a fault the scan is as it was.
-    pub fn next<M: Mode, J: FileBrand, R: Wait>(
+    pub fn next<M: Mode, J: FileBrand, R: Wait, const ROOM: usize>(
         &mut self,
         rt: &R,
-        shards: &Shards<M, J>,
+        shards: &SizedShards<M, J, ROOM>,
         hands: &mut Hands,
     ) -> Result<Option<BucketCopy>, FileFault>
         requires scan { IsScanOf shards.now self.old }

@@ -1,5 +1,6 @@
 //! The shards, and how they are created.
-ghost use Rattle.std.specs.Prelude.{◌≡◌, ◌<◌, ◌↔◌, List, ℕ, length, Err, IfOk};
+ghost use Rattle.std.specs.Prelude.{◌≡◌, ◌<◌, ◌↔◌, List, ℕ, length, Err, IfOk, IsTrue};
+ghost use Rattle.lh_page.specs.Slots.{FitsRoom, IsRoom};
 ghost use Rattle.lh_shards.specs.Hands.{AreCreated, IsCount};
 ghost use Rattle.lh_shards.specs.Number.{shard_of as shard_of_code};
 
@@ -7,20 +8,25 @@ use crate::fault::CreateFault;
 use crate::hands::Hands;
 use crate::number::{MOST_SHARDS, shard_of};
 use lh_addr::Config;
-use lh_file::{FileBrand, HashFile, Memory, Mode, NoGate, Unbranded, Untraced};
+use lh_file::{FileBrand, Memory, Mode, NoGate, SizedFile, Unbranded, Untraced, WIDEST_ROOM};
+use lh_page::{Key, Value};
 use std::alloc::Global;
 use std::marker::Model;
+
+/// Shards whose records have room for every key and every value.
+pub type Shards<M = Untraced, J = Unbranded> = SizedShards<M, J, WIDEST_ROOM>;
 
 /// Several files as one table. Threads share them, and each takes part with [`Hands`] of its own.
 ///
 /// `M` says whether the histories of the files are traced, and `J` names the tables of traced ones, as for a
-/// [`HashFile`]. Shards whose type says neither are untraced.
+/// [`HashFile`](lh_file::HashFile). [`Shards`] whose type says neither are untraced. Each record has `ROOM` bytes for
+/// its key and its value together.
 #[derive(Drop)]
-pub struct Shards<M: Mode = Untraced, J: FileBrand = Unbranded> {
-    pub(crate) files: Vec<HashFile<NoGate, M, J>>,
+pub struct SizedShards<M: Mode, J: FileBrand, const ROOM: usize> {
+    pub(crate) files: Vec<SizedFile<NoGate, M, J, ROOM>>,
 }
 
-impl<M: Mode, J: FileBrand> Model for Shards<M, J> {
+impl<M: Mode, J: FileBrand, const ROOM: usize> Model for SizedShards<M, J, ROOM> {
     ghost use Rattle.std.specs.Prelude.{List, length, map};
     ghost use Rattle.lh_file.specs.FileState.{FileState};
     ghost use Rattle.lh_shards.specs.Hands.{IsCount};
@@ -32,7 +38,7 @@ impl<M: Mode, J: FileBrand> Model for Shards<M, J> {
     ghost invariant = { λ s. IsCount (length s.files.items) };
 }
 
-impl Shards {
+impl<const ROOM: usize> SizedShards<Untraced, Unbranded, ROOM> {
     /// Empty files of a configuration, 1 to 1,024 of them, and the first hand of each, which may make 2^63 calls. With
     /// `recording` each hand keeps its acts.
     pub fn create(
@@ -40,14 +46,15 @@ impl Shards {
         config: Config,
         shards: u32,
         recording: bool,
-    ) -> Result<(Shards, Hands), CreateFault>
+    ) -> Result<(Self, Hands), CreateFault>
+        requires { IsRoom ROOM }
         ensures created { IfOk result (λ made. AreCreated shards config recording made.0 made.1) }
         ensures count { (result ≡ Err CreateFault.Count) ↔ (¬ (IsCount shards)) }
     {
         if shards == 0 || shards > MOST_SHARDS {
             return Err(CreateFault::Count);
         }
-        Ok(Shards::created(alloc, config, shards, recording)?)
+        Ok(SizedShards::created(alloc, config, shards, recording)?)
     }
 
     /// The same, of a number that is known to be in range.
@@ -56,22 +63,32 @@ impl Shards {
         config: Config,
         shards: u32,
         recording: bool,
-    ) -> Result<(Shards, Hands), Memory>
-        requires { IsCount shards }
+    ) -> Result<(Self, Hands), Memory>
+        requires count { IsCount shards }
+        requires room { IsRoom ROOM }
         ensures { IfOk result (λ made. AreCreated shards config recording made.0 made.1) }
     {
         let mut files = Vec::with_capacity(alloc, shards as usize)?;
         let mut hands = Vec::with_capacity(alloc, shards as usize)?;
         for _shard in 0..shards {
-            let (file, hand) = HashFile::create(alloc, config, recording, NoGate)?;
+            let (file, hand) = SizedFile::create(alloc, config, recording, NoGate)?;
             files.push(file)?;
             hands.push(hand)?;
         }
-        Ok((Shards { files }, Hands { hands }))
+        Ok((SizedShards { files }, Hands { hands }))
     }
 }
 
-impl<M: Mode, J: FileBrand> Shards<M, J> {
+impl<M: Mode, J: FileBrand, const ROOM: usize> SizedShards<M, J, ROOM> {
+    /// Whether each record has room for this key with this value: a call that may write them is to be asked for only
+    /// then. The records of [`Shards`] have room for all.
+    #[inline]
+    pub fn fits(key: &Key, value: &Value) -> bool
+        ensures { IsTrue result ↔ FitsRoom ROOM key.now value.now }
+    {
+        SizedFile::<NoGate, M, J, ROOM>::fits(key, value)
+    }
+
     /// The number of shards.
     #[inline]
     pub fn count(&self) -> u32

@@ -4,11 +4,11 @@ ghost use Rattle.lh_shards.specs.Hands.{AreOf, AtShard};
 ghost use Rattle.lh_shards.specs.Snapshots.{HasSnapshot};
 
 use crate::hands::Hands;
-use crate::shards::Shards;
+use crate::shards::SizedShards;
 use lh_file::{Closed, FileBrand, FileFault, Mode};
 use std::sync::Wait;
 
-impl<M: Mode, J: FileBrand> Shards<M, J> {
+impl<M: Mode, J: FileBrand, const ROOM: usize> SizedShards<M, J, ROOM> {
     /// A shard at one moment, counted from 0, while calls go on: the [snapshot](lh_file::HashFile::snapshot) of its
     /// file. Each shard's is of a moment of its own. While one is taken, calls on the other shards don't wait.
     ///

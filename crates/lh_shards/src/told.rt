@@ -4,10 +4,10 @@ ghost use Rattle.lh_shards.specs.Hands.{AreOf, AtShard};
 ghost use Rattle.lh_shards.specs.Told.{HasTold};
 
 use crate::hands::Hands;
-use crate::shards::Shards;
+use crate::shards::SizedShards;
 use lh_file::{FileBrand, Mode};
 
-impl<M: Mode, J: FileBrand> Shards<M, J> {
+impl<M: Mode, J: FileBrand, const ROOM: usize> SizedShards<M, J, ROOM> {
     /// How many acts there were so far in a shard, counted from 0: what its file tells its hand. The acts of traced
     /// shards are one legal history for each, and no number tells how those of two shards are ordered: that is known
     /// as far as callers exchange what each shard told.

@@ -8,9 +8,10 @@ use crate::offsets::STAMPS;
 use crate::perches::taken;
 use crate::plays::{Deed, DrawStamp, GiveBack, TakeIn};
 use crate::seat_view::SeatView;
+use crate::shown::Shown;
 use crate::table::WordTable;
 use atomic_table::{Perch, Seat};
-use lh_bucket::{Change, ChangeReply, PagedBucket};
+use lh_bucket::{Change, ChangeReply, SizedBucket};
 use std::marker::Brand;
 use std::sync::Wait;
 
@@ -23,12 +24,12 @@ impl<M: Mode> WordTable<M> {
 
     /// One stamp, with which an act stands in the history. The bucket's seat lies with the hand, and the bucket has
     /// served the call. A call picks what is done by the last four arguments.
-    fn draw<D: Deed>(
+    fn draw<D: Deed, B: Shown>(
         &self,
         seat: &mut Seat<(), SeatView>,
         _change: Change<'_>,
         _reply: ChangeReply,
-        _bucket: &PagedBucket,
+        _bucket: &B,
         _perch: &Perch<(), SeatView>,
     ) -> u64
         requires at { seat.old.table_id ≡ self.now.id }
@@ -49,14 +50,14 @@ impl<M: Mode> WordTable<M> {
 
     /// The act of a hand with which the seat of a bucket lies for the time of the stamp. The bucket has served the
     /// call, and its seat comes back. What the act met is what the bucket had under the key before.
-    pub fn draw_with_seat<R: Wait>(
+    pub fn draw_with_seat<R: Wait, const ROOM: usize>(
         &self,
         rt: &R,
         perch: &Perch<(), SeatView>,
         seat: &mut Seat<(), SeatView>,
         change: Change<'_>,
         reply: ChangeReply,
-        bucket: &PagedBucket,
+        bucket: &SizedBucket<ROOM>,
     ) -> (u64, Seat<(), SeatView>)
         requires at { seat.old.table_id ≡ self.now.id }
         requires there { perch.now.table_id ≡ self.now.id }
@@ -81,7 +82,7 @@ impl<M: Mode> WordTable<M> {
     {
         let bucket_seat = taken(rt, perch);
         self.words.shared.join_seat::<TakeIn>(seat, bucket_seat);
-        let stamp = self.draw::<Brand>(seat, change, reply, bucket, perch);
+        let stamp = self.draw::<Brand, _>(seat, change, reply, bucket, perch);
         (stamp, self.words.shared.split_seat::<GiveBack>(seat))
     }
 }

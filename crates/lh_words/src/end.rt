@@ -10,15 +10,15 @@ use crate::plays::TakeIn;
 use crate::seat_view::SeatView;
 use crate::table::WordTable;
 use atomic_table::Seat;
-use lh_bucket::PagedBucket;
+use lh_bucket::SizedBucket;
 
 impl<M: Mode> WordTable<M> {
     /// A bucket's seat comes into another one.
-    pub fn take_in(
+    pub fn take_in<const ROOM: usize>(
         &self,
         seat: &mut Seat<(), SeatView>,
         bucket_seat: Seat<(), SeatView>,
-        _bucket: &PagedBucket,
+        _bucket: &SizedBucket<ROOM>,
     )
         requires at { seat.old.table_id ≡ self.now.id }
         requires there { bucket_seat.table_id ≡ self.now.id }

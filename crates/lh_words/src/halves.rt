@@ -5,10 +5,11 @@ use crate::mode::Mode;
 use crate::perches::taken;
 use crate::plays::{GiveBack, Halves, MoveSplit, TakeIn};
 use crate::seat_view::SeatView;
+use crate::shown::Shown;
 use crate::table::WordTable;
 use atomic_table::{Perch, Seat};
 use lh_addr::laws::{hashes_are_nested, root_is_only_pair, split_moves_one_bucket};
-use lh_bucket::PagedBucket;
+use lh_bucket::SizedBucket;
 use std::marker::Brand;
 use std::sync::Wait;
 
@@ -20,11 +21,11 @@ impl<M: Mode> WordTable<M> {
 
     /// Divides the seat of a bucket that lies with the hand, as the bucket was: the lower half stays with the hand. A
     /// call picks the halves by the last two arguments.
-    fn cut<H: Halves>(
+    fn cut<H: Halves, B: Shown>(
         &self,
         seat: &mut Seat<(), SeatView>,
-        _low: &PagedBucket,
-        _high: &PagedBucket,
+        _low: &B,
+        _high: &B,
     ) -> Seat<(), SeatView>
         requires at { seat.old.table_id ≡ self.now.id }
         requires right { seat.old.me.0.view.has_right ≡ true }
@@ -44,13 +45,13 @@ impl<M: Mode> WordTable<M> {
     }
 
     /// Makes of a split bucket's seat those of its lower and its upper half. The hand has moved the split.
-    pub fn move_split<R: Wait>(
+    pub fn move_split<R: Wait, const ROOM: usize>(
         &self,
         rt: &R,
         perch: &Perch<(), SeatView>,
         seat: &mut Seat<(), SeatView>,
-        low: &PagedBucket,
-        high: &PagedBucket,
+        low: &SizedBucket<ROOM>,
+        high: &SizedBucket<ROOM>,
     ) -> (Seat<(), SeatView>, Seat<(), SeatView>)
         requires at { seat.old.table_id ≡ self.now.id }
         requires there { perch.now.table_id ≡ self.now.id }
@@ -66,7 +67,7 @@ impl<M: Mode> WordTable<M> {
     {
         let bucket_seat = taken(rt, perch);
         self.words.shared.join_seat::<TakeIn>(seat, bucket_seat);
-        let upper = self.cut::<Brand>(seat, low, high);
+        let upper = self.cut::<Brand, _>(seat, low, high);
         let lower = self.words.shared.split_seat::<GiveBack>(seat);
         (lower, upper)
     }

@@ -27,6 +27,7 @@ mod rule;
 mod searches;
 mod seat_view;
 mod shares;
+mod shown;
 mod table;
 mod telling;
 mod view;

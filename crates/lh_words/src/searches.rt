@@ -11,9 +11,10 @@ use crate::offsets::STAMPS;
 use crate::perches::{give_back, taken};
 use crate::plays::{Deed, DrawOutside, DrawStamp, GiveBack, TakeIn};
 use crate::seat_view::SeatView;
+use crate::shown::Shown;
 use crate::table::WordTable;
 use atomic_table::{Perch, Seat};
-use lh_bucket::PagedBucket;
+use lh_bucket::SizedBucket;
 use lh_page::Key;
 use std::marker::Brand;
 use std::sync::Wait;
@@ -26,11 +27,11 @@ impl<M: Mode> WordTable<M> {
     /// the last two arguments.
     // Inlined: it is one step.
     #[inline(always)]
-    fn draw_search_for<D: Deed>(
+    fn draw_search_for<D: Deed, B: Shown>(
         &self,
         seat: &mut Seat<(), SeatView>,
         _key: &Key,
-        _bucket: &PagedBucket,
+        _bucket: &B,
     ) -> u64
         requires at { seat.old.table_id ≡ self.now.id }
         requires live { 0 < seat.old.me.0.view.initial }
@@ -49,11 +50,11 @@ impl<M: Mode> WordTable<M> {
     /// One stamp, for a search at a bucket that isn't the file's and hasn't answered yet. The answer is what the bucket
     /// has now.
     #[inline(always)]
-    pub fn draw_search_outside(
+    pub fn draw_search_outside<const ROOM: usize>(
         &self,
         seat: &mut Seat<(), SeatView>,
         key: &Key,
-        bucket: &PagedBucket,
+        bucket: &SizedBucket<ROOM>,
     ) -> u64
         requires at { seat.old.table_id ≡ self.now.id }
         requires live { 0 < seat.old.me.0.view.initial }
@@ -67,17 +68,17 @@ impl<M: Mode> WordTable<M> {
           seat.old.me.1,
         ) }
     {
-        self.draw_search_for::<Brand>(seat, key, bucket)
+        self.draw_search_for::<Brand, _>(seat, key, bucket)
     }
 
     /// One stamp, with which a search that hasn't answered yet stands in the history. The bucket's seat lies with the
     /// hand. A call picks what is done by the last two arguments.
     #[inline(always)]
-    fn draw_search<D: Deed>(
+    fn draw_search<D: Deed, B: Shown>(
         &self,
         seat: &mut Seat<(), SeatView>,
         _key: &Key,
-        _bucket: &PagedBucket,
+        _bucket: &B,
     ) -> u64
         requires at { seat.old.table_id ≡ self.now.id }
         requires live { 0 < seat.old.me.0.view.initial }
@@ -98,13 +99,13 @@ impl<M: Mode> WordTable<M> {
 
     /// The act of a search that hasn't answered yet, by a hand with which the seat of the bucket lies for the time of
     /// the stamp. The seat then rests on its perch again.
-    pub fn draw_search_with_seat<R: Wait>(
+    pub fn draw_search_with_seat<R: Wait, const ROOM: usize>(
         &self,
         rt: &R,
         perch: &Perch<(), SeatView>,
         seat: &mut Seat<(), SeatView>,
         key: &Key,
-        bucket: &PagedBucket,
+        bucket: &SizedBucket<ROOM>,
     ) -> u64
         requires at { seat.old.table_id ≡ self.now.id }
         requires there { perch.now.table_id ≡ self.now.id }
@@ -127,7 +128,7 @@ impl<M: Mode> WordTable<M> {
     {
         let bucket_seat = taken(rt, perch);
         self.words.shared.join_seat::<TakeIn>(seat, bucket_seat);
-        let stamp = self.draw_search::<Brand>(seat, key, bucket);
+        let stamp = self.draw_search::<Brand, _>(seat, key, bucket);
         let bucket_seat = self.words.shared.split_seat::<GiveBack>(seat);
         give_back(perch, bucket_seat);
         stamp

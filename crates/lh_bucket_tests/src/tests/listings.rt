@@ -1,11 +1,13 @@
 //! Listings, and buckets that are filled with their records at once.
 ghost use Rattle.std.specs.Prelude.{◌<◌};
+ghost use Rattle.std.specs.Bool.{IsTrue};
+ghost use Rattle.lh_page.specs.Slots.{IsRoom, FitAll};
 ghost use Rattle.lh_bucket.specs.Listing.{size};
 
 use super::calls::{keys_of, pair};
 use lh_addr::laws::{address_is_only_bucket, levels_reach_their_buckets};
 use lh_addr::{Config, Root};
-use lh_bucket::{Bucket, Listing, ListingFault, PagedBucket};
+use lh_bucket::{Bucket, Listing, ListingFault, PagedBucket, SizedBucket};
 use lh_expect::expect_eq;
 use lh_page::Pair;
 use std::alloc::Global;
@@ -13,7 +15,7 @@ use std::process::Abort;
 use std::test::Fail;
 
 /// Lists of records with these first bytes of keys.
-fn lists_of(alloc: Global, keys: &[&[u8]]) -> Result<Vec<Vec<Pair>>, Fail> {
+pub(super) fn lists_of(alloc: Global, keys: &[&[u8]]) -> Result<Vec<Vec<Pair>>, Fail> {
     let mut lists = Vec::new(alloc);
     for list in keys {
         let mut pairs = Vec::new(alloc);
@@ -104,14 +106,34 @@ fn listings_give_their_lists(rt: HostRuntime) -> Result<(), Fail> {
     Ok(())
 }
 
-/// A bucket of a listing.
-fn bucket_of(alloc: Global, listing: &Listing, number: u32) -> Result<PagedBucket, Fail>
-    requires { number < size listing.now }
+/// Whether each record has room.
+pub(super) fn all_fit<const ROOM: usize>(pairs: &[Pair]) -> bool
+    ensures { IsTrue result → FitAll ROOM pairs.now }
+{
+    for pair in pairs {
+        if !SizedBucket::<ROOM>::fits(&pair.key, &pair.value) {
+            return false;
+        }
+    }
+    true
+}
+
+/// A bucket of a listing, whose records have room for their bytes.
+pub(super) fn bucket_of<const ROOM: usize>(
+    alloc: Global,
+    listing: &Listing,
+    number: u32,
+) -> Result<SizedBucket<ROOM>, Fail>
+    requires number { number < size listing.now }
+    requires room { IsRoom ROOM }
 {
     address_is_only_bucket();
     levels_reach_their_buckets();
     let config = listing.config();
-    let bucket = PagedBucket::filled(
+    if !all_fit::<ROOM>(listing.pairs_of(number)) {
+        return Err("no room")?;
+    }
+    let bucket = SizedBucket::filled(
         alloc,
         config.initial(),
         config.capacity(),
@@ -170,7 +192,7 @@ fn long_lists_are_listings(rt: HostRuntime) -> Result<(), Fail> {
     let listing = Listing::new(alloc, config, 1, long_list(alloc, 99)?)?;
     expect_eq!(rt; listing.len(), 100);
     expect_eq!(rt; listing.buckets(), 1);
-    let bucket = bucket_of(alloc, &listing, 0)?;
+    let bucket: PagedBucket = bucket_of(alloc, &listing, 0)?;
     expect_eq!(rt; bucket.len(), 100);
     Ok(())
 }

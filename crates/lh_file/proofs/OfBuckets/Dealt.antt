@@ -5,11 +5,12 @@ use Rattle.std.specs.List.{range_with_len}
 use Rattle.std.proofs.lemmas.Bool.{false≢true}
 use mathlib.Core.Logic.{dite}
 use native.Mathlib.Decide.{dec_le}
-use Rattle.lh_bucket.specs.Listing.{Lists, size}
-use Rattle.lh_words.specs.Dealing.{other_buckets_of, dealt_seat, buckets_from}
+use Rattle.lh_bucket.specs.Bucket.{Seen}
+use Rattle.lh_bucket.specs.Listing.{Lists, list_at, size}
+use Rattle.lh_words.specs.Dealing.{first_bucket_of, other_buckets_of, dealt_seat, buckets_from}
 use Rattle.lh_words.specs.Dealing.{undealt}
 use Rattle.lh_words.specs.Plays.{Seated}
-use Rattle.lh_words.specs.Seats.{opened_at, first_seat}
+use Rattle.lh_words.specs.Seats.{listed_head, opened_at, first_seat}
 use Rattle.lh_words.specs.declared.seat_view.SeatView.{SeatView}
 use Rattle.lh_file.specs.Buckets.Segments.{start_of, end_of}
 use Rattle.lh_file.proofs.OfBuckets.Levels.{size_doubles}
@@ -18,6 +19,15 @@ use Rattle.lh_file.proofs.OfBuckets.Levels.{size_doubles}
 next_of : (k : Lists) (n : ℕ) → n < size k → buckets_from k n ≡ opened_at k n ∷ buckets_from k (n + 1)
 next_of k n below =
     let e : size k - n ≡ suc (size k - (n + 1)) = omega arith in ap (λ m. map (opened_at k) (range_with_len n m)) e
+
+-- the bucket that comes next
+pub first_dealt : (k : Lists) (traced : Bool) (n : ℕ) (old : Seated) (bucket : Seen) → n < size k →
+    old ≡ (undealt traced k n, []) → bucket.head ≡ listed_head k n → bucket.pairs ≡ list_at k.lists n → traced ≡ true →
+    first_bucket_of old.0.parts ≡ bucket ∷ []
+first_dealt k true n old bucket below is head pairs on =
+    ap (λ (m : Seated). first_bucket_of m.0.parts) is ∙ ap first_bucket_of (next_of k n below)
+    ∙ (λ i. record { head = sym head i; pairs = sym pairs i } ∷ [])
+first_dealt k false n old bucket below is head pairs on = absurd (false≢true on)
 
 none_from : (k : Lists) (n : ℕ) → size k ≤ n → buckets_from k n ≡ []
 none_from k n past = let e : size k - n ≡ 0 = omega arith in ap (λ m. map (opened_at k) (range_with_len n m)) e

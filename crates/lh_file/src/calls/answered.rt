@@ -1,5 +1,6 @@
 //! Calls that give an answer, which tells all: the call, its reply, and the bucket that gave it.
 ghost use Rattle.std.specs.Prelude.{◌≡◌, true, false, IfOk};
+ghost use Rattle.lh_page.specs.Slots.{FitsRoom};
 ghost use Rattle.lh_bucket.specs.declared.call.Call.TheVariants as call;
 ghost use Rattle.lh_file.specs.Calls.Served.{Serves};
 ghost use Rattle.lh_file.specs.FileState.{IsOf};
@@ -8,7 +9,7 @@ ghost use Rattle.lh_file.specs.History.Entered.{HasEntered};
 use crate::buckets::brand::FileBrand;
 use crate::calls::coded::Coded;
 use crate::fault::FileFault;
-use crate::file::HashFile;
+use crate::file::SizedFile;
 use crate::gate::Gate;
 use crate::words::hand::Hand;
 use lh_bucket::{Answer, Change};
@@ -16,7 +17,7 @@ use lh_page::Value;
 use lh_words::Mode;
 use std::sync::Wait;
 
-impl<G: Gate, M: Mode, J: FileBrand> HashFile<G, M, J> {
+impl<G: Gate, M: Mode, J: FileBrand, const ROOM: usize> SizedFile<G, M, J, ROOM> {
     /// Searches for a key: the answer's reply is the value, or that the key is absent.
     // Inlined, as the others here are; `find_into` and `change` below aren't: the answer is made when the bucket is
     // free, and what nobody looks at isn't made.
@@ -48,7 +49,8 @@ impl<G: Gate, M: Mode, J: FileBrand> HashFile<G, M, J> {
         key: K,
         value: Value,
     ) -> Result<Answer, FileFault>
-        requires { IsOf self.now.state hand.old }
+        requires of { IsOf self.now.state hand.old }
+        requires fits { FitsRoom ROOM (K.bytes key) value }
         ensures served { Serves self.now.state hand.old (call.Insert (K.bytes key) value) result hand.new }
         ensures entered { M.traced ≡ true → IfOk result (λ a. HasEntered false hand.old a.call a.reply hand.new) }
     {
@@ -85,7 +87,8 @@ impl<G: Gate, M: Mode, J: FileBrand> HashFile<G, M, J> {
         key: K,
         value: Value,
     ) -> Result<Answer, FileFault>
-        requires { IsOf self.now.state hand.old }
+        requires of { IsOf self.now.state hand.old }
+        requires fits { FitsRoom ROOM (K.bytes key) value }
         ensures served { Serves self.now.state hand.old (call.Replace (K.bytes key) value) result hand.new }
         ensures entered { M.traced ≡ true → IfOk result (λ a. HasEntered false hand.old a.call a.reply hand.new) }
     {

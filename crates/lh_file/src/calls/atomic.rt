@@ -7,6 +7,8 @@ ghost use Rattle.std.specs.Fn.{FnOnceReturnsAt};
 ghost use Rattle.lh_bucket.specs.PagedBucket.{found_at};
 ghost use Rattle.lh_bucket.specs.PlainMap.{found};
 ghost use Rattle.lh_page.specs.Limits.{IsValue};
+ghost use Rattle.lh_page.specs.Slots.{FitsRoom};
+ghost use Rattle.lh_file.specs.Buckets.Rooms.{FitMade};
 ghost use Rattle.lh_file.specs.Calls.Atomic.{MakesAtOnce, Upserts, GetsOrPuts, Takes, Updates, Merges};
 ghost use Rattle.lh_file.specs.Calls.Atomic.{ComparesAndSets};
 ghost use Rattle.lh_file.specs.FileState.{IsOf};
@@ -16,10 +18,10 @@ use crate::calls::coded::Coded;
 use crate::calls::lean::lend_found;
 use crate::calls::serve::copy_found;
 use crate::fault::FileFault;
-use crate::file::HashFile;
+use crate::file::SizedFile;
 use crate::gate::Gate;
 use crate::words::hand::Hand;
-use lh_bucket::{Change, PagedBucket};
+use lh_bucket::{Change, SizedBucket};
 use lh_page::Value;
 use lh_words::Mode;
 use std::sync::Wait;
@@ -37,7 +39,7 @@ pub enum Compared {
 
 /// The value of the record at a place, if there is a record.
 #[inline(always)]
-fn value_found(bucket: &PagedBucket, place: Option<usize>) -> Option<Value>
+fn value_found<const ROOM: usize>(bucket: &SizedBucket<ROOM>, place: Option<usize>) -> Option<Value>
     requires { IfSome place (λ place. place < length bucket.now.pairs) }
     ensures { found result ≡ found_at bucket.now.pairs place }
 {
@@ -49,7 +51,7 @@ fn value_found(bucket: &PagedBucket, place: Option<usize>) -> Option<Value>
     }
 }
 
-impl<G: Gate, M: Mode, J: FileBrand> HashFile<G, M, J> {
+impl<G: Gate, M: Mode, J: FileBrand, const ROOM: usize> SizedFile<G, M, J, ROOM> {
     /// Adds a record, or gives its key this value in place of its own where the key is there: whether the record is
     /// new. Where it is, a bucket may be split, as [`insert`](Self::insert) does.
     pub fn upsert<K: Coded, R: Wait>(
@@ -59,7 +61,8 @@ impl<G: Gate, M: Mode, J: FileBrand> HashFile<G, M, J> {
         key: &K,
         value: &Value,
     ) -> Result<bool, FileFault>
-        requires { IsOf self.now.state hand.old }
+        requires of { IsOf self.now.state hand.old }
+        requires fits { FitsRoom ROOM (K.bytes key.now) value.now }
         ensures { MakesAtOnce M.traced self.now.state (K.bytes key.now) hand.old
             (Upserts value.now) result hand.new }
     {
@@ -92,7 +95,8 @@ impl<G: Gate, M: Mode, J: FileBrand> HashFile<G, M, J> {
         key: &K,
         value: &Value,
     ) -> Result<Option<Value>, FileFault>
-        requires { IsOf self.now.state hand.old }
+        requires of { IsOf self.now.state hand.old }
+        requires fits { FitsRoom ROOM (K.bytes key.now) value.now }
         ensures { MakesAtOnce M.traced self.now.state (K.bytes key.now) hand.old
             (GetsOrPuts value.now) result hand.new }
     {
@@ -146,6 +150,7 @@ impl<G: Gate, M: Mode, J: FileBrand> HashFile<G, M, J> {
     ) -> Result<bool, FileFault>
         requires of { IsOf self.now.state hand.old }
         requires callable { (bytes : Bor (List ℕ)) → IsValue bytes.now → F.pre change bytes }
+        requires fits { FitMade ROOM (K.bytes key.now) (FnOnceReturnsAt F.FnOnce change) }
         ensures { MakesAtOnce M.traced self.now.state (K.bytes key.now) hand.old
             (Updates (FnOnceReturnsAt F.FnOnce change)) result hand.new }
     {
@@ -180,6 +185,8 @@ impl<G: Gate, M: Mode, J: FileBrand> HashFile<G, M, J> {
     ) -> Result<bool, FileFault>
         requires of { IsOf self.now.state hand.old }
         requires callable { (bytes : Bor (List ℕ)) → IsValue bytes.now → F.pre next bytes }
+        requires fits { FitsRoom ROOM (K.bytes key.now) first.now }
+        requires made_fits { FitMade ROOM (K.bytes key.now) (FnOnceReturnsAt F.FnOnce next) }
         ensures { MakesAtOnce M.traced self.now.state (K.bytes key.now) hand.old
             (Merges first.now (FnOnceReturnsAt F.FnOnce next)) result hand.new }
     {
@@ -213,7 +220,8 @@ impl<G: Gate, M: Mode, J: FileBrand> HashFile<G, M, J> {
         expected: &Value,
         value: &Value,
     ) -> Result<Compared, FileFault>
-        requires { IsOf self.now.state hand.old }
+        requires of { IsOf self.now.state hand.old }
+        requires fits { FitsRoom ROOM (K.bytes key.now) value.now }
         ensures { MakesAtOnce M.traced self.now.state (K.bytes key.now) hand.old
             (ComparesAndSets expected.now value.now) result hand.new }
     {

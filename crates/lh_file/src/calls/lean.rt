@@ -7,6 +7,7 @@ ghost use Rattle.lh_bucket.specs.PlainMap.{found};
 ghost use Rattle.lh_bucket.specs.declared.call.Call.TheVariants as call;
 ghost use Rattle.lh_bucket.specs.declared.call.Reply.{Reply};
 ghost use Rattle.lh_page.specs.Limits.{IsValue};
+ghost use Rattle.lh_page.specs.Slots.{FitsRoom};
 ghost use Rattle.lh_file.specs.Calls.Lean.{read_reply, put_reply, set_reply, remove_reply, LendsTo};
 ghost use Rattle.lh_file.specs.Calls.Served.{Makes};
 ghost use Rattle.lh_file.specs.FileState.{IsOf};
@@ -15,18 +16,18 @@ ghost use Rattle.lh_file.specs.History.Entered.{HasEntered};
 use crate::buckets::brand::FileBrand;
 use crate::calls::coded::Coded;
 use crate::fault::FileFault;
-use crate::file::HashFile;
+use crate::file::SizedFile;
 use crate::gate::Gate;
 use crate::words::hand::Hand;
-use lh_bucket::{Change, ChangeReply, PagedBucket};
+use lh_bucket::{Change, ChangeReply, SizedBucket};
 use lh_page::Value;
 use lh_words::Mode;
 use std::sync::Wait;
 
 /// Lends the value of the record at a place to a closure, if there is a record: what that returns.
 #[inline(always)]
-pub(crate) fn lend_found<T, F: FnOnce(&[u8]) -> T + Drop>(
-    bucket: &PagedBucket,
+pub(crate) fn lend_found<T, F: FnOnce(&[u8]) -> T + Drop, const ROOM: usize>(
+    bucket: &SizedBucket<ROOM>,
     place: Option<usize>,
     then: F,
 ) -> Option<T>
@@ -40,7 +41,7 @@ pub(crate) fn lend_found<T, F: FnOnce(&[u8]) -> T + Drop>(
     }
 }
 
-impl<G: Gate, M: Mode, J: FileBrand> HashFile<G, M, J> {
+impl<G: Gate, M: Mode, J: FileBrand, const ROOM: usize> SizedFile<G, M, J, ROOM> {
     /// The value under a key.
     ///
     /// ```text
@@ -130,7 +131,8 @@ impl<G: Gate, M: Mode, J: FileBrand> HashFile<G, M, J> {
         key: &K,
         value: &Value,
     ) -> Result<bool, FileFault>
-        requires { IsOf self.now.state hand.old }
+        requires of { IsOf self.now.state hand.old }
+        requires fits { FitsRoom ROOM (K.bytes key.now) value.now }
         ensures served { Makes self.now.state hand.old (call.Insert (K.bytes key.now) value.now) result
             put_reply hand.new }
         ensures entered { M.traced ≡ true → IfOk result (λ is_new.
@@ -149,7 +151,8 @@ impl<G: Gate, M: Mode, J: FileBrand> HashFile<G, M, J> {
         key: &K,
         value: &Value,
     ) -> Result<bool, FileFault>
-        requires { IsOf self.now.state hand.old }
+        requires of { IsOf self.now.state hand.old }
+        requires fits { FitsRoom ROOM (K.bytes key.now) value.now }
         ensures served { Makes self.now.state hand.old (call.Replace (K.bytes key.now) value.now) result
             set_reply hand.new }
         ensures entered { M.traced ≡ true → IfOk result (λ was_there.

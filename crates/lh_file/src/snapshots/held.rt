@@ -9,6 +9,7 @@ ghost use Rattle.lh_words.specs.Seats.{partless, told_seat};
 ghost use Rattle.lh_words.specs.declared.seat_view.Entry.{Entry};
 
 use crate::buckets::brand::FileBrand;
+use crate::buckets::copied::copied_pairs;
 use crate::buckets::segments::Segments;
 use crate::buckets::slot::Slot;
 use crate::calls::aim::defect;
@@ -18,7 +19,7 @@ use crate::gate::{Gate, Point};
 use crate::words::Words;
 use atomic_table::Seat;
 use lh_addr::Config;
-use lh_bucket::{Bucket, Memory, copied_pairs};
+use lh_bucket::Memory;
 use lh_page::Pair;
 use lh_words::{Mode, SeatView};
 use std::alloc::Global;
@@ -36,7 +37,10 @@ fn reaches(found: Option<u8>, level: u8) -> bool
 
 /// Whether a file has more buckets than these, which are all that one of so many has, and are held: whether the next
 /// split of such a file has divided its bucket.
-fn is_outgrown<J: FileBrand>(config: &Config, guards: &[RwLockReadGuard<'_, Slot<J>>]) -> bool
+fn is_outgrown<J: FileBrand, const ROOM: usize>(
+    config: &Config,
+    guards: &[RwLockReadGuard<'_, Slot<J, ROOM>>],
+) -> bool
     requires least { config.now.initial ≤ length guards.now }
     requires below { length guards.now < config.now.max }
     ensures { result ≡ is_outgrown config.now.initial (map read_guard_value guards.now) }
@@ -50,7 +54,7 @@ fn is_outgrown<J: FileBrand>(config: &Config, guards: &[RwLockReadGuard<'_, Slot
     }
 }
 
-impl<J: FileBrand> Segments<J> {
+impl<J: FileBrand, const ROOM: usize> Segments<J, ROOM> {
     /// Takes the locks of all buckets shared, in the order of their numbers, where there are this many or more. Buckets
     /// that splits fill meanwhile are taken too, until the bucket of the next split is among those that are held.
     // There is no deadlock: a call holds one bucket, and whoever holds several took them in this order.
@@ -58,7 +62,7 @@ impl<J: FileBrand> Segments<J> {
         &self,
         rt: &R,
         buckets: u32,
-    ) -> Result<Vec<RwLockReadGuard<'_, Slot<J>>>, FileFault>
+    ) -> Result<Vec<RwLockReadGuard<'_, Slot<J, ROOM>>>, FileFault>
         requires least { self.now.config.initial ≤ buckets }
         requires greatest { buckets ≤ self.now.config.max }
         ensures least { IfOk result (λ guards. buckets ≤ vec_len guards) }
@@ -86,9 +90,9 @@ impl<J: FileBrand> Segments<J> {
 }
 
 /// Makes sure that these are the buckets of a file, all of them. A bucket that isn't what it has to be is a defect.
-pub(crate) fn check_held<J: FileBrand>(
+pub(crate) fn check_held<J: FileBrand, const ROOM: usize>(
     config: &Config,
-    guards: &[RwLockReadGuard<'_, Slot<J>>],
+    guards: &[RwLockReadGuard<'_, Slot<J, ROOM>>],
 ) -> Result<(), FileFault>
     requires least { config.now.initial ≤ length guards.now }
     requires greatest { length guards.now ≤ config.now.max }
@@ -113,11 +117,11 @@ pub(crate) fn check_held<J: FileBrand>(
 
 impl<M: Mode> Words<M> {
     /// Takes in the seats of buckets of a traced file, from the first on as long as there are any: how many.
-    fn borrow_seats<J: FileBrand, R: Wait>(
+    fn borrow_seats<J: FileBrand, R: Wait, const ROOM: usize>(
         &self,
         rt: &R,
         seat: &mut Seat<(), SeatView>,
-        guards: &[RwLockReadGuard<'_, Slot<J>>],
+        guards: &[RwLockReadGuard<'_, Slot<J, ROOM>>],
     ) -> usize
         requires at { seat.old.table_id ≡ self.now.table }
         requires brand { self.now.table ≡ J.tables self.now.shard }
@@ -140,10 +144,10 @@ impl<M: Mode> Words<M> {
     }
 
     /// Gives buckets their seats back.
-    fn return_seats<J: FileBrand>(
+    fn return_seats<J: FileBrand, const ROOM: usize>(
         &self,
         seat: &mut Seat<(), SeatView>,
-        guards: &[RwLockReadGuard<'_, Slot<J>>],
+        guards: &[RwLockReadGuard<'_, Slot<J, ROOM>>],
     )
         requires at { seat.old.table_id ≡ self.now.table }
         requires brand { self.now.table ≡ J.tables self.now.shard }
@@ -158,11 +162,11 @@ impl<M: Mode> Words<M> {
 
     /// One load of the stamp word while the seats of these buckets, whose locks the caller has, lie with the hand's,
     /// where the file is traced: how many acts there were, and how many of the buckets, from the first on, had a seat.
-    pub(crate) fn survey_held<J: FileBrand, R: Wait>(
+    pub(crate) fn survey_held<J: FileBrand, R: Wait, const ROOM: usize>(
         &self,
         rt: &R,
         seat: &mut Seat<(), SeatView>,
-        guards: &[RwLockReadGuard<'_, Slot<J>>],
+        guards: &[RwLockReadGuard<'_, Slot<J, ROOM>>],
     ) -> (u64, usize)
         requires at { seat.old.table_id ≡ self.now.table }
         requires brand { M.traced ≡ true → self.now.table ≡ J.tables self.now.shard }
@@ -185,10 +189,10 @@ impl<M: Mode> Words<M> {
 }
 
 /// The records of buckets. Each is let go as soon as its records are copied, the first one first, and the gate is told.
-pub(crate) fn copied_held<G: Gate, J: FileBrand>(
+pub(crate) fn copied_held<G: Gate, J: FileBrand, const ROOM: usize>(
     alloc: Global,
     gate: &G,
-    mut guards: Vec<RwLockReadGuard<'_, Slot<J>>>,
+    mut guards: Vec<RwLockReadGuard<'_, Slot<J, ROOM>>>,
 ) -> Result<Vec<Vec<Pair>>, Memory>
     ensures { IfOk result (λ lists. map (λ v. v.items) lists.items
         ≡ map (λ b. b.pairs) (map read_guard_value guards.entry.items)) }

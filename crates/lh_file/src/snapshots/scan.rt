@@ -13,7 +13,7 @@ ghost use Rattle.lh_file.specs.declared.snapshots.bucket_copy.BucketCopy.{Bucket
 
 use crate::buckets::brand::FileBrand;
 use crate::fault::FileFault;
-use crate::file::HashFile;
+use crate::file::SizedFile;
 use crate::gate::Gate;
 use crate::snapshots::bucket_copy::BucketCopy;
 use crate::words::hand::Hand;
@@ -94,9 +94,9 @@ fn push_raised(aims: &mut Vec<Aim>, first: u32, bucket: u32, from: u8, to: u8)
 
 impl Scan {
     /// A scan of a file, which has met no code.
-    pub fn new<G: Gate, M: Mode, J: FileBrand>(
+    pub fn new<G: Gate, M: Mode, J: FileBrand, const ROOM: usize>(
         alloc: Global,
-        file: &HashFile<G, M, J>,
+        file: &SizedFile<G, M, J, ROOM>,
     ) -> Result<Scan, Memory>
         ensures initial { IfOk result (λ scan. scan.initial ≡ file.now.state.config.initial) }
         ensures all { IfOk result (λ scan. (code : ℕ) → times_aimed scan.initial code scan.aims ≡ 1) }
@@ -107,10 +107,10 @@ impl Scan {
     }
 
     /// A copy of the next bucket, or none where each code was met. After a fault the scan is as it was.
-    pub fn next<G: Gate, M: Mode, J: FileBrand, R: Wait>(
+    pub fn next<G: Gate, M: Mode, J: FileBrand, R: Wait, const ROOM: usize>(
         &mut self,
         rt: &R,
-        file: &HashFile<G, M, J>,
+        file: &SizedFile<G, M, J, ROOM>,
         hand: &mut Hand,
     ) -> Result<Option<BucketCopy>, FileFault>
         requires initial { self.old.initial ≡ file.now.state.config.initial }
@@ -146,10 +146,17 @@ impl Scan {
 
     /// Gives a copy of each bucket that is still to be visited to a closure, one after the other, with no lock held.
     /// After a fault the scan stands where it met that, and may go on.
-    pub fn for_each<G: Gate, M: Mode, J: FileBrand, R: Wait, F: FnMut(BucketCopy)>(
+    pub fn for_each<
+        G: Gate,
+        M: Mode,
+        J: FileBrand,
+        R: Wait,
+        F: FnMut(BucketCopy),
+        const ROOM: usize,
+    >(
         &mut self,
         rt: &R,
-        file: &HashFile<G, M, J>,
+        file: &SizedFile<G, M, J, ROOM>,
         hand: &mut Hand,
         mut f: F,
     ) -> Result<(), FileFault>

@@ -12,7 +12,7 @@ ghost use Rattle.lh_settling.specs.ClosedFile.{IsWhole};
 use crate::buckets::brand::FileBrand;
 use crate::buckets::segments::missing_bucket;
 use crate::fault::FileFault;
-use crate::file::HashFile;
+use crate::file::SizedFile;
 use crate::gate::{Gate, Point};
 use crate::snapshots::held::{check_held, copied_held};
 use crate::words::hand::Hand;
@@ -24,7 +24,7 @@ use lh_settling::laws::full_buckets_are_placed;
 use lh_words::Mode;
 use std::sync::Wait;
 
-impl<G: Gate, M: Mode, J: FileBrand> HashFile<G, M, J> {
+impl<G: Gate, M: Mode, J: FileBrand, const ROOM: usize> SizedFile<G, M, J, ROOM> {
     /// The file at one moment, while calls go on: as it would be, had it been closed then with no split under way. Its
     /// [listing](Closed::into_known_listing) can be written as an image. In a traced file it holds just what the first
     /// [`stamps`](Closed::stamps) acts of its one legal history leave; of any other, the recorded acts with stamps

@@ -10,28 +10,28 @@ ghost use Rattle.lh_words.specs.Seats.{told_seat};
 ghost use Rattle.lh_words.specs.declared.seat_view.Entry.{Entry};
 
 use crate::buckets::brand::FileBrand;
+use crate::buckets::copied::copied_pairs;
 use crate::buckets::slot::Slot;
 use crate::calls::aim::defect;
 use crate::calls::split::is_numbered;
 use crate::fault::FileFault;
-use crate::file::HashFile;
+use crate::file::SizedFile;
 use crate::gate::{Gate, Point};
 use crate::snapshots::bucket_copy::BucketCopy;
 use crate::words::hand::Hand;
 use atomic_table::Seat;
 use lh_addr::Aim;
-use lh_bucket::{Bucket, copied_pairs};
 use lh_words::{Mode, SeatView};
 use std::sync::Wait;
 
-impl<G: Gate, M: Mode, J: FileBrand> HashFile<G, M, J> {
+impl<G: Gate, M: Mode, J: FileBrand, const ROOM: usize> SizedFile<G, M, J, ROOM> {
     /// One load of the stamp word while the seat of a bucket, whose lock the caller has, lies with the hand's, where
     /// the file is traced. A bucket that is wanted at this level and has no seat is a defect of the file.
     fn survey_slot<R: Wait>(
         &self,
         rt: &R,
         seat: &mut Seat<(), SeatView>,
-        slot: &Slot<J>,
+        slot: &Slot<J, ROOM>,
         level: u8,
     ) -> Result<u64, FileFault>
         requires at { seat.old.table_id ≡ self.now.state.table }
@@ -64,7 +64,7 @@ impl<G: Gate, M: Mode, J: FileBrand> HashFile<G, M, J> {
         &self,
         rt: &R,
         seat: &mut Seat<(), SeatView>,
-        slot: &Slot<J>,
+        slot: &Slot<J, ROOM>,
         aim: Aim,
     ) -> Result<BucketCopy, FileFault>
         requires at { seat.old.table_id ≡ self.now.state.table }

@@ -14,11 +14,11 @@ impl<M: Mode> Words<M> {
 
     /// Takes in the seat of a bucket of a traced file, whose lock the caller has: whether the bucket has one of this
     /// file's.
-    pub(crate) fn borrow_seat<J: FileBrand, R: Wait>(
+    pub(crate) fn borrow_seat<J: FileBrand, R: Wait, const ROOM: usize>(
         &self,
         rt: &R,
         seat: &mut Seat<(), SeatView>,
-        slot: &Slot<J>,
+        slot: &Slot<J, ROOM>,
     ) -> bool
         requires at { seat.old.table_id ≡ self.now.table }
         requires brand { self.now.table ≡ J.tables self.now.shard }
@@ -42,7 +42,11 @@ impl<M: Mode> Words<M> {
     }
 
     /// Gives a bucket its seat back, the first of those that lie with this one.
-    pub(crate) fn return_seat<J: FileBrand>(&self, seat: &mut Seat<(), SeatView>, slot: &Slot<J>)
+    pub(crate) fn return_seat<J: FileBrand, const ROOM: usize>(
+        &self,
+        seat: &mut Seat<(), SeatView>,
+        slot: &Slot<J, ROOM>,
+    )
         requires at { seat.old.table_id ≡ self.now.table }
         requires brand { self.now.table ≡ J.tables self.now.shard }
         requires first { first_bucket_of seat.old.me.0.parts ≡ slot.now ∷ [] }

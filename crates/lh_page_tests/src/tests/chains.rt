@@ -75,7 +75,7 @@ pub fn expect_records(rt: &impl Abort, chain: &Chain, letters: &[u8]) -> Result<
 }
 
 /// Pushes the records of letters, each once more where memory was refused.
-fn add_records(rt: &impl Abort, chain: &mut Chain, letters: &[u8]) -> Result<(), Fail> {
+pub fn add_records(rt: &impl Abort, chain: &mut Chain, letters: &[u8]) -> Result<(), Fail> {
     for letter in letters {
         let pair = record_of(*letter)?;
         add(rt, chain, pair.key.bytes(), pair.value.bytes())?;
@@ -91,8 +91,8 @@ impl KeySet for Early {
 
     ghost member = { λ s key. nat_lt (get_or key 0 0) 103 };
 
-    fn contains(&self, key: &Key) -> bool {
-        key.bytes().first().copied().unwrap_or(0) < b'g'
+    fn contains(&self, key: &[u8]) -> bool {
+        key.first().copied().unwrap_or(0) < b'g'
     }
 }
 
@@ -340,6 +340,46 @@ fn a_split_takes_long_values_along(rt: HostRuntime) -> Result<(), Fail> {
     let mut chain = Chain::new(rt.alloc(), 24)?;
     fill_and_split(&rt, &mut chain)?;
     expect_records(&rt, &chain, b"ghijklmnopqrstuvwxyz")
+}
+
+/// The letters from one on.
+pub fn letters_from(first: u8) -> [u8; 75] {
+    let mut letters = [0; 75];
+    for (place, letter) in letters.iter_mut().enumerate() {
+        *letter = first.wrapping_add(place as u8);
+    }
+    letters
+}
+
+fn split_all_off(rt: &impl Abort, chain: &mut Chain) -> Result<(), Fail> {
+    let letters = letters_from(1);
+    add_records(rt, chain, &letters)?;
+    let gone = early_records_of(rt, chain, &letters)?;
+    expect_records(rt, &gone, &letters)?;
+    expect_records(rt, chain, b"")?;
+    expect_eq!(rt; (gone.pages(), chain.pages()), (4, 1));
+    add_again(rt, chain)
+}
+
+#[test]
+fn a_split_takes_all_records(rt: HostRuntime) -> Result<(), Fail> {
+    split_all_off(&rt, &mut Chain::new(rt.alloc(), 24)?)
+}
+
+fn split_none_off(rt: &impl Abort, chain: &mut Chain) -> Result<(), Fail> {
+    let letters = letters_from(b'z');
+    add_records(rt, chain, &letters)?;
+    let gone = early_records_of(rt, chain, &letters)?;
+    expect_records(rt, &gone, b"")?;
+    expect_records(rt, chain, &letters)?;
+    expect_eq!(rt; (gone.pages(), chain.pages()), (1, 4));
+    expect_eq!(rt; gone.capacity(), 24);
+    add_records(rt, chain, b"aby")
+}
+
+#[test]
+fn a_split_takes_no_record(rt: HostRuntime) -> Result<(), Fail> {
+    split_none_off(&rt, &mut Chain::new(rt.alloc(), 24)?)
 }
 
 fn push_many(rt: &impl Abort, chain: &mut Chain) -> Result<(), Fail> {

@@ -1,5 +1,7 @@
 //! Growth that is refused: run with each request for memory refused in turn, one in each run.
-use crate::tests::chains::{early_records_of, expect_records, record_of};
+use crate::tests::chains::{
+    add_records, early_records_of, expect_records, letters_from, record_of,
+};
 use lh_expect::expect_eq;
 use lh_page::{Chain, Pair};
 use std::process::Abort;
@@ -63,4 +65,32 @@ fn append_all(rt: &impl Abort, chain: &mut Chain, letters: &[u8]) -> Result<(), 
 #[test]
 fn refused_appends_leave_a_chain_as_it_was(rt: HostRuntime) -> Result<(), Fail> {
     append_all(&rt, &mut Chain::new(rt.alloc(), 3)?, b"abcdefghi")
+}
+
+/// Letters that go and letters that stay in turns: more than a word has bits, in seven pages of 24.
+fn letters_in_turns() -> [u8; 150] {
+    let mut letters = [0; 150];
+    for (place, letter) in letters.iter_mut().enumerate() {
+        let first = if place % 2 == 0 { 1 } else { 128 };
+        *letter = first + (place / 2) as u8;
+    }
+    letters
+}
+
+fn split_long(rt: &impl Abort, chain: &mut Chain) -> Result<(), Fail> {
+    let letters = letters_in_turns();
+    add_records(rt, chain, &letters)?;
+    expect_eq!(rt; chain.pages(), 7);
+    let mut gone = early_records_of(rt, chain, &letters)?;
+    expect_records(rt, &gone, &letters_from(1))?;
+    expect_records(rt, chain, &letters_from(128))?;
+    expect_eq!(rt; (gone.pages(), chain.pages()), (4, 4));
+    add_records(rt, &mut gone, b"xyz")?;
+    add_records(rt, chain, b"abc")
+}
+
+/// So does the division of a long chain. It takes every other record, also those behind the first 64.
+#[test]
+fn a_refused_split_leaves_a_long_chain_as_it_was(rt: HostRuntime) -> Result<(), Fail> {
+    split_long(&rt, &mut Chain::new(rt.alloc(), 24)?)
 }

@@ -1,6 +1,7 @@
 //! Calls that give an answer, which tells all: the call, its reply, and the bucket that gave it, by its number in the
 //! file of the key's shard.
 ghost use Rattle.std.specs.Prelude.{◌≡◌, true, false, IfOk};
+ghost use Rattle.lh_page.specs.Slots.{FitsRoom};
 ghost use Rattle.lh_bucket.specs.declared.call.Call.TheVariants as call;
 ghost use Rattle.lh_file.specs.Calls.Served.{Serves};
 ghost use Rattle.lh_file.specs.History.Entered.{HasEntered};
@@ -8,13 +9,13 @@ ghost use Rattle.lh_shards.specs.Hands.{AreOf, AtShardOf};
 
 use crate::hands::Hands;
 use crate::known_key::KnownKey;
-use crate::shards::Shards;
+use crate::shards::SizedShards;
 use lh_bucket::Answer;
 use lh_file::{Coded, FileBrand, FileFault, Mode};
 use lh_page::Value;
 use std::sync::Wait;
 
-impl<M: Mode, J: FileBrand> Shards<M, J> {
+impl<M: Mode, J: FileBrand, const ROOM: usize> SizedShards<M, J, ROOM> {
     /// Searches for a key: the answer's reply is the value, or that the key is absent.
     #[inline(always)]
     pub fn search<K: Coded + Copy, R: Wait>(
@@ -45,7 +46,8 @@ impl<M: Mode, J: FileBrand> Shards<M, J> {
         key: K,
         value: Value,
     ) -> Result<Answer, FileFault>
-        requires { AreOf self.now hands.old }
+        requires of { AreOf self.now hands.old }
+        requires fits { FitsRoom ROOM (K.bytes key) value }
         ensures served { AtShardOf (K.bytes key) self.now hands.old hands.new (λ file before after.
             Serves file before (call.Insert (K.bytes key) value) result after) }
         ensures entered { M.traced ≡ true → AtShardOf (K.bytes key) self.now hands.old hands.new (λ file before after.
@@ -86,7 +88,8 @@ impl<M: Mode, J: FileBrand> Shards<M, J> {
         key: K,
         value: Value,
     ) -> Result<Answer, FileFault>
-        requires { AreOf self.now hands.old }
+        requires of { AreOf self.now hands.old }
+        requires fits { FitsRoom ROOM (K.bytes key) value }
         ensures served { AtShardOf (K.bytes key) self.now hands.old hands.new (λ file before after.
             Serves file before (call.Replace (K.bytes key) value) result after) }
         ensures entered { M.traced ≡ true → AtShardOf (K.bytes key) self.now hands.old hands.new (λ file before after.

@@ -3,18 +3,20 @@ ghost use denote.Ref.{Bor};
 ghost use Rattle.std.specs.Prelude.{ℕ, List};
 ghost use Rattle.std.specs.Fn.{FnOnceReturnsAt};
 ghost use Rattle.lh_page.specs.Limits.{IsValue};
+ghost use Rattle.lh_page.specs.Slots.{FitsRoom};
+ghost use Rattle.lh_file.specs.Buckets.Rooms.{FitMade};
 ghost use Rattle.lh_file.specs.Calls.Atomic.{MakesAtOnce, Upserts, GetsOrPuts, Takes, Updates, Merges};
 ghost use Rattle.lh_file.specs.Calls.Atomic.{ComparesAndSets};
 ghost use Rattle.lh_shards.specs.Hands.{AreOf, AtShardOf};
 
 use crate::hands::Hands;
 use crate::known_key::KnownKey;
-use crate::shards::Shards;
+use crate::shards::SizedShards;
 use lh_file::{Coded, Compared, FileBrand, FileFault, Mode};
 use lh_page::Value;
 use std::sync::Wait;
 
-impl<M: Mode, J: FileBrand> Shards<M, J> {
+impl<M: Mode, J: FileBrand, const ROOM: usize> SizedShards<M, J, ROOM> {
     /// Adds a record, or gives its key this value in place of its own where the key is there: whether the record is new.
     /// Where it is, a bucket of the key's file may be split.
     #[inline]
@@ -25,7 +27,8 @@ impl<M: Mode, J: FileBrand> Shards<M, J> {
         key: &K,
         value: &Value,
     ) -> Result<bool, FileFault>
-        requires { AreOf self.now hands.old }
+        requires of { AreOf self.now hands.old }
+        requires fits { FitsRoom ROOM (K.bytes key.now) value.now }
         ensures at_once { AtShardOf (K.bytes key.now) self.now hands.old hands.new (λ file before after.
             MakesAtOnce M.traced file (K.bytes key.now) before (Upserts value.now) result after) }
         ensures of { AreOf self.now hands.new }
@@ -45,7 +48,8 @@ impl<M: Mode, J: FileBrand> Shards<M, J> {
         key: &K,
         value: &Value,
     ) -> Result<Option<Value>, FileFault>
-        requires { AreOf self.now hands.old }
+        requires of { AreOf self.now hands.old }
+        requires fits { FitsRoom ROOM (K.bytes key.now) value.now }
         ensures at_once { AtShardOf (K.bytes key.now) self.now hands.old hands.new (λ file before after.
             MakesAtOnce M.traced file (K.bytes key.now) before (GetsOrPuts value.now) result after) }
         ensures of { AreOf self.now hands.new }
@@ -86,6 +90,7 @@ impl<M: Mode, J: FileBrand> Shards<M, J> {
     ) -> Result<bool, FileFault>
         requires of { AreOf self.now hands.old }
         requires callable { (bytes : Bor (List ℕ)) → IsValue bytes.now → F.pre change bytes }
+        requires fits { FitMade ROOM (K.bytes key.now) (FnOnceReturnsAt F.FnOnce change) }
         ensures at_once { AtShardOf (K.bytes key.now) self.now hands.old hands.new (λ file before after.
             MakesAtOnce M.traced file (K.bytes key.now) before
             (Updates (FnOnceReturnsAt F.FnOnce change)) result after) }
@@ -110,6 +115,8 @@ impl<M: Mode, J: FileBrand> Shards<M, J> {
     ) -> Result<bool, FileFault>
         requires of { AreOf self.now hands.old }
         requires callable { (bytes : Bor (List ℕ)) → IsValue bytes.now → F.pre next bytes }
+        requires fits { FitsRoom ROOM (K.bytes key.now) first.now }
+        requires made_fits { FitMade ROOM (K.bytes key.now) (FnOnceReturnsAt F.FnOnce next) }
         ensures at_once { AtShardOf (K.bytes key.now) self.now hands.old hands.new (λ file before after.
             MakesAtOnce M.traced file (K.bytes key.now) before
             (Merges first.now (FnOnceReturnsAt F.FnOnce next)) result after) }
@@ -130,7 +137,8 @@ impl<M: Mode, J: FileBrand> Shards<M, J> {
         expected: &Value,
         value: &Value,
     ) -> Result<Compared, FileFault>
-        requires { AreOf self.now hands.old }
+        requires of { AreOf self.now hands.old }
+        requires fits { FitsRoom ROOM (K.bytes key.now) value.now }
         ensures at_once { AtShardOf (K.bytes key.now) self.now hands.old hands.new (λ file before after.
             MakesAtOnce M.traced file (K.bytes key.now) before
             (ComparesAndSets expected.now value.now) result after) }

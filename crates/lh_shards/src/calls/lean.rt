@@ -6,6 +6,7 @@ ghost use Rattle.lh_bucket.specs.PlainMap.{found};
 ghost use Rattle.lh_bucket.specs.declared.call.Call.TheVariants as call;
 ghost use Rattle.lh_bucket.specs.declared.call.Reply.{Reply};
 ghost use Rattle.lh_page.specs.Limits.{IsValue};
+ghost use Rattle.lh_page.specs.Slots.{FitsRoom};
 ghost use Rattle.lh_file.specs.Calls.Lean.{read_reply, put_reply, set_reply, remove_reply, LendsTo};
 ghost use Rattle.lh_file.specs.Calls.Served.{Makes};
 ghost use Rattle.lh_file.specs.History.Entered.{HasEntered};
@@ -13,12 +14,12 @@ ghost use Rattle.lh_shards.specs.Hands.{AreOf, AtShardOf};
 
 use crate::hands::Hands;
 use crate::known_key::KnownKey;
-use crate::shards::Shards;
+use crate::shards::SizedShards;
 use lh_file::{Coded, FileBrand, FileFault, Mode};
 use lh_page::Value;
 use std::sync::Wait;
 
-impl<M: Mode, J: FileBrand> Shards<M, J> {
+impl<M: Mode, J: FileBrand, const ROOM: usize> SizedShards<M, J, ROOM> {
     /// The value under a key.
     #[inline(always)]
     pub fn get<K: Coded, R: Wait>(
@@ -103,7 +104,8 @@ impl<M: Mode, J: FileBrand> Shards<M, J> {
         key: &K,
         value: &Value,
     ) -> Result<bool, FileFault>
-        requires { AreOf self.now hands.old }
+        requires of { AreOf self.now hands.old }
+        requires fits { FitsRoom ROOM (K.bytes key.now) value.now }
         ensures served { AtShardOf (K.bytes key.now) self.now hands.old hands.new (λ file before after.
             Makes file before (call.Insert (K.bytes key.now) value.now) result put_reply after) }
         ensures entered { M.traced ≡ true →
@@ -126,7 +128,8 @@ impl<M: Mode, J: FileBrand> Shards<M, J> {
         key: &K,
         value: &Value,
     ) -> Result<bool, FileFault>
-        requires { AreOf self.now hands.old }
+        requires of { AreOf self.now hands.old }
+        requires fits { FitsRoom ROOM (K.bytes key.now) value.now }
         ensures served { AtShardOf (K.bytes key.now) self.now hands.old hands.new (λ file before after.
             Makes file before (call.Replace (K.bytes key.now) value.now) result set_reply after) }
         ensures entered { M.traced ≡ true →

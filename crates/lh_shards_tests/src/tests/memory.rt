@@ -5,6 +5,8 @@ ghost use Rattle.lh_shards.specs.Hands.{AreOf};
 ghost use Rattle.lh_shards.specs.Openings.{AreBrandsOf};
 ghost use Rattle.lh_shards.specs.Snapshots.{IsScanOf};
 
+mod narrow;
+
 use super::whole::{acts_in, records_in};
 use lh_addr::Config;
 use lh_bucket::Listing;

@@ -30,7 +30,7 @@ loop-key-preserved-in_ok-insert c =
       has = rw (map-append (λ e. e.0.now) c.loop-key.yielded ((c.in-Some.key, c.in-Some.value) ∷ []))
           (has_more f c.args.records.now.entries c.loop-key.moved.entries c.insert.new.self.entries
           (map (λ e. e.0.now) c.loop-key.yielded) c.in-Some.key.now c.in-Some.value.now
-          (sym c.contains.ensures ∙ c.if-contains.true) turn.1 c.loop-key.invariant.has
+          (sym (c.contains.ensures ∙ ap f c.bytes.ensures.value) ∙ c.if-contains.true) turn.1 c.loop-key.invariant.has
           c.in_ok-insert.ensures.updates.0);
       ordered = c.insert.ensures.ordered;
     }
@@ -44,7 +44,7 @@ loop-key-preserved c =
       has = rw (map-append (λ e. e.0.now) c.loop-key.yielded ((c.in-Some.key, c.in-Some.value) ∷ []))
           (has_same f c.args.records.now.entries c.loop-key.moved.entries (map (λ e. e.0.now) c.loop-key.yielded)
           c.in-Some.key.now
-          (sym c.contains.ensures ∙ c.if-contains.false) c.loop-key.invariant.has);
+          (sym (c.contains.ensures ∙ ap f c.bytes.ensures.value) ∙ c.if-contains.false) c.loop-key.invariant.has);
       ordered = c.loop-key.invariant.ordered;
     }
 

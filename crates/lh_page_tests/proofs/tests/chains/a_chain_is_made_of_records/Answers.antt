@@ -8,8 +8,14 @@ use Rattle.lh_page_tests.proofs.tests.chains.a_chain_is_made_of_records.Goals as
 one_key : (key : List ℕ) → IsDistinct bytes_eq (key ∷ [])
 one_key key = IsDistinct-from_AllPairs bytes_eq-Decides (key ∷ []) (λ i j d lt below. absurd (omega arith))
 
-pub from_pairs-requires-clause-distinct : goal.from_pairs-requires-clause-distinct
-from_pairs-requires-clause-distinct g c = one_key _
+pub from_pairs-requires : goal.from_pairs-requires
+from_pairs-requires g c = (
+  omega arith,
+  ((omega arith, omega arith), (one_key _, (omega arith, λ i below narrow. absurd (omega arith)))),
+)
 
-pub from_pairs-requires-in-Err-clause-distinct : goal.from_pairs-requires-in-Err-clause-distinct
-from_pairs-requires-in-Err-clause-distinct g c = one_key _
+pub from_pairs-requires-in-Err : goal.from_pairs-requires-in-Err
+from_pairs-requires-in-Err g c = (
+  omega arith,
+  ((omega arith, omega arith), (one_key _, (omega arith, λ i below narrow. absurd (omega arith)))),
+)

@@ -1,5 +1,0 @@
-use Rattle.std.proofs.Common.{◌≡◌, take}
-use Rattle.lh_bucket.proofs.copied.copied_pairs.Given as goal
-
-abbrev pub invariant-loop-place : goal.invariant-loop-place
-invariant-loop-place g l = l.pairs.items ≡ take l.place (g.B.Bucket.seen l.bucket).pairs

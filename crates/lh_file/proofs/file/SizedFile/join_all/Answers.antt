@@ -1,0 +1,20 @@
+use Rattle.std.proofs.Common.{length, ap, arith}
+use Rattle.std.specs.Prelude.{sum_by}
+use Rattle.lh_file.specs.Words.HandState.{HandState}
+use Rattle.lh_file.proofs.OfWords.Joining.{same_all, same_then}
+use Rattle.lh_file.proofs.file.SizedFile.join_all.Goals as goal
+
+pub add_all-requires-clause-room : goal.add_all-requires-clause-room
+add_all-requires-clause-room g c =
+    omega (
+      arith,
+      c.in-Ok.ensures.ok,
+      c.in-Ok.ensures.few,
+      c.acts_of.ensures,
+      ap (sum_by (λ (h : HandState). length h.acts)) c.deref.ensures.value,
+    )
+
+pub returns-in-Ok-clause-joined : goal.returns-in-Ok-clause-joined
+returns-in-Ok-clause-joined g c =
+    same_then _ _ _ (same_all c.args.others.items c.args.first c.reserve.new.self c.in-Ok.ensures.same)
+    c.add_all.ensures.joined

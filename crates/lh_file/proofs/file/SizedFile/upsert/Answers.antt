@@ -1,0 +1,78 @@
+use Rattle.std.proofs.Common.{◌≡◌, Some, None, true, false, cond, is_some, refl, sym, ap, ◌∙◌}
+use Rattle.std.specs.FinMap.{get}
+use Rattle.std.specs.Sync.RwLock.{write_guard_value}
+use Rattle.lh_page.specs.Records.{value_at}
+use Rattle.lh_bucket.specs.Bucket.{content}
+use Rattle.lh_bucket.specs.Change.{reply_of}
+use Rattle.lh_bucket.specs.PagedBucket.{found_at}
+use Rattle.lh_bucket.specs.declared.call.Call.TheVariants.{Insert, Replace}
+use Rattle.lh_bucket.specs.declared.call.Reply.TheVariants.{Absent, Inserted, Exists, Replaced}
+use Rattle.lh_file.specs.Calls.Atomic.{Upserts}
+use Rattle.lh_file.proofs.OfCalls.AtOnce.{not_held, not_made, made_one, then_knows, was_some, was_none}
+use Rattle.lh_file.proofs.file.SizedFile.upsert.Goals as goal
+
+pub returns-in_err-guard : goal.returns-in_err-guard
+returns-in_err-guard g c =
+    not_held g.M.Mode.traced c.args.self.now.state (g.K.Coded.bytes c.args.key.now) (Upserts c.args.value.now)
+    c.args.hand.now
+    c.hold.new.hand c.from_residual.result c.in_err-guard.field-0.0 c.from_residual.ensures.1
+    c.in_err-guard.ensures.spent c.in_err-guard.ensures.not_spent c.hold.ensures.looked c.hold.ensures.of
+
+pub returns-in_err-change_held-in-Some : goal.returns-in_err-change_held-in-Some
+returns-in_err-change_held-in-Some g c =
+    not_made g.M.Mode.traced c.args.self.now.state (g.K.Coded.bytes c.args.key.now) (Upserts c.args.value.now)
+    c.args.hand.now
+    c.hold.new.hand c.change_held.new.hand c.from_residual-in_err-change_held-in-Some.result
+    c.in_err-change_held-in-Some.field-0.0
+    c.from_residual-in_err-change_held-in-Some.ensures.1 c.hold.ensures.looked c.in_ok-guard.ensures.ready
+    c.in_err-change_held-in-Some.ensures.err c.in_err-change_held-in-Some.ensures.fault c.change_held.ensures.of
+
+pub returns-in_err-change_held-in-None : goal.returns-in_err-change_held-in-None
+returns-in_err-change_held-in-None g c =
+    not_made g.M.Mode.traced c.args.self.now.state (g.K.Coded.bytes c.args.key.now) (Upserts c.args.value.now)
+    c.args.hand.now
+    c.hold.new.hand c.change_held-in-None.new.hand c.from_residual-in_err-change_held-in-None.result
+    c.in_err-change_held-in-None.field-0.0
+    c.from_residual-in_err-change_held-in-None.ensures.1 c.hold.ensures.looked c.in_ok-guard.ensures.ready
+    c.in_err-change_held-in-None.ensures.err c.in_err-change_held-in-None.ensures.fault c.change_held-in-None.ensures.of
+
+pub returns-in_ok-change_held-in-Some : goal.returns-in_ok-change_held-in-Some
+returns-in_ok-change_held-in-Some g c =
+    let held = write_guard_value c.in_ok-guard.guard in
+    let was = value_at held.pairs c.in-Some.field-0 in
+    let is : get (content held) c.key-in-Some.result.now ≡ Some was =
+    ap (get (content held)) (c.key-in-Some.ensures ∙ sym c.key.ensures) ∙ was_some (get (content held)
+    c.key.result.now) was
+    (ap (found_at held.pairs) (sym c.in-Some.is) ∙ c.in_ok-guard.ensures.found) in
+    made_one g.M.Mode.traced c.args.self.now.state (g.K.Coded.bytes c.args.key.now) (Upserts c.args.value.now)
+    c.args.hand.now c.hold.new.hand c.change_held.new.hand
+    false (get (content held) c.key-in-Some.result.now) (Some was) (Replace c.key-in-Some.result.now c.args.value.now)
+    (reply_of c.in_ok-change_held-in-Some.field-0)
+    c.hold.ensures.looked c.in_ok-guard.ensures.ready c.in_ok-change_held-in-Some.ensures.served
+    c.in_ok-change_held-in-Some.ensures.met is
+    c.change_held.ensures.of c.key-in-Some.ensures (
+      refl,
+      ap (λ x. Replace x c.args.value.now) c.key-in-Some.ensures,
+      c.in_ok-change_held-in-Some.ensures.replied ∙ ap (λ o. cond (is_some o) Replaced Absent) is,
+    )
+
+pub returns-in_ok-change_held-in-None : goal.returns-in_ok-change_held-in-None
+returns-in_ok-change_held-in-None g c =
+    let held = write_guard_value c.in_ok-guard.guard in
+    let is : get (content held) c.key-in-None.result.now ≡ None =
+    ap (get (content held)) (c.key-in-None.ensures ∙ sym c.key.ensures) ∙ was_none (get (content held) c.key.result.now)
+    (ap (found_at held.pairs) (sym c.in-None.is) ∙ c.in_ok-guard.ensures.found) in
+    then_knows g.M.Mode.traced c.args.self.now.state (g.K.Coded.bytes c.args.key.now) (Upserts c.args.value.now)
+    c.args.hand.now c.change_held-in-None.new.hand c.grow.new.hand true
+    (made_one g.M.Mode.traced c.args.self.now.state (g.K.Coded.bytes c.args.key.now) (Upserts c.args.value.now)
+    c.args.hand.now c.hold.new.hand c.change_held-in-None.new.hand
+    true (get (content held) c.key-in-None.result.now) None (Insert c.key-in-None.result.now c.args.value.now)
+    (reply_of c.in_ok-change_held-in-None.field-0)
+    c.hold.ensures.looked c.in_ok-guard.ensures.ready c.in_ok-change_held-in-None.ensures.served
+    c.in_ok-change_held-in-None.ensures.met is
+    c.change_held-in-None.ensures.of c.key-in-None.ensures (
+      refl,
+      ap (λ x. Insert x c.args.value.now) c.key-in-None.ensures,
+      c.in_ok-change_held-in-None.ensures.replied ∙ ap (λ o. cond (is_some o) Exists Inserted) is,
+    ))
+    c.grow.ensures.looked c.grow.ensures.of
