@@ -1,0 +1,64 @@
+-- What contracts see of a session
+use Rattle.std.specs.Prelude.{◌≡◌, ℕ, Bool, true, false, List, Option, []}
+use Rattle.lh_addr.specs.Settings.{default_settings}
+use Rattle.lh_bucket.specs.PlainMap.{key_of}
+use Rattle.lh_bucket.specs.declared.call.Call.{Call}
+use Rattle.lh_bucket.specs.declared.call.Reply.{Reply}
+use Rattle.lh_file.specs.Buckets.Brands.{no_table}
+use Rattle.lh_file.specs.Calls.Atomic.{Reaction}
+use Rattle.lh_file.specs.Calls.Served.{HasServed}
+use Rattle.lh_file.specs.Closing.{NoneOutside}
+use Rattle.lh_file.specs.FileState.{FileState, IsOf}
+use Rattle.lh_file.specs.History.Entered.{HasActedOn, HasEntered}
+use Rattle.lh_file.specs.Words.HandState.{HandState}
+
+-- its file, and its hand
+pub record SessionState : Type 0 where
+  pub file : FileState
+  pub hand : HandState
+
+-- The hand is one of the file, keeps no acts, and hasn't the right to split. Where the file is traced, none of the
+-- hand's acts was made on another bucket. The flag tells whether a brand names the file: then it is what that says.
+pub record IsSession (traced flag is_named : Bool) (name file : FileState) (hand : HandState) : Type 0 where
+  pub of : IsOf file hand
+  pub right : hand.view.has_right ≡ false
+  pub recording : hand.recording ≡ false
+  pub acts : hand.acts ≡ []
+  pub own : traced ≡ true → NoneOutside hand.entries
+  pub flag_is : flag ≡ is_named
+  pub named : is_named ≡ true → file ≡ name
+  pub listed : file.config ≡ file.listing.config
+
+-- The hand has made this call, with this reply. In a traced file the call is an act of the history.
+pub record IsMade (traced : Bool) (old : HandState) (call : Call) (reply : Reply) (new : HandState) : Type 0 where
+  pub served : HasServed old call reply new
+  pub entered : traced ≡ true → HasEntered false old call reply new
+
+-- The same, of a call that met this value under its key, or none: in a traced file the history has that there just
+-- before the act.
+pub record IsMet (traced : Bool) (old : HandState) (call : Call) (reply : Reply) (was : Option (List ℕ))
+    (new : HandState) : Type 0 where
+  pub served : HasServed old call reply new
+  pub met : traced ≡ true → HasActedOn old call reply was new
+
+-- A call by a key has read what is there and has written there in one act: `does` says what it did by what was there,
+-- and `meets` that this act was made.
+pub record IsAtOnce {T : Type 0} (key : List ℕ) (meets : Call → Reply → Option (List ℕ) → Type 0)
+    (does : Reaction T) (t : T) : Type 0 where
+  pub was : Option (List ℕ)
+  pub call : Call
+  pub reply : Reply
+  pub by : key_of call ≡ key
+  pub done : does key was t call reply
+  pub made : meets call reply was
+
+-- no file
+abbrev pub no_state : FileState
+no_state = record {
+  table = no_table;
+  shard = 0;
+  config = default_settings;
+  recording = false;
+  opening = 0;
+  listing = record { config = default_settings; lists = [] };
+}

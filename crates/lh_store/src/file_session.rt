@@ -1,0 +1,297 @@
+//! Sessions of one file.
+ghost use denote.Ref.{Bor};
+ghost use Rattle.std.specs.Prelude.{◌≡◌, ◌+◌, ◌≤◌, Bool, true, false, length, All, IfOk, vec_len, vec_capacity};
+ghost use Rattle.lh_file.specs.FileState.{FileState};
+ghost use Rattle.lh_store.specs.Histories.{IsOneHistory};
+ghost use Rattle.lh_store.specs.Sessions.{no_state};
+
+use crate::fault::CallFault;
+use crate::session::Session;
+use crate::store::Store;
+use crate::threads::ThreadSession;
+use lh_file::laws::hands_keep_their_shares;
+use lh_file::{
+    BucketCopy, Compared, FileBrand, FileFault, Hand, HashFile, Memory, Mode, NoGate, Scan,
+    Unbranded,
+};
+use lh_page::{Key, Value};
+use std::alloc::Global;
+use std::marker::{Brand, Model};
+use std::mem;
+use std::sync::Wait;
+
+/// Names the file of sessions, where it is traced: a session that another one takes the place of is of the same file.
+pub trait SessionBrand: FileBrand {
+    // Whether it names one,
+    ghost is_named: { Bool };
+
+    // and what contracts see of that.
+    ghost state: { FileState };
+}
+
+impl SessionBrand for Brand {
+    ghost is_named = { true };
+
+    ghost state = { no_state };
+}
+
+impl SessionBrand for Unbranded {
+    ghost is_named = { false };
+
+    ghost state = { no_state };
+}
+
+/// A session of one file: the file, a hand of it, and the runtime.
+#[derive(Drop)]
+pub struct FileSession<'a, R: Wait, M: Mode, J: SessionBrand> {
+    rt: &'a R,
+    alloc: Global,
+    file: &'a HashFile<NoGate, M, J>,
+    hand: Hand,
+    // Whether the brand names the file. What was done with a session of a file without a name can't be taken in.
+    is_named: bool,
+}
+
+impl<'a, R: Wait, M: Mode, J: SessionBrand> Model for FileSession<'a, R, M, J> {
+    ghost use Rattle.lh_store.specs.Sessions.{SessionState, IsSession};
+
+    ghost Value = { SessionState };
+
+    ghost view = { λ own. record { file = own.file.now.state; hand = own.hand } };
+
+    ghost invariant = { λ own. IsSession M.traced own.is_named J.is_named J.state own.file.now.state own.hand };
+}
+
+impl<'a, R: Wait, M: Mode, J: SessionBrand> FileSession<'a, R, M, J> {
+    ghost use Rattle.lh_store.specs.Sessions.{IsSession};
+
+    /// A session with this hand.
+    pub(crate) fn new(
+        rt: &'a R,
+        alloc: Global,
+        file: &'a HashFile<NoGate, M, J>,
+        hand: Hand,
+        is_named: bool,
+    ) -> FileSession<'a, R, M, J>
+        requires { IsSession M.traced is_named J.is_named J.state file.now.state hand }
+        ensures { result ≡ record { file = file.now.state; hand = hand } }
+    {
+        FileSession {
+            rt,
+            alloc,
+            file,
+            hand,
+            is_named,
+        }
+    }
+
+    /// A session for each of these hands.
+    pub(crate) fn of_hands(
+        rt: &'a R,
+        alloc: Global,
+        file: &'a HashFile<NoGate, M, J>,
+        hands: Vec<Hand>,
+        is_named: bool,
+    ) -> Result<Vec<FileSession<'a, R, M, J>>, Memory>
+        requires { All (IsSession M.traced is_named J.is_named J.state file.now.state) hands.items }
+        ensures { IfOk result (λ sessions. length sessions.items ≡ length hands.items) }
+    {
+        let mut sessions = Vec::with_capacity(alloc, hands.len())?;
+        for hand in hands {
+            sessions.push_reserved(FileSession {
+                rt,
+                alloc,
+                file,
+                hand,
+                is_named,
+            });
+        }
+        Ok(sessions)
+    }
+
+    /// The records that all sessions leave so far, and how many acts they have made.
+    pub(crate) fn left_by_all(&mut self) -> Result<(Store, u64), FileFault>
+        ensures { M.traced ≡ true → J.is_named ≡ true →
+            IfOk result (λ left. IsOneHistory J.state.listing left.1 left.0) }
+    {
+        let snapshot = self.file.snapshot(self.rt, &mut self.hand)?;
+        let acts = snapshot.stamps();
+        Ok((Store::of(snapshot.into_known_listing()), acts))
+    }
+
+    /// Joins a hand of the same file into this one's. No memory is taken, since neither keeps acts.
+    fn join(&mut self, hand: Hand)
+        requires { IsSession M.traced J.is_named J.is_named J.state self.old.file hand }
+        ensures { self.new.file ≡ self.old.file }
+    {
+        hands_keep_their_shares();
+        let Ok(spare) = self.file.split_hand(&mut self.hand, 0) else {
+            return;
+        };
+        let first = mem::replace(&mut self.hand, spare);
+        match self.file.join_hands(first, hand) {
+            Ok(joined) => self.hand = joined,
+            // Neither hand has acts.
+            Err(_) => unreachable!(),
+        }
+    }
+}
+
+impl<'a, R: Wait, M: Mode, J: SessionBrand> Session for FileSession<'a, R, M, J> {
+    ghost use Rattle.lh_file.specs.Calls.Served.{KnowsMore};
+    ghost use Rattle.lh_store.specs.Histories.{IsLeftByAll};
+    ghost use Rattle.lh_store.specs.Sessions.{IsMade, IsMet};
+
+    ghost made = { λ old call reply new. IsMade M.traced old.hand call reply new.hand };
+
+    ghost met = { λ old call reply was new. IsMet M.traced old.hand call reply was new.hand };
+
+    ghost idle = { λ old new. KnowsMore old.hand new.hand };
+
+    ghost leaves = { λ own listing. IsLeftByAll M.traced own.file.listing listing };
+
+    fn get(&mut self, key: &[u8]) -> Result<Option<Value>, CallFault> {
+        let key = Key::new(key)?;
+        Ok(self.file.get(self.rt, &mut self.hand, &key)?)
+    }
+
+    fn with_value<T, F: FnOnce(&[u8]) -> T + Drop>(
+        &mut self,
+        key: &[u8],
+        then: F,
+    ) -> Result<Option<T>, CallFault> {
+        let key = Key::new(key)?;
+        Ok(self.file.with_value(self.rt, &mut self.hand, &key, then)?)
+    }
+
+    fn put(&mut self, key: &[u8], value: &[u8]) -> Result<bool, CallFault> {
+        let (key, value) = (Key::new(key)?, Value::new(value)?);
+        Ok(self.file.put(self.rt, &mut self.hand, &key, &value)?)
+    }
+
+    fn set(&mut self, key: &[u8], value: &[u8]) -> Result<bool, CallFault> {
+        let (key, value) = (Key::new(key)?, Value::new(value)?);
+        Ok(self.file.set(self.rt, &mut self.hand, &key, &value)?)
+    }
+
+    fn remove(&mut self, key: &[u8]) -> Result<bool, CallFault> {
+        let key = Key::new(key)?;
+        Ok(self.file.remove(self.rt, &mut self.hand, &key)?)
+    }
+
+    fn upsert(&mut self, key: &[u8], value: &[u8]) -> Result<bool, CallFault> {
+        let (key, value) = (Key::new(key)?, Value::new(value)?);
+        Ok(self.file.upsert(self.rt, &mut self.hand, &key, &value)?)
+    }
+
+    fn get_or_put(&mut self, key: &[u8], value: &[u8]) -> Result<Option<Value>, CallFault> {
+        let (key, value) = (Key::new(key)?, Value::new(value)?);
+        Ok(self.file.get_or_put(self.rt, &mut self.hand, &key, &value)?)
+    }
+
+    fn take(&mut self, key: &[u8]) -> Result<Option<Value>, CallFault> {
+        let key = Key::new(key)?;
+        Ok(self.file.take(self.rt, &mut self.hand, &key)?)
+    }
+
+    fn update<F: FnOnce(&[u8]) -> Value + Drop>(
+        &mut self,
+        key: &[u8],
+        change: F,
+    ) -> Result<bool, CallFault> {
+        let key = Key::new(key)?;
+        Ok(self.file.update(self.rt, &mut self.hand, &key, change)?)
+    }
+
+    fn merge<F: FnOnce(&[u8]) -> Value + Drop>(
+        &mut self,
+        key: &[u8],
+        first: &[u8],
+        next: F,
+    ) -> Result<bool, CallFault> {
+        let (key, first) = (Key::new(key)?, Value::new(first)?);
+        Ok(
+            self.file
+                .merge(self.rt, &mut self.hand, &key, &first, next)?,
+        )
+    }
+
+    fn compare_and_set(
+        &mut self,
+        key: &[u8],
+        expected: &[u8],
+        value: &[u8],
+    ) -> Result<Compared, CallFault> {
+        let key = Key::new(key)?;
+        let (expected, value) = (Value::new(expected)?, Value::new(value)?);
+        Ok(
+            self.file
+                .compare_and_set(self.rt, &mut self.hand, &key, &expected, &value)?,
+        )
+    }
+
+    fn contains(&mut self, key: &[u8]) -> Result<bool, CallFault> {
+        let found = self.with_value(key, |_bytes: &[u8]| ())?;
+        Ok(found.is_some())
+    }
+
+    fn len(&mut self) -> u64 {
+        let load = self.file.load(&mut self.hand);
+        load.opening
+            .saturating_add(load.inserted)
+            .saturating_sub(load.deleted)
+    }
+
+    fn told(&mut self) -> u64 {
+        self.file.told(&mut self.hand)
+    }
+
+    fn left(&self) -> u64 {
+        self.hand.left()
+    }
+
+    fn snapshot(&mut self) -> Result<Store, CallFault> {
+        let snapshot = self.file.snapshot(self.rt, &mut self.hand)?;
+        Ok(Store::of(snapshot.into_known_listing()))
+    }
+
+    fn for_each<F: FnMut(BucketCopy)>(&mut self, f: F) -> Result<(), CallFault> {
+        let mut scan = Scan::new(self.alloc, self.file)?;
+        scan.for_each(self.rt, self.file, &mut self.hand, f)?;
+        Ok(())
+    }
+}
+
+/// How many calls a thread's session gets at most where its file has no name, so that they don't come back.
+const CALLS_FOR_GOOD: u64 = 1 << 48;
+
+impl<'a, R: Wait, M: Mode, J: SessionBrand> ThreadSession for FileSession<'a, R, M, J> {
+    fn alloc(&self) -> Global {
+        self.alloc
+    }
+
+    fn divide(&mut self, threads: u32) -> Result<Vec<Self>, Memory> {
+        let share = self.hand.left() / (u64::from(threads) + 1);
+        let calls = if self.is_named {
+            share
+        } else {
+            share.min(CALLS_FOR_GOOD)
+        };
+        match self.file.split_hands(&mut self.hand, threads, calls) {
+            Ok(hands) => FileSession::of_hands(
+                self.rt,
+                self.alloc,
+                self.file,
+                hands,
+                self.is_named,
+            ),
+            Err(_) => Err(Memory),
+        }
+    }
+
+    fn unite(&mut self, part: Self) {
+        if self.is_named {
+            self.join(part.hand);
+        }
+    }
+}

@@ -1,0 +1,152 @@
+//! What every session can do.
+ghost use denote.Ref.{Bor};
+ghost use Rattle.std.specs.Prelude.{◌≡◌, ◌≢◌, ◌↔◌, ℕ, List, Option, true, IfOk, OnErr};
+ghost use Rattle.std.specs.Fn.{FnOnceReturnsAt};
+ghost use Rattle.lh_bucket.specs.Listing.{Lists};
+ghost use Rattle.lh_bucket.specs.PlainMap.{found};
+ghost use Rattle.lh_bucket.specs.declared.call.Call.{Call};
+ghost use Rattle.lh_bucket.specs.declared.call.Call.TheVariants as call;
+ghost use Rattle.lh_bucket.specs.declared.call.Reply.{Reply};
+ghost use Rattle.lh_bucket.specs.declared.call.Reply.TheVariants.{Absent};
+ghost use Rattle.lh_file.specs.Calls.Atomic.{Upserts, GetsOrPuts, Takes, Updates, Merges, ComparesAndSets};
+ghost use Rattle.lh_file.specs.Calls.Lean.{put_reply, set_reply, remove_reply, LendsTo};
+ghost use Rattle.lh_page.specs.Limits.{IsValue};
+ghost use Rattle.lh_store.specs.Sessions.{IsAtOnce};
+
+use crate::fault::CallFault;
+use crate::store::Store;
+use lh_file::{BucketCopy, Compared};
+use lh_page::Value;
+
+/// One thread's part in a table: the calls that it makes there. A key has 1 to 56 bytes, a value 0 to 112.
+///
+/// A function that is generic in its session, as `fn book<S: Session>(seats: &mut S)`, works on every table, alone or
+/// beside other threads, and needs no contract for that. Each call is one act: no other thread's comes in between. After
+/// a fault no record has changed, and the session may go on.
+pub trait Session {
+    // A session has made a call with this reply, from one state of it to another,
+    ghost made: { Self → Call → Reply → Self → Type 0 };
+
+    // and met this value under the call's key, or none, in the one act that it was;
+    ghost met: { Self → Call → Reply → Option (List ℕ) → Self → Type 0 };
+
+    // or it has made no call.
+    ghost idle: { Self → Self → Type 0 };
+
+    // These records are what all calls of its table leave so far.
+    ghost leaves: { Self → Lists → Type 0 };
+
+    /// The value under a key.
+    fn get(&mut self, key: &[u8]) -> Result<Option<Value>, CallFault>
+        ensures made { IfOk result (λ value. made self.old (call.Search key.now) (found value) self.new) }
+        ensures err { OnErr result (idle self.old self.new) };
+
+    /// What a closure returns of the bytes of the value under a key, or none where the key isn't there. Nothing is
+    /// copied. The record's bucket is held meanwhile, so the closure has to be short and must make no call.
+    fn with_value<T, F: FnOnce(&[u8]) -> T + Drop>(
+        &mut self,
+        key: &[u8],
+        then: F,
+    ) -> Result<Option<T>, CallFault>
+        requires { (bytes : Bor (List ℕ)) → IsValue bytes.now → F.pre then bytes }
+        ensures made { IfOk result (λ told. (given : Reply) × made self.old (call.Search key.now) given self.new
+            × LendsTo (FnOnceReturnsAt F.FnOnce then) given told) }
+        ensures err { OnErr result (idle self.old self.new) };
+
+    /// Adds a record, unless its key is there: whether the record is new. A value that is there stays.
+    fn put(&mut self, key: &[u8], value: &[u8]) -> Result<bool, CallFault>
+        ensures made { IfOk result (λ is_new.
+            made self.old (call.Insert key.now value.now) (put_reply is_new) self.new) }
+        ensures err { OnErr result (idle self.old self.new) };
+
+    /// Replaces the value of a key: whether the key is there. It takes no memory.
+    fn set(&mut self, key: &[u8], value: &[u8]) -> Result<bool, CallFault>
+        ensures made { IfOk result (λ was_there.
+            made self.old (call.Replace key.now value.now) (set_reply was_there) self.new) }
+        ensures err { OnErr result (idle self.old self.new) };
+
+    /// Deletes the record of a key: whether the key was there.
+    fn remove(&mut self, key: &[u8]) -> Result<bool, CallFault>
+        ensures made { IfOk result (λ was_there.
+            made self.old (call.Delete key.now) (remove_reply was_there) self.new) }
+        ensures err { OnErr result (idle self.old self.new) };
+
+    /// Adds a record, or replaces its key's value: whether the record is new.
+    fn upsert(&mut self, key: &[u8], value: &[u8]) -> Result<bool, CallFault>
+        ensures made { IfOk result (IsAtOnce key.now (λ call reply was. met self.old call reply was self.new)
+            (Upserts value.now)) }
+        ensures err { OnErr result (idle self.old self.new) };
+
+    /// The value under a key; where there is none, the record is added, and none is answered.
+    fn get_or_put(&mut self, key: &[u8], value: &[u8]) -> Result<Option<Value>, CallFault>
+        ensures made { IfOk result (IsAtOnce key.now (λ call reply was. met self.old call reply was self.new)
+            (GetsOrPuts value.now)) }
+        ensures err { OnErr result (idle self.old self.new) };
+
+    /// Deletes the record of a key: the value that it had, if the key was there. One caller alone gets it.
+    fn take(&mut self, key: &[u8]) -> Result<Option<Value>, CallFault>
+        ensures made { IfOk result (IsAtOnce key.now (λ call reply was. met self.old call reply was self.new) Takes) }
+        ensures err { OnErr result (idle self.old self.new) };
+
+    /// Replaces a key's value by the one that a closure makes of its bytes: whether the key is there. The bucket is held
+    /// alone meanwhile, so the closure has to be short and must make no call. It takes no memory.
+    fn update<F: FnOnce(&[u8]) -> Value + Drop>(
+        &mut self,
+        key: &[u8],
+        change: F,
+    ) -> Result<bool, CallFault>
+        requires { (bytes : Bor (List ℕ)) → IsValue bytes.now → F.pre change bytes }
+        ensures made { IfOk result (IsAtOnce key.now (λ call reply was. met self.old call reply was self.new)
+            (Updates (FnOnceReturnsAt F.FnOnce change))) }
+        ensures err { OnErr result (idle self.old self.new) };
+
+    /// Adds a record with a first value, or replaces its key's value as [`update`](Self::update) does: whether the record
+    /// is new.
+    fn merge<F: FnOnce(&[u8]) -> Value + Drop>(
+        &mut self,
+        key: &[u8],
+        first: &[u8],
+        next: F,
+    ) -> Result<bool, CallFault>
+        requires { (bytes : Bor (List ℕ)) → IsValue bytes.now → F.pre next bytes }
+        ensures made { IfOk result (IsAtOnce key.now (λ call reply was. met self.old call reply was self.new)
+            (Merges first.now (FnOnceReturnsAt F.FnOnce next))) }
+        ensures err { OnErr result (idle self.old self.new) };
+
+    /// Replaces a key's value where it is the expected one.
+    fn compare_and_set(
+        &mut self,
+        key: &[u8],
+        expected: &[u8],
+        value: &[u8],
+    ) -> Result<Compared, CallFault>
+        ensures made { IfOk result (IsAtOnce key.now (λ call reply was. met self.old call reply was self.new)
+            (ComparesAndSets expected.now value.now)) }
+        ensures err { OnErr result (idle self.old self.new) };
+
+    /// Whether a key is there.
+    fn contains(&mut self, key: &[u8]) -> Result<bool, CallFault>
+        ensures made { IfOk result (λ is_there. (given : Reply) × made self.old (call.Search key.now) given self.new
+            × ((is_there ≡ true) ↔ (given ≢ Absent))) }
+        ensures err { OnErr result (idle self.old self.new) };
+
+    /// The number of records, where no other thread is at work; else about that.
+    fn len(&mut self) -> u64
+        ensures { idle self.old self.new };
+
+    /// How many acts there were so far, those of other threads too. What this session does later comes after all of them.
+    fn told(&mut self) -> u64;
+
+    /// How many more calls the session may make: 2^63 where a table is new.
+    fn left(&self) -> u64;
+
+    /// All records at one moment, which may be [saved](Store::save) while other threads go on. Writes wait while the records
+    /// are copied.
+    fn snapshot(&mut self) -> Result<Store, CallFault>
+        ensures { IfOk result (leaves self.old) };
+
+    /// Gives copies of all buckets to a closure, one after the other, while other threads go on. Each key that is there
+    /// all along is in one of them, and none is in two. No bucket is held meanwhile, so the closure may take its time.
+    fn for_each<F: FnMut(BucketCopy)>(&mut self, f: F) -> Result<(), CallFault>
+        requires { F.IsAlwaysCallable f };
+}
