@@ -21,6 +21,6 @@ history_of opening snapshot entries log logs listing whole config is h = record 
   holds =
       subst
       (λ (l : Lists). ArePlaced l.config.initial (length l.lists) (left_after (map_in opening) log) l.lists) (sym is)
-      (subst (λ n. ArePlaced snapshot.config.initial n (left_after (map_in opening) log) snapshot.lists) (sym whole.each)
-      h.1);
+      (subst (λ n. ArePlaced snapshot.config.initial n (left_after (map_in opening) log) snapshot.lists)
+      (sym whole.each) h.1);
 }

@@ -112,8 +112,8 @@ visited_keeps traced flag is_named name file copy old new s v = record {
 }
 
 -- and so does a scan.
-pub scanned_keeps : (traced flag is_named : Bool) (name file : FileState) (copies : List BucketCopy) (scan after : Scanning)
-    (old new : HandState) → IsSession traced flag is_named name file old →
+pub scanned_keeps : (traced flag is_named : Bool) (name file : FileState) (copies : List BucketCopy)
+    (scan after : Scanning) (old new : HandState) → IsSession traced flag is_named name file old →
     HasScanned traced file scan old copies after new → IsSession traced flag is_named name file new
 scanned_keeps traced flag is_named name file [] scan after old new s h =
     subst (IsSession traced flag is_named name file) (sym h.1) s
@@ -133,8 +133,8 @@ makes_keeps traced flag is_named name file old new call (Err e) reply_in s m ent
     idle_keeps traced flag is_named name file old new s m.of m.err
 
 -- So does what those promise that read and write in one act.
-pub at_once_keeps : {T : Type 0} (traced flag is_named : Bool) (name file : FileState) (key : List ℕ) (old new : HandState)
-    (does : Reaction T) (result : Result T FileFault) → IsSession traced flag is_named name file old →
+pub at_once_keeps : {T : Type 0} (traced flag is_named : Bool) (name file : FileState) (key : List ℕ)
+    (old new : HandState) (does : Reaction T) (result : Result T FileFault) → IsSession traced flag is_named name file old →
     MakesAtOnce traced file key old does result new → IsSession traced flag is_named name file new
 at_once_keeps traced flag is_named name file key old new does (Ok t) s m =
     met_keeps traced flag is_named name file old new s m.made.of m.call m.given m.was m.made.served m.met
