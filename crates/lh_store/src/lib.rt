@@ -13,7 +13,7 @@ pub use disk::{LoadFault, SaveFault, load, save};
 pub use fault::CallFault;
 pub use file_session::{FileSession, SessionBrand};
 pub use lh_addr::Config;
-pub use lh_file::{Compared, FileFault, Memory, Traced, Untraced};
+pub use lh_file::{BucketCopy, Compared, FileFault, Memory, Traced, Untraced};
 pub use lh_page::{Key, KeyLength, Value, ValueLength};
 pub use open_store::OpenStore;
 pub use session::Session;

@@ -2,7 +2,10 @@
 //! one goes on from there.
 #![tactic(auto)]
 
-use lh_store::{CallFault, Config, OpenStore, Session, Store, on_threads};
+use lh_store::{CallFault, Config, OpenStore, Session, Store, ThreadSession, on_threads};
+use std::fs::Files;
+use std::sync::Wait;
+use std::thread::Threads;
 
 /// The root of a number, rounded down: from the cache, or computed and kept there. Whether it was computed.
 fn root_of<S: Session>(roots: &mut S, number: u32) -> Result<bool, CallFault> {
@@ -23,18 +26,42 @@ fn compute<S: Session>(roots: &mut S, numbers: u32) -> Result<u32, CallFault> {
     Ok(computed)
 }
 
-fn main(rt: HostRuntime) -> anyhow::Result<()> {
-    let mut cache = OpenStore::new(rt.alloc(), Config::default())?;
-    let mut session = cache.session(&rt)?;
+/// Two threads compute the same roots.
+fn fill<R: Print + Threads + Sync, S: ThreadSession + Send + Drop>(
+    rt: &R,
+    roots: &mut S,
+) -> anyhow::Result<()> {
     let mut computed = 0_u32;
-    for count in on_threads(&rt, &mut session, 2, |_thread, own| compute(own, 1_000))? {
+    for count in on_threads(
+        rt,
+        roots,
+        2,
+        |_thread: usize, own: &mut S| compute(own, 1_000),
+    )? {
         computed = computed.saturating_add(count?);
     }
     println!(rt; "{computed} roots are computed")?;
-    session.snapshot()?.save(&rt, "roots.lhf")?;
-
-    let mut cache = OpenStore::open(rt.alloc(), &Store::load(&rt, "roots.lhf")?)?;
-    let mut session = cache.session(&rt)?;
-    println!(rt; "{} more", compute(&mut session, 1_500)?)?;
     Ok(())
+}
+
+/// Computes and saves.
+fn begin<R: Print + Threads + Wait + Files + AllocGlobal + Sync>(rt: &R) -> anyhow::Result<()> {
+    let mut cache = OpenStore::new(rt.alloc(), Config::default())?;
+    let mut roots = cache.session(rt)?;
+    fill(rt, &mut roots)?;
+    roots.snapshot()?.save(rt, "roots.lhf")?;
+    Ok(())
+}
+
+/// Goes on from what was saved.
+fn go_on<R: Print + Wait + Files + AllocGlobal>(rt: &R) -> anyhow::Result<()> {
+    let saved = Store::load(rt, "roots.lhf")?;
+    let mut cache = OpenStore::open(rt.alloc(), &saved)?;
+    println!(rt; "{} more", compute(&mut cache.session(rt)?, 1_500)?)?;
+    Ok(())
+}
+
+fn main(rt: HostRuntime) -> anyhow::Result<()> {
+    begin(&rt)?;
+    go_on(&rt)
 }
