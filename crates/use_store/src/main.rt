@@ -27,7 +27,7 @@ impl Work for Booking {
 }
 
 fn main(rt: HostRuntime) -> anyhow::Result<()> {
-    let mut seats = Store::new(rt.alloc(), Config::default().with_capacity(2)?)?;
+    let mut seats = Store::new(rt.alloc(), Config::default())?;
     let ran = seats.run(&rt, 2, &Booking)?;
     let mut booked = 0_u32;
     for count in ran.done {
