@@ -8,7 +8,8 @@ use lh_addr::Config;
 use lh_bucket::{Listing, Reply};
 use lh_expect::{expect, expect_eq};
 use lh_file::{
-    CodedKey, Compared, FileBrand, Hand, HashFile, Mode, NoGate, Opening, Traced, settle,
+    Acts, Closed, Coded, CodedKey, Compared, FileBrand, FileFault, Hand, HashFile, Mode, NoGate,
+    Opening, Traced, settle,
 };
 use lh_page::{Key, Value};
 use std::alloc::Global;
@@ -63,32 +64,105 @@ const LOCK: &[u8] = b"lock";
 
 const GUARDED: &[u8] = b"guarded";
 
-/// Adds one to what the lock guards. None where something was other than it is due.
+/// Adds one to a counter by a read and a write: whether both were served.
+fn read_and_write<M: Mode, J: FileBrand, R: Wait>(
+    rt: &R,
+    file: &HashFile<NoGate, M, J>,
+    hand: &mut Hand,
+    key: &Key,
+) -> bool
+    requires { IsOf file.now.state hand.old }
+    ensures { IsOf file.now.state hand.new }
+{
+    match file.get(rt, hand, key) {
+        Ok(Some(number)) => file.set(rt, hand, key, &one_more(number.bytes())).is_ok(),
+        _ => false,
+    }
+}
+
+/// Adds one to what the lock guards: whether all was as it is due.
 fn locked<M: Mode, J: FileBrand, R: Wait>(
     rt: &R,
     file: &HashFile<NoGate, M, J>,
     hand: &mut Hand,
     thread: usize,
-) -> Option<()>
+) -> bool
     requires { IsOf file.now.state hand.old }
     ensures { IsOf file.now.state hand.new }
 {
-    let (lock, guarded) = (Key::new(LOCK).ok()?, Key::new(GUARDED).ok()?);
+    let (Ok(lock), Ok(guarded)) = (Key::new(LOCK), Key::new(GUARDED)) else {
+        return false;
+    };
     let (free, mine) = (Value::empty(), value_of(thread as u64));
-    if file.compare_and_set(rt, hand, &lock, &free, &mine).ok()? != Compared::Replaced {
-        return None;
-    }
-    let number = file.get(rt, hand, &guarded).ok()??;
-    let _ = file
-        .set(rt, hand, &guarded, &one_more(number.bytes()))
-        .ok()?;
-    match file.compare_and_set(rt, hand, &lock, &mine, &free).ok()? {
-        Compared::Replaced => Some(()),
-        _ => None,
+    file.compare_and_set(rt, hand, &lock, &free, &mine) == Ok(Compared::Replaced)
+        && read_and_write(rt, file, hand, &guarded)
+        && file.compare_and_set(rt, hand, &lock, &mine, &free) == Ok(Compared::Replaced)
+}
+
+/// Claims the key of a turn: whether who has it is there.
+fn claimed<M: Mode, J: FileBrand, R: Wait>(
+    rt: &R,
+    file: &HashFile<NoGate, M, J>,
+    hand: &mut Hand,
+    thread: usize,
+    turn: u32,
+) -> bool
+    requires { IsOf file.now.state hand.old }
+    ensures { IsOf file.now.state hand.new }
+{
+    let Ok(key) = Key::new(&turn.to_be_bytes()) else {
+        return false;
+    };
+    let mine = value_of(thread as u64);
+    match file.get_or_put(rt, hand, &key, &mine) {
+        Ok(owner) => file.get(rt, hand, &key) == Ok(Some(owner.unwrap_or(mine))),
+        Err(_) => false,
     }
 }
 
-/// A turn at a job: none where it is to be tried again.
+/// Adds a number to the thread's own, which is made by the first one: whether that was served.
+fn kept<M: Mode, J: FileBrand, R: Wait>(
+    rt: &R,
+    file: &HashFile<NoGate, M, J>,
+    hand: &mut Hand,
+    thread: usize,
+    value: &Value,
+) -> bool
+    requires { IsOf file.now.state hand.old }
+    ensures { IsOf file.now.state hand.new }
+{
+    let Ok(own) = Key::new(&[b'o', (thread % 256) as u8]) else {
+        return false;
+    };
+    let sum = number_in(value.bytes());
+    let add = |bytes: &[u8]| value_of(number_in(bytes).wrapping_add(sum));
+    match file.update(rt, hand, &own, add) {
+        Ok(true) => true,
+        Ok(false) => file.upsert(rt, hand, &own, value).is_ok(),
+        Err(_) => false,
+    }
+}
+
+/// Takes what is under a key, keeps it, and puts one there: whether something was taken, and all was served.
+fn passed<M: Mode, J: FileBrand, R: Wait>(
+    rt: &R,
+    file: &HashFile<NoGate, M, J>,
+    hand: &mut Hand,
+    thread: usize,
+    key: &Key,
+) -> bool
+    requires { IsOf file.now.state hand.old }
+    ensures { IsOf file.now.state hand.new }
+{
+    match file.take(rt, hand, key) {
+        Ok(Some(value)) => {
+            kept(rt, file, hand, thread, &value) && file.upsert(rt, hand, key, &value_of(1)).is_ok()
+        }
+        _ => false,
+    }
+}
+
+/// A turn at a job: whether it isn't to be tried again.
 fn turn_at<M: Mode, J: FileBrand, R: Wait>(
     rt: &R,
     file: &HashFile<NoGate, M, J>,
@@ -96,49 +170,23 @@ fn turn_at<M: Mode, J: FileBrand, R: Wait>(
     job: Job,
     thread: usize,
     turn: u32,
-) -> Option<()>
+) -> bool
     requires { IsOf file.now.state hand.old }
     ensures { IsOf file.now.state hand.new }
 {
-    let key = key_of(turn)?;
+    let Some(key) = key_of(turn) else {
+        return false;
+    };
     match job {
-        Job::Count => {
-            let _ = file.update(rt, hand, &key, one_more).ok()?;
-        }
-        Job::Merge => {
-            let _ = file.merge(rt, hand, &key, &value_of(1), one_more).ok()?;
-        }
-        Job::Lock => locked(rt, file, hand, thread)?,
-        Job::Claim => {
-            let key = Key::new(&turn.to_be_bytes()).ok()?;
-            let mine = value_of(thread as u64);
-            let owner = file.get_or_put(rt, hand, &key, &mine).ok()?.unwrap_or(mine);
-            if file.get(rt, hand, &key).ok()? != Some(owner) {
-                return None;
-            }
-        }
-        Job::Pass => {
-            let value = file.take(rt, hand, &key).ok()??;
-            let own = Key::new(&[b'o', (thread % 256) as u8]).ok()?;
-            let sum = number_in(value.bytes());
-            let is_there = file
-                .update(
-                    rt,
-                    hand,
-                    &own,
-                    |bytes: &[u8]| value_of(number_in(bytes).wrapping_add(sum)),
-                )
-                .ok()?;
-            if !is_there {
-                let _ = file.upsert(rt, hand, &own, &value).ok()?;
-            }
-            let _ = file.upsert(rt, hand, &key, &value_of(1)).ok()?;
-        }
-        Job::Write => {
-            let _ = file.upsert(rt, hand, &key, &value_of(thread as u64)).ok()?;
-        }
+        Job::Count => file.update(rt, hand, &key, one_more).is_ok(),
+        Job::Merge => file.merge(rt, hand, &key, &value_of(1), one_more).is_ok(),
+        Job::Lock => locked(rt, file, hand, thread),
+        Job::Claim => claimed(rt, file, hand, thread, turn),
+        Job::Pass => passed(rt, file, hand, thread, &key),
+        Job::Write => file
+            .upsert(rt, hand, &key, &value_of(thread as u64))
+            .is_ok(),
     }
-    Some(())
 }
 
 /// All turns of one thread, each tried up to a million times.
@@ -157,9 +205,10 @@ fn work<M: Mode, J: FileBrand, R: Wait>(
         if turn == TURNS {
             break;
         }
-        match turn_at(rt, file, hand, job, thread, turn) {
-            Some(()) => turn = turn.saturating_add(1),
-            None => thread::yield_now(),
+        if turn_at(rt, file, hand, job, thread, turn) {
+            turn = turn.saturating_add(1);
+        } else {
+            thread::yield_now();
         }
     }
     if hand.has_right() {
@@ -202,14 +251,43 @@ fn left_by<M: Mode + Send + Sync, J: FileBrand + Send + Sync, R: Threads + Wait 
 ) -> Result<Done, Fail>
     requires { IsOf file.state hand }
 {
-    let counters = if job == Job::Merge { 0 } else { 5_u8 };
-    for number in 0..counters {
-        let _ = file.put(rt, &mut hand, &Key::new(&[b'a', number])?, &value_of(0))?;
-    }
-    let _ = file.put(rt, &mut hand, &Key::new(LOCK)?, &Value::empty())?;
-    let _ = file.put(rt, &mut hand, &Key::new(GUARDED)?, &value_of(0))?;
+    begin(rt, &file, &mut hand, job)?;
     let hand = in_eight(rt, &file, hand, job)?;
     ended(rt, alloc, file, hand)
+}
+
+/// Puts what a job wants to be there: the counters, unless they are merged, and the lock with what it guards.
+fn begin<M: Mode, J: FileBrand, R: Wait>(
+    rt: &R,
+    file: &HashFile<NoGate, M, J>,
+    hand: &mut Hand,
+    job: Job,
+) -> Result<(), Fail>
+    requires { IsOf file.now.state hand.old }
+    ensures { IsOf file.now.state hand.new }
+{
+    let (lock, guarded) = (Key::new(LOCK)?, Key::new(GUARDED)?);
+    if job != Job::Merge {
+        put_counters(rt, file, hand)?;
+    }
+    file.put(rt, hand, &lock, &Value::empty())?;
+    file.put(rt, hand, &guarded, &value_of(0))?;
+    Ok(())
+}
+
+/// Puts the five counters.
+fn put_counters<M: Mode, J: FileBrand, R: Wait>(
+    rt: &R,
+    file: &HashFile<NoGate, M, J>,
+    hand: &mut Hand,
+) -> Result<(), Fail>
+    requires { IsOf file.now.state hand.old }
+    ensures { IsOf file.now.state hand.new }
+{
+    for number in 0..5_u8 {
+        file.put(rt, hand, &Key::new(&[b'a', number])?, &value_of(0))?;
+    }
+    Ok(())
 }
 
 /// Eight threads at once, each with a hand of its own.
@@ -245,21 +323,37 @@ fn ended<M: Mode, J: FileBrand, R: Wait>(
     requires { IsOf file.state hand }
 {
     let load = file.load(&mut hand);
-    let mut numbers = [0; 5];
-    for number in 0..5_usize {
-        numbers[number] = number_at(rt, &file, &mut hand, &[b'a', number as u8])?;
-    }
-    let guarded = number_at(rt, &file, &mut hand, GUARDED)?;
+    let (numbers, guarded) = numbers_at_last(rt, &file, &mut hand)?;
     let (closed, acts) = file.close(rt, hand)?;
-    let listing = Listing::empty(alloc, Config::default().with_capacity(2)?)?;
-    let history = settle(alloc, &listing, &closed, &acts)?;
     Ok(Done {
-        acts: history.len(),
+        acts: settled(alloc, &closed, &acts)?,
         inserted: load.inserted,
         deleted: load.deleted,
         numbers,
         guarded,
     })
+}
+
+/// The numbers under the five keys, and the one that the lock guards.
+fn numbers_at_last<M: Mode, J: FileBrand, R: Wait>(
+    rt: &R,
+    file: &HashFile<NoGate, M, J>,
+    hand: &mut Hand,
+) -> Result<([u64; 5], u64), Fail>
+    requires { IsOf file.now.state hand.old }
+    ensures { IsOf file.now.state hand.new }
+{
+    let mut numbers = [0; 5];
+    for number in 0..5_usize {
+        numbers[number] = number_at(rt, file, hand, &[b'a', number as u8])?;
+    }
+    Ok((numbers, number_at(rt, file, hand, GUARDED)?))
+}
+
+/// How many acts a closed file is settled with.
+fn settled(alloc: Global, closed: &Closed, acts: &Acts) -> Result<usize, Fail> {
+    let listing = Listing::empty(alloc, Config::default().with_capacity(2)?)?;
+    Ok(settle(alloc, &listing, closed, acts)?.len())
 }
 
 /// The same in a file that is being opened.
@@ -348,54 +442,142 @@ fn writers_leave_one_value(rt: HostRuntime) -> Result<(), Fail> {
     Ok(())
 }
 
-/// What each call tells by a key, of a file that has nothing under it.
-fn told<K: lh_file::Coded, M: Mode, J: FileBrand, R: Wait + Abort>(
+/// A call by a key, with the numbers of its values. An update and a merge add one.
+#[derive(Clone, Copy)]
+enum Task {
+    Get,
+    Take,
+    Upsert(u64),
+    GetOrPut(u64),
+    Update,
+    Merge(u64),
+    CompareAndSet(u64, u64),
+}
+
+/// What it tells: whether the key is there or new, which value was there, or what was compared.
+#[derive(Clone, Copy, Debug, PartialEq, Eq)]
+enum Told {
+    Is(bool),
+    Was(Option<Value>),
+    Compared(Compared),
+}
+
+/// The value of a number was there.
+fn was(number: u64) -> Told {
+    Told::Was(Some(value_of(number)))
+}
+
+/// Makes the call of a task.
+fn made<K: Coded, M: Mode, J: FileBrand, R: Wait>(
     rt: &R,
     file: &HashFile<NoGate, M, J>,
     hand: &mut Hand,
     key: &K,
-) -> Result<(), Fail>
+    task: Task,
+) -> Result<Told, FileFault>
     requires { IsOf file.now.state hand.old }
     ensures { IsOf file.now.state hand.new }
 {
-    let (one, two) = (value_of(1), value_of(2));
-    expect_eq!(rt; file.take(rt, hand, key)?, None);
-    expect_eq!(rt; file.update(rt, hand, key, one_more)?, false);
-    let told = file.compare_and_set(rt, hand, key, &one, &two)?;
-    expect_eq!(rt; told, Compared::Absent);
-    expect_eq!(rt; file.get(rt, hand, key)?, None);
-    expect_eq!(rt; file.get_or_put(rt, hand, key, &one)?, None);
-    expect_eq!(rt; file.get_or_put(rt, hand, key, &two)?, Some(one));
-    expect_eq!(rt; file.update(rt, hand, key, one_more)?, true);
-    let told = file.compare_and_set(rt, hand, key, &one, &two)?;
-    expect_eq!(rt; told, Compared::Differs);
-    let told = file.compare_and_set(rt, hand, key, &two, &value_of(7))?;
-    expect_eq!(rt; told, Compared::Replaced);
-    expect_eq!(rt; file.upsert(rt, hand, key, &value_of(9))?, false);
-    expect_eq!(rt; file.take(rt, hand, key)?, Some(value_of(9)));
-    expect_eq!(rt; file.upsert(rt, hand, key, &one)?, true);
-    expect_eq!(rt; file.take(rt, hand, key)?, Some(one));
-    expect_eq!(rt; file.merge(rt, hand, key, &one, one_more)?, true);
-    expect_eq!(rt; file.merge(rt, hand, key, &one, one_more)?, false);
-    // A closure may hand out what it was lent.
+    match task {
+        Task::Get => file.get(rt, hand, key).map(Told::Was),
+        Task::Take => file.take(rt, hand, key).map(Told::Was),
+        Task::Upsert(number) => file.upsert(rt, hand, key, &value_of(number)).map(Told::Is),
+        Task::GetOrPut(number) => file
+            .get_or_put(rt, hand, key, &value_of(number))
+            .map(Told::Was),
+        Task::Update => file.update(rt, hand, key, one_more).map(Told::Is),
+        Task::Merge(number) => file
+            .merge(rt, hand, key, &value_of(number), one_more)
+            .map(Told::Is),
+        Task::CompareAndSet(expected, number) => file
+            .compare_and_set(rt, hand, key, &value_of(expected), &value_of(number))
+            .map(Told::Compared),
+    }
+}
+
+/// What each call tells by a key that isn't there. It has the number 2 then.
+fn make_all<K: Coded, M: Mode, J: FileBrand, R: Wait + Abort>(
+    rt: &R,
+    file: &HashFile<NoGate, M, J>,
+    hand: &mut Hand,
+    key: &K,
+)
+    requires { IsOf file.now.state hand.old }
+    ensures { IsOf file.now.state hand.new }
+{
+    for (task, due) in [
+        (Task::Take, Told::Was(None)),
+        (Task::Update, Told::Is(false)),
+        (Task::CompareAndSet(1, 2), Told::Compared(Compared::Absent)),
+        (Task::Get, Told::Was(None)),
+        (Task::GetOrPut(1), Told::Was(None)),
+        (Task::GetOrPut(2), was(1)),
+        (Task::Update, Told::Is(true)),
+        (Task::CompareAndSet(1, 2), Told::Compared(Compared::Differs)),
+        (
+            Task::CompareAndSet(2, 7),
+            Told::Compared(Compared::Replaced),
+        ),
+        (Task::Upsert(9), Told::Is(false)),
+        (Task::Take, was(9)),
+        (Task::Upsert(1), Told::Is(true)),
+        (Task::Take, was(1)),
+        (Task::Merge(1), Told::Is(true)),
+        (Task::Merge(1), Told::Is(false)),
+    ] {
+        expect_eq!(rt; made(rt, file, hand, key, task), Ok(due));
+    }
+}
+
+/// A closure may hand out what it was lent, here by a key that has the number 2.
+fn hand_out<K: Coded, M: Mode, J: FileBrand, R: Wait + Abort>(
+    rt: &R,
+    file: &HashFile<NoGate, M, J>,
+    hand: &mut Hand,
+    key: &K,
+)
+    requires { IsOf file.now.state hand.old }
+    ensures { IsOf file.now.state hand.new }
+{
     let mut was = 0;
     let is_there = file.update(rt, hand, key, |bytes: &[u8]| {
         was = number_in(bytes);
         one_more(bytes)
-    })?;
-    expect_eq!(rt; (is_there, was), (true, 2));
-    expect_eq!(rt; file.take(rt, hand, key)?, Some(value_of(3)));
+    });
+    expect_eq!(rt; (is_there, was), (Ok(true), 2));
+    expect_eq!(rt; file.take(rt, hand, key), Ok(Some(value_of(3))));
+}
+
+/// What each call tells by a key and by the key with its code.
+fn make_by_both<R: Wait + Abort>(
+    rt: &R,
+    file: &HashFile<NoGate>,
+    hand: &mut Hand,
+) -> Result<(), Fail>
+    requires { IsOf file.now.state hand.old }
+    ensures { IsOf file.now.state hand.new }
+{
+    let key = Key::new(b"key")?;
+    let coded = CodedKey::new(key);
+    make_all(rt, file, hand, &key);
+    hand_out(rt, file, hand, &key);
+    make_all(rt, file, hand, &coded);
+    hand_out(rt, file, hand, &coded);
     Ok(())
 }
 
 #[test]
 fn each_call_tells_what_was_there(rt: HostRuntime) -> Result<(), Fail> {
     let (file, mut hand) = HashFile::create(rt.alloc(), Config::default(), true, NoGate)?;
-    let key = Key::new(b"key")?;
-    told(&rt, &file, &mut hand, &key)?;
-    told(&rt, &file, &mut hand, &CodedKey::new(key))?;
+    make_by_both(&rt, &file, &mut hand)?;
     let (closed, acts) = file.close(&rt, hand)?;
     expect_eq!(rt; (closed.records(), acts.len()), (0, 34));
+    expect_replies(&rt, &acts);
+    Ok(())
+}
+
+/// The first acts have the replies of those calls.
+fn expect_replies(rt: &impl Abort, acts: &Acts) {
     let due = [
         Reply::Absent,
         Reply::Absent,
@@ -416,9 +598,9 @@ fn each_call_tells_what_was_there(rt: HostRuntime) -> Result<(), Fail> {
         Reply::Deleted,
     ];
     for (place, reply) in due.iter().enumerate() {
+        expect!(rt; place < acts.len());
         expect_eq!(rt; acts.at(place).reply, *reply);
     }
-    Ok(())
 }
 
 /// Adds a record by one of three calls: whether it is new.

@@ -235,16 +235,23 @@ fn hands_see_what_others_did(rt: HostRuntime) -> Result<(), Fail> {
     Ok(())
 }
 
-/// Inserts five records by a hand that is dropped then.
-fn lose_five<R: Wait>(rt: &R, file: &HashFile<NoGate>, mut hand: Hand) -> Result<(), Fail>
-    requires { IsOf file.now.state hand }
+/// Inserts five records.
+fn insert_five<R: Wait>(rt: &R, file: &HashFile<NoGate>, hand: &mut Hand) -> Result<(), Fail>
+    requires { IsOf file.now.state hand.old }
 {
-    call(rt, file, &mut hand, &insert(b"a")?)?;
-    call(rt, file, &mut hand, &insert(b"b")?)?;
-    call(rt, file, &mut hand, &insert(b"c")?)?;
-    call(rt, file, &mut hand, &insert(b"d")?)?;
-    call(rt, file, &mut hand, &insert(b"e")?)?;
+    for letter in b"abcde" {
+        call(rt, file, hand, &insert(&[*letter])?)?;
+    }
     Ok(())
+}
+
+/// Inserts five records by a second hand, which is dropped then.
+fn lose_five<R: Wait>(rt: &R, file: &HashFile<NoGate>, first: &mut Hand) -> Result<(), Fail>
+    requires { IsOf file.now.state first.old }
+    ensures { IsOf file.now.state first.new }
+{
+    let mut second = file.split_hand(first, 5)?;
+    insert_five(rt, file, &mut second)
 }
 
 /// The hand that closes the file knows of its first bucket alone.
@@ -252,8 +259,7 @@ fn lose_five<R: Wait>(rt: &R, file: &HashFile<NoGate>, mut hand: Hand) -> Result
 fn a_file_closes_with_buckets_that_its_hand_never_saw(rt: HostRuntime) -> Result<(), Fail> {
     let config = Config::new(1, 2, 100, 65536)?;
     let (file, mut first) = HashFile::create(rt.alloc(), config, false, NoGate)?;
-    let second = file.split_hand(&mut first, 5)?;
-    lose_five(&rt, &file, second)?;
+    lose_five(&rt, &file, &mut first)?;
     let (closed, _) = file.close(&rt, first)?;
     expect_eq!(rt; (closed.buckets(), closed.records()), (3, 5));
     expect_eq!(rt; closed.into_listing()?.len(), 5);
@@ -269,22 +275,26 @@ fn seven_letters(alloc: Global) -> Result<Listing, Fail> {
     Ok(Listing::new(alloc, Config::new(3, 14, 100, 65536)?, 5, lists)?)
 }
 
-#[test]
-fn a_file_opens_as_it_was(rt: HostRuntime) -> Result<(), Fail> {
-    let listing = seven_letters(rt.alloc())?;
-    let (file, mut hand) = HashFile::open_from(rt.alloc(), &listing, false, NoGate)?;
-    expect_eq!(rt; file.buckets(&mut hand), 5);
+/// A file has the five buckets and the seven records that it was opened with, and is split next where it was to be.
+fn expect_opened(rt: &impl Abort, file: &HashFile<NoGate>, hand: &mut Hand)
+    requires { IsOf file.now.state hand.old }
+{
+    expect_eq!(rt; file.buckets(hand), 5);
     expect_eq!(rt; (hand.left(), hand.has_right()), (1 << 63, false));
     let load = Load {
         opening: 7,
         inserted: 0,
         deleted: 0,
     };
-    expect_eq!(rt; file.load(&mut hand), load);
-    expect_eq!(rt;
-        file.try_split_right(&mut hand),
-        Right::Got { old: 2, new: 5 }
-    );
+    expect_eq!(rt; file.load(hand), load);
+    expect_eq!(rt; file.try_split_right(hand), Right::Got { old: 2, new: 5 });
+}
+
+#[test]
+fn a_file_opens_as_it_was(rt: HostRuntime) -> Result<(), Fail> {
+    let listing = seven_letters(rt.alloc())?;
+    let (file, mut hand) = HashFile::open_from(rt.alloc(), &listing, false, NoGate)?;
+    expect_opened(&rt, &file, &mut hand);
     Ok(())
 }
 

@@ -17,6 +17,7 @@ use lh_file::{
 };
 use lh_page::{Key, Pair, Value};
 use std::alloc::Global;
+use std::process::Abort;
 use std::sync::Wait;
 use std::test::Fail;
 
@@ -460,6 +461,17 @@ fn opened_again(alloc: Global, listing: &Listing) -> Result<(HashFile<NoGate>, H
     }
 }
 
+/// Both records are found, and there are two buckets.
+fn expect_both<R: Wait + Abort>(rt: &R, file: &HashFile<NoGate>, hand: &mut Hand)
+    requires { IsOf file.now.state hand.old }
+{
+    let answered = Progress::new();
+    let first = asked_again(rt, file, &answered, hand, Task::Search(b'a'));
+    let second = asked_again(rt, file, &answered, hand, Task::Search(b'b'));
+    expect_eq!(rt; (first, second), (Some(Told::Found), Some(Told::Found)));
+    expect_eq!(rt; size_of(file, hand), 2);
+}
+
 #[test]
 fn refused_growth_of_an_opened_file_is_told(rt: HostRuntime) -> Result<(), Fail> {
     let config = Config::new(1, 1, 100, 65536)?;
@@ -470,11 +482,7 @@ fn refused_growth_of_an_opened_file_is_told(rt: HostRuntime) -> Result<(), Fail>
     let b = Pair { key, value };
     let listing = listed_again(rt.alloc(), config, &[a], &[b])?;
     let (file, mut hand) = opened_again(rt.alloc(), &listing)?;
-    let answered = Progress::new();
-    let first = asked_again(&rt, &file, &answered, &mut hand, Task::Search(b'a'));
-    let second = asked_again(&rt, &file, &answered, &mut hand, Task::Search(b'b'));
-    expect_eq!(rt; (first, second), (Some(Told::Found), Some(Told::Found)));
-    expect_eq!(rt; size_of(&file, &mut hand), 2);
+    expect_both(&rt, &file, &mut hand);
     Ok(())
 }
 

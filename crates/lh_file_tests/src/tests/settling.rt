@@ -195,18 +195,18 @@ fn every_order_of_acts_is_settled(rt: HostRuntime) -> Result<(), Fail> {
 
 /// Acts of every kind on a file that was opened with a record.
 fn mixed(alloc: Global) -> Result<Acts, Fail> {
-    let mut lines = Vec::new(alloc);
-    let a = key(b'a')?;
-    let b = key(b'b')?;
-    lines.push(act(4, Call::Search(b), Reply::Absent))?;
-    lines.push(act(2, Call::Insert(a, value(b'2')?), Reply::Inserted))?;
-    lines.push(act(0, Call::Search(a), Reply::Found(value(b'1')?)))?;
-    lines.push(act(3, Call::Insert(a, value(b'3')?), Reply::Exists))?;
-    lines.push(act(5, Call::Delete(b), Reply::Absent))?;
-    lines.push(act(6, Call::Replace(a, value(b'4')?), Reply::Replaced))?;
-    lines.push(act(7, Call::Replace(b, value(b'5')?), Reply::Absent))?;
-    lines.push(act(1, Call::Delete(a), Reply::Deleted))?;
-    Ok(Acts::new(lines))
+    let (a, b) = (key(b'a')?, key(b'b')?);
+    let lines = [
+        act(4, Call::Search(b), Reply::Absent),
+        act(2, Call::Insert(a, value(b'2')?), Reply::Inserted),
+        act(0, Call::Search(a), Reply::Found(value(b'1')?)),
+        act(3, Call::Insert(a, value(b'3')?), Reply::Exists),
+        act(5, Call::Delete(b), Reply::Absent),
+        act(6, Call::Replace(a, value(b'4')?), Reply::Replaced),
+        act(7, Call::Replace(b, value(b'5')?), Reply::Absent),
+        act(1, Call::Delete(a), Reply::Deleted),
+    ];
+    Ok(Acts::new(lines.to_vec(alloc)?))
 }
 
 /// How many of those acts are settled, in a file that was opened with a list of records and closed with

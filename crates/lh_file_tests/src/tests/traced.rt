@@ -6,13 +6,27 @@ ghost use Rattle.lh_file.specs.FileState.{IsOf};
 use super::made::{made, split_once};
 use super::stage::{Log, Progress, Stage};
 use lh_addr::Config;
-use lh_bucket::{Listing, Reply};
+use lh_bucket::{Answer, Listing, Reply};
 use lh_expect::{expect, expect_eq};
-use lh_file::{FileBrand, Gate, Hand, HashFile, Mode, Opening, Point};
+use lh_file::{FileBrand, FileFault, Gate, Hand, HashFile, Mode, Opening, Point};
 use lh_page::{Key, Value};
 use std::marker::Brand;
 use std::sync::Wait;
 use std::test::Fail;
+
+/// Inserts a record by one letter. The reply.
+fn insert<G: Gate, M: Mode, J: FileBrand, R: Wait>(
+    rt: &R,
+    file: &HashFile<G, M, J>,
+    hand: &mut Hand,
+    letter: u8,
+) -> Option<Reply>
+    requires { IsOf file.now.state hand.old }
+    ensures { IsOf file.now.state hand.new }
+{
+    let (key, value) = (Key::new(&[letter]).ok()?, Value::new(b"1").ok()?);
+    Some(file.insert(rt, hand, key, value).ok()?.reply())
+}
 
 /// Inserts three records by one letter each, the last of which splits a bucket. The replies.
 fn inserts<G: Gate, M: Mode, J: FileBrand, R: Wait>(
@@ -23,11 +37,14 @@ fn inserts<G: Gate, M: Mode, J: FileBrand, R: Wait>(
     requires { IsOf file.now.state hand.old }
     ensures { IsOf file.now.state hand.new }
 {
-    let value = Value::new(b"1").ok()?;
-    let first = file.insert(rt, hand, Key::new(b"a").ok()?, value).ok()?;
-    let second = file.insert(rt, hand, Key::new(b"b").ok()?, value).ok()?;
-    let third = file.insert(rt, hand, Key::new(b"c").ok()?, value).ok()?;
-    Some([first.reply(), second.reply(), third.reply()])
+    let first = insert(rt, file, hand, b'a')?;
+    let second = insert(rt, file, hand, b'b')?;
+    Some([first, second, insert(rt, file, hand, b'c')?])
+}
+
+/// The reply of a call that was answered.
+fn reply_of(answer: Result<Answer, FileFault>) -> Option<Reply> {
+    Some(answer.ok()?.reply())
 }
 
 /// A call of each other kind by the second letter, and one that misses it. The replies.
@@ -39,16 +56,15 @@ fn others<G: Gate, M: Mode, J: FileBrand, R: Wait>(
     requires { IsOf file.now.state hand.old }
     ensures { IsOf file.now.state hand.new }
 {
-    let key = Key::new(b"b").ok()?;
-    let found = file.search(rt, hand, key).ok()?;
-    let replaced = file.replace(rt, hand, key, Value::new(b"2").ok()?).ok()?;
-    let deleted = file.delete(rt, hand, key).ok()?;
-    let absent = file.search(rt, hand, key).ok()?;
+    let (key, value) = (Key::new(b"b").ok()?, Value::new(b"2").ok()?);
+    let found = reply_of(file.search(rt, hand, key))?;
+    let replaced = reply_of(file.replace(rt, hand, key, value))?;
+    let deleted = reply_of(file.delete(rt, hand, key))?;
     Some([
-        found.reply(),
-        replaced.reply(),
-        deleted.reply(),
-        absent.reply(),
+        found,
+        replaced,
+        deleted,
+        reply_of(file.search(rt, hand, key))?,
     ])
 }
 

@@ -104,10 +104,8 @@ fn made_again_if_refused<M: Mode, J: FileBrand, R: Wait>(
     let (left, right) = (hand.left(), hand.has_right());
     let mut told = made(rt, file, hand, task, key);
     if told == Err(FileFault::Memory) {
-        if (hand.left(), hand.has_right()) != (left, right) {
-            return None;
-        }
-        if found(rt, file, hand, key).ok()? != before {
+        let is_same = (hand.left(), hand.has_right()) == (left, right);
+        if !is_same || found(rt, file, hand, key) != Ok(before) {
             return None;
         }
         told = made(rt, file, hand, task, key);
@@ -147,6 +145,21 @@ fn made_by_key<M: Mode, J: FileBrand, R: Wait>(
     Some(())
 }
 
+/// All calls by each of eight keys.
+fn made_by_keys<M: Mode, J: FileBrand, R: Wait>(
+    rt: &R,
+    file: &HashFile<NoGate, M, J>,
+    hand: &mut Hand,
+) -> Option<()>
+    requires { IsOf file.now.state hand.old }
+    ensures { IsOf file.now.state hand.new }
+{
+    for letter in b"abcdefgh" {
+        made_by_key(rt, file, hand, &Key::new(&[*letter]).ok()?)?;
+    }
+    Some(())
+}
+
 /// All calls by each of eight keys, in a file with one record to a page, which is then closed and settled: how many
 /// records it has. None where a call went wrong.
 fn used<M: Mode, J: FileBrand, R: Wait>(
@@ -158,9 +171,7 @@ fn used<M: Mode, J: FileBrand, R: Wait>(
 ) -> Option<Result<u64, Memory>>
     requires { IsOf file.state hand }
 {
-    for letter in b"abcdefgh" {
-        made_by_key(rt, &file, &mut hand, &Key::new(&[*letter]).ok()?)?;
-    }
+    made_by_keys(rt, &file, &mut hand)?;
     let (closed, acts) = match file.close(rt, hand) {
         Ok(closed) => closed,
         Err(Memory) => return Some(Err(Memory)),
