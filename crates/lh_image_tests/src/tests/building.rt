@@ -32,7 +32,7 @@ pub(crate) fn two_records(
 }
 
 /// Records with keys and values of one byte: each record is its key, then its value.
-fn letters(alloc: Global, records: &[u8]) -> Result<Vec<Pair>, Fail> {
+pub(crate) fn letters(alloc: Global, records: &[u8]) -> Result<Vec<Pair>, Fail> {
     let mut pairs = Vec::new(alloc);
     for record in records.chunks_exact(2) {
         if record.len() == 2 {

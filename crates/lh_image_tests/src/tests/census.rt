@@ -2,7 +2,7 @@
 use crate::tests::building::{empty_image, three_buckets_image, two_pages_image};
 use crate::tests::pages::{VERSION_1, falling_chain};
 use crate::tests::streams::reader_of;
-use lh_expect::expect;
+use lh_expect::{expect, expect_eq};
 use lh_image::*;
 use std::alloc::Global;
 use std::process::Abort;
@@ -22,7 +22,7 @@ pub(crate) fn expect_census(rt: &impl Abort, alloc: Global, bytes: &[u8], wanted
         if found == Err(ImageFault::Memory) {
             found = check_image(alloc, &mut reader_of(bytes, most));
         }
-        assert_eq!(rt; found, Ok(wanted), "{most}");
+        expect_eq!(rt; (most, found), (most, Ok(wanted)));
         expect!(rt; reader.longest <= page);
     }
 }

@@ -43,15 +43,26 @@ fn expect_listing(
     listing: &Listing,
     absent: &[&[u8]],
 ) -> Result<(), Fail> {
-    expect_records(rt, &checked(rt.alloc(), bytes)?, listing, absent)
+    expect_looked_up(rt, &checked(rt.alloc(), bytes)?, listing, absent)
 }
 
-fn expect_records(
+fn expect_looked_up(
     rt: &impl Abort,
     image: &CheckedImage<'_>,
     listing: &Listing,
     absent: &[&[u8]],
 ) -> Result<(), Fail> {
+    expect_records(rt, image, listing);
+    for key in absent {
+        let key = Key::new(*key)?;
+        expect_eq!(rt; image.find(&key), None);
+        expect!(rt; image.find_bytes(&key).is_none());
+    }
+    Ok(())
+}
+
+/// The image has just the records of a listing.
+fn expect_records(rt: &impl Abort, image: &CheckedImage<'_>, listing: &Listing) {
     expect_eq!(rt; image.config(), listing.config());
     expect!(rt; image.buckets() == listing.buckets());
     expect!(rt; image.len() == listing.len());
@@ -62,12 +73,28 @@ fn expect_records(
             expect_value(rt, image, &pair.key, pair.value.bytes());
         }
     }
-    for key in absent {
-        let key = Key::new(*key)?;
-        expect_eq!(rt; image.find(&key), None);
-        expect!(rt; image.find_bytes(&key).is_none());
-    }
-    Ok(())
+}
+
+/// The image of version 2 of a listing has just its records.
+fn expect_new(
+    rt: &(impl Abort + AllocGlobal),
+    listing: &Listing,
+    absent: &[&[u8]],
+) -> Result<(), Fail> {
+    let mut sink = Sink::new(rt.alloc(), usize::MAX, 0);
+    expect_eq!(rt; write_image(listing, &mut sink), Ok(()));
+    expect_listing(rt, sink.bytes.as_slice(), listing, absent)
+}
+
+/// The image of version 1 of a listing has just its records.
+fn expect_old(
+    rt: &(impl Abort + AllocGlobal),
+    listing: &Listing,
+    absent: &[&[u8]],
+) -> Result<(), Fail> {
+    let mut sink = Sink::new(rt.alloc(), usize::MAX, 0);
+    expect_eq!(rt; write_image_v1(listing, &mut sink), Ok(()));
+    expect_listing(rt, sink.bytes.as_slice(), listing, absent)
 }
 
 /// The images of both versions of a listing have just its records.
@@ -76,12 +103,8 @@ fn expect_both(
     listing: &Listing,
     absent: &[&[u8]],
 ) -> Result<(), Fail> {
-    let mut sink = Sink::new(rt.alloc(), usize::MAX, 0);
-    expect_eq!(rt; write_image(listing, &mut sink), Ok(()));
-    expect_listing(rt, sink.bytes.as_slice(), listing, absent)?;
-    let mut sink = Sink::new(rt.alloc(), usize::MAX, 0);
-    expect_eq!(rt; write_image_v1(listing, &mut sink), Ok(()));
-    expect_listing(rt, sink.bytes.as_slice(), listing, absent)
+    expect_new(rt, listing, absent)?;
+    expect_old(rt, listing, absent)
 }
 
 /// The images of both versions of these records, in a file of these settings.
@@ -156,23 +179,18 @@ fn longest_of_2(rt: &(impl Abort + AllocGlobal), records: &[Pair]) -> Result<(),
     let mut last = [7; 56];
     last[55] = 8;
     let listing = listing_of(rt.alloc(), [1, 24, 100, 1], 1, records)?;
-    let mut sink = Sink::new(rt.alloc(), usize::MAX, 0);
-    expect_eq!(rt; write_image(&listing, &mut sink), Ok(()));
-    let absent = [[7; 54].as_slice(), &last, &[8; 56]];
-    expect_listing(rt, sink.bytes.as_slice(), &listing, &absent)
+    expect_new(rt, &listing, &[&[7; 54], &last, &[8; 56]])
+}
+
+fn longest_of_1(rt: &(impl Abort + AllocGlobal), records: &[Pair]) -> Result<(), Fail> {
+    let absent: [&[u8]; 3] = [&[7; 28], &[7; 31], &[7; 56]];
+    expect_both_of(rt, [1, 14, 100, 1], 1, records, &absent)
 }
 
 /// The longest key and value of each version, a key of which it is the front, and keys that differ in the last byte.
 #[test]
 fn longest_records(rt: HostRuntime) -> Result<(), Fail> {
-    let absent: [&[u8]; 3] = [&[7; 28], &[7; 31], &[7; 56]];
-    expect_both_of(
-        &rt,
-        [1, 14, 100, 1],
-        1,
-        &two_records(rt.alloc(), &[7; 30], &[9; 40], &[7; 29])?,
-        &absent,
-    )?;
+    longest_of_1(&rt, &two_records(rt.alloc(), &[7; 30], &[9; 40], &[7; 29])?)?;
     longest_of_2(
         &rt,
         &two_records(rt.alloc(), &[7; 56], &[9; 112], &[7; 55])?,
@@ -220,7 +238,7 @@ fn expect_refused(
         let mut bytes = image.clone()?;
         set(&mut bytes, *at, *byte);
         let fault = checked(rt.alloc(), &bytes).err();
-        assert_eq!(rt; fault, Some(*want), "{at}");
+        expect_eq!(rt; (*at, fault), (*at, Some(*want)));
     }
     Ok(())
 }

@@ -17,9 +17,8 @@ pub(crate) fn fault_of(alloc: Global, bytes: &[u8]) -> Option<ImageFault> {
 pub(crate) fn expect_fault(rt: &impl Abort, alloc: Global, bytes: &[u8], want: ImageFault) {
     for most in [1, 7, 1024, 4095, usize::MAX] {
         let found = read_image(alloc, &mut reader_of(bytes, most)).err();
-        assert_eq!(rt; found, Some(want), "{most}");
         let counted = check_image(alloc, &mut reader_of(bytes, most)).err();
-        assert_eq!(rt; counted, Some(want), "{most}");
+        expect_eq!(rt; (most, found, counted), (most, Some(want), Some(want)));
     }
 }
 
@@ -73,7 +72,7 @@ fn expect_beginnings(rt: &impl Abort, alloc: Global, bytes: &[u8]) {
             ImageFault::Short
         };
         let found = fault_of(alloc, &bytes[..count.min(bytes.len())]);
-        assert_eq!(rt; found, Some(want), "{count}");
+        expect_eq!(rt; (count, found), (count, Some(want)));
         if [0, 3, 10, 1023, 1024, 4095].contains(&count) {
             expect_fault(rt, alloc, &bytes[..count.min(bytes.len())], want);
         }

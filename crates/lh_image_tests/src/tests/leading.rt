@@ -101,6 +101,11 @@ fn two_images(rt: HostRuntime) -> Result<(), Fail> {
     expect_two_images(&rt, alloc, &bytes)
 }
 
+/// The fault of the image that these bytes begin with, if it has one.
+fn leading_fault(rt: &impl AllocGlobal, mut bytes: &[u8]) -> Option<ImageFault> {
+    read_leading_image(rt.alloc(), &mut bytes).err()
+}
+
 /// Each row: a byte that is set, and the fault, whatever stands behind the image.
 fn expect_faults(
     rt: &(impl Abort + AllocGlobal),
@@ -111,9 +116,7 @@ fn expect_faults(
         for behind in [b"".as_slice(), b"\0", b"search 61\n"] {
             let mut bytes = joined(rt.alloc(), image, behind)?;
             set(&mut bytes, *at, *byte);
-            let mut input = bytes.as_slice();
-            let fault = read_leading_image(rt.alloc(), &mut input).err();
-            assert_eq!(rt; fault, Some(*want), "{at}");
+            expect_eq!(rt; (*at, leading_fault(rt, &bytes)), (*at, Some(*want)));
         }
     }
     Ok(())
@@ -162,9 +165,8 @@ fn expect_cut(rt: &(impl Abort + AllocGlobal), bytes: &[u8], page: usize) {
         } else {
             ImageFault::Short
         };
-        let mut cut = &bytes[..count.min(bytes.len())];
-        let fault = read_leading_image(rt.alloc(), &mut cut).err();
-        assert_eq!(rt; fault, Some(want), "{count}");
+        let fault = leading_fault(rt, &bytes[..count.min(bytes.len())]);
+        expect_eq!(rt; (count, fault), (count, Some(want)));
     }
 }
 

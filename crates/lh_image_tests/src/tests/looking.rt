@@ -46,16 +46,7 @@ fn expect_listing(
 ) -> Result<(), Fail> {
     let image = Image::open(bytes).ok().ok_or("open")?;
     expect_eq!(rt; image.version(), version);
-    expect_eq!(rt; image.config(), listing.config());
-    expect!(rt; image.buckets() == listing.buckets());
-    expect!(rt; image.len() == listing.len());
-    expect!(rt; image.is_empty() == (listing.len() == 0));
-    for bucket in 0..listing.buckets() {
-        for place in 0..listing.len_of(bucket) {
-            let pair = listing.pair_at(bucket, place);
-            expect_value(rt, &image, &pair.key, pair.value.bytes());
-        }
-    }
+    expect_records(rt, &image, listing);
     for key in absent {
         let key = Key::new(*key)?;
         expect_eq!(rt; image.find(&key), Ok(None));
@@ -64,18 +55,50 @@ fn expect_listing(
     Ok(())
 }
 
-/// The images of both versions of a listing have just its records.
-fn expect_both(
+/// The image has just the records of a listing.
+fn expect_records(rt: &impl Abort, image: &Image<'_>, listing: &Listing) {
+    expect_eq!(rt; image.config(), listing.config());
+    expect!(rt; image.buckets() == listing.buckets());
+    expect!(rt; image.len() == listing.len());
+    expect!(rt; image.is_empty() == (listing.len() == 0));
+    for bucket in 0..listing.buckets() {
+        for place in 0..listing.len_of(bucket) {
+            let pair = listing.pair_at(bucket, place);
+            expect_value(rt, image, &pair.key, pair.value.bytes());
+        }
+    }
+}
+
+/// The image of version 2 of a listing has just its records.
+fn expect_new(
     rt: &(impl Abort + AllocGlobal),
     listing: &Listing,
     absent: &[&[u8]],
 ) -> Result<(), Fail> {
     let mut sink = Sink::new(rt.alloc(), usize::MAX, 0);
     expect_eq!(rt; write_image(listing, &mut sink), Ok(()));
-    expect_listing(rt, sink.bytes.as_slice(), listing, Version::Two, absent)?;
+    expect_listing(rt, sink.bytes.as_slice(), listing, Version::Two, absent)
+}
+
+/// The image of version 1 of a listing has just its records.
+fn expect_old(
+    rt: &(impl Abort + AllocGlobal),
+    listing: &Listing,
+    absent: &[&[u8]],
+) -> Result<(), Fail> {
     let mut sink = Sink::new(rt.alloc(), usize::MAX, 0);
     expect_eq!(rt; write_image_v1(listing, &mut sink), Ok(()));
     expect_listing(rt, sink.bytes.as_slice(), listing, Version::One, absent)
+}
+
+/// The images of both versions of a listing have just its records.
+fn expect_both(
+    rt: &(impl Abort + AllocGlobal),
+    listing: &Listing,
+    absent: &[&[u8]],
+) -> Result<(), Fail> {
+    expect_new(rt, listing, absent)?;
+    expect_old(rt, listing, absent)
 }
 
 #[test]
@@ -135,10 +158,7 @@ fn longest_of_1(rt: &(impl Abort + AllocGlobal), records: &[Pair]) -> Result<(),
 
 fn longest_of_2(rt: &(impl Abort + AllocGlobal), records: &[Pair]) -> Result<(), Fail> {
     let listing = listing_of(rt.alloc(), [1, 24, 100, 1], 1, records)?;
-    let mut sink = Sink::new(rt.alloc(), usize::MAX, 0);
-    expect_eq!(rt; write_image(&listing, &mut sink), Ok(()));
-    let bytes = sink.bytes.as_slice();
-    expect_listing(rt, bytes, &listing, Version::Two, &[&[7; 54], &[8; 56]])
+    expect_new(rt, &listing, &[&[7; 54], &[8; 56]])
 }
 
 /// The longest key and value of each version, and keys that differ from them in the last byte.
@@ -351,16 +371,21 @@ fn falling_chains(rt: HostRuntime) -> Result<(), Fail> {
     expect_falling(&rt, &bytes, Err(ImageFault::Twice(29)))
 }
 
+/// No more than so many bytes are no image.
+fn expect_cut(rt: &impl Abort, bytes: &[u8], count: usize) {
+    let want = if count < 4 {
+        ImageFault::Magic
+    } else {
+        ImageFault::Short
+    };
+    let fault = Image::open(&bytes[..count.min(bytes.len())]).err();
+    expect_eq!(rt; (count, fault), (count, Some(want)));
+}
+
 /// Every length of the first two pages, and one byte more than all. The other pages aren't looked at.
 fn expect_lengths(rt: &impl Abort, bytes: &mut Vec<u8>, page: usize) -> Result<(), Fail> {
     for count in 0..page.saturating_mul(2) {
-        let want = if count < 4 {
-            ImageFault::Magic
-        } else {
-            ImageFault::Short
-        };
-        let cut = &bytes[..count.min(bytes.len())];
-        assert_eq!(rt; Image::open(cut).err(), Some(want), "{count}");
+        expect_cut(rt, bytes, count);
     }
     expect!(rt; Image::open(bytes).is_ok());
     bytes.push(0)?;
@@ -381,9 +406,8 @@ fn expect_headers(
     rows: &[(usize, u8, ImageFault)],
 ) -> Result<(), Fail> {
     for (at, byte, want) in rows {
-        let mut bytes = bytes.clone()?;
-        set(&mut bytes, *at, *byte);
-        assert_eq!(rt; Image::open(&bytes).err(), Some(*want), "{at}");
+        let fault = Image::open(&forged(bytes, *at, *byte)?).err();
+        expect_eq!(rt; (*at, fault), (*at, Some(*want)));
     }
     Ok(())
 }

@@ -51,10 +51,9 @@ fn expect_shown(
 }
 
 fn expect_three_buckets(rt: &impl Abort, alloc: Global, listing: &Listing) -> Result<(), Fail> {
+    let config = listing.config();
     expect_eq!(rt; listing.buckets(), 3);
-    expect_eq!(rt; listing.config().capacity(), 2);
-    expect_eq!(rt; listing.config().load(), 100);
-    expect_eq!(rt; listing.config().max(), 65536);
+    expect_eq!(rt; (config.capacity(), config.load(), config.max()), (2, 100, 65536));
     for (bucket, records) in [(0, "a1e5"), (1, "b2d4"), (2, "c3")] {
         expect_shown(rt, alloc, listing, bucket, records.as_bytes())?;
     }
@@ -67,18 +66,55 @@ fn reads_records_by_bucket(rt: HostRuntime) -> Result<(), Fail> {
     expect_three_buckets(&rt, rt.alloc(), &read_again(rt.alloc(), &bytes)?)
 }
 
+/// A reader that gives so many bytes a read, and fails at one of them.
+#[derive(Clone, Copy)]
+pub(crate) struct Failing {
+    pub most: usize,
+    pub fails_at: usize,
+}
+
+/// Reading an image has this fault, and so many reads are made.
+pub(crate) fn expect_reads(
+    rt: &impl Abort,
+    alloc: Global,
+    bytes: &[u8],
+    failing: Failing,
+    fault: Option<ImageFault>,
+    reads: usize,
+) {
+    let mut reader = reader_of(bytes, failing.most);
+    reader.fails_at = failing.fails_at;
+    expect_eq!(rt; read_image(alloc, &mut reader).err(), fault);
+    expect_eq!(rt; reader.reads, reads);
+}
+
 #[test]
 fn a_failed_read_is_never_tried_again(rt: HostRuntime) -> Result<(), Fail> {
     let bytes = three_buckets_image(rt.alloc())?;
     for fails_at in 0..6 {
-        let mut reader = reader_of(&bytes, 1024);
-        reader.fails_at = fails_at;
-        let fault = read_image(rt.alloc(), &mut reader).err();
         let due = (fails_at < 5).then_some(ImageFault::ReadFault);
-        expect_eq!(rt; fault, due);
-        expect_eq!(rt; reader.reads, 5.min(fails_at + 1));
+        let failing = Failing {
+            most: 1024,
+            fails_at,
+        };
+        expect_reads(&rt, rt.alloc(), &bytes, failing, due, 5.min(fails_at + 1));
     }
     Ok(())
+}
+
+fn expect_header_fault(rt: &impl Abort, alloc: Global, bytes: &[u8], want: ImageFault) {
+    for fails_at in 0..3 {
+        let due = if fails_at == 0 {
+            ImageFault::ReadFault
+        } else {
+            want
+        };
+        let failing = Failing {
+            most: 1024,
+            fails_at,
+        };
+        expect_reads(rt, alloc, bytes, failing, Some(due), 1);
+    }
 }
 
 /// The first page decides the faults of the header, whatever comes of the reads behind it.
@@ -91,18 +127,7 @@ fn faults_of_the_header_come_before_a_failed_read(rt: HostRuntime) -> Result<(),
     ] {
         let mut bytes = three_buckets_image(rt.alloc())?;
         set(&mut bytes, at, byte);
-        for fails_at in 0..3 {
-            let mut reader = reader_of(&bytes, 1024);
-            reader.fails_at = fails_at;
-            let fault = read_image(rt.alloc(), &mut reader).err();
-            let due = if fails_at == 0 {
-                ImageFault::ReadFault
-            } else {
-                want
-            };
-            expect_eq!(rt; fault, Some(due));
-            expect_eq!(rt; reader.reads, 1);
-        }
+        expect_header_fault(&rt, rt.alloc(), &bytes, want);
     }
     Ok(())
 }

@@ -1,14 +1,17 @@
 //! Images of version 2: byte for byte, through readers that give little or fail, and counted.
 use crate::tests::building::{
-    Part, empty, expect_same, image_of, listing_of, numbered, pair, read_again, six_pages,
+    Part, empty, expect_same, image_of, letters, listing_of, numbered, pair, read_again, six_pages,
     three_buckets, two_pages,
 };
 use crate::tests::census::expect_census;
 use crate::tests::pages::{VERSION_2, falling_chain, set, two_buckets_exchanged};
+use crate::tests::reading::{Failing, expect_reads};
 use crate::tests::streams::{Sink, reader_of};
+use crate::tests::writing::expect_heads_of_six_pages;
 use lh_bucket::Listing;
 use lh_expect::{expect, expect_eq};
 use lh_image::*;
+use lh_page::Pair;
 use std::alloc::{AllocGlobal, Global};
 use std::process::Abort;
 use std::test::Fail;
@@ -97,23 +100,10 @@ fn worked_listings_are_these_bytes(rt: HostRuntime) -> Result<(), Fail> {
 
 #[test]
 fn overflow_pages_stand_by_bucket_and_place(rt: HostRuntime) -> Result<(), Fail> {
+    let listing = six_pages(rt.alloc())?;
     let mut sink = Sink::new(rt.alloc(), usize::MAX, 0);
-    expect_eq!(rt; write_image(&six_pages(rt.alloc())?, &mut sink), Ok(()));
-    let image = sink.bytes.as_slice();
-    expect_eq!(rt; image.len(), 7 * 4096);
-    // kind, used, level, reserved, bucket, next
-    let heads: [&[u8]; 6] = [
-        b"\x01\x01\x02\0\0\0\0\0\x04\0\0\0",
-        b"\x01\x01\x01\0\x01\0\0\0\x06\0\0\0",
-        b"\x01\0\x02\0\x02\0\0\0\0\0\0\0",
-        b"\x02\x01\x02\0\0\0\0\0\x05\0\0\0",
-        b"\x02\x01\x02\0\0\0\0\0\0\0\0\0",
-        b"\x02\x01\x01\0\x01\0\0\0\0\0\0\0",
-    ];
-    for (place, head) in heads.iter().enumerate() {
-        let start = 4096 + 4096 * place;
-        expect_eq!(rt; image.get(start..start + 12), Some(*head));
-    }
+    expect_eq!(rt; write_image(&listing, &mut sink), Ok(()));
+    expect_heads_of_six_pages(&rt, &sink.bytes, 4096);
     Ok(())
 }
 
@@ -148,32 +138,33 @@ fn the_largest_page_is_written(rt: HostRuntime) -> Result<(), Fail> {
     expect_largest(&rt, rt.alloc(), &sink.bytes, &listing)
 }
 
-#[test]
-fn a_write_or_flush_that_fails_is_told(rt: HostRuntime) -> Result<(), Fail> {
-    let listing = two_pages(rt.alloc())?;
+fn expect_failing_calls(rt: &impl Abort, alloc: Global, listing: &Listing) {
     // Six writes of 2,048 bytes, then the flush.
     for failing in 1..8_usize {
-        let mut sink = Sink::new(rt.alloc(), 2048, failing);
+        let mut sink = Sink::new(alloc, 2048, failing);
         expect_eq!(rt;
-            write_image(&listing, &mut sink),
+            write_image(listing, &mut sink),
             Err(WriteImageFault::WriteFault)
         );
         expect_eq!(rt; sink.calls, failing);
         expect_eq!(rt; sink.bytes.len(), 2048 * (failing - 1));
     }
-    let mut sink = Sink::new(rt.alloc(), 2048, 8);
-    expect_eq!(rt; write_image(&listing, &mut sink), Ok(()));
-    Ok(())
+    let mut sink = Sink::new(alloc, 2048, 8);
+    expect_eq!(rt; write_image(listing, &mut sink), Ok(()));
 }
 
 #[test]
-fn reads_through_any_reader(rt: HostRuntime) -> Result<(), Fail> {
-    let alloc = rt.alloc();
-    let bytes = three_buckets_image_2(alloc)?;
+fn a_write_or_flush_that_fails_is_told(rt: HostRuntime) -> Result<(), Fail> {
+    expect_failing_calls(&rt, rt.alloc(), &two_pages(rt.alloc())?);
+    Ok(())
+}
+
+/// An image is read as a listing, however few bytes a read gives.
+fn reads_as(rt: &impl Abort, alloc: Global, bytes: &[u8], wanted: &Listing) -> Result<(), Fail> {
     for most in [1, 7, 1024, 4095, 4096] {
-        let mut reader = reader_of(&bytes, most);
+        let mut reader = reader_of(bytes, most);
         let listing = read_image(alloc, &mut reader)?;
-        expect_same(&rt, &listing, &three_buckets(alloc)?);
+        expect_same(rt, &listing, wanted);
         expect!(rt; reader.bytes.is_empty());
         expect!(rt; reader.longest <= 4096);
     }
@@ -181,18 +172,29 @@ fn reads_through_any_reader(rt: HostRuntime) -> Result<(), Fail> {
 }
 
 #[test]
+fn reads_through_any_reader(rt: HostRuntime) -> Result<(), Fail> {
+    let wanted = three_buckets(rt.alloc())?;
+    reads_as(
+        &rt,
+        rt.alloc(),
+        &three_buckets_image_2(rt.alloc())?,
+        &wanted,
+    )
+}
+
+/// The bytes are an image of these records in two buckets.
+fn expect_read(rt: &impl Abort, alloc: Global, bytes: &[u8], records: &[Pair]) -> Result<(), Fail> {
+    let wanted = listing_of(alloc, [2, 1, 100, 2], 2, records)?;
+    expect_same(rt, &read_again(alloc, bytes)?, &wanted);
+    Ok(())
+}
+
+#[test]
 fn reads_overflow_pages_in_any_order(rt: HostRuntime) -> Result<(), Fail> {
     let alloc = rt.alloc();
-    let records = [
-        pair(b"a", b"1")?,
-        pair(b"b", b"2")?,
-        pair(b"c", b"3")?,
-        pair(b"d", b"4")?,
-    ];
-    let wanted = listing_of(alloc, [2, 1, 100, 2], 2, &records)?;
+    let records = letters(alloc, b"a1b2c3d4")?;
     let bytes = two_buckets_exchanged(alloc, &VERSION_2)?;
-    expect_same(&rt, &read_again(alloc, &bytes)?, &wanted);
-    Ok(())
+    expect_read(&rt, alloc, &bytes, &records)
 }
 
 /// The first page is read in two, of which the first part tells that there is a second one.
@@ -200,14 +202,29 @@ fn reads_overflow_pages_in_any_order(rt: HostRuntime) -> Result<(), Fail> {
 fn a_failed_read_is_never_tried_again(rt: HostRuntime) -> Result<(), Fail> {
     let bytes = three_buckets_image_2(rt.alloc())?;
     for fails_at in 0..7 {
-        let mut reader = reader_of(&bytes, 4096);
-        reader.fails_at = fails_at;
-        let fault = read_image(rt.alloc(), &mut reader).err();
         let due = (fails_at < 6).then_some(ImageFault::ReadFault);
-        expect_eq!(rt; fault, due);
-        expect_eq!(rt; reader.reads, 6.min(fails_at + 1));
+        let failing = Failing {
+            most: 4096,
+            fails_at,
+        };
+        expect_reads(&rt, rt.alloc(), &bytes, failing, due, 6.min(fails_at + 1));
     }
     Ok(())
+}
+
+fn expect_header_fault(rt: &impl Abort, alloc: Global, bytes: &[u8], want: ImageFault) {
+    for fails_at in 0..4 {
+        let due = if fails_at < 2 {
+            ImageFault::ReadFault
+        } else {
+            want
+        };
+        let failing = Failing {
+            most: 4096,
+            fails_at,
+        };
+        expect_reads(rt, alloc, bytes, failing, Some(due), 2.min(fails_at + 1));
+    }
 }
 
 /// The first page decides the faults of the header, whatever comes of the reads after it.
@@ -219,18 +236,7 @@ fn faults_of_the_header_come_before_a_failed_read(rt: HostRuntime) -> Result<(),
     ] {
         let mut bytes = three_buckets_image_2(rt.alloc())?;
         set(&mut bytes, at, byte);
-        for fails_at in 0..4 {
-            let mut reader = reader_of(&bytes, 4096);
-            reader.fails_at = fails_at;
-            let fault = read_image(rt.alloc(), &mut reader).err();
-            let due = if fails_at < 2 {
-                ImageFault::ReadFault
-            } else {
-                want
-            };
-            expect_eq!(rt; fault, Some(due));
-            expect_eq!(rt; reader.reads, 2.min(fails_at + 1));
-        }
+        expect_header_fault(&rt, rt.alloc(), &bytes, want);
     }
     Ok(())
 }

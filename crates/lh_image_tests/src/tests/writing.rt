@@ -6,7 +6,7 @@ use crate::tests::streams::Sink;
 use lh_bucket::Listing;
 use lh_expect::{expect, expect_eq};
 use lh_image::*;
-use std::alloc::AllocGlobal;
+use std::alloc::{AllocGlobal, Global};
 use std::process::Abort;
 use std::test::Fail;
 
@@ -43,16 +43,11 @@ fn an_empty_file_is_two_pages(rt: HostRuntime) -> Result<(), Fail> {
     is_written_as(&rt, &listing, &empty_image(rt.alloc())?)
 }
 
-#[test]
-fn overflow_pages_stand_by_bucket_and_place(rt: HostRuntime) -> Result<(), Fail> {
-    let alloc = rt.alloc();
-    let listing = six_pages(alloc)?;
-    let mut sink = Sink::new(alloc, usize::MAX, 0);
-    expect_eq!(rt; write_image_v1(&listing, &mut sink), Ok(()));
-    let image = sink.bytes.as_slice();
-    expect_eq!(rt; image.len(), 7 * 1024);
+/// The image of [`six_pages`] has pages of so many bytes, each with its head.
+pub(crate) fn expect_heads_of_six_pages(rt: &impl Abort, image: &[u8], page: usize) {
+    expect_eq!(rt; image.len(), page.saturating_mul(7));
     // kind, used, level, reserved, bucket, next
-    let heads: [&[u8]; 6] = [
+    let heads = [
         b"\x01\x01\x02\0\0\0\0\0\x04\0\0\0",
         b"\x01\x01\x01\0\x01\0\0\0\x06\0\0\0",
         b"\x01\0\x02\0\x02\0\0\0\0\0\0\0",
@@ -61,32 +56,42 @@ fn overflow_pages_stand_by_bucket_and_place(rt: HostRuntime) -> Result<(), Fail>
         b"\x02\x01\x01\0\x01\0\0\0\0\0\0\0",
     ];
     for (place, head) in heads.iter().enumerate() {
-        let start = 1024 + 1024 * place;
-        expect_eq!(rt; image.get(start..start + 12), Some(*head));
+        let start = page.saturating_mul(place + 1);
+        expect_eq!(rt; image.get(start..start.saturating_add(12)), Some(head.as_slice()));
     }
-    Ok(())
 }
 
 #[test]
-fn a_write_or_flush_that_fails_is_told(rt: HostRuntime) -> Result<(), Fail> {
-    let alloc = rt.alloc();
-    let listing = two_pages(alloc)?;
-    let image = two_pages_image(alloc)?;
+fn overflow_pages_stand_by_bucket_and_place(rt: HostRuntime) -> Result<(), Fail> {
+    let listing = six_pages(rt.alloc())?;
+    let mut sink = Sink::new(rt.alloc(), usize::MAX, 0);
+    expect_eq!(rt; write_image_v1(&listing, &mut sink), Ok(()));
+    expect_heads_of_six_pages(&rt, &sink.bytes, 1024);
+    Ok(())
+}
+
+fn expect_failing_calls(rt: &impl Abort, alloc: Global, listing: &Listing, image: &[u8]) {
     // Six writes of 512 bytes, then the flush.
     for failing in 1..8_usize {
         let mut sink = Sink::new(alloc, 512, failing);
         expect_eq!(rt;
-            write_image_v1(&listing, &mut sink),
+            write_image_v1(listing, &mut sink),
             Err(WriteImageFault::WriteFault)
         );
         expect_eq!(rt; sink.calls, failing);
         expect_eq!(rt;
-            image.as_slice().get(..512 * (failing - 1)),
+            image.get(..512 * (failing - 1)),
             Some(sink.bytes.as_slice())
         );
     }
     let mut sink = Sink::new(alloc, 512, 8);
-    expect_eq!(rt; write_image_v1(&listing, &mut sink), Ok(()));
+    expect_eq!(rt; write_image_v1(listing, &mut sink), Ok(()));
+}
+
+#[test]
+fn a_write_or_flush_that_fails_is_told(rt: HostRuntime) -> Result<(), Fail> {
+    let listing = two_pages(rt.alloc())?;
+    expect_failing_calls(&rt, rt.alloc(), &listing, &two_pages_image(rt.alloc())?);
     Ok(())
 }
 
