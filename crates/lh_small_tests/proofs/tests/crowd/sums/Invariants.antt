@@ -1,0 +1,8 @@
+use Rattle.lh_file.specs.FileState.{IsOf}
+use Rattle.lh_small_tests.proofs.tests.crowd.sums.Given as goal
+
+abbrev pub invariant-loop-number : goal.invariant-loop-number
+invariant-loop-number g l = IsOf l.file.state l.hand
+
+abbrev pub invariant-loop-place : goal.invariant-loop-place
+invariant-loop-place g l = IsOf l.file.state l.hand
