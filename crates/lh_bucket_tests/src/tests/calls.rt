@@ -8,6 +8,7 @@ use lh_bucket::{Answer, Bucket, Call, Memory, Reply, Verdict};
 use lh_expect::expect_eq;
 use lh_page::{Key, Pair, Value};
 use std::alloc::Global;
+use std::process::Abort;
 use std::test::Fail;
 
 pub(super) fn pair(key: &[u8], value: &[u8]) -> Result<Pair, Fail> {
@@ -48,6 +49,20 @@ pub(super) fn reply_of<B: Bucket>(bucket: &mut B, call: Call) -> Result<Reply, F
     Ok(answer.ok_or("not the bucket")?.reply())
 }
 
+/// Calls at a bucket of level 0, each with the reply that is due.
+pub(super) fn expect_replies<B: Bucket>(
+    rt: &impl Abort,
+    bucket: &mut B,
+    rows: &[(Call, Reply)],
+) -> Result<(), Fail>
+    ensures { (B.seen bucket.new).head ≡ (B.seen bucket.old).head }
+{
+    for (call, reply) in rows {
+        expect_eq!(rt; reply_of(bucket, *call)?, *reply);
+    }
+    Ok(())
+}
+
 /// Inserts keys of one byte each, with their places as values, at level `k`.
 pub(super) fn fill<B: Bucket>(bucket: &mut B, keys: &[u8], k: u8) -> Result<(), Fail>
     requires { k ≤ 16 }
@@ -73,13 +88,13 @@ pub(super) fn keys_of<B: Bucket>(alloc: Global, bucket: &B) -> Result<Vec<u8>, F
 #[test]
 fn calls_are_of_kinds(rt: HostRuntime) -> Result<(), Fail> {
     let record = pair(b"a", b"1")?;
-    let search = Call::Search(record.key);
-    let insert = Call::Insert(record.key, record.value);
-    let delete = Call::Delete(record.key);
-    let replace = Call::Replace(record.key, record.value);
-    expect_eq!(rt; (search.is_search(), search.is_insert()), (true, false));
-    expect_eq!(rt; (insert.is_search(), insert.is_insert()), (false, true));
-    expect_eq!(rt; (delete.is_search(), delete.is_insert()), (false, false));
-    expect_eq!(rt; (replace.is_search(), replace.is_insert()), (false, false));
+    for (call, is_search, is_insert) in [
+        (Call::Search(record.key), true, false),
+        (Call::Insert(record.key, record.value), false, true),
+        (Call::Delete(record.key), false, false),
+        (Call::Replace(record.key, record.value), false, false),
+    ] {
+        expect_eq!(rt; (call.is_search(), call.is_insert()), (is_search, is_insert));
+    }
     Ok(())
 }

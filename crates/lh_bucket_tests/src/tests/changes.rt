@@ -121,14 +121,17 @@ fn home_here(bucket: &PagedBucket, code: u64) -> Option<Home> {
     }
 }
 
-#[test]
-fn a_home_names_its_bucket(rt: HostRuntime) -> Result<(), Fail> {
-    let bucket = PagedBucket::make(rt.alloc(), 1, 2, 0, Some(0))?;
+fn expect_home(rt: &impl Abort, bucket: &PagedBucket) -> Result<(), Fail> {
     let code = fnv1a(b"a");
-    let home = home_here(&bucket, code).ok_or("not the bucket")?;
+    let home = home_here(bucket, code).ok_or("not the bucket")?;
     expect_eq!(rt; home.code(), code);
     expect_eq!(rt; (home.bucket(), home.level(), home.initial()), (0, 0, 1));
     Ok(())
+}
+
+#[test]
+fn a_home_names_its_bucket(rt: HostRuntime) -> Result<(), Fail> {
+    expect_home(&rt, &PagedBucket::make(rt.alloc(), 1, 2, 0, Some(0))?)
 }
 
 #[test]

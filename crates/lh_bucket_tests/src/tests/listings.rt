@@ -90,13 +90,8 @@ fn expect_empty(rt: &impl Abort, alloc: Global, config: Config) -> Result<(), Fa
     Ok(())
 }
 
-#[test]
-fn listings_give_their_lists(rt: HostRuntime) -> Result<(), Fail> {
-    let alloc = rt.alloc();
-    let config = Config::new(2, 14, 100, 4).ok().ok_or("config")?;
-    expect_empty(&rt, alloc, config)?;
+fn expect_three_records(rt: &impl Abort, config: Config, listing: &Listing) -> Result<(), Fail> {
     let due = pair(b"a", b"1")?;
-    let listing = Listing::new(alloc, config, 2, lists_of(alloc, &[b"ca", b"b"])?)?;
     expect_eq!(rt; listing.config(), config);
     expect_eq!(rt; listing.buckets(), 2);
     expect_eq!(rt; Some(listing.root()), Root::new(2, 2));
@@ -104,6 +99,15 @@ fn listings_give_their_lists(rt: HostRuntime) -> Result<(), Fail> {
     expect_eq!(rt; listing.len_of(0), 2);
     expect_eq!(rt; listing.pair_at(0, 1), due);
     Ok(())
+}
+
+#[test]
+fn listings_give_their_lists(rt: HostRuntime) -> Result<(), Fail> {
+    let alloc = rt.alloc();
+    let config = Config::new(2, 14, 100, 4).ok().ok_or("config")?;
+    expect_empty(&rt, alloc, config)?;
+    let listing = Listing::new(alloc, config, 2, lists_of(alloc, &[b"ca", b"b"])?)?;
+    expect_three_records(&rt, config, &listing)
 }
 
 /// Whether each record has room.
@@ -183,6 +187,14 @@ fn expect_twice(rt: &impl Abort, alloc: Global, config: Config) -> Result<(), Fa
     Ok(())
 }
 
+fn expect_hundred(rt: &impl Abort, alloc: Global, listing: &Listing) -> Result<(), Fail> {
+    expect_eq!(rt; listing.len(), 100);
+    expect_eq!(rt; listing.buckets(), 1);
+    let bucket: PagedBucket = bucket_of(alloc, listing, 0)?;
+    expect_eq!(rt; bucket.len(), 100);
+    Ok(())
+}
+
 /// Lists that are looked through by a set, and a bucket with more records than have marks, a page for each.
 #[test]
 fn long_lists_are_listings(rt: HostRuntime) -> Result<(), Fail> {
@@ -190,9 +202,5 @@ fn long_lists_are_listings(rt: HostRuntime) -> Result<(), Fail> {
     let config = Config::new(1, 1, 100, 1).ok().ok_or("config")?;
     expect_twice(&rt, alloc, config)?;
     let listing = Listing::new(alloc, config, 1, long_list(alloc, 99)?)?;
-    expect_eq!(rt; listing.len(), 100);
-    expect_eq!(rt; listing.buckets(), 1);
-    let bucket: PagedBucket = bucket_of(alloc, &listing, 0)?;
-    expect_eq!(rt; bucket.len(), 100);
-    Ok(())
+    expect_hundred(&rt, alloc, &listing)
 }

@@ -126,6 +126,15 @@ fn listed_again(
     }
 }
 
+/// How many buckets and records a listing without a record has, asked for once more where memory was refused.
+fn empty_again(alloc: Global, config: Config) -> Result<(u32, u64), Memory> {
+    let empty = match Listing::empty(alloc, config) {
+        Ok(listing) => listing,
+        Err(Memory) => Listing::empty(alloc, config)?,
+    };
+    Ok((empty.buckets(), empty.len()))
+}
+
 #[test]
 fn refused_growth_of_a_listing_is_told(rt: HostRuntime) -> Result<(), Fail> {
     let config = Config::new(1, 14, 100, 4).ok().ok_or("config")?;
@@ -138,10 +147,6 @@ fn refused_growth_of_a_listing_is_told(rt: HostRuntime) -> Result<(), Fail> {
     expect_eq!(rt; listed_again(alloc, config, &[a, c], &[b]), Ok(3));
     expect_eq!(rt; listed_again(alloc, config, &[a, c, a], &[b]), twice);
     expect_eq!(rt; listed_again(alloc, config, &[a, c], &[b, a]), misplaced);
-    let empty = match Listing::empty(alloc, config) {
-        Ok(listing) => listing,
-        Err(Memory) => Listing::empty(alloc, config)?,
-    };
-    expect_eq!(rt; (empty.buckets(), empty.len()), (1, 0));
+    expect_eq!(rt; empty_again(alloc, config)?, (1, 0));
     Ok(())
 }

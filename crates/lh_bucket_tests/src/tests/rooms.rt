@@ -98,10 +98,70 @@ fn a_room_is_for_key_and_value_together(rt: HostRuntime) -> Result<(), Fail> {
     for (key, value, fits) in rows {
         expect_eq!(rt; has_room::<32>(key, value)?, fits);
     }
-    expect!(rt; has_room::<167>(56, 111)?);
-    expect!(rt; !has_room::<167>(56, 112)?);
-    expect!(rt; has_room::<168>(56, 112)?);
+    let rooms = (
+        has_room::<167>(56, 111)?,
+        has_room::<167>(56, 112)?,
+        has_room::<168>(56, 112)?,
+    );
+    expect_eq!(rt; rooms, (true, false, true));
     Ok(())
+}
+
+/// Inserts records, each of which is new, and the bucket has just these then.
+fn fill<const ROOM: usize>(
+    rt: &impl Abort,
+    alloc: Global,
+    bucket: &mut SizedBucket<ROOM>,
+    records: &[Pair],
+) -> Result<(), Fail>
+    ensures { bucket.new.head ≡ bucket.old.head }
+{
+    insert_all(rt, bucket, records, ChangeReply::Inserted)?;
+    expect_records(rt, alloc, bucket, records)
+}
+
+/// Gives keys values that fit beside them, and the bucket has these records then.
+fn replace<const ROOM: usize>(
+    rt: &impl Abort,
+    alloc: Global,
+    bucket: &mut SizedBucket<ROOM>,
+    records: &[Pair],
+    due: &[Pair],
+) -> Result<(), Fail>
+    ensures { bucket.new.head ≡ bucket.old.head }
+{
+    replace_all(rt, bucket, records)?;
+    expect_records(rt, alloc, bucket, due)
+}
+
+/// Deletes the record of a key, and the bucket has these records then.
+fn delete<const ROOM: usize>(
+    rt: &impl Abort,
+    alloc: Global,
+    bucket: &mut SizedBucket<ROOM>,
+    key: &Key,
+    due: &[Pair],
+) -> Result<(), Fail>
+    ensures { bucket.new.head ≡ bucket.old.head }
+{
+    expect_eq!(rt; served(bucket, Change::Delete(key))?, ChangeReply::Deleted);
+    expect_records(rt, alloc, bucket, due)
+}
+
+/// Splits bucket 0, and the two buckets have these records then.
+fn split<const ROOM: usize>(
+    rt: &impl Abort,
+    alloc: Global,
+    old: &mut SizedBucket<ROOM>,
+    new: &mut SizedBucket<ROOM>,
+    stay: &[Pair],
+    gone: &[Pair],
+) -> Result<(), Fail>
+    requires { CanSplit old.old.head new.old.head }
+{
+    old.split_into(new)?;
+    expect_records(rt, alloc, old, stay)?;
+    expect_records(rt, alloc, new, gone)
 }
 
 /// Records of 32 bytes, and of fewer. By the sum of their bytes, `a` and `long` stay where bucket 0 is split, and the
@@ -118,16 +178,18 @@ fn change_and_split(
     let half = pair(&[b'h'; 16], &[b'w'; 16])?;
     let (b, empty_b) = (pair(b"b", &[b'v'; 31])?, pair(b"b", b"")?);
     let (a, full_a) = (pair(b"a", b"")?, pair(b"a", &[b'x'; 31])?);
-    insert_all(rt, old, &[long, b, half, a], ChangeReply::Inserted)?;
+    fill(rt, alloc, old, &[long, b, half, a])?;
     insert_all(rt, old, &[full_a], ChangeReply::Exists)?;
     expect_records(rt, alloc, old, &[long, b, half, a])?;
-    replace_all(rt, old, &[full_a, empty_b])?;
-    expect_records(rt, alloc, old, &[long, empty_b, half, full_a])?;
-    expect_eq!(rt; served(old, Change::Delete(&long.key))?, ChangeReply::Deleted);
-    expect_records(rt, alloc, old, &[full_a, empty_b, half])?;
-    old.split_into(new)?;
-    expect_records(rt, alloc, old, &[full_a])?;
-    expect_records(rt, alloc, new, &[empty_b, half])
+    replace(
+        rt,
+        alloc,
+        old,
+        &[full_a, empty_b],
+        &[long, empty_b, half, full_a],
+    )?;
+    delete(rt, alloc, old, &long.key, &[full_a, empty_b, half])?;
+    split(rt, alloc, old, new, &[full_a], &[empty_b, half])
 }
 
 #[test]
@@ -154,14 +216,16 @@ fn change_and_split_small(
         pair(b"d", b"")?,
     );
     let (other_a, empty_c, full_d) = (pair(b"a", b"9")?, pair(b"c", b"")?, pair(b"d", b"4")?);
-    insert_all(rt, old, &[a, b, c, d], ChangeReply::Inserted)?;
-    replace_all(rt, old, &[other_a, empty_c, full_d])?;
-    expect_records(rt, alloc, old, &[other_a, b, empty_c, full_d])?;
-    expect_eq!(rt; served(old, Change::Delete(&b.key))?, ChangeReply::Deleted);
-    expect_records(rt, alloc, old, &[other_a, full_d, empty_c])?;
-    old.split_into(new)?;
-    expect_records(rt, alloc, old, &[other_a, empty_c])?;
-    expect_records(rt, alloc, new, &[full_d])
+    fill(rt, alloc, old, &[a, b, c, d])?;
+    replace(
+        rt,
+        alloc,
+        old,
+        &[other_a, empty_c, full_d],
+        &[other_a, b, empty_c, full_d],
+    )?;
+    delete(rt, alloc, old, &b.key, &[other_a, full_d, empty_c])?;
+    split(rt, alloc, old, new, &[other_a, empty_c], &[full_d])
 }
 
 #[test]
@@ -190,14 +254,28 @@ fn the_widest_room_takes_the_longest_record(rt: HostRuntime) -> Result<(), Fail>
     )
 }
 
+/// The first bucket of a file of two, at level 0, with these records.
+fn expect_filled(
+    rt: &impl Abort,
+    alloc: Global,
+    bucket: &SizedBucket<2>,
+    records: &[Pair],
+) -> Result<(), Fail> {
+    expect_eq!(rt; (bucket.number(), bucket.initial()), (0, 2));
+    expect_eq!(rt; (bucket.capacity(), bucket.level(), bucket.len()), (14, Some(0), 2));
+    expect_records(rt, alloc, bucket, records)
+}
+
 #[test]
 fn a_small_bucket_is_filled_with_a_list(rt: HostRuntime) -> Result<(), Fail> {
     let alloc = rt.alloc();
     let config = Config::new(2, 14, 100, 4).ok().ok_or("config")?;
     let listing = Listing::new(alloc, config, 2, lists_of(alloc, &[b"ca", b"b"])?)?;
     expect!(rt; !all_fit::<1>(listing.pairs_of(0)));
-    let bucket: SizedBucket<2> = bucket_of(alloc, &listing, 0)?;
-    expect_eq!(rt; (bucket.number(), bucket.initial()), (0, 2));
-    expect_eq!(rt; (bucket.capacity(), bucket.level(), bucket.len()), (14, Some(0), 2));
-    expect_records(&rt, alloc, &bucket, listing.pairs_of(0))
+    expect_filled(
+        &rt,
+        alloc,
+        &bucket_of(alloc, &listing, 0)?,
+        listing.pairs_of(0),
+    )
 }
