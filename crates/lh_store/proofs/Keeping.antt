@@ -44,24 +44,23 @@ kept_none : (recording : Bool) (line : ActLine) → recording ≡ false → kept
 kept_none false line is = refl
 kept_none true line is = absurd (false≢true (sym is))
 
-module _ (traced flag is_named : Bool) (name file : FileState) (old new : HandState)
-    (s : IsSession traced flag is_named name file old) (of : IsOf file new) where
+module _ (traced is_named : Bool) (name file : FileState) (old new : HandState)
+    (s : IsSession traced is_named name file old) (of : IsOf file new) where
   -- A hand that knows more is still a session's.
-  pub idle_keeps : KnowsMore old new → IsSession traced flag is_named name file new
+  pub idle_keeps : KnowsMore old new → IsSession traced is_named name file new
   idle_keeps k = record {
     of = of;
     right = ap (λ v. v.has_right) k.view ∙ s.right;
     recording = k.recording ∙ s.recording;
     acts = k.acts ∙ s.acts;
     own = λ t. subst NoneOutside (sym k.entries) (s.own t);
-    flag_is = s.flag_is;
     named = s.named;
     listed = s.listed;
   }
 
   -- So is one that has made a call.
   served_keeps : (call : Call) (reply : Reply) → HasServed old call reply new →
-      (traced ≡ true → NoneOutside new.entries) → IsSession traced flag is_named name file new
+      (traced ≡ true → NoneOutside new.entries) → IsSession traced is_named name file new
   served_keeps call reply h own = record {
     of = of;
     right = ap (λ v. v.has_right) h.view ∙ s.right;
@@ -71,30 +70,29 @@ module _ (traced flag is_named : Bool) (name file : FileState) (old new : HandSt
         ∙ ap (λ acts. acts ++ kept_of old.recording (record { stamp = h.stamp; call = call; reply = reply })) s.acts
         ∙ kept_none old.recording (record { stamp = h.stamp; call = call; reply = reply }) s.recording;
     own = own;
-    flag_is = s.flag_is;
     named = s.named;
     listed = s.listed;
   }
 
   made_keeps : (call : Call) (reply : Reply) → HasServed old call reply new →
-      (traced ≡ true → HasEntered false old call reply new) → IsSession traced flag is_named name file new
+      (traced ≡ true → HasEntered false old call reply new) → IsSession traced is_named name file new
   made_keeps call reply h entered = served_keeps call reply h (λ t.
       let e = entered t in
       subst NoneOutside (sym e.2.1)
       (each_snoc (λ (a : Entry). a.outside ≡ false) old.entries (entry false e.0 call reply e.2.0) (s.own t) refl))
 
   met_keeps : (call : Call) (reply : Reply) (was : Option (List ℕ)) → HasServed old call reply new →
-      (traced ≡ true → HasActedOn old call reply was new) → IsSession traced flag is_named name file new
+      (traced ≡ true → HasActedOn old call reply was new) → IsSession traced is_named name file new
   met_keeps call reply was h acted = served_keeps call reply h (λ t.
       let e = acted t in
       subst NoneOutside (sym e.2)
       (each_snoc (λ (a : Entry). a.outside ≡ false) old.entries (entry false e.0 call reply was) (s.own t) refl))
 
 -- A visit leaves a session one,
-visited_keeps : (traced flag is_named : Bool) (name file : FileState) (copy : BucketCopy) (old new : HandState) →
-    IsSession traced flag is_named name file old → HasVisited traced file old copy new →
-    IsSession traced flag is_named name file new
-visited_keeps traced flag is_named name file copy old new s v = record {
+visited_keeps : (traced is_named : Bool) (name file : FileState) (copy : BucketCopy) (old new : HandState) →
+    IsSession traced is_named name file old → HasVisited traced file old copy new →
+    IsSession traced is_named name file new
+visited_keeps traced is_named name file copy old new s v = record {
   of =
       record {
         table = ap (λ h. h.table) v.told ∙ s.of.table;
@@ -106,46 +104,45 @@ visited_keeps traced flag is_named name file copy old new s v = record {
   recording = ap (λ h. h.recording) v.told ∙ s.recording;
   acts = ap (λ h. h.acts) v.told ∙ s.acts;
   own = λ t. subst NoneOutside (sym (ap (λ h. h.entries) v.told)) (s.own t);
-  flag_is = s.flag_is;
   named = s.named;
   listed = s.listed;
 }
 
 -- and so does a scan.
-pub scanned_keeps : (traced flag is_named : Bool) (name file : FileState) (copies : List BucketCopy)
-    (scan after : Scanning) (old new : HandState) → IsSession traced flag is_named name file old →
-    HasScanned traced file scan old copies after new → IsSession traced flag is_named name file new
-scanned_keeps traced flag is_named name file [] scan after old new s h =
-    subst (IsSession traced flag is_named name file) (sym h.1) s
-scanned_keeps traced flag is_named name file (copy ∷ copies) scan after old new s h =
-    scanned_keeps traced flag is_named name file copies h.0 after h.1 new
-    (visited_keeps traced flag is_named name file copy old h.1 s h.3) h.4
+pub scanned_keeps : (traced is_named : Bool) (name file : FileState) (copies : List BucketCopy)
+    (scan after : Scanning) (old new : HandState) → IsSession traced is_named name file old →
+    HasScanned traced file scan old copies after new → IsSession traced is_named name file new
+scanned_keeps traced is_named name file [] scan after old new s h =
+    subst (IsSession traced is_named name file) (sym h.1) s
+scanned_keeps traced is_named name file (copy ∷ copies) scan after old new s h =
+    scanned_keeps traced is_named name file copies h.0 after h.1 new
+    (visited_keeps traced is_named name file copy old h.1 s h.3) h.4
 
 -- What every call promises keeps a session one.
-pub makes_keeps : {T : Type 0} (traced flag is_named : Bool) (name file : FileState) (old new : HandState) (call : Call)
-    (result : Result T FileFault) (reply_in : T → Reply) → IsSession traced flag is_named name file old →
+pub makes_keeps : {T : Type 0} (traced is_named : Bool) (name file : FileState) (old new : HandState) (call : Call)
+    (result : Result T FileFault) (reply_in : T → Reply) → IsSession traced is_named name file old →
     Makes file old call result reply_in new →
     (traced ≡ true → IfOk result (λ t. HasEntered false old call (reply_in t) new)) →
-    IsSession traced flag is_named name file new
-makes_keeps traced flag is_named name file old new call (Ok t) reply_in s m entered =
-    made_keeps traced flag is_named name file old new s m.of call (reply_in t) m.served entered
-makes_keeps traced flag is_named name file old new call (Err e) reply_in s m entered =
-    idle_keeps traced flag is_named name file old new s m.of m.err
+    IsSession traced is_named name file new
+makes_keeps traced is_named name file old new call (Ok t) reply_in s m entered =
+    made_keeps traced is_named name file old new s m.of call (reply_in t) m.served entered
+makes_keeps traced is_named name file old new call (Err e) reply_in s m entered =
+    idle_keeps traced is_named name file old new s m.of m.err
 
 -- So does what those promise that read and write in one act.
-pub at_once_keeps : {T : Type 0} (traced flag is_named : Bool) (name file : FileState) (key : List ℕ)
-    (old new : HandState) (does : Reaction T) (result : Result T FileFault) → IsSession traced flag is_named name file old →
-    MakesAtOnce traced file key old does result new → IsSession traced flag is_named name file new
-at_once_keeps traced flag is_named name file key old new does (Ok t) s m =
-    met_keeps traced flag is_named name file old new s m.made.of m.call m.given m.was m.made.served m.met
-at_once_keeps traced flag is_named name file key old new does (Err e) s m =
-    idle_keeps traced flag is_named name file old new s m.made.of m.made.err
+pub at_once_keeps : {T : Type 0} (traced is_named : Bool) (name file : FileState) (key : List ℕ)
+    (old new : HandState) (does : Reaction T) (result : Result T FileFault) → IsSession traced is_named name file old →
+    MakesAtOnce traced file key old does result new → IsSession traced is_named name file new
+at_once_keeps traced is_named name file key old new does (Ok t) s m =
+    met_keeps traced is_named name file old new s m.made.of m.call m.given m.was m.made.served m.met
+at_once_keeps traced is_named name file key old new does (Err e) s m =
+    idle_keeps traced is_named name file old new s m.made.of m.made.err
 
 -- A session that gives calls away is one.
-pub lessened_keeps : (traced flag is_named : Bool) (name file : FileState) (calls : ℕ) (old new : HandState) →
-    IsSession traced flag is_named name file old → new ≡ seeing old (lessened calls old.view) →
-    IsSession traced flag is_named name file new
-lessened_keeps traced flag is_named name file calls old new s is = record {
+pub lessened_keeps : (traced is_named : Bool) (name file : FileState) (calls : ℕ) (old new : HandState) →
+    IsSession traced is_named name file old → new ≡ seeing old (lessened calls old.view) →
+    IsSession traced is_named name file new
+lessened_keeps traced is_named name file calls old new s is = record {
   of =
       record {
         table = ap (λ h. h.table) is ∙ s.of.table;
@@ -157,16 +154,15 @@ lessened_keeps traced flag is_named name file calls old new s is = record {
   recording = ap (λ h. h.recording) is ∙ s.recording;
   acts = ap (λ h. h.acts) is ∙ s.acts;
   own = λ t. subst NoneOutside (sym (ap (λ h. h.entries) is)) (s.own t);
-  flag_is = s.flag_is;
   named = s.named;
   listed = s.listed;
 }
 
 -- A session that takes another one's hand in is one.
-pub joined_keeps : (traced flag other_flag is_named : Bool) (name file : FileState) (first second new : HandState) →
-    IsSession traced flag is_named name file first → IsSession traced other_flag is_named name file second →
-    IsJoined first second new → IsOf file new → IsSession traced flag is_named name file new
-joined_keeps traced flag other_flag is_named name file first second new one two j of = record {
+pub joined_keeps : (traced is_named : Bool) (name file : FileState) (first second new : HandState) →
+    IsSession traced is_named name file first → IsSession traced is_named name file second →
+    IsJoined first second new → IsOf file new → IsSession traced is_named name file new
+joined_keeps traced is_named name file first second new one two j of = record {
   of = of;
   right = ap (λ v. v.has_right) j.view ∙ one.right;
   recording = j.recording ∙ one.recording;
@@ -175,7 +171,6 @@ joined_keeps traced flag other_flag is_named name file first second new one two 
       λ t.
       subst NoneOutside (sym j.entries)
       (each_append (λ (a : Entry). a.outside ≡ false) first.entries second.entries (one.own t) (two.own t));
-  flag_is = one.flag_is;
   named = one.named;
   listed = one.listed;
 }

@@ -18,14 +18,13 @@ pub record SessionState : Type 0 where
   pub hand : HandState
 
 -- The hand is one of the file, keeps no acts, and hasn't the right to split. Where the file is traced, none of the
--- hand's acts was made on another bucket. The flag tells whether a brand names the file: then it is what that says.
-pub record IsSession (traced flag is_named : Bool) (name file : FileState) (hand : HandState) : Type 0 where
+-- hand's acts was made on another bucket. Where the file has a name, it is the file of that name.
+pub record IsSession (traced is_named : Bool) (name file : FileState) (hand : HandState) : Type 0 where
   pub of : IsOf file hand
   pub right : hand.view.has_right ≡ false
   pub recording : hand.recording ≡ false
   pub acts : hand.acts ≡ []
   pub own : traced ≡ true → NoneOutside hand.entries
-  pub flag_is : flag ≡ is_named
   pub named : is_named ≡ true → file ≡ name
   pub listed : file.config ≡ file.listing.config
 

@@ -12,30 +12,32 @@ use crate::threads::ThreadSession;
 use lh_file::laws::hands_keep_their_shares;
 use lh_file::{
     BucketCopy, Compared, FileBrand, FileFault, Hand, HashFile, Memory, Mode, NoGate, Scan,
-    Unbranded,
 };
 use lh_page::{Key, Value};
 use std::alloc::Global;
-use std::marker::{Brand, Model};
+use std::marker::{Brand, Model, PhantomData};
 use std::mem;
 use std::sync::Wait;
 
-/// Names the file of sessions, where it is traced: a session that another one takes the place of is of the same file.
-pub trait SessionBrand: FileBrand {
-    // Whether it names one,
+/// Names the file of sessions: a session that takes another one's place is then of the same file.
+pub trait SessionName {
+    // Whether there is a name,
     ghost is_named: { Bool };
 
-    // and what contracts see of that.
+    // and what contracts see of the file.
     ghost state: { FileState };
 }
 
-impl SessionBrand for Brand {
+impl SessionName for Brand {
     ghost is_named = { true };
 
     ghost state = { no_state };
 }
 
-impl SessionBrand for Unbranded {
+/// No file is named.
+pub struct Unnamed;
+
+impl SessionName for Unnamed {
     ghost is_named = { false };
 
     ghost state = { no_state };
@@ -43,26 +45,25 @@ impl SessionBrand for Unbranded {
 
 /// A session of one file: the file, a hand of it, and the runtime.
 #[derive(Drop)]
-pub struct FileSession<'a, R: Wait, M: Mode, J: SessionBrand> {
+pub struct FileSession<'a, R: Wait, M: Mode, J: FileBrand, B: SessionName> {
     rt: &'a R,
     alloc: Global,
     file: &'a HashFile<NoGate, M, J>,
     hand: Hand,
-    // Whether the brand names the file. What was done with a session of a file without a name can't be taken in.
-    is_named: bool,
+    name: PhantomData<B>,
 }
 
-impl<'a, R: Wait, M: Mode, J: SessionBrand> Model for FileSession<'a, R, M, J> {
+impl<'a, R: Wait, M: Mode, J: FileBrand, B: SessionName> Model for FileSession<'a, R, M, J, B> {
     ghost use Rattle.lh_store.specs.Sessions.{SessionState, IsSession};
 
     ghost Value = { SessionState };
 
     ghost view = { λ own. record { file = own.file.now.state; hand = own.hand } };
 
-    ghost invariant = { λ own. IsSession M.traced own.is_named J.is_named J.state own.file.now.state own.hand };
+    ghost invariant = { λ own. IsSession M.traced B.is_named B.state own.file.now.state own.hand };
 }
 
-impl<'a, R: Wait, M: Mode, J: SessionBrand> FileSession<'a, R, M, J> {
+impl<'a, R: Wait, M: Mode, J: FileBrand, B: SessionName> FileSession<'a, R, M, J, B> {
     ghost use Rattle.lh_store.specs.Sessions.{IsSession};
 
     /// A session with this hand.
@@ -71,9 +72,8 @@ impl<'a, R: Wait, M: Mode, J: SessionBrand> FileSession<'a, R, M, J> {
         alloc: Global,
         file: &'a HashFile<NoGate, M, J>,
         hand: Hand,
-        is_named: bool,
-    ) -> FileSession<'a, R, M, J>
-        requires { IsSession M.traced is_named J.is_named J.state file.now.state hand }
+    ) -> FileSession<'a, R, M, J, B>
+        requires { IsSession M.traced B.is_named B.state file.now.state hand }
         ensures { result ≡ record { file = file.now.state; hand = hand } }
     {
         FileSession {
@@ -81,7 +81,7 @@ impl<'a, R: Wait, M: Mode, J: SessionBrand> FileSession<'a, R, M, J> {
             alloc,
             file,
             hand,
-            is_named,
+            name: PhantomData,
         }
     }
 
@@ -91,9 +91,8 @@ impl<'a, R: Wait, M: Mode, J: SessionBrand> FileSession<'a, R, M, J> {
         alloc: Global,
         file: &'a HashFile<NoGate, M, J>,
         hands: Vec<Hand>,
-        is_named: bool,
-    ) -> Result<Vec<FileSession<'a, R, M, J>>, Memory>
-        requires { All (IsSession M.traced is_named J.is_named J.state file.now.state) hands.items }
+    ) -> Result<Vec<FileSession<'a, R, M, J, B>>, Memory>
+        requires { All (IsSession M.traced B.is_named B.state file.now.state) hands.items }
         ensures { IfOk result (λ sessions. length sessions.items ≡ length hands.items) }
     {
         let mut sessions = Vec::with_capacity(alloc, hands.len())?;
@@ -103,7 +102,7 @@ impl<'a, R: Wait, M: Mode, J: SessionBrand> FileSession<'a, R, M, J> {
                 alloc,
                 file,
                 hand,
-                is_named,
+                name: PhantomData,
             });
         }
         Ok(sessions)
@@ -111,17 +110,25 @@ impl<'a, R: Wait, M: Mode, J: SessionBrand> FileSession<'a, R, M, J> {
 
     /// The records that all sessions leave so far, and how many acts they have made.
     pub(crate) fn left_by_all(&mut self) -> Result<(Store, u64), FileFault>
-        ensures { M.traced ≡ true → J.is_named ≡ true →
-            IfOk result (λ left. IsOneHistory J.state.listing left.1 left.0) }
+        ensures { M.traced ≡ true → B.is_named ≡ true →
+            IfOk result (λ left. IsOneHistory B.state.listing left.1 left.0) }
     {
         let snapshot = self.file.snapshot(self.rt, &mut self.hand)?;
         let acts = snapshot.stamps();
         Ok((Store::of(snapshot.into_known_listing()), acts))
     }
 
+    /// The hand.
+    pub(crate) fn into_hand(self) -> Hand
+        ensures { B.is_named ≡ true → IsSession M.traced B.is_named B.state B.state result }
+    {
+        self.hand
+    }
+
     /// Joins a hand of the same file into this one's. No memory is taken, since neither keeps acts.
     fn join(&mut self, hand: Hand)
-        requires { IsSession M.traced J.is_named J.is_named J.state self.old.file hand }
+        requires named { B.is_named ≡ true }
+        requires session { IsSession M.traced B.is_named B.state B.state hand }
         ensures { self.new.file ≡ self.old.file }
     {
         hands_keep_their_shares();
@@ -137,7 +144,7 @@ impl<'a, R: Wait, M: Mode, J: SessionBrand> FileSession<'a, R, M, J> {
     }
 }
 
-impl<'a, R: Wait, M: Mode, J: SessionBrand> Session for FileSession<'a, R, M, J> {
+impl<'a, R: Wait, M: Mode, J: FileBrand, B: SessionName> Session for FileSession<'a, R, M, J, B> {
     ghost use Rattle.lh_file.specs.Calls.Served.{KnowsMore};
     ghost use Rattle.lh_store.specs.Histories.{IsLeftByAll};
     ghost use Rattle.lh_store.specs.Sessions.{IsMade, IsMet};
@@ -262,36 +269,23 @@ impl<'a, R: Wait, M: Mode, J: SessionBrand> Session for FileSession<'a, R, M, J>
     }
 }
 
-/// How many calls a thread's session gets at most where its file has no name, so that they don't come back.
-const CALLS_FOR_GOOD: u64 = 1 << 48;
+impl<'a, R: Wait, M: Mode, J: FileBrand, B: SessionName> ThreadSession
+    for FileSession<'a, R, M, J, B> {
+    ghost named = { B.is_named };
 
-impl<'a, R: Wait, M: Mode, J: SessionBrand> ThreadSession for FileSession<'a, R, M, J> {
     fn alloc(&self) -> Global {
         self.alloc
     }
 
     fn divide(&mut self, threads: u32) -> Result<Vec<Self>, Memory> {
         let share = self.hand.left() / (u64::from(threads) + 1);
-        let calls = if self.is_named {
-            share
-        } else {
-            share.min(CALLS_FOR_GOOD)
-        };
-        match self.file.split_hands(&mut self.hand, threads, calls) {
-            Ok(hands) => FileSession::of_hands(
-                self.rt,
-                self.alloc,
-                self.file,
-                hands,
-                self.is_named,
-            ),
+        match self.file.split_hands(&mut self.hand, threads, share) {
+            Ok(hands) => FileSession::of_hands(self.rt, self.alloc, self.file, hands),
             Err(_) => Err(Memory),
         }
     }
 
     fn unite(&mut self, part: Self) {
-        if self.is_named {
-            self.join(part.hand);
-        }
+        self.join(part.into_hand());
     }
 }

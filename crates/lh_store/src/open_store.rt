@@ -1,16 +1,21 @@
 //! Tables without history, whose sessions are made at any time.
-ghost use Rattle.std.specs.Prelude.{◌≡◌, IfOk};
+ghost use Rattle.std.specs.Prelude.{◌≡◌, true, false, length, IfOk};
+ghost use Rattle.lh_store.specs.Sessions.{IsSession};
 
-use crate::file_session::FileSession;
-use crate::store::Store;
+use crate::file_session::{FileSession, SessionName, Unnamed};
+use crate::session::Session;
+use crate::store::{Store, Work};
+use crate::threads::on_threads;
 use lh_addr::Config;
 use lh_file::{FileFault, Hand, HashFile, Memory, NoGate, Unbranded, Untraced};
 use std::alloc::Global;
-use std::marker::Model;
+use std::marker::{Brand, Model};
+use std::mem;
 use std::sync::Wait;
+use std::thread::Threads;
 
 /// How many calls a session of a table may make.
-const SESSION_CALLS: u64 = 1 << 48;
+const SESSION_CALLS: u64 = 1 << 44;
 
 /// A table that is open. Its history isn't traced: no call says what others did.
 #[derive(Drop)]
@@ -28,7 +33,7 @@ impl Model for OpenStore {
 
     ghost view = { λ own. record { file = own.file.state; hand = own.hand } };
 
-    ghost invariant = { λ own. IsSession false false false no_state own.file.state own.hand };
+    ghost invariant = { λ own. IsSession false false no_state own.file.state own.hand };
 }
 
 impl OpenStore {
@@ -45,25 +50,47 @@ impl OpenStore {
         Ok(OpenStore { alloc, file, hand })
     }
 
-    /// A session of this table, which may make 2^48 calls. A table serves 32,000 of them; one that has ended needs no word.
+    /// Lets threads work on the table, and waits for all of them: what came of each, in their order. Without memory for
+    /// that nothing is done.
+    pub fn run<R: Threads + Wait + Sync, W: Work + Sync>(
+        &mut self,
+        rt: &R,
+        threads: u32,
+        work: &W,
+    ) -> Result<Vec<W::Done>, Memory>
+    where
+        W::Done: Send + Drop,
+        ensures { IfOk result (λ done. length done.items ≡ threads) }
+    {
+        let Ok(spare) = self.file.split_hand(&mut self.hand, 0) else {
+            return Err(Memory);
+        };
+        let hand = mem::replace(&mut self.hand, spare);
+        let (done, hand) = run_on::<Brand, R, W>(rt, self.alloc, &self.file, hand, threads, work);
+        self.hand = hand;
+        done
+    }
+
+    /// A session of this table, which may make 2^44 calls, some ten days of them without a pause. A table serves half a
+    /// million sessions.
     pub fn session<'a, R: Wait>(
         &'a mut self,
         rt: &'a R,
-    ) -> Result<FileSession<'a, R, Untraced, Unbranded>, FileFault> {
+    ) -> Result<FileSession<'a, R, Untraced, Unbranded, Unnamed>, FileFault> {
         let hand = self.file.split_hand(&mut self.hand, SESSION_CALLS)?;
-        Ok(FileSession::new(rt, self.alloc, &self.file, hand, false))
+        Ok(FileSession::new(rt, self.alloc, &self.file, hand))
     }
 
-    /// Sessions for so many threads.
+    /// Sessions for so many threads of the caller's own.
     pub fn sessions<'a, R: Wait>(
         &'a mut self,
         rt: &'a R,
         threads: u32,
-    ) -> Result<Vec<FileSession<'a, R, Untraced, Unbranded>>, FileFault> {
+    ) -> Result<Vec<FileSession<'a, R, Untraced, Unbranded, Unnamed>>, FileFault> {
         let hands = self
             .file
             .split_hands(&mut self.hand, threads, SESSION_CALLS)?;
-        Ok(FileSession::of_hands(rt, self.alloc, &self.file, hands, false)?)
+        Ok(FileSession::of_hands(rt, self.alloc, &self.file, hands)?)
     }
 
     /// All records at one moment.
@@ -71,4 +98,36 @@ impl OpenStore {
         let snapshot = self.file.snapshot(rt, &mut self.hand)?;
         Ok(Store::of(snapshot.into_known_listing()))
     }
+}
+
+/// Lets threads work on a file that this type names: what came of that, and the hand.
+fn run_on<B, R, W>(
+    rt: &R,
+    alloc: Global,
+    file: &HashFile<NoGate>,
+    hand: Hand,
+    threads: u32,
+    work: &W,
+) -> (Result<Vec<W::Done>, Memory>, Hand)
+where
+    B: SessionName + Send + Sync,
+    R: Threads + Wait + Sync,
+    W: Work + Sync,
+    W::Done: Send + Drop,
+    requires named { B.is_named ≡ true }
+    requires name { B.state ≡ file.now.state }
+    requires session { IsSession false true B.state file.now.state hand }
+    ensures session { IsSession false true B.state file.now.state result.1 }
+    ensures count { IfOk result.0 (λ done. length done.items ≡ threads) }
+{
+    let mut session: FileSession<'_, R, Untraced, Unbranded, B> = FileSession::new(
+        rt, alloc, file, hand,
+    );
+    let done = on_threads(
+        rt,
+        &mut session,
+        threads,
+        |thread: usize, own: &mut FileSession<'_, R, Untraced, Unbranded, B>| work.run(thread, own),
+    );
+    (done, session.into_hand())
 }

@@ -5,12 +5,12 @@ ghost use Rattle.lh_file.specs.Buckets.Brands.{IsBrandOf};
 ghost use Rattle.lh_store.specs.Histories.{IsOneHistory};
 
 use crate::disk::{LoadFault, SaveFault, load, save};
-use crate::file_session::{FileSession, SessionBrand};
+use crate::file_session::{FileSession, SessionName};
 use crate::session::Session;
 use crate::threads::on_threads;
 use lh_addr::Config;
 use lh_bucket::Listing;
-use lh_file::{FileFault, Memory, NoGate, Opening, Traced};
+use lh_file::{FileBrand, FileFault, Memory, NoGate, Opening, Traced};
 use std::alloc::Global;
 use std::fs::Files;
 use std::marker::{Brand, Model};
@@ -96,7 +96,7 @@ impl Store {
     {
         let alloc = rt.alloc();
         let opening = Opening::of(alloc, &self.listing, false, NoGate)?;
-        let (made, left) = run_from::<Brand, R, W>(rt, alloc, opening, threads, work)?;
+        let (made, left) = run_from::<Brand, Brand, R, W>(rt, alloc, opening, threads, work)?;
         *self = left;
         Ok(made)
     }
@@ -113,7 +113,7 @@ impl Store {
 }
 
 /// Lets threads work on a table that is being opened: what came of it, and the records that they leave.
-fn run_from<J, R, W>(
+fn run_from<J, B, R, W>(
     rt: &R,
     alloc: Global,
     opening: Opening<'_, NoGate>,
@@ -121,24 +121,25 @@ fn run_from<J, R, W>(
     work: &W,
 ) -> Result<(WorkDone<W::Done>, Store), FileFault>
 where
-    J: SessionBrand + Send + Sync,
+    J: FileBrand + Send + Sync,
+    B: SessionName + Send + Sync,
     R: Threads + Wait + Sync,
     W: Work + Sync,
     W::Done: Send + Drop,
     requires brand { IsBrandOf true J.named J.tables opening }
-    requires named { J.is_named ≡ true }
-    requires state { J.state ≡ opening }
+    requires named { B.is_named ≡ true }
+    requires state { B.state ≡ opening }
     requires plain { opening.recording ≡ false }
     ensures history { IfOk result (λ made. IsOneHistory opening.entry.listing made.0.acts made.1) }
     ensures count { IfOk result (λ made. length made.0.done.items ≡ threads) }
 {
     let (file, hand) = opening.file::<J>()?;
-    let mut session = FileSession::new(rt, alloc, &file, hand, true);
+    let mut session: FileSession<'_, R, Traced, J, B> = FileSession::new(rt, alloc, &file, hand);
     let done = on_threads(
         rt,
         &mut session,
         threads,
-        |thread: usize, own: &mut FileSession<'_, R, Traced, J>| work.run(thread, own),
+        |thread: usize, own: &mut FileSession<'_, R, Traced, J, B>| work.run(thread, own),
     )?;
     let (left, acts) = session.left_by_all()?;
     Ok((WorkDone { done, acts }, left))

@@ -1,13 +1,16 @@
 //! Threads that share a table, each with a session of its own.
-ghost use Rattle.std.specs.Prelude.{◌≡◌, ◌+◌, ◌<◌, ◌≤◌, length, All, IfNone, IfOk, vec_len, vec_capacity};
+ghost use Rattle.std.specs.Prelude.{◌≡◌, ◌+◌, ◌<◌, ◌≤◌, Bool, length, true, All, IfNone, IfOk, vec_len, vec_capacity};
 
 use crate::session::Session;
 use lh_file::Memory;
 use std::alloc::Global;
 use std::thread::{self, Threads};
 
-/// A session that can go to threads, and whose calls can be divided among them.
-pub trait ThreadSession: Session {
+/// A session whose calls can be divided among threads.
+pub(crate) trait ThreadSession: Session {
+    // Whether its type names its table, so that all sessions of the type are of one table.
+    ghost named: { Bool };
+
     /// The allocator of its table.
     fn alloc(&self) -> Global;
 
@@ -17,7 +20,8 @@ pub trait ThreadSession: Session {
         ensures { IfOk result (λ parts. length parts.items ≡ threads) };
 
     /// Takes in what a thread has done with its session, and the calls that it hasn't made.
-    fn unite(&mut self, part: Self);
+    fn unite(&mut self, part: Self)
+        requires { named ≡ true };
 }
 
 /// A thread's session, and what came of its work.
@@ -46,6 +50,7 @@ fn gather_parts<S: ThreadSession + Drop, T: Drop>(
     parts: Vec<ThreadPart<S, T>>,
     all_done: &mut Vec<T>,
 )
+    requires named { S.named ≡ true }
     requires done { All (λ part. IfNone part.done ⊥) parts.items }
     requires room { vec_len all_done.old + length parts.items ≤ vec_capacity all_done.old }
     ensures { vec_len all_done.new ≡ vec_len all_done.old + length parts.items }
@@ -77,12 +82,8 @@ fn do_part<S, T: Drop, F: Fn(usize, &mut S) -> T>(
 /// work, in their order. Threads are numbered from 0. Where the system starts no thread, their work is done one after
 /// the other.
 ///
-/// ```text
-/// let booked = on_threads(&rt, &mut seats, 2, |thread, own| book(own, NAMES[thread]))?;
-/// ```
-///
 /// Without memory for the sessions nothing is done. The work itself and its end take none.
-pub fn on_threads<R, S, T, F>(
+pub(crate) fn on_threads<R, S, T, F>(
     rt: &R,
     session: &mut S,
     threads: u32,
@@ -93,7 +94,8 @@ where
     S: ThreadSession + Send + Drop,
     T: Send + Drop,
     F: Fn(usize, &mut S) -> T + Sync + Drop,
-    requires { F.IsAlwaysCallable work }
+    requires named { S.named ≡ true }
+    requires callable { F.IsAlwaysCallable work }
     ensures { IfOk result (λ done. length done.items ≡ threads) }
 {
     let alloc = session.alloc();

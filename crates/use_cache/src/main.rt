@@ -2,7 +2,7 @@
 //! one goes on from there.
 #![tactic(auto)]
 
-use lh_store::{CallFault, Config, OpenStore, Session, Store, ThreadSession, on_threads};
+use lh_store::{CallFault, Config, OpenStore, Session, Store, Work};
 use std::fs::Files;
 use std::sync::Wait;
 use std::thread::Threads;
@@ -26,30 +26,26 @@ fn compute<S: Session>(roots: &mut S, numbers: u32) -> Result<u32, CallFault> {
     Ok(computed)
 }
 
-/// Two threads compute the same roots.
-fn fill<R: Print + Threads + Sync, S: ThreadSession + Send + Drop>(
-    rt: &R,
-    roots: &mut S,
-) -> anyhow::Result<()> {
+/// What each thread does: it computes the same roots.
+struct Roots;
+
+impl Work for Roots {
+    type Done = Result<u32, CallFault>;
+
+    fn run<S: Session>(&self, _thread: usize, roots: &mut S) -> Self::Done {
+        compute(roots, 1_000)
+    }
+}
+
+/// Lets two threads compute, and saves what they have found.
+fn begin<R: Print + Threads + Wait + Files + AllocGlobal + Sync>(rt: &R) -> anyhow::Result<()> {
+    let mut cache = OpenStore::new(rt.alloc(), Config::default())?;
     let mut computed = 0_u32;
-    for count in on_threads(
-        rt,
-        roots,
-        2,
-        |_thread: usize, own: &mut S| compute(own, 1_000),
-    )? {
+    for count in cache.run(rt, 2, &Roots)? {
         computed = computed.saturating_add(count?);
     }
     println!(rt; "{computed} roots are computed")?;
-    Ok(())
-}
-
-/// Computes and saves.
-fn begin<R: Print + Threads + Wait + Files + AllocGlobal + Sync>(rt: &R) -> anyhow::Result<()> {
-    let mut cache = OpenStore::new(rt.alloc(), Config::default())?;
-    let mut roots = cache.session(rt)?;
-    fill(rt, &mut roots)?;
-    roots.snapshot()?.save(rt, "roots.lhf")?;
+    cache.snapshot(rt)?.save(rt, "roots.lhf")?;
     Ok(())
 }
 

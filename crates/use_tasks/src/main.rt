@@ -1,11 +1,10 @@
 //! What one does with a table, task by task.
 #![tactic(auto)]
 
-use lh_store::{
-    BucketCopy, CallFault, Config, OpenStore, Session, Store, ThreadSession, Value, on_threads,
-};
+use lh_store::{BucketCopy, CallFault, Config, OpenStore, Session, Store, Value, Work};
 use std::fs::Files;
 use std::str;
+use std::sync::Wait;
 use std::thread::Threads;
 
 /// Inserts, replaces and deletes.
@@ -75,20 +74,15 @@ fn count<S: Session>(pages: &mut S, page: &[u8]) -> Result<bool, CallFault> {
     pages.merge(page, &1_u32.to_be_bytes(), one_more)
 }
 
-/// Four threads count visits, each with a session of its own.
-fn count_in_threads<R: Threads + Sync, S: ThreadSession + Send + Drop>(
-    rt: &R,
-    pages: &mut S,
-) -> anyhow::Result<()> {
-    for counted in on_threads(
-        rt,
-        pages,
-        4,
-        |_thread: usize, own: &mut S| count(own, b"/home"),
-    )? {
-        counted?;
+/// What each thread does: it counts one visit.
+struct Visit;
+
+impl Work for Visit {
+    type Done = Result<bool, CallFault>;
+
+    fn run<S: Session>(&self, _thread: usize, pages: &mut S) -> Self::Done {
+        count(pages, b"/home")
     }
-    Ok(())
 }
 
 /// Tells the number of records, and of visits.
@@ -99,31 +93,40 @@ fn tell<R: Print, S: Session>(rt: &R, users: &mut S) -> anyhow::Result<()> {
     Ok(())
 }
 
-/// All tasks but the last.
-fn perform<R: Print + Threads + Files + AllocGlobal + Sync, S: ThreadSession + Send + Drop>(
-    rt: &R,
-    users: &mut S,
-) -> anyhow::Result<()> {
+/// All tasks of one thread.
+fn perform<R: Print, S: Session>(rt: &R, users: &mut S) -> anyhow::Result<()> {
     change(rt, users)?;
     look(rt, users)?;
     let added = add_all(users, &[(b"Cay", b"0174"), (b"Dan", b"0175")])?;
     println!(rt; "{added} added, {} users", users.len())?;
     println!(rt; "{} digits", digits(users)?)?;
     println!(rt; "seat a is mine: {}", is_mine(users, b"seat a", b"Ada")?)?;
-    count_in_threads(rt, users)?;
+    Ok(())
+}
+
+/// Lets threads count, and saves what is there then.
+fn count_and_save<R: Threads + Wait + Files + AllocGlobal + Sync>(
+    rt: &R,
+    table: &mut OpenStore,
+) -> anyhow::Result<()> {
+    // Four threads, each with a session of its own.
+    for counted in table.run(rt, 4, &Visit)? {
+        counted?;
+    }
     // All records of one moment.
-    users.snapshot()?.save(rt, "users.lhf")?;
+    table.snapshot(rt)?.save(rt, "users.lhf")?;
     Ok(())
 }
 
 /// A table with the records that were saved.
-fn saved(rt: &HostRuntime) -> anyhow::Result<OpenStore> {
+fn saved<R: Files + AllocGlobal>(rt: &R) -> anyhow::Result<OpenStore> {
     Ok(OpenStore::open(rt.alloc(), &Store::load(rt, "users.lhf")?)?)
 }
 
 fn main(rt: HostRuntime) -> anyhow::Result<()> {
     let mut table = OpenStore::new(rt.alloc(), Config::default())?;
     perform(&rt, &mut table.session(&rt)?)?;
+    count_and_save(&rt, &mut table)?;
     let mut table = saved(&rt)?;
     tell(&rt, &mut table.session(&rt)?)
 }

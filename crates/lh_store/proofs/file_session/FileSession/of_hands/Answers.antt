@@ -9,7 +9,7 @@ loop-hand-preserved g c =
     let rest = into_iter_items c.next.new.self in
     let e : into_iter_items c.loop-hand.hand-iterator ≡ c.in-Some.hand ∷ rest = search rules in
     let P =
-    IsSession g.M.Mode.traced c.args.is_named g.J.SessionBrand.is_named g.J.SessionBrand.state
+    IsSession g.M.Mode.traced g.B.SessionName.is_named g.B.SessionName.state
     c.args.file.now.state in record {
       each = All-tail P c.in-Some.hand rest (subst (All P) e c.loop-hand.invariant.each);
       room =

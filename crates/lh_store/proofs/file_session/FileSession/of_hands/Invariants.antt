@@ -6,7 +6,7 @@ use Rattle.lh_store.proofs.file_session.FileSession.of_hands.Given as goal
 
 abbrev pub invariant-loop-hand : goal.invariant-loop-hand
 invariant-loop-hand g l = record {
-  each : All (IsSession g.M.Mode.traced l.is_named g.J.SessionBrand.is_named g.J.SessionBrand.state l.file.state)
+  each : All (IsSession g.M.Mode.traced g.B.SessionName.is_named g.B.SessionName.state l.file.state)
       (into_iter_items l.hand-iterator);
   room : vec_len l.sessions + length (into_iter_items l.hand-iterator) ≤ vec_capacity l.sessions;
   count : vec_len l.sessions + length (into_iter_items l.hand-iterator)

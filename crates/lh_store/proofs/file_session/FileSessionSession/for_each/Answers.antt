@@ -3,8 +3,8 @@ use Rattle.lh_store.proofs.file_session.FileSessionSession.for_each.Goals as goa
 
 pub invariant_of-self : goal.invariant_of-self
 invariant_of-self g c =
-    let e = c.for_each.ensures.called in scanned_keeps _ _ _ _ _ e.0 _ _ _ _ c.self.invariant e.3
+    let e = c.for_each.ensures.called in scanned_keeps _ _ _ _ e.0 _ _ _ _ c.self.invariant e.3
 
 pub invariant_of-self-2 : goal.invariant_of-self-2
 invariant_of-self-2 g c =
-    let e = c.for_each.ensures.called in scanned_keeps _ _ _ _ _ e.0 _ _ _ _ c.self.invariant e.3
+    let e = c.for_each.ensures.called in scanned_keeps _ _ _ _ e.0 _ _ _ _ c.self.invariant e.3

@@ -6,7 +6,7 @@ returns-in_err-key-clause-err g c = idle_itself _ _
 
 pub invariant_of-self-2 : goal.invariant_of-self-2
 invariant_of-self-2 g c =
-    makes_keeps _ _ _ _ _ _ _ _ _ _ c.self.invariant c.remove.ensures.served c.remove.ensures.entered
+    makes_keeps _ _ _ _ _ _ _ _ _ c.self.invariant c.remove.ensures.served c.remove.ensures.entered
 
 pub returns-clause-made : goal.returns-clause-made
 returns-clause-made g c =

@@ -5,7 +5,7 @@ pub returns-in_err-key-clause-err : goal.returns-in_err-key-clause-err
 returns-in_err-key-clause-err g c = idle_itself _ _
 
 pub invariant_of-self-2 : goal.invariant_of-self-2
-invariant_of-self-2 g c = at_once_keeps _ _ _ _ _ _ _ _ _ _ c.self.invariant c.take.ensures
+invariant_of-self-2 g c = at_once_keeps _ _ _ _ _ _ _ _ _ c.self.invariant c.take.ensures
 
 pub returns-clause-made : goal.returns-clause-made
 returns-clause-made g c =

@@ -7,7 +7,7 @@ returns-in_err-key-clause-err g c = idle_itself _ _
 pub invariant_of-self-2 : goal.invariant_of-self-2
 invariant_of-self-2 g c =
     let e = c.with_value.ensures.served in
-    makes_keeps _ _ _ _ _ _ _ _ _ _ c.self.invariant e.1 e.3
+    makes_keeps _ _ _ _ _ _ _ _ _ c.self.invariant e.1 e.3
 
 pub returns-clause-made : goal.returns-clause-made
 returns-clause-made g c =
