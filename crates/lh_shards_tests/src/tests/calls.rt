@@ -3,9 +3,9 @@ ghost use Rattle.std.specs.Prelude.{IfOk};
 ghost use Rattle.lh_shards.specs.Hands.{AreOf};
 
 use lh_addr::Config;
-use lh_bucket::Reply;
+use lh_bucket::{Answer, Reply};
 use lh_expect::{expect, expect_eq};
-use lh_file::{CodedKey, Compared};
+use lh_file::{CodedKey, Compared, FileFault};
 use lh_page::{Key, Value};
 use lh_shards::{CreateFault, Hands, Shards, SplitFault};
 use std::alloc::Global;
@@ -47,9 +47,9 @@ pub(crate) fn insert_letters<R: Abort + Wait>(
 {
     for letter in b'a'..b'z' {
         let (key, value) = (Key::new(&[letter])?, Value::new(&[letter, letter])?);
-        expect!(rt; shards.put(rt, hands, &key, &value)?);
-        expect!(rt; !shards.put(rt, hands, &CodedKey::new(key), &value)?);
-        expect_eq!(rt; shards.get(rt, hands, &key)?, Some(value));
+        expect_eq!(rt; shards.put(rt, hands, &key, &value), Ok(true));
+        expect_eq!(rt; shards.put(rt, hands, &CodedKey::new(key), &value), Ok(false));
+        expect_eq!(rt; shards.get(rt, hands, &key), Ok(Some(value)));
     }
     Ok(())
 }
@@ -58,19 +58,17 @@ pub(crate) fn insert_letters<R: Abort + Wait>(
 fn make_lean_calls<R: Abort + Wait>(rt: &R, shards: &Shards, hands: &mut Hands) -> Result<(), Fail>
     requires { AreOf shards.now hands.old }
 {
-    insert_letters(rt, shards, hands)?;
     let (key, value) = (CodedKey::new(Key::new(b"b")?), Value::new(b"other")?);
-    expect!(rt; shards.set(rt, hands, &key, &value)?);
+    insert_letters(rt, shards, hands)?;
+    expect_eq!(rt; shards.set(rt, hands, &key, &value), Ok(true));
     let mut read = Value::empty();
-    expect!(rt; shards.read_into(rt, hands, &key, &mut read)?);
-    expect_eq!(rt; read, value);
-    expect_eq!(rt;
-        shards.with_value(rt, hands, &key, |bytes| bytes.len())?,
-        Some(5)
-    );
-    expect!(rt; shards.remove(rt, hands, &key)?);
-    expect!(rt; !shards.remove(rt, hands, &key)?);
-    expect_eq!(rt; shards.get(rt, hands, &key)?, None);
+    let is_there = shards.read_into(rt, hands, &key, &mut read);
+    expect_eq!(rt; (is_there, read), (Ok(true), value));
+    let length = shards.with_value(rt, hands, &key, |bytes| bytes.len());
+    expect_eq!(rt; length, Ok(Some(5)));
+    expect_eq!(rt; shards.remove(rt, hands, &key), Ok(true));
+    expect_eq!(rt; shards.remove(rt, hands, &key), Ok(false));
+    expect_eq!(rt; shards.get(rt, hands, &key), Ok(None));
     Ok(())
 }
 
@@ -94,25 +92,40 @@ fn make_calls_in_one_step<R: Abort + Wait>(
 ) -> Result<(), Fail>
     requires { AreOf shards.now hands.old }
 {
-    insert_letters(rt, shards, hands)?;
     let (key, new) = (CodedKey::new(Key::new(b"b")?), Key::new(b"0")?);
     let (one, two, letters) = (Value::new(b"1")?, Value::new(b"2")?, Value::new(b"bb")?);
-    expect_eq!(rt; shards.get_or_put(rt, hands, &key, &one)?, Some(letters));
-    expect_eq!(rt; shards.get_or_put(rt, hands, &new, &one)?, None);
-    expect!(rt; !shards.merge(rt, hands, &new, &one, next)?);
-    expect!(rt; shards.update(rt, hands, &key, next)?);
-    expect_eq!(rt; shards.get(rt, hands, &key)?, Some(Value::new(b"c")?));
-    let told = shards.compare_and_set(rt, hands, &new, &one, &letters)?;
-    expect_eq!(rt; told, Compared::Differs);
-    let told = shards.compare_and_set(rt, hands, &new, &two, &letters)?;
-    expect_eq!(rt; told, Compared::Replaced);
-    expect_eq!(rt; shards.take(rt, hands, &new)?, Some(letters));
-    expect!(rt; shards.upsert(rt, hands, &new, &two)?);
-    expect!(rt; !shards.upsert(rt, hands, &new, &one)?);
-    expect_eq!(rt; shards.take(rt, hands, &new)?, Some(one));
-    expect!(rt; shards.merge(rt, hands, &new, &two, next)?);
-    expect_eq!(rt; shards.get(rt, hands, &new)?, Some(two));
+    let next_letter = Value::new(b"c")?;
+    insert_letters(rt, shards, hands)?;
+    expect_eq!(rt; shards.get_or_put(rt, hands, &key, &one), Ok(Some(letters)));
+    expect_eq!(rt; shards.get_or_put(rt, hands, &new, &one), Ok(None));
+    expect_eq!(rt; shards.merge(rt, hands, &new, &one, next), Ok(false));
+    expect_eq!(rt; shards.update(rt, hands, &key, next), Ok(true));
+    expect_eq!(rt; shards.get(rt, hands, &key), Ok(Some(next_letter)));
+    let told = shards.compare_and_set(rt, hands, &new, &one, &letters);
+    expect_eq!(rt; told, Ok(Compared::Differs));
+    let told = shards.compare_and_set(rt, hands, &new, &two, &letters);
+    expect_eq!(rt; told, Ok(Compared::Replaced));
+    expect_eq!(rt; shards.take(rt, hands, &new), Ok(Some(letters)));
+    make_records_anew(rt, shards, hands, &new, one, two);
     Ok(())
+}
+
+/// The calls that add a record, by a key that isn't there.
+fn make_records_anew<R: Abort + Wait>(
+    rt: &R,
+    shards: &Shards,
+    hands: &mut Hands,
+    new: &Key,
+    one: Value,
+    two: Value,
+)
+    requires { AreOf shards.now hands.old }
+{
+    expect_eq!(rt; shards.upsert(rt, hands, new, &two), Ok(true));
+    expect_eq!(rt; shards.upsert(rt, hands, new, &one), Ok(false));
+    expect_eq!(rt; shards.take(rt, hands, new), Ok(Some(one)));
+    expect_eq!(rt; shards.merge(rt, hands, new, &two, next), Ok(true));
+    expect_eq!(rt; shards.get(rt, hands, new), Ok(Some(two)));
 }
 
 #[test]
@@ -121,22 +134,26 @@ fn calls_in_one_step_are_those_of_a_map(rt: HostRuntime) -> Result<(), Fail> {
     make_calls_in_one_step(&rt, &shards, &mut hands)
 }
 
+/// The reply in an answer.
+fn reply_in(answer: Result<Answer, FileFault>) -> Result<Reply, FileFault> {
+    Ok(answer?.reply())
+}
+
 /// Each call that has an answer.
 fn make_calls<R: Abort + Wait>(rt: &R, shards: &Shards, hands: &mut Hands) -> Result<(), Fail>
     requires { AreOf shards.now hands.old }
 {
     let (key, value) = (Key::new(b"key")?, Value::new(b"value")?);
-    expect_eq!(rt;
-        shards.insert(rt, hands, key, value)?.reply(),
-        Reply::Inserted
-    );
-    expect_eq!(rt; shards.search(rt, hands, key)?.reply(), Reply::Found(value));
-    expect_eq!(rt;
-        shards.replace(rt, hands, key, Value::empty())?.reply(),
-        Reply::Replaced
-    );
-    expect_eq!(rt; shards.delete(rt, hands, key)?.reply(), Reply::Deleted);
-    expect_eq!(rt; shards.delete(rt, hands, key)?.reply(), Reply::Absent);
+    let inserted = reply_in(shards.insert(rt, hands, key, value));
+    expect_eq!(rt; inserted, Ok(Reply::Inserted));
+    let found = reply_in(shards.search(rt, hands, key));
+    expect_eq!(rt; found, Ok(Reply::Found(value)));
+    let replaced = reply_in(shards.replace(rt, hands, key, Value::empty()));
+    expect_eq!(rt; replaced, Ok(Reply::Replaced));
+    let deleted = reply_in(shards.delete(rt, hands, key));
+    expect_eq!(rt; deleted, Ok(Reply::Deleted));
+    let absent = reply_in(shards.delete(rt, hands, key));
+    expect_eq!(rt; absent, Ok(Reply::Absent));
     Ok(())
 }
 
@@ -152,21 +169,18 @@ fn make_coded_calls<R: Abort + Wait>(rt: &R, shards: &Shards, hands: &mut Hands)
 {
     let (key, value) = (Key::new(b"key")?, Value::new(b"value")?);
     let coded = CodedKey::new(key);
-    expect_eq!(rt;
-        shards.insert(rt, hands, coded, value)?.reply(),
-        Reply::Inserted
-    );
-    expect_eq!(rt; shards.search(rt, hands, key)?.reply(), Reply::Found(value));
-    expect_eq!(rt;
-        shards.replace(rt, hands, coded, Value::empty())?.reply(),
-        Reply::Replaced
-    );
-    expect_eq!(rt;
-        shards.search(rt, hands, coded)?.reply(),
-        Reply::Found(Value::empty())
-    );
-    expect_eq!(rt; shards.delete(rt, hands, coded)?.reply(), Reply::Deleted);
-    expect_eq!(rt; shards.search(rt, hands, key)?.reply(), Reply::Absent);
+    let inserted = reply_in(shards.insert(rt, hands, coded, value));
+    expect_eq!(rt; inserted, Ok(Reply::Inserted));
+    let found = reply_in(shards.search(rt, hands, key));
+    expect_eq!(rt; found, Ok(Reply::Found(value)));
+    let replaced = reply_in(shards.replace(rt, hands, coded, Value::empty()));
+    expect_eq!(rt; replaced, Ok(Reply::Replaced));
+    let found = reply_in(shards.search(rt, hands, coded));
+    expect_eq!(rt; found, Ok(Reply::Found(Value::empty())));
+    let deleted = reply_in(shards.delete(rt, hands, coded));
+    expect_eq!(rt; deleted, Ok(Reply::Deleted));
+    let absent = reply_in(shards.search(rt, hands, key));
+    expect_eq!(rt; absent, Ok(Reply::Absent));
     Ok(())
 }
 
