@@ -71,15 +71,15 @@ fn expect_of_zeros(
 #[test]
 fn each_verb_is_a_call(rt: HostRuntime) -> Result<(), Fail> {
     let text = b"search 61\ninsert 62 3132\n\ndelete 63\nreplace 64 -\n".as_slice();
-    let Ok(calls) = parse::<Call>(rt.alloc(), text) else {
-        return Err(Fail::from("no calls"));
-    };
     let expected = [
         Call::Search(Key::new(b"a")?),
         Call::Insert(Key::new(b"b")?, Value::new(b"12")?),
         Call::Delete(Key::new(b"c")?),
         Call::Replace(Key::new(b"d")?, Value::new(b"")?),
     ];
+    let Ok(calls) = parse::<Call>(rt.alloc(), text) else {
+        return Err(Fail::from("no calls"));
+    };
     expect_eq!(rt; calls.as_slice(), expected.as_slice());
     Ok(())
 }

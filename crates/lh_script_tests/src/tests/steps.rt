@@ -5,6 +5,7 @@ use lh_expect::expect_eq;
 use lh_page::{Key, Value};
 use lh_script::{EntryText, LineFault, ParseError, ScriptFault, parse};
 use std::alloc::{AllocError, Global};
+use std::fmt::Display;
 use std::process::Abort;
 use std::test::Fail;
 
@@ -22,7 +23,7 @@ fn outcome(alloc: Global, text: &[u8]) -> Result<String, AllocError> {
 
 fn expect(rt: &(impl Abort + AllocGlobal), text: &str, expected: &str) -> Result<(), Fail> {
     let told = outcome(rt.alloc(), text.as_bytes())?;
-    assert!(rt; told.as_str() == expected, "{text:?} gives {told}");
+    expect_eq!(rt; (text, told.as_str()), (text, expected));
     Ok(())
 }
 
@@ -30,9 +31,6 @@ fn expect(rt: &(impl Abort + AllocGlobal), text: &str, expected: &str) -> Result
 fn each_line_is_an_event(rt: HostRuntime) -> Result<(), Fail> {
     let text =
         b"call 0 search 61\ncall 07 insert 62 3132\n\n# act\ncall 15 delete 63\ncall 1 replace 62 32\nread 1\nlock 2\nrehash 3\nact 4\nrelease 05\nsplit-begin\nsplit-lock\nsplit-move\nsplit-release\nsplit-point\nsplit-drop\n".as_slice();
-    let Ok(events) = parse::<Event>(rt.alloc(), text) else {
-        return Err(Fail::from("no events"));
-    };
     let expected = [
         Event::Call(0, Call::Search(Key::new(b"a")?)),
         Event::Call(7, Call::Insert(Key::new(b"b")?, Value::new(b"12")?)),
@@ -50,63 +48,76 @@ fn each_line_is_an_event(rt: HostRuntime) -> Result<(), Fail> {
         Event::SplitPoint,
         Event::SplitDrop,
     ];
+    let Ok(events) = parse::<Event>(rt.alloc(), text) else {
+        return Err(Fail::from("no events"));
+    };
     expect_eq!(rt; events.as_slice(), expected.as_slice());
     Ok(())
 }
 
 #[test]
 fn a_worker_has_one_or_two_digits(rt: HostRuntime) -> Result<(), Fail> {
-    expect(&rt, "read 9", "1 events")?;
-    expect(&rt, "read 15", "1 events")?;
-    expect(&rt, "read 16", "line 1: bad worker number")?;
-    expect(&rt, "read 99", "line 1: bad worker number")?;
-    expect(&rt, "read 007", "line 1: bad worker number")?;
-    expect(&rt, "read a", "line 1: bad worker number")?;
-    expect(&rt, "read 1:", "line 1: bad worker number")?;
-    expect(&rt, "read -1", "line 1: bad worker number")?;
-    expect(&rt, "call 007 search 61", "line 1: bad worker number")?;
-    expect(&rt, "call 16 search 61", "line 1: bad worker number")
+    for (text, want) in [
+        ("read 9", "1 events"),
+        ("read 15", "1 events"),
+        ("read 16", "line 1: bad worker number"),
+        ("read 99", "line 1: bad worker number"),
+        ("read 007", "line 1: bad worker number"),
+        ("read a", "line 1: bad worker number"),
+        ("read 1:", "line 1: bad worker number"),
+        ("read -1", "line 1: bad worker number"),
+        ("call 007 search 61", "line 1: bad worker number"),
+        ("call 16 search 61", "line 1: bad worker number"),
+    ] {
+        expect(&rt, text, want)?;
+    }
+    Ok(())
 }
 
 #[test]
 fn faults_of_a_line_have_an_order(rt: HostRuntime) -> Result<(), Fail> {
-    expect(&rt, "frob 16", "line 1: unknown word")?;
-    expect(&rt, "call 0", "line 1: wrong number of words")?;
-    expect(&rt, "call", "line 1: wrong number of words")?;
-    expect(&rt, "call 0 frob", "line 1: unknown word")?;
-    expect(&rt, "call 16 frob 6g", "line 1: unknown word")?;
-    expect(&rt, "call 16 search", "line 1: wrong number of words")?;
-    expect(&rt, "call 16 insert 6g", "line 1: wrong number of words")?;
-    expect(&rt, "call 16 insert 6g 3", "line 1: bad worker number")?;
-    expect(&rt, "call 1 insert 6g 3", "line 1: bad hexadecimal")?;
-    expect(&rt, "call 1 insert - 3", "line 1: key length 0")?;
-    expect(&rt, "call 1 insert 61 3", "line 1: bad hexadecimal")?;
-    expect(&rt, "read", "line 1: wrong number of words")?;
-    expect(&rt, "read 16 1", "line 1: wrong number of words")?;
-    expect(&rt, "split-begin 1", "line 1: wrong number of words")?;
-    expect(&rt, "split-begin\nsplit", "line 2: unknown word")
+    for (text, want) in [
+        ("frob 16", "line 1: unknown word"),
+        ("call 0", "line 1: wrong number of words"),
+        ("call", "line 1: wrong number of words"),
+        ("call 0 frob", "line 1: unknown word"),
+        ("call 16 frob 6g", "line 1: unknown word"),
+        ("call 16 search", "line 1: wrong number of words"),
+        ("call 16 insert 6g", "line 1: wrong number of words"),
+        ("call 16 insert 6g 3", "line 1: bad worker number"),
+        ("call 1 insert 6g 3", "line 1: bad hexadecimal"),
+        ("call 1 insert - 3", "line 1: key length 0"),
+        ("call 1 insert 61 3", "line 1: bad hexadecimal"),
+        ("read", "line 1: wrong number of words"),
+        ("read 16 1", "line 1: wrong number of words"),
+        ("split-begin 1", "line 1: wrong number of words"),
+        ("split-begin\nsplit", "line 2: unknown word"),
+    ] {
+        expect(&rt, text, want)?;
+    }
+    Ok(())
+}
+
+fn expect_text(
+    rt: &(impl Abort + AllocGlobal),
+    value: &impl Display,
+    text: &str,
+) -> Result<(), Fail> {
+    expect_eq!(rt; value.to_string(rt.alloc())?.as_str(), text);
+    Ok(())
 }
 
 /// Numbers of as many digits as they may have, and the refusal that ends a run in place of being told.
 #[test]
 fn what_is_seldom_told_has_a_text(rt: HostRuntime) -> Result<(), Fail> {
-    let alloc = rt.alloc();
     let aim = Effect::Aim {
         level: 16,
         bucket: 65_535,
     };
-    expect_eq!(rt;
-        EntryText(&Ok(aim)).to_string(alloc)?.as_str(),
-        "aim 16 65535"
-    );
-    let refused = Err(Refusal::Memory);
-    expect_eq!(rt; EntryText(&refused).to_string(alloc)?.as_str(), "refused C7");
     let length = LineFault::ValueLength(8_388_608);
-    expect_eq!(rt; length.to_string(alloc)?.as_str(), "value length 8388608");
     let fault = ScriptFault::AtLine(16_777_216, length);
-    expect_eq!(rt;
-        fault.to_string(alloc)?.as_str(),
-        "line 16777216: value length 8388608"
-    );
-    Ok(())
+    expect_text(&rt, &EntryText(&Ok(aim)), "aim 16 65535")?;
+    expect_text(&rt, &EntryText(&Err(Refusal::Memory)), "refused C7")?;
+    expect_text(&rt, &length, "value length 8388608")?;
+    expect_text(&rt, &fault, "line 16777216: value length 8388608")
 }
