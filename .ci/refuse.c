@@ -1,11 +1,14 @@
-// Preloaded into a program: refuses one of its requests, for memory, to read, to write or to start a thread, or all from
-// one on; or each request for more than so many bytes of memory at once. REFUSE says which, as in "memory 5", "thread 5..",
-// "interrupt write 5" and "large 5", and REFUSE_COUNT names a file of eight bytes in which the requests of that kind are counted.
+// Preloaded into a program: refuses one of its requests, for memory, to read, to write, to start a thread, to open, sync or
+// name a file, or all from one on; or each request for more than so many bytes of memory at once; or kills it at one of its
+// requests that have to do with files. REFUSE says which, as in "memory 5", "thread 5..", "interrupt write 5", "sync 1",
+// "kill 5" and "large 5", and REFUSE_COUNT names a file of eight bytes in which the requests of that kind are counted.
 #define _GNU_SOURCE
 #include <dlfcn.h>
 #include <errno.h>
 #include <fcntl.h>
 #include <pthread.h>
+#include <signal.h>
+#include <stdarg.h>
 #include <stddef.h>
 #include <stdlib.h>
 #include <string.h>
@@ -45,6 +48,14 @@ static int refused(char asked) {
     return from ? number >= at : number == at;
 }
 
+// Of those that have to do with files.
+static int refused_at(char asked) {
+    if (kind == 'k' && __atomic_add_fetch(count, 1, __ATOMIC_SEQ_CST) == at) kill(getpid(), SIGKILL);
+    if (!refused(asked)) return 0;
+    errno = error;
+    return 1;
+}
+
 static int no_room(size_t size) { return kind == 'l' ? size > (size_t)at : refused('m'); }
 
 static void *no_memory(void) {
@@ -59,20 +70,26 @@ void *calloc(size_t items, size_t size) { return no_room(items * size) ? no_memo
 void *realloc(void *block, size_t size) { return no_room(size) ? no_memory() : __libc_realloc(block, size); }
 
 ssize_t read(int fd, void *bytes, size_t most) {
-    if (refused('r')) {
-        errno = error;
-        return -1;
-    }
-    return syscall(SYS_read, fd, bytes, most);
+    return refused_at('r') ? -1 : syscall(SYS_read, fd, bytes, most);
 }
 
 ssize_t write(int fd, const void *bytes, size_t most) {
     // What is told on standard error is not refused.
-    if (fd != 2 && refused('w')) {
-        errno = error;
-        return -1;
-    }
-    return syscall(SYS_write, fd, bytes, most);
+    return fd != 2 && refused_at('w') ? -1 : syscall(SYS_write, fd, bytes, most);
+}
+
+int open(const char *path, int how, ...) {
+    va_list rest;
+    va_start(rest, how);
+    int mode = how & O_CREAT ? va_arg(rest, int) : 0;
+    va_end(rest);
+    return refused_at('o') ? -1 : syscall(SYS_openat, AT_FDCWD, path, how, mode);
+}
+
+int fsync(int fd) { return refused_at('s') ? -1 : syscall(SYS_fsync, fd); }
+
+int rename(const char *from, const char *to) {
+    return refused_at('n') ? -1 : syscall(SYS_renameat2, AT_FDCWD, from, AT_FDCWD, to, 0);
 }
 
 int pthread_create(pthread_t *thread, const pthread_attr_t *how, void *(*work)(void *), void *given) {

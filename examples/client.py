@@ -6,6 +6,11 @@
 
 import subprocess
 import sys
+from concurrent.futures import ThreadPoolExecutor
+
+
+class Fault(Exception):
+    """A line was at fault, or memory ran out for it; the reason is what `serve` says. It has changed nothing."""
 
 
 class Store:
@@ -15,18 +20,33 @@ class Store:
         pipes = {"stdin": subprocess.PIPE, "stdout": subprocess.PIPE}
         self.process = subprocess.Popen([program, "serve"], encoding="ascii", **pipes)
 
-    def ask(self, *lines):
-        """The answers to some lines, which are sent together."""
-        self.process.stdin.write("".join(f"{line}\n" for line in lines))
+    def send(self, lines):
+        self.process.stdin.writelines(f"{line}\n" for line in lines)
         self.process.stdin.flush()
-        return [self.process.stdout.readline().rstrip("\n") for _ in lines]
+
+    def ask(self, *lines):
+        """The answers to some lines, faults among them. They are read while others are sent: of many lines, both pipes
+        would fill, and the store wait for its answers to be read."""
+        with ThreadPoolExecutor(1) as sender:
+            sent = sender.submit(self.send, lines)
+            answers = [self.process.stdout.readline().rstrip("\n") for _ in lines]
+            sent.result()
+        return answers
+
+    def ask_one(self, line):
+        """The words of the answer to a line, or its fault."""
+        word, *rest = self.ask(line)[0].split(" ", 1)
+        if word == "fault":
+            raise Fault(rest[0])
+        return [word, *rest]
 
     def put(self, key, value):
         """Whether the record was added: not where the key is there already."""
-        return self.ask(f"insert {key.hex()} {value.hex() or '-'}") == ["inserted"]
+        return self.ask_one(f"insert {key.hex()} {value.hex() or '-'}") == ["inserted"]
 
     def get(self, key):
-        word, *value = self.ask(f"search {key.hex()}")[0].split()
+        """The value of a key, or `None`."""
+        word, *value = self.ask_one(f"search {key.hex()}")
         return bytes.fromhex(value[0].strip("-")) if word == "found" else None
 
     def close(self):

@@ -1,15 +1,18 @@
 -- Words in which clap finds no fault name a subcommand, whose rows have the numbers of all its options
 use Rattle.std.proofs.Common.{◌≡◌, ◌∙◌, ◌⊎◌, ◌||◌, ℕ, zero, suc, inl, inr, Bool, true, false, refl, sym, ap, List, []}
 use Rattle.std.proofs.Common.{◌∷◌, Option, Some, None, codes, arith}
-use Rattle.std.specs.Prelude.{find, option_and_then}
+use Rattle.std.specs.Prelude.{◌&&◌, drop, find, not, option_and_then}
+use Rattle.std.specs.List.{list_all}
 use Rattle.std.specs.Str.{bytes_eq}
 use Rattle.std.proofs.lemmas.Bool.{false≢true}
 use Rattle.std.proofs.lemmas.Slice.Eq.{bytes_eq-Decides}
+use Rattle.clap.proofs.WalkLemmas.{both}
 use Rattle.clap.specs.Walk.{Row, Rule, Text, nothing_held, row_text, rows_after}
-use Rattle.clap.specs.Simple.{Shape, argument_words, built, subcommand_of}
+use Rattle.clap.specs.Simple.{Shape, argument_words, built, filled, subcommand_of}
 use Rattle.clap.specs.Faults.{fault_of, level_fault}
 use Rattle.lh_addr.specs.Limits.{most_initial, most_capacity, least_load, most_load, most_buckets}
-use Rattle.lh_options.specs.Options.{commands_app, most_snapshots, number_in, numeral_value, program_app, settings_from}
+use Rattle.lh_options.specs.Options.{commands_app, most_snapshots, number_in, numeral_value, option_rule, program_app}
+use Rattle.lh_options.specs.Options.{settings_from}
 use Rattle.lh_options.specs.OptionSteps.{HasDriveNumbers, HasImage, HasSettings, IsFileCommand, IsImageCommand}
 use Rattle.lh_options.specs.OptionSteps.{settings_in}
 use Rattle.lh_options.proofs.Levels.{entered-some, find-passes}
@@ -44,6 +47,22 @@ settings-after s h words e =
       max = number-fits (codes "max") (codes "65536") 1 most_buckets _ max.0 max.1 max.2;
     }
 
+-- a text of another name fails the test, so what the test would lead to need not be shown
+unequal : {P : Type 0} → false ≡ true → P
+unequal h = absurd (false≢true h)
+
+-- the rules of which none has this id are none of the option's
+others : (name default : Text) (least most : ℕ) (rules : List Rule) →
+    list_all (λ a. not (bytes_eq a.id name)) rules ≡ true → Every (IsTarget name default least most) rules
+others name default least most [] e = tt
+others name default least most (a ∷ rest) e =
+    let parts = both (not (bytes_eq a.id name)) _ e in
+    ((λ same. absurd (go (bytes_eq a.id name) same parts.0)), others name default least most rest parts.1)
+  where
+    go : (b : Bool) → b ≡ true → not b ≡ true → ⊥
+    go true same e = false≢true e
+    go false same e = false≢true same
+
 -- an option that is none of the rules has no row, and so no number
 no-number : (name : Text) (s : Shape) → Every (IsTarget name (codes "1") 1 0) s.rules → (words : List Text) →
     level_fault s [] nothing_held words false [] ≡ []
@@ -61,9 +80,9 @@ no-number name s none words e = go (find (λ r. bytes_eq r.id name) (rows_after 
         let number = number-fits name (codes "1") 1 0 _ r is fits in
         absurd (omega (arith, number.low, number.high))
 
--- a subcommand without options gives no settings
-no-settings : (s : Shape) → Every (IsTarget (codes "initial") (codes "1") 1 0) s.rules → (words : List Text) →
-    level_fault s [] nothing_held words false [] ≡ []
+-- a subcommand without the option `--initial` gives no settings
+no-settings : (s : Shape) → list_all (λ a. not (bytes_eq a.id (codes "initial"))) s.rules ≡ true →
+    (words : List Text) → level_fault s [] nothing_held words false [] ≡ []
     → settings_in (rows_after s.rules [] words) ≡ None
 unfolding settings_in
 no-settings s none words e =
@@ -71,7 +90,8 @@ no-settings s none words e =
     ap
     (λ initial.
     settings_from initial (number_in rows (codes "capacity")) (number_in rows (codes "load"))
-    (number_in rows (codes "max"))) (no-number (codes "initial") s none words e)
+    (number_in rows (codes "max")))
+    (no-number (codes "initial") s (others (codes "initial") (codes "1") 1 0 s.rules none) words e)
 
 abbrev shape_at : ℕ → List Shape → Shape
 shape_at n [] = commands_app.top
@@ -97,37 +117,8 @@ check_built = shape_at 4 (built program_app).subs
 abbrev dump_built : Shape
 dump_built = shape_at 5 (built program_app).subs
 
--- a text of another name fails the test, so what the test would lead to need not be shown
-unequal : {P : Type 0} → false ≡ true → P
-unequal h = absurd (false≢true h)
-
--- the subcommands with the four options alone have the same rules
-file-options : HasOptions commands_built.rules
-file-options = record {
-  initial = (((λ _. refl), (unequal, (unequal, (unequal, (unequal, tt))))), inl refl);
-  capacity = ((unequal, ((λ _. refl), (unequal, (unequal, (unequal, tt))))), inr (inl refl));
-  load = ((unequal, (unequal, ((λ _. refl), (unequal, (unequal, tt))))), inr (inr (inl refl)));
-  max = ((unequal, (unequal, (unequal, ((λ _. refl), (unequal, tt))))), inr (inr (inr (inl refl))));
-}
-
-abbrev serve_built : Shape
-serve_built = shape_at 11 (built program_app).subs
-
-serve-options : HasOptions serve_built.rules
-serve-options = record {
-  initial = (((λ _. refl), (unequal, (unequal, (unequal, (unequal, (unequal, tt)))))), inl refl);
-  capacity = ((unequal, ((λ _. refl), (unequal, (unequal, (unequal, (unequal, tt)))))), inr (inl refl));
-  load = ((unequal, (unequal, ((λ _. refl), (unequal, (unequal, (unequal, tt)))))), inr (inr (inl refl)));
-  max = ((unequal, (unequal, (unequal, ((λ _. refl), (unequal, (unequal, tt)))))), inr (inr (inr (inl refl))));
-}
-
-build-options : HasOptions build_built.rules
-build-options = record {
-  initial = (((λ _. refl), (unequal, (unequal, (unequal, (unequal, (unequal, tt)))))), inl refl);
-  capacity = ((unequal, ((λ _. refl), (unequal, (unequal, (unequal, (unequal, tt)))))), inr (inl refl));
-  load = ((unequal, (unequal, ((λ _. refl), (unequal, (unequal, (unequal, tt)))))), inr (inr (inl refl)));
-  max = ((unequal, (unequal, (unequal, ((λ _. refl), (unequal, (unequal, tt)))))), inr (inr (inr (inl refl))));
-}
+abbrev drive_built : Shape
+drive_built = shape_at 6 (built program_app).subs
 
 abbrev draw_built : Shape
 draw_built = shape_at 7 (built program_app).subs
@@ -141,37 +132,66 @@ query_built = shape_at 9 (built program_app).subs
 abbrev apply_built : Shape
 apply_built = shape_at 10 (built program_app).subs
 
-abbrev drive_built : Shape
-drive_built = shape_at 6 (built program_app).subs
+abbrev serve_built : Shape
+serve_built = shape_at 11 (built program_app).subs
+
+-- a subcommand whose first rules are the four options, and none of whose others has the id of one of them
+abbrev lead : List Rule → List Rule
+lead rest = filled (option_rule (codes "initial") (codes "1") 1 most_initial)
+    ∷ filled (option_rule (codes "capacity") (codes "14") 1 most_capacity)
+    ∷ filled (option_rule (codes "load") (codes "100") least_load most_load)
+    ∷ filled (option_rule (codes "max") (codes "65536") 1 most_buckets) ∷ rest
+
+abbrev have_others : List Rule → Bool
+have_others rules =
+    list_all (λ a. not (bytes_eq a.id (codes "initial"))) rules
+    && (list_all (λ a. not (bytes_eq a.id (codes "capacity"))) rules
+    && (list_all (λ a. not (bytes_eq a.id (codes "load"))) rules
+    && list_all (λ a. not (bytes_eq a.id (codes "max"))) rules))
+
+leading : (rest : List Rule) → have_others rest ≡ true → HasOptions (lead rest)
+leading rest e =
+    let initial = both (list_all (λ a. not (bytes_eq a.id (codes "initial"))) rest) _ e in
+    let capacity = both (list_all (λ a. not (bytes_eq a.id (codes "capacity"))) rest) _ initial.1 in
+    let load = both (list_all (λ a. not (bytes_eq a.id (codes "load"))) rest) _ capacity.1 in
+    record {
+      initial = (((λ _. refl), (unequal, (unequal, (unequal, others _ _ _ _ rest initial.0)))), inl refl);
+      capacity = ((unequal, ((λ _. refl), (unequal, (unequal, others _ _ _ _ rest capacity.0)))), inr (inl refl));
+      load = ((unequal, (unequal, ((λ _. refl), (unequal, others _ _ _ _ rest load.0)))), inr (inr (inl refl)));
+      max = ((unequal, (unequal, (unequal, ((λ _. refl), others _ _ _ _ rest load.1)))), inr (inr (inr (inl refl))));
+    }
+
+commands-options : HasOptions commands_built.rules
+commands-options = leading (drop 4 commands_built.rules) refl
+
+steps-options : HasOptions steps_built.rules
+steps-options = leading (drop 4 steps_built.rules) refl
+
+replay-options : HasOptions replay_built.rules
+replay-options = leading (drop 4 replay_built.rules) refl
+
+build-options : HasOptions build_built.rules
+build-options = leading (drop 4 build_built.rules) refl
 
 drive-options : HasOptions drive_built.rules
-drive-options = record {
-  initial = (((λ _. refl), (unequal, (unequal, (unequal, (unequal, (unequal, (unequal, (unequal, tt)))))))), inl refl);
-  capacity =
-      ((unequal, ((λ _. refl), (unequal, (unequal, (unequal, (unequal, (unequal, (unequal, tt)))))))), inr (inl refl));
-  load = (
-    (unequal, (unequal, ((λ _. refl), (unequal, (unequal, (unequal, (unequal, (unequal, tt)))))))),
-    inr (inr (inl refl)),
-  );
-  max = (
-    (unequal, (unequal, (unequal, ((λ _. refl), (unequal, (unequal, (unequal, (unequal, tt)))))))),
-    inr (inr (inr (inl refl))),
-  );
-}
+drive-options = leading (drop 4 drive_built.rules) refl
+
+serve-options : HasOptions serve_built.rules
+serve-options = leading (drop 4 serve_built.rules) refl
 
 -- the numbers of threads, of shards and of snapshots
 drive-after : (words : List Text) → level_fault drive_built [] nothing_held words false [] ≡ [] →
     HasDriveNumbers (rows_after drive_built.rules [] words)
 drive-after words e =
     let threads = level-row (codes "threads") (codes "4") 1 64 drive_built
-    (unequal, (unequal, (unequal, (unequal, ((λ _. refl), (unequal, (unequal, (unequal, tt))))))))
-    (inr (inr (inr (inr (inl refl))))) [] words false [] e in
-    let shards = level-row (codes "shards") (codes "1") 1 64 drive_built
-    (unequal, (unequal, (unequal, (unequal, (unequal, ((λ _. refl), (unequal, (unequal, tt))))))))
+    (unequal, (unequal, (unequal, (unequal, (unequal, ((λ _. refl), (unequal, (unequal, (unequal, tt)))))))))
     (inr (inr (inr (inr (inr (inl refl)))))) [] words false [] e in
-    let snapshots = level-row (codes "snapshots") (codes "0") 0 most_snapshots drive_built
-    (unequal, (unequal, (unequal, (unequal, (unequal, (unequal, ((λ _. refl), (unequal, tt))))))))
+    let shards = level-row (codes "shards") (codes "1") 1 64 drive_built
+    (unequal, (unequal, (unequal, (unequal, (unequal, (unequal, ((λ _. refl), (unequal, (unequal, tt)))))))))
     (inr (inr (inr (inr (inr (inr (inl refl))))))) [] words false [] e in
+    let snapshots = level-row (codes "snapshots") (codes "0") 0 most_snapshots drive_built
+    (unequal, (unequal, (unequal, (unequal, (unequal, (unequal, (unequal, ((λ _. refl), (unequal, tt)))))))))
+    (inr (inr (inr (inr (inr (inr (inr (inl refl)))))))) [] words false [] e in
     record {
       threads = number-fits (codes "threads") (codes "4") 1 64 _ threads.0 threads.1 threads.2;
       shards = number-fits (codes "shards") (codes "1") 1 64 _ shards.0 shards.1 shards.2;
@@ -183,16 +203,18 @@ image-after : (words : List Text) → level_fault build_built [] nothing_held wo
     HasImage (rows_after build_built.rules [] words)
 image-after words e =
     let own : Every (IsTarget (codes "image") (codes "2") 1 2) build_built.rules =
-    (unequal, (unequal, (unequal, (unequal, ((λ _. refl), (unequal, tt)))))) in
-    let has : HasTarget (codes "image") (codes "2") 1 2 build_built.rules = inr (inr (inr (inr (inl refl)))) in
+    (unequal, (unequal, (unequal, (unequal, (unequal, (unequal, ((λ _. refl), (unequal, tt)))))))) in
+    let has : HasTarget (codes "image") (codes "2") 1 2 build_built.rules =
+    inr (inr (inr (inr (inr (inr (inl refl)))))) in
     let row = level-row (codes "image") (codes "2") 1 2 build_built own has [] words false [] e in
     number-fits (codes "image") (codes "2") 1 2 _ row.0 row.1 row.2
 
 applied-after : (words : List Text) → level_fault apply_built [] nothing_held words false [] ≡ [] →
     HasImage (rows_after apply_built.rules [] words)
 applied-after words e =
-    let own : Every (IsTarget (codes "image") (codes "2") 1 2) apply_built.rules = ((λ _. refl), (unequal, tt)) in
-    let has : HasTarget (codes "image") (codes "2") 1 2 apply_built.rules = inl refl in
+    let own : Every (IsTarget (codes "image") (codes "2") 1 2) apply_built.rules =
+    (unequal, (unequal, ((λ _. refl), (unequal, tt)))) in
+    let has : HasTarget (codes "image") (codes "2") 1 2 apply_built.rules = inr (inr (inl refl)) in
     let row = level-row (codes "image") (codes "2") 1 2 apply_built own has [] words false [] e in
     number-fits (codes "image") (codes "2") 1 2 _ row.0 row.1 row.2
 
@@ -223,7 +245,7 @@ accepted-rows words e = entered-some (built program_app) IsEntered (
   (λ t is other ws f.
       inl (
         inl refl,
-        settings-after commands_built file-options ws f,
+        settings-after commands_built commands-options ws f,
         other-name (codes "commands") _ refl,
         other-name (codes "commands") _ refl,
       )),
@@ -231,7 +253,7 @@ accepted-rows words e = entered-some (built program_app) IsEntered (
     (λ t is other ws f.
         inl (
           inr (inl refl),
-          settings-after steps_built file-options ws f,
+          settings-after steps_built steps-options ws f,
           other-name (codes "steps") _ refl,
           other-name (codes "steps") _ refl,
         )),
@@ -239,7 +261,7 @@ accepted-rows words e = entered-some (built program_app) IsEntered (
       (λ t is other ws f.
           inl (
             inr (inr (inr (inr (inl refl)))),
-            settings-after replay_built file-options ws f,
+            settings-after replay_built replay-options ws f,
             other-name (codes "replay") _ refl,
             other-name (codes "replay") _ refl,
           )),
@@ -253,10 +275,10 @@ accepted-rows words e = entered-some (built program_app) IsEntered (
             )),
         (
           (λ t is other ws f.
-              inr (inl refl, no-settings check_built (unequal, tt) ws f, other-name (codes "check") _ refl)),
+              inr (inl refl, no-settings check_built refl ws f, other-name (codes "check") _ refl)),
           (
             (λ t is other ws f.
-                inr (inr (inl refl), no-settings dump_built (unequal, tt) ws f, other-name (codes "dump") _ refl)),
+                inr (inr (inl refl), no-settings dump_built refl ws f, other-name (codes "dump") _ refl)),
             (
               (λ t is other ws f.
                   inl (
@@ -269,28 +291,28 @@ accepted-rows words e = entered-some (built program_app) IsEntered (
                 (λ t is other ws f.
                     inr (
                       inr (inr (inl refl)),
-                      no-settings draw_built (unequal, tt) ws f,
+                      no-settings draw_built refl ws f,
                       other-name (codes "draw") _ refl,
                     )),
                 (
                   (λ t is other ws f.
                       inr (
                         inr (inr (inr (inl refl))),
-                        no-settings migrate_built (unequal, tt) ws f,
+                        no-settings migrate_built refl ws f,
                         other-name (codes "migrate") _ refl,
                       )),
                   (
                     (λ t is other ws f.
                         inr (
                           inr (inr (inr (inr (inl refl)))),
-                          no-settings query_built (unequal, tt) ws f,
+                          no-settings query_built refl ws f,
                           other-name (codes "query") _ refl,
                         )),
                     (
                       (λ t is other ws f.
                           inr (
                             inr (inr (inr (inr (inr refl)))),
-                            no-settings apply_built (unequal, (unequal, tt)) ws f,
+                            no-settings apply_built refl ws f,
                             λ _. applied-after ws f,
                           )),
                       (

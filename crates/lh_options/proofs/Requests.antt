@@ -6,17 +6,19 @@ use Rattle.std.specs.Option.{option_map_or}
 use Rattle.std.proofs.lemmas.Bool.{cases_lt, false≢true, ltb-true}
 use Rattle.std.specs.List.{list_all}
 use Rattle.std.specs.Char.{digit_value}
+use Rattle.std.specs.String.{string_bytes}
 use Rattle.clap.proofs.WalkLemmas.{both}
 use Rattle.std.specs.Str.Parse.{AllDigits, IsNumeral, digits_value, without_leading_plus}
 use Rattle.clap.specs.ValueTests.{is_numeral}
 use Rattle.clap.specs.Kinds.{HasKind, IsAmong, Kinds}
 use Rattle.clap.specs.Values.{kind_of}
-use Rattle.clap.specs.Walk.{Row, Text}
+use Rattle.clap.specs.Walk.{Row, Text, first_of}
 use Rattle.clap.specs.Matches.{subcommand_name_of}
 use Rattle.clap.specs.Simple.{App, HasMatchesOf, subcommand_of, subcommand_rows_of}
 use Rattle.clap.specs.Faults.{fault_of, is_simple_and_free}
 use Rattle.clap.specs.declared.error.Error.{Error}
 use Rattle.clap.specs.declared.error.kind.ErrorKind.{ErrorKind}
+use Rattle.clap.specs.declared.error.kind.ErrorKind.TheVariants as kind
 use Rattle.clap.specs.declared.parser.matches.ArgMatches.{ArgMatches}
 use Rattle.clap.specs.declared.parser.matches.ArgMatches.TheViews.{out-ArgMatches}
 use Rattle.lh_addr.specs.Limits.{IsSize}
@@ -24,11 +26,14 @@ use Rattle.lh_addr.specs.Settings.{Settings}
 use Rattle.lh_addr.specs.Config.{IsFirstOutOfRange}
 use Rattle.lh_addr.specs.declared.config.Range.{Range}
 use Rattle.lh_addr.specs.declared.config.Range.TheVariants.{Max}
-use Rattle.lh_options.specs.Options.{Accepts, Answers, AsksForHelp, IsRefused, IsServable, all_in_digits, asked_by}
-use Rattle.lh_options.specs.Options.{asked_for, image_begins, number_in, numeral_value, program_app, setting_typed_in}
-use Rattle.lh_options.specs.Options.{settings_from, settings_given, settings_typed, subcommand_named, typed_in}
+use Rattle.lh_options.specs.Options.{Accepts, Answers, AreNamed, AsksForHelp, IsRefused, IsServable, all_in_digits}
+use Rattle.lh_options.specs.Options.{asked_by, asked_for, file_named, image_begins, number_in, numeral_value}
+use Rattle.lh_options.specs.Options.{program_app, setting_typed_in}
+use Rattle.lh_options.specs.Options.{settings_from, settings_given, settings_typed, subcommand_named, text_given}
+use Rattle.lh_options.specs.Options.{typed_in}
 use Rattle.lh_options.specs.Options.{write_digits}
 use Rattle.lh_options.specs.OptionSteps.{HasNumber, IsRefusal, IsRefusedText, asked_in, settings_in}
+use Rattle.lh_options.specs.declared.options.NamedFiles.{NamedFiles}
 use Rattle.lh_options.specs.declared.options.Request.{Request}
 use Rattle.lh_options.specs.declared.options.Request.TheVariants as request
 use Rattle.lh_options.proofs.Accepted.{IsEntered, accepted-rows}
@@ -225,3 +230,42 @@ signed-answers words name rows _ entered digits h = absurd h
 pub signed-servable : (r : Request) → IsRefusedText r → IsServable r
 signed-servable (request.Drive config threads shards snapshots) h = absurd h
 signed-servable _ h = tt
+
+-- where clap turns the words away no file is named
+pub unnamed-files : (words : List Text) (e : Error) (files : NamedFiles) → HasKind (fault_of program_app words) e →
+    (kind_of e ≡ kind.OutOfMemory → ⊥) × (files.input ≡ None) × (files.output ≡ None) → AreNamed words files
+unfolding Accepts
+unnamed-files words e files (inl memory) h = absurd (h.0 memory)
+unnamed-files words e files (inr among) h = record {
+  input = λ a. absurd (none-among (kind_of e) _ among a.0);
+  output = λ a. absurd (none-among (kind_of e) _ among a.0);
+  none = λ _. (h.1, h.2);
+}
+
+-- nor where a number has a sign
+pub signed-files : (words : List Text) (name : Text) (rows : List Row) (files : NamedFiles) →
+    HasEntered words name rows → all_in_digits rows ≡ false → (files.input ≡ None) × (files.output ≡ None) →
+    AreNamed words files
+unfolding Accepts
+signed-files words name rows files entered digits none =
+    let signed = write-is words name rows entered.is ∙ digits in
+    record {
+      input = λ a. absurd (false≢true (sym signed ∙ a.1));
+      output = λ a. absurd (false≢true (sym signed ∙ a.1));
+      none = λ _. none;
+    }
+
+-- accepted words name the files that the rows of their subcommand do
+pub named-files : (words : List Text) (name : Text) (rows : List Row) (files : NamedFiles) →
+    HasEntered words name rows → all_in_digits rows ≡ true →
+    option_map string_bytes files.input ≡ file_named (first_of (codes "file") rows) →
+    option_map string_bytes files.output ≡ file_named (first_of (codes "output") rows) → AreNamed words files
+unfolding Accepts
+named-files words name rows files entered digits input output =
+    let given : (id : Text) → text_given words id ≡ first_of id rows =
+    λ id. ap (λ (o : Option (Text × List Row)). option_and_then (λ s. first_of id s.1) o) entered.is in
+    record {
+      input = λ _. input ∙ sym (ap file_named (given (codes "file")));
+      output = λ _. output ∙ sym (ap file_named (given (codes "output")));
+      none = λ no. absurd (no (entered.no_fault, write-is words name rows entered.is ∙ digits));
+    }

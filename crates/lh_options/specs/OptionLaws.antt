@@ -1,10 +1,10 @@
 -- Words that are written out, and what they give
-use Rattle.std.specs.Prelude.{◌≡◌, ℕ, Bool, true, false, List, [], ◌∷◌, Some, codes, option_map}
+use Rattle.std.specs.Prelude.{◌≡◌, ℕ, Bool, true, false, List, [], ◌∷◌, Option, Some, codes, option_map}
 use Rattle.clap.specs.Walk.{Text}
 use Rattle.lh_addr.specs.Settings.{Settings}
 use Rattle.lh_options.specs.declared.options.ImageVersion.{ImageVersion}
-use Rattle.lh_options.specs.Options.{Accepts, Asks, image_begins, number_given, settings_given, settings_typed}
-use Rattle.lh_options.specs.Options.{version_numbered}
+use Rattle.lh_options.specs.Options.{Accepts, Asks, file_named, image_begins, number_given, settings_given}
+use Rattle.lh_options.specs.Options.{settings_typed, text_given, version_numbered}
 
 abbrev pub no_options : List Text
 no_options = codes "lhash" ∷ codes "commands" ∷ []
@@ -134,6 +134,33 @@ snapshots_given = codes "lhash" ∷ codes "drive" ∷ codes "--snapshots" ∷ co
 
 abbrev pub snapshots_over_limit : List Text
 snapshots_over_limit = codes "lhash" ∷ codes "drive" ∷ codes "--snapshots=1001" ∷ []
+
+abbrev pub file_given : List Text
+file_given = codes "lhash" ∷ codes "check" ∷ codes "users.lhf" ∷ []
+
+abbrev pub stream_given : List Text
+stream_given = codes "lhash" ∷ codes "check" ∷ codes "-" ∷ []
+
+abbrev pub files_given : List Text
+files_given = codes "lhash" ∷ codes "apply" ∷ codes "old.lhf" ∷ codes "-o" ∷ codes "new.lhf" ∷ []
+
+abbrev pub output_given : List Text
+output_given = codes "lhash" ∷ codes "build" ∷ codes "--output=new.lhf" ∷ []
+
+abbrev pub image_file_served : List Text
+image_file_served = codes "lhash" ∷ codes "serve" ∷ codes "--image" ∷ codes "users.lhf" ∷ []
+
+abbrev pub two_files : List Text
+two_files = codes "lhash" ∷ codes "check" ∷ codes "a.lhf" ∷ codes "b.lhf" ∷ []
+
+abbrev pub check_with_output : List Text
+check_with_output = codes "lhash" ∷ codes "check" ∷ codes "-o" ∷ codes "a.txt" ∷ []
+
+-- the words are accepted, and name these files, to be read and to be written
+abbrev pub GivesFiles : List Text → Option Text → Option Text → Type 0
+GivesFiles words input output =
+    Accepts words × (file_named (text_given words (codes "file")) ≡ input)
+    × (file_named (text_given words (codes "output")) ≡ output)
 
 -- the words are accepted, name `commands`, and give these settings
 abbrev pub GivesCommands : List Text → Settings → Type 0

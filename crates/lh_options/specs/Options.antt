@@ -24,6 +24,7 @@ use Rattle.lh_addr.specs.Settings.{Settings}
 use Rattle.lh_options.specs.Escapes.{has_no_control}
 use Rattle.lh_options.specs.declared.options.ImageVersion.{ImageVersion}
 use Rattle.lh_options.specs.declared.options.ImageVersion.TheVariants.{First, Second}
+use Rattle.lh_options.specs.declared.options.NamedFiles.{NamedFiles}
 use Rattle.lh_options.specs.declared.options.Request.{Request}
 use Rattle.lh_options.specs.declared.options.Request.TheVariants as request
 
@@ -49,46 +50,67 @@ with_settings app =
     (option_rule (codes "load") (codes "100") least_load most_load))
     (option_rule (codes "max") (codes "65536") 1 most_buckets)
 
+-- the operand that names a file to read
+abbrev pub file_rule : Rule
+file_rule = record (new_rule (codes "file")) { value_names = 1 }
+
+-- a command with that operand
+abbrev pub with_file : App → App
+with_file app = with_rule app file_rule
+
+-- the option that names a file to write, `--output` or `-o`
+abbrev pub output_rule : Rule
+output_rule = record (new_rule (codes "output")) {
+  long = Some (codes "output");
+  short = Some 111;
+  value_names = 1;
+}
+
+-- a command with that option
+abbrev pub with_output : App → App
+with_output app = with_rule app output_rule
+
 abbrev pub commands_app : App
-commands_app = with_settings (new_app (codes "commands"))
+commands_app = with_file (with_settings (new_app (codes "commands")))
 
 abbrev pub steps_app : App
-steps_app = with_settings (new_app (codes "steps"))
+steps_app = with_file (with_settings (new_app (codes "steps")))
 
+-- the subcommands that draw a picture of a script, or write an image
 abbrev pub replay_app : App
-replay_app = with_settings (new_app (codes "replay"))
+replay_app = with_output (with_file (with_settings (new_app (codes "replay"))))
 
 -- a command with an option for the version of an image
 abbrev pub with_image : App → App
 with_image app = with_rule app (option_rule (codes "image") (codes "2") 1 2)
 
--- the subcommand that writes an image
 abbrev pub build_app : App
-build_app = with_image (with_settings (new_app (codes "build")))
+build_app = with_image (with_output (with_file (with_settings (new_app (codes "build")))))
 
--- the subcommands that read an image have no options
+-- the subcommands that read an image have no settings
 abbrev pub check_app : App
-check_app = new_app (codes "check")
+check_app = with_file (new_app (codes "check"))
 
 abbrev pub dump_app : App
-dump_app = new_app (codes "dump")
+dump_app = with_file (new_app (codes "dump"))
 
 abbrev pub draw_app : App
-draw_app = new_app (codes "draw")
+draw_app = with_output (with_file (new_app (codes "draw")))
 
 abbrev pub migrate_app : App
-migrate_app = new_app (codes "migrate")
+migrate_app = with_output (with_file (new_app (codes "migrate")))
 
 abbrev pub query_app : App
-query_app = new_app (codes "query")
+query_app = with_file (new_app (codes "query"))
 
 -- but the version of an image, where they write one that a script leaves
 abbrev pub apply_app : App
-apply_app = with_image (new_app (codes "apply"))
+apply_app = with_image (with_output (with_file (new_app (codes "apply"))))
 
 -- the subcommand that answers a client; the flag `--image` has an id of its own
 abbrev pub serve_app : App
-serve_app = with_rule (with_settings (new_app (codes "serve"))) (flag_rule (codes "from_image") (codes "image"))
+serve_app =
+    with_rule (with_file (with_settings (new_app (codes "serve")))) (flag_rule (codes "from_image") (codes "image"))
 
 -- a command with an option for a number of threads
 abbrev pub with_threads : App → App
@@ -108,7 +130,7 @@ with_snapshots app = with_rule app (option_rule (codes "snapshots") (codes "0") 
 
 -- the subcommand that runs a script in threads
 abbrev pub drive_app : App
-drive_app = with_snapshots (with_shards (with_threads (with_settings (new_app (codes "drive")))))
+drive_app = with_snapshots (with_shards (with_threads (with_file (with_settings (new_app (codes "drive"))))))
 
 -- a command that asks for a subcommand
 abbrev pub with_subcommand_required : App → App
@@ -201,6 +223,21 @@ unfoldable pub settings_given : List Text → Option Settings
 settings_given words = settings_from
     (number_given words (codes "initial")) (number_given words (codes "capacity"))
     (number_given words (codes "load")) (number_given words (codes "max"))
+
+-- the text that the words give an option or an operand
+abbrev pub text_given : List Text → Text → Option Text
+text_given words name = option_and_then (λ s. first_of name s.1) (subcommand_of program_app words)
+
+-- the file that a text names: `-` is a stream of the process, and names none
+abbrev pub file_named : Option Text → Option Text
+file_named None = None
+file_named (Some text) = if bytes_eq text (codes "-") then None else Some text
+
+-- the files that accepted words name, to be read and to be written; other words name none
+pub record AreNamed (words : List Text) (files : NamedFiles) : Type 0 where
+  pub input : Accepts words → option_map string_bytes files.input ≡ file_named (text_given words (codes "file"))
+  pub output : Accepts words → option_map string_bytes files.output ≡ file_named (text_given words (codes "output"))
+  pub none : ¬ Accepts words → (files.input ≡ None) × (files.output ≡ None)
 
 -- whether the words give the flag that says that the input begins with an image
 abbrev pub image_begins : List Text → Bool

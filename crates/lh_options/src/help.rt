@@ -1,68 +1,94 @@
 //! What help says of the subcommands.
 
-/// What help says of a subcommand: what comes in and what goes out, and an example.
+/// What help says of a subcommand: what comes in and what goes out, the operand that names its file, and an example.
 #[derive(Clone, Copy)]
 pub struct Help {
     pub about: &'static str,
+    pub file: &'static str,
     pub example: &'static str,
 }
 
+/// The operand of a subcommand that reads a script.
+const SCRIPT: &str = "Script to read in place of standard input, which is -";
+
+/// The operand of a subcommand that reads an image.
+const IMAGE: &str = "Image to read in place of standard input, which is -";
+
+/// The operand of a subcommand that reads an image and a script behind it.
+const LEADING: &str = "Image to read; standard input is the script alone then";
+
+/// The operand of the subcommand that answers a client.
+const REQUESTS: &str =
+    "Lines to read in place of standard input, which is -; with --image the image to read before it";
+
 pub const COMMANDS: Help = Help {
     about: "Read a script of commands, and write the reply to each",
-    example: "Example: lhash commands --capacity 2 < script.txt",
+    file: SCRIPT,
+    example: "Example: lhash commands --capacity 2 script.txt",
 };
 
 pub const STEPS: Help = Help {
     about: "Read a script of steps, and write the effect of each",
-    example: "Example: lhash steps --initial 3 < steps.txt",
+    file: SCRIPT,
+    example: "Example: lhash steps --initial 3 steps.txt",
 };
 
 pub const REPLAY: Help = Help {
     about: "Read a script of steps, and draw the effect of each as an SVG",
-    example: "Example: lhash replay --initial 3 < steps.txt > steps.svg",
+    file: SCRIPT,
+    example: "Example: lhash replay --initial 3 steps.txt -o steps.svg",
 };
 
 pub const BUILD: Help = Help {
     about: "Read a script of commands, and write the resulting file as an image",
-    example: "Example: lhash build --capacity 2 < script.txt > file.lhf",
+    file: SCRIPT,
+    example: "Example: lhash build --capacity 2 script.txt -o file.lhf",
 };
 
 pub const MIGRATE: Help = Help {
     about: "Read an image of either version, and write the same file as an image of version 2",
-    example: "Example: lhash migrate < old.lhf > new.lhf",
+    file: IMAGE,
+    example: "Example: lhash migrate old.lhf -o new.lhf",
 };
 
 pub const CHECK: Help = Help {
     about: "Read an image, and write its counts",
-    example: "Example: lhash check < file.lhf",
+    file: IMAGE,
+    example: "Example: lhash check file.lhf",
 };
 
 pub const DUMP: Help = Help {
     about: "Read an image, and write its records",
-    example: "Example: lhash dump < file.lhf",
+    file: IMAGE,
+    example: "Example: lhash dump file.lhf",
 };
 
 pub const DRAW: Help = Help {
     about: "Read an image, and draw its file as an SVG",
-    example: "Example: lhash draw < file.lhf > file.svg",
+    file: IMAGE,
+    example: "Example: lhash draw file.lhf -o file.svg",
 };
 
 pub const QUERY: Help = Help {
     about: "Read an image and a script of commands behind it, and write the reply to each",
-    example: "Example: cat file.lhf script.txt | lhash query",
+    file: LEADING,
+    example: "Example: lhash query file.lhf < script.txt",
 };
 
 pub const APPLY: Help = Help {
     about: "Read an image and a script of commands behind it, and write the resulting file as an image",
-    example: "Example: cat file.lhf script.txt | lhash apply > new.lhf",
+    file: LEADING,
+    example: "Example: lhash apply file.lhf -o file.lhf < script.txt",
 };
 
 pub const SERVE: Help = Help {
     about: "Answer each line of a client as it comes, until its input ends",
+    file: REQUESTS,
     example: "Example: lhash serve < requests.txt",
 };
 
 pub const DRIVE: Help = Help {
     about: "Read a script of commands, run it in threads, and write totals",
-    example: "Example: lhash drive --threads 8 < script.txt",
+    file: SCRIPT,
+    example: "Example: lhash drive --threads 8 script.txt",
 };

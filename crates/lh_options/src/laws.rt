@@ -1,10 +1,11 @@
 //! What the options give, at words that are written out.
-ghost use Rattle.std.specs.Prelude.{codes, false, true};
+ghost use Rattle.std.specs.Prelude.{None, Some, codes, false, true};
 ghost use Rattle.lh_options.specs.OptionLaws.{
   GivesApply,
   GivesBuild,
   GivesCommands,
   GivesDrive,
+  GivesFiles,
   GivesReplay,
   GivesServe,
   GivesServeImage,
@@ -14,14 +15,18 @@ ghost use Rattle.lh_options.specs.OptionLaws.{
   build_given,
   check_alone,
   check_with_option,
+  check_with_output,
   commands_with_image,
   drive_alone,
   drive_given,
   draw_alone,
   dump_alone,
+  file_given,
+  files_given,
   first_image_applied,
   first_image_given,
   help_asked,
+  image_file_served,
   image_served,
   image_served_twice,
   initial_twice,
@@ -35,6 +40,7 @@ ghost use Rattle.lh_options.specs.OptionLaws.{
   migrate_alone,
   no_options,
   no_subcommand,
+  output_given,
   program_version_asked,
   query_alone,
   replay_given,
@@ -49,9 +55,11 @@ ghost use Rattle.lh_options.specs.OptionLaws.{
   snapshots_over_limit,
   snapshots_with_minus,
   steps_given,
+  stream_given,
   third_image,
   threads_over_limit,
   threads_zero,
+  two_files,
   unknown_option,
 };
 ghost use Rattle.lh_options.specs.Options.{Asks, AsksForHelp};
@@ -60,7 +68,7 @@ ghost use Rattle.lh_options.specs.declared.options.ImageVersion.TheVariants.{Fir
 /// The words give the options the numbers that stand in them, and an option that is left out its
 /// default. A number out of its range or with a sign, an option given twice and an unknown one are refused, and so is
 /// each setting of a subcommand that reads an image. `serve` says whether its input begins with an image, and whether a
-/// setting stands beside that.
+/// setting stands beside that. A file is named by an operand or by `-o`; `-` names none, and there is no second one.
 pub fn words_give_options()
     ensures left_out { GivesCommands no_options (record { initial = 1; capacity = 14; load = 100; max = 65536 }) }
     ensures given { GivesCommands max_given (record { initial = 3; capacity = 14; load = 100; max = 7 }) }
@@ -108,6 +116,14 @@ pub fn words_give_options()
     ensures image_twice { Refuses image_served_twice }
     ensures no_image { Refuses commands_with_image }
     ensures unknown { Refuses unknown_option }
+    ensures file { GivesFiles file_given (Some (codes "users.lhf")) None }
+    ensures stream { GivesFiles stream_given None None }
+    ensures files { GivesFiles files_given (Some (codes "old.lhf")) (Some (codes "new.lhf")) }
+    ensures output { GivesFiles output_given None (Some (codes "new.lhf")) }
+    ensures image_file { GivesFiles image_file_served (Some (codes "users.lhf")) None }
+    ensures image_and_file { GivesServeImage image_file_served false }
+    ensures second_file { Refuses two_files }
+    ensures no_output { Refuses check_with_output }
     ensures help { AsksForHelp help_asked }
     ensures version { AsksForHelp program_version_asked }
 {}

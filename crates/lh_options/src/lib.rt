@@ -10,4 +10,5 @@ mod help;
 pub mod laws;
 mod options;
 
-pub use options::{ImageVersion, Request, request_of};
+pub use escapes::escaped;
+pub use options::{ImageVersion, NamedFiles, Request, files_of, request_of};

@@ -3,12 +3,14 @@ ghost use Rattle.std.specs.Prelude.{◌≡◌, ◌⊎◌, IfOk, IfSome, IfNone, 
 ghost use Rattle.std.specs.Char.{is_ascii_digit};
 ghost use Rattle.std.specs.List.{list_all};
 ghost use Rattle.std.specs.String.{string_bytes};
+ghost use Rattle.clap.specs.declared.error.kind.ErrorKind.TheVariants as kind;
 ghost use Rattle.lh_addr.specs.Settings.{IsInRange};
-ghost use Rattle.clap.specs.Words.{found_of, kind_of, new_app, rows_of, rule_of};
+ghost use Rattle.clap.specs.Words.{first_of, found_of, kind_of, new_app, rows_of, rule_of};
 ghost use Rattle.lh_options.specs.Escapes.{has_no_control};
-ghost use Rattle.lh_options.specs.Options.{Answers, IsMaxBelowInitial, IsServable, all_in_digits, in_digits, number_in};
-ghost use Rattle.lh_options.specs.Options.{apply_app, build_app, drive_app, flag_rule, option_rule, version_numbered};
-ghost use Rattle.lh_options.specs.Options.{root_app, scripts_app, serve_app, setting_typed_in, typed_in, program_app};
+ghost use Rattle.lh_options.specs.Options.{AreNamed, Answers, IsMaxBelowInitial, IsServable, all_in_digits, in_digits, number_in};
+ghost use Rattle.lh_options.specs.Options.{apply_app, build_app, drive_app, file_named, file_rule, flag_rule};
+ghost use Rattle.lh_options.specs.Options.{option_rule, output_rule, program_app, root_app, scripts_app, serve_app};
+ghost use Rattle.lh_options.specs.Options.{setting_typed_in, typed_in, version_numbered, with_file, with_output};
 ghost use Rattle.lh_options.specs.Options.{with_settings};
 ghost use Rattle.lh_options.specs.OptionSteps.{HasNumber, HasSettings, HasDriveNumbers, HasImage, IsFileCommand};
 ghost use Rattle.lh_options.specs.OptionSteps.{IsImageCommand, IsRefusal, IsRefusedText, Reads, asked_in};
@@ -55,6 +57,28 @@ pub enum ImageVersion {
     First,
     /// Pages of 4,096 bytes.
     Second,
+}
+
+/// The files that the words name in place of the process's streams.
+#[derive(Debug, Drop)]
+pub struct NamedFiles {
+    /// The file to read. `query`, `apply` and `serve --image` read the image from it, and what follows the image from
+    /// standard input.
+    pub input: Option<String>,
+    /// The file to write.
+    pub output: Option<String>,
+}
+
+impl NamedFiles {
+    /// No file.
+    fn none() -> NamedFiles
+        ensures { (result.input ≡ None) × (result.output ≡ None) }
+    {
+        NamedFiles {
+            input: None,
+            output: None,
+        }
+    }
 }
 
 /// What the words ask for.
@@ -124,9 +148,29 @@ fn option<'a>(
         .default_value(default)
 }
 
-/// A subcommand with the options of a file's configuration.
+/// The operand that names a file to read.
+fn file_operand<'a>(alloc: Global, help: &'a str) -> Arg<'a>
+    ensures local { result.global ≡ false }
+    ensures rule { rule_of result ≡ file_rule }
+{
+    Arg::new(alloc, "file").help(help).value_name("FILE")
+}
+
+/// The option that names a file to write.
+fn output_option<'a>(alloc: Global) -> Arg<'a>
+    ensures local { result.global ≡ false }
+    ensures rule { rule_of result ≡ output_rule }
+{
+    Arg::new(alloc, "output")
+        .short('o')
+        .long("output")
+        .help("File to write in place of standard output, whole or not at all")
+        .value_name("FILE")
+}
+
+/// A subcommand with the options of a file's configuration, which reads a script.
 fn file_command<'a>(alloc: Global, name: &'a str, help: Help) -> Result<Command<'a>, AllocError>
-    ensures { IfOk result (Reads (with_settings (new_app name.now))) }
+    ensures { IfOk result (Reads (with_file (with_settings (new_app name.now)))) }
 {
     Command::new(alloc, name)
         .about(help.about)
@@ -162,16 +206,32 @@ fn file_command<'a>(alloc: Global, name: &'a str, help: Help) -> Result<Command<
             "65536",
             MIN_INITIAL,
             MAX_BUCKETS,
-        ))
+        ))?
+        .arg(file_operand(alloc, help.file))
 }
 
-/// A subcommand that reads an image, without options yet.
-fn image_command<'a>(alloc: Global, name: &'a str, help: Help) -> Command<'a>
-    ensures { Reads (new_app name.now) result }
+/// A subcommand with the options of a file's configuration, which reads a script, and writes a picture or an image.
+fn writing_command<'a>(alloc: Global, name: &'a str, help: Help) -> Result<Command<'a>, AllocError>
+    ensures { IfOk result (Reads (with_output (with_file (with_settings (new_app name.now))))) }
+{
+    file_command(alloc, name, help)?.arg(output_option(alloc))
+}
+
+/// A subcommand that reads an image.
+fn image_command<'a>(alloc: Global, name: &'a str, help: Help) -> Result<Command<'a>, AllocError>
+    ensures { IfOk result (Reads (with_file (new_app name.now))) }
 {
     Command::new(alloc, name)
         .about(help.about)
         .after_help(help.example)
+        .arg(file_operand(alloc, help.file))
+}
+
+/// A subcommand that reads an image, and writes a picture or an image.
+fn changing_command<'a>(alloc: Global, name: &'a str, help: Help) -> Result<Command<'a>, AllocError>
+    ensures { IfOk result (Reads (with_output (with_file (new_app name.now)))) }
+{
+    image_command(alloc, name, help)?.arg(output_option(alloc))
 }
 
 /// The subcommand that runs a script in threads: a file's options, and one each for the threads, the shards and the
@@ -225,14 +285,14 @@ fn image_option<'a>(alloc: Global) -> Arg<'a>
 fn build_command<'a>(alloc: Global) -> Result<Command<'a>, AllocError>
     ensures { IfOk result (Reads build_app) }
 {
-    file_command(alloc, "build", BUILD)?.arg(image_option(alloc))
+    writing_command(alloc, "build", BUILD)?.arg(image_option(alloc))
 }
 
 /// The subcommand that reads an image and writes the one that a script leaves: an option for its version.
 fn apply_command<'a>(alloc: Global) -> Result<Command<'a>, AllocError>
     ensures { IfOk result (Reads apply_app) }
 {
-    image_command(alloc, "apply", APPLY).arg(image_option(alloc))
+    changing_command(alloc, "apply", APPLY)?.arg(image_option(alloc))
 }
 
 /// The flag that says that the input begins with an image. Its id is not its name, since what stands under the id
@@ -274,7 +334,7 @@ fn with_scripts<'a>(alloc: Global) -> Result<Command<'a>, AllocError>
     root(alloc)
         .subcommand(file_command(alloc, "commands", COMMANDS)?)?
         .subcommand(file_command(alloc, "steps", STEPS)?)?
-        .subcommand(file_command(alloc, "replay", REPLAY)?)?
+        .subcommand(writing_command(alloc, "replay", REPLAY)?)?
         .subcommand(build_command(alloc)?)
 }
 
@@ -282,12 +342,12 @@ fn program<'a>(alloc: Global) -> Result<Command<'a>, AllocError>
     ensures { IfOk result (Reads program_app) }
 {
     with_scripts(alloc)?
-        .subcommand(image_command(alloc, "check", CHECK))?
-        .subcommand(image_command(alloc, "dump", DUMP))?
+        .subcommand(image_command(alloc, "check", CHECK)?)?
+        .subcommand(image_command(alloc, "dump", DUMP)?)?
         .subcommand(drive_command(alloc)?)?
-        .subcommand(image_command(alloc, "draw", DRAW))?
-        .subcommand(image_command(alloc, "migrate", MIGRATE))?
-        .subcommand(image_command(alloc, "query", QUERY))?
+        .subcommand(changing_command(alloc, "draw", DRAW)?)?
+        .subcommand(changing_command(alloc, "migrate", MIGRATE)?)?
+        .subcommand(image_command(alloc, "query", QUERY)?)?
         .subcommand(apply_command(alloc)?)?
         .subcommand(serve_command(alloc)?)
 }
@@ -508,6 +568,54 @@ fn refusal(alloc: Global, error: &Error) -> Result<Request, AllocError>
         ErrorKind::DisplayHelp => Ok(Request::Help(help_text(alloc, error)?)),
         ErrorKind::DisplayVersion => Ok(Request::Help(help_text(alloc, error)?)),
         _ => Ok(Request::Refused(first_line(alloc, error)?)),
+    }
+}
+
+/// The file that an option or an operand names; `-` is a stream of the process, and names none.
+fn file_in(
+    alloc: Global,
+    matches: &ArgMatches<'_>,
+    name: &str,
+) -> Result<Option<String>, AllocError>
+    ensures { IfOk result (λ file.
+        option_map string_bytes file ≡ file_named (first_of name.now (rows_of (found_of matches.now)))) }
+{
+    match matches.get_str(name) {
+        None => Ok(None),
+        Some("-") => Ok(None),
+        Some(text) => Ok(Some(String::from_str(alloc, text)?)),
+    }
+}
+
+/// No file, where words are not accepted for an error of clap's, unless memory ran out.
+fn unnamed(error: &Error) -> Result<NamedFiles, AllocError>
+    ensures { IfOk result (λ files.
+        (kind_of error.now ≡ kind.OutOfMemory → ⊥) × (files.input ≡ None) × (files.output ≡ None)) }
+{
+    if matches!(error.kind(), ErrorKind::OutOfMemory) {
+        return Err(AllocError);
+    }
+    Ok(NamedFiles::none())
+}
+
+/// The files that the words name, of which the first is the program's name: none, where they are not accepted.
+pub fn files_of<'a>(alloc: Global, words: &'a [&'a str]) -> Result<NamedFiles, AllocError>
+    ensures { IfOk result (AreNamed (map (λ s. s.now) words.now)) }
+{
+    match program(alloc)?.try_get_matches_from(words) {
+        Err(error) => unnamed(&error),
+        Ok(matches) => match matches.subcommand() {
+            Some((_, matches)) => {
+                if !are_in_digits(matches) {
+                    return Ok(NamedFiles::none());
+                }
+                Ok(NamedFiles {
+                    input: file_in(alloc, matches, "file")?,
+                    output: file_in(alloc, matches, "output")?,
+                })
+            },
+            None => unreachable!(),
+        },
     }
 }
 

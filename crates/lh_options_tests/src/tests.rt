@@ -1,2 +1,3 @@
 //! Words from end to end.
+mod files;
 mod options;

@@ -13,14 +13,15 @@ use Rattle.lh_image.specs.Canonical.{canonical}
 use Rattle.lh_image.specs.Counted.{CensusLaw}
 use Rattle.lh_image.specs.Image.{IsImage, OneListingLaw}
 use Rattle.lh_image.specs.Layout.{view_of}
-use Rattle.lh_image.specs.Reading.{LeadingLaw, judged_by, leading, reading_of}
+use Rattle.lh_image.specs.Reading.{LeadingLaw, following, judged_by, leading, reading_of}
 use Rattle.lh_image.specs.Writing.{IsWriteRefusal}
 use Rattle.lh_page.specs.Records.{no_pair}
 use Rattle.lh_script.specs.Commands.{command}
 use Rattle.lh_script.specs.Scripts.{script}
 use Rattle.lh_script.specs.declared.fault.ScriptFault.{ScriptFault}
-use Rattle.lh_subcommands.specs.Continued.{EndsApplying, EndsLeaving, IsLeft, query_due, replies_due}
-use Rattle.lh_subcommands.specs.ContinuedLaws.{ApplyLaw, MigrateLaw, QueryLaw}
+use Rattle.lh_subcommands.specs.Continued.{EndsApplying, EndsApplyingTo, EndsLeaving, IsLeft, query_due}
+use Rattle.lh_subcommands.specs.Continued.{query_due_of, replies_due}
+use Rattle.lh_subcommands.specs.ContinuedLaws.{ScriptApartLaw, ApplyLaw, MigrateLaw, QueryLaw}
 use Rattle.lh_subcommands.specs.Devices.{TakesBeginning}
 use Rattle.lh_subcommands.specs.Images.{EndsInImage, migrate_due, text_or_fault}
 use Rattle.lh_subcommands.specs.Run.{Ends}
@@ -108,3 +109,19 @@ migrate_law leads one census image text l status before now h none ends =
     without_calls census image l h (ap (text_or_fault (canonical Two)) (image_read one image l h)) status
     (script command text) before now none
     (apply_law leads one Two image text l status before now h ends)
+
+-- an image and a script apart are due what they are in one input
+pub apart_law : LeadingLaw → ScriptApartLaw
+unfolding query_due query_due_of EndsApplying EndsApplyingTo
+apart_law leads = record {
+  query = λ image text l h.
+      let parts = leads image text l h in
+      λ i. replies_due (reading_of (sym parts.0 i)) (script command (sym parts.1 i));
+  apply = λ version image text l status before now h ends.
+      let parts = leads image text l h in
+      subst (λ (held : List ℕ).
+      EndsLeaving version status (reading_of held) (script command (following (image ++ text))) before now)
+      (sym parts.0)
+      (subst (λ (t : List ℕ). EndsLeaving version status (reading_of image) (script command t) before now)
+      (sym parts.1) ends);
+}

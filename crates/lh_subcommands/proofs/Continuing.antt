@@ -18,8 +18,9 @@ use Rattle.lh_script.specs.Commands.{command}
 use Rattle.lh_script.specs.Scripts.{script}
 use Rattle.lh_script.specs.Texts.{commands_text}
 use Rattle.lh_script.specs.declared.fault.ScriptFault.{ScriptFault}
-use Rattle.lh_subcommands.specs.Continued.{EndsApplying, EndsLeaving, IsLeft, ReadsContinued, query_due, replies_due}
-use Rattle.lh_subcommands.specs.Continued.{script_behind}
+use Rattle.lh_subcommands.specs.Continued.{EndsApplying, EndsApplyingTo, EndsLeaving, IsLeft, ReadsContinued}
+use Rattle.lh_subcommands.specs.Continued.{query_due, query_due_of, replies_due, script_behind}
+use Rattle.lh_subcommands.specs.declared.continued.Continued.{Continued}
 use Rattle.lh_subcommands.specs.Images.{refused_as, unwritten_as}
 use Rattle.lh_subcommands.specs.Run.{Ends, ReadsScript}
 use Rattle.lh_subcommands.specs.declared.status.DeviceFault.TheVariants.{Read, Write}
@@ -30,7 +31,7 @@ use Rattle.lh_subcommands.specs.declared.status.Status.TheVariants.{Done, Input,
 use Rattle.lh_subcommands.proofs.Building.{led_from, made_not, made_whole}
 use Rattle.lh_subcommands.proofs.Ending.{told_due}
 
--- what both read
+-- both were read, of one input
 abbrev pub AreRead : Option (List ℕ) → Lists → List Call → Type 0
 AreRead left l calls = IfSome left (λ input. (reading_of (leading input) ≡ Ok l) × (script_behind input ≡ Ok calls))
 
@@ -99,51 +100,26 @@ script_refused listing status (Some input) now h k =
     (subst (λ (o : Option (List ℕ)). IfSome o (λ rest. ReadsScript {A = Call} (Err status) (script command rest))) h.1
     k)
 
--- a run that read no image, or no script behind it, ends without a write
-untold : (status : Status) (file : Result Lists ImageFault) (given : Result (List Call) ScriptFault)
-    (a : Option (List ℕ)) →
-    ReadsContinued (Err status) file given → Ends status (replies_due file given) a a
-untold Done file given a h = absurd h
-untold (Input (Script fault)) file given a h = (told fault h, Keeps-refl a)
-  where
-    told : (fault : ScriptFault) → (l : Lists) × (file ≡ Ok l) × (given ≡ Err fault) →
-        replies_due file given ≡ Err (Script fault)
-    told fault h = (λ i. replies_due (h.1 i) (h.2 i))
-untold (Input (Image fault)) file given a h = (ap (λ f. replies_due f given) h, Keeps-refl a)
-untold (Input (Unwritten fault)) file given a h = absurd h
-untold (Words text) file given a h = absurd h
-untold (Device Read) file given a h = Keeps-refl a
-untold (Device Write) file given a h = absurd h
-untold Memory file given a h = Keeps-refl a
-untold (NotSettled fault) file given a h = absurd h
-
--- a run of `query` that read no image, or no script behind it, ends without a write
-pub unqueried : (status : Status) (left a : Option (List ℕ)) →
-    IfSome left (λ input. ReadsContinued (Err status) (reading_of (leading input)) (script_behind input)) →
-    IfSome left (λ input. Ends status (query_due input) a a)
-unfolding query_due
-unqueried status None a h = tt
-unqueried status (Some input) a h = untold status (reading_of (leading input)) (script_behind input) a h
-
--- what was told of the calls is what is due
-pub queried : (status : Status) (l : Lists) (left before now : Option (List ℕ)) (calls : List Call) (told : List Reply)
-    (world : WorldSeen) →
-    AreRead left l calls → IsSerialFrom l.config (records_of l) (size l) calls told world →
-    Ends status (Ok (commands_text told world.state.buckets)) before now →
+-- a run that read an image and a script behind it ends as it does for what it read
+pub queried_behind : (read : Result Continued Status) (status : Status) (left before now : Option (List ℕ)) →
+    IfSome left (λ input. ReadsContinued read (reading_of (leading input)) (script_behind input)) →
+    ((file : Result Lists ImageFault) (given : Result (List Call) ScriptFault) → ReadsContinued read file given →
+    Ends status (replies_due file given) before now) →
     IfSome left (λ input. Ends status (query_due input) before now)
 unfolding query_due
-queried status l None before now calls told world read serial ends = tt
-queried status l (Some input) before now calls told world read serial ends =
-    let due : Ok (commands_text told world.state.buckets) ≡ replies_due (Ok l) (script_behind input) =
-    told_due l.config (records_of l) (size l) (script_behind input) calls told world.state.buckets read.1 serial.replied
-    serial.size in
-    subst (λ (d : Result (List ℕ) InputFault). Ends status d before now)
-    (due ∙ sym (ap (λ f. replies_due f (script_behind input)) read.0)) ends
+queried_behind read status None before now h f = tt
+queried_behind read status (Some input) before now h f = f (reading_of (leading input)) (script_behind input) h
 
--- a run of `query` that is out of memory ends without a write
-pub unqueried_memory : (left a : Option (List ℕ)) → IfSome left (λ input. Ends Memory (query_due input) a a)
-unqueried_memory None a = tt
-unqueried_memory (Some input) a = Keeps-refl a
+-- so does one that read them apart
+pub queried_apart : (read : Result Continued Status) (status : Status) (held left before now : Option (List ℕ)) →
+    IfSome held (λ image. IfSome left (λ text. ReadsContinued read (reading_of image) (script command text))) →
+    ((file : Result Lists ImageFault) (given : Result (List Call) ScriptFault) → ReadsContinued read file given →
+    Ends status (replies_due file given) before now) →
+    IfSome held (λ image. IfSome left (λ text. Ends status (query_due_of image text) before now))
+unfolding query_due_of
+queried_apart read status None left before now h f = tt
+queried_apart read status (Some image) None before now h f = tt
+queried_apart read status (Some image) (Some text) before now h f = f (reading_of image) (script command text) h
 
 -- without calls a file is left as it was
 same_file : (l file : Lists) (world : WorldSeen) →
@@ -161,63 +137,27 @@ left_of file calls told world l serial lists is kept = record {
   unchanged = λ none. same_file l file world is serial.same (lists none);
 }
 
--- a run that read no image, or no script behind it, ends without a write
-unleft : (version : Version) (status : Status) (file : Result Lists ImageFault) (given : Result (List Call) ScriptFault)
-    (a : Option (List ℕ)) →
-    ReadsContinued (Err status) file given → EndsLeaving version status file given a a
-unleft version Done file given a h = absurd h
-unleft version (Input (Script fault)) file given a h =
-    subst (λ (f : Result Lists ImageFault). EndsLeaving version (Input (Script fault)) f given a a) (sym h.1)
-    (h.2, Keeps-refl a)
-unleft version (Input (Image fault)) file given a h =
-    subst (λ (f : Result Lists ImageFault). EndsLeaving version (Input (Image fault)) f given a a) (sym h)
-    (refl, Keeps-refl a)
-unleft version (Input (Unwritten fault)) file given a h = absurd h
-unleft version (Words text) file given a h = absurd h
-unleft version (Device Read) (Ok l) given a h = Keeps-refl a
-unleft version (Device Read) (Err fault) given a h = Keeps-refl a
-unleft version (Device Write) file given a h = absurd h
-unleft version Memory (Ok l) given a h = Keeps-refl a
-unleft version Memory (Err fault) given a h = Keeps-refl a
-unleft version (NotSettled fault) file given a h = absurd h
-
--- a run of `apply` that read no image, or no script behind it, ends without a write
-pub unapplied : (version : Version) (status : Status) (left a : Option (List ℕ)) →
-    IfSome left (λ input. ReadsContinued (Err status) (reading_of (leading input)) (script_behind input)) →
-    IfSome left (λ input. EndsApplying version input status a a)
-unfolding EndsApplying
-unapplied version status None a h = tt
-unapplied version status (Some input) a h = unleft version status (reading_of (leading input)) (script_behind input) a h
-
--- a run of `apply` that is out of memory ends without a write
-pub unapplied_memory : (version : Version) (left a : Option (List ℕ)) →
-    IfSome left (λ input. EndsApplying version input Memory a a)
-unfolding EndsApplying
-unapplied_memory version None a = tt
-unapplied_memory version (Some input) a = unleft version Memory (reading_of (leading input)) (script_behind input) a tt
-
--- the file that the calls leave was written
-pub applied : (version : Version) (file l : Lists) (left before now : Option (List ℕ)) (calls : List Call) →
-    AreRead left file calls →
-    IsLeft file calls l → IsWritten version l (Ok tt) before now →
-    IfSome left (λ input. EndsApplying version input Done before now)
-unfolding EndsApplying
-applied version file l None before now calls read led written = tt
-applied version file l (Some input) before now calls read led written =
-    subst (λ (f : Result Lists ImageFault). EndsLeaving version Done f (script_behind input) before now) (sym read.0)
-    (made_whole (IsLeft file) version calls l (script_behind input) before now read.1 led written)
-
--- or not
-pub applied_not : (version : Version) (file l : Lists) (fault : WriteImageFault) (status : Status)
-    (left before now : Option (List ℕ)) (calls : List Call) →
-    status ≡ unwritten_as fault → AreRead left file calls → IsLeft file calls l →
-    IsWritten version l (Err fault) before now →
+-- a run of `apply` that read an image and a script behind it ends as it does for what it read
+pub applied_behind : (version : Version) (read : Result Continued Status) (status : Status)
+    (left before now : Option (List ℕ)) →
+    IfSome left (λ input. ReadsContinued read (reading_of (leading input)) (script_behind input)) →
+    ((file : Result Lists ImageFault) (given : Result (List Call) ScriptFault) → ReadsContinued read file given →
+    EndsLeaving version status file given before now) →
     IfSome left (λ input. EndsApplying version input status before now)
 unfolding EndsApplying
-applied_not version file l fault status None before now calls is read led written = tt
-applied_not version file l fault status (Some input) before now calls is read led written =
-    subst (λ (s : Status). EndsLeaving version s (reading_of (leading input)) (script_behind input) before now) (sym is)
-    (subst
-    (λ (f : Result Lists ImageFault). EndsLeaving version (unwritten_as fault) f (script_behind input) before now)
-    (sym read.0)
-    (made_not (IsLeft file) version calls l fault (script_behind input) before now read.1 led written))
+applied_behind version read status None before now h f = tt
+applied_behind version read status (Some input) before now h f =
+    f (reading_of (leading input)) (script_behind input) h
+
+-- so does one that read them apart
+pub applied_apart : (version : Version) (read : Result Continued Status) (status : Status)
+    (held left before now : Option (List ℕ)) →
+    IfSome held (λ image. IfSome left (λ text. ReadsContinued read (reading_of image) (script command text))) →
+    ((file : Result Lists ImageFault) (given : Result (List Call) ScriptFault) → ReadsContinued read file given →
+    EndsLeaving version status file given before now) →
+    IfSome held (λ image. IfSome left (λ text. EndsApplyingTo version image text status before now))
+unfolding EndsApplyingTo
+applied_apart version read status None left before now h f = tt
+applied_apart version read status (Some image) None before now h f = tt
+applied_apart version read status (Some image) (Some text) before now h f =
+    f (reading_of image) (script command text) h

@@ -14,8 +14,8 @@ use Rattle.lh_serving.specs.Texts.{image_text}
 use Rattle.lh_subcommands.specs.Devices.{TakesBeginning}
 use Rattle.lh_subcommands.specs.Images.{refused_as}
 use Rattle.lh_subcommands.specs.Run.{Ends}
-use Rattle.lh_subcommands.specs.Serve.{EndsAtFault, EndsGoingOn, EndsServing, EndsServingFrom, TellsAnswers, IsCutShort}
-use Rattle.lh_subcommands.specs.Serve.{IsTelling, IsUnopened}
+use Rattle.lh_subcommands.specs.Serve.{EndsAtFault, EndsGoingOn, EndsServing, EndsServingFrom, EndsServingOf}
+use Rattle.lh_subcommands.specs.Serve.{IsCutShort, IsTelling, IsUnopened, TellsAnswers}
 use Rattle.lh_subcommands.specs.declared.status.DeviceFault.{DeviceFault}
 use Rattle.lh_subcommands.specs.declared.status.DeviceFault.TheVariants.{Read, Write}
 use Rattle.lh_subcommands.specs.declared.status.InputFault.{InputFault}
@@ -244,3 +244,26 @@ not_opened fault status None is h = tt
 not_opened fault status (Some input) is h =
     subst (λ (s : Status). IsUnopened s (reading_of (leading input))) (sym is)
     (unread fault (reading_of (leading input)) h)
+
+-- a file that was opened so is served
+pub served_apart : (talk : ConversationSeen) (status : Status) (held left rest before now : Option (List ℕ)) →
+    IfSome held (λ image. (l : Lists) × (reading_of image ≡ Ok l) × IsAt (file_of l) talk [] []) →
+    ((start : FileSeen) → IsAt start talk [] [] →
+    IfSome left (λ lines. EndsServing start lines status rest before now)) →
+    IfSome held (λ image. IfSome left (λ lines. EndsServingOf image lines status rest before now))
+unfolding EndsServingOf
+served_apart talk status None left rest before now h f = tt
+served_apart talk status (Some image) None rest before now h f = tt
+served_apart talk status (Some image) (Some lines) rest before now h f =
+    subst (λ (due : Result Lists ImageFault). EndsGoingOn due lines status rest before now) (sym h.1)
+    (inl (f (file_of h.0) h.2))
+
+-- one that was not tells nothing
+pub unserved_apart : (status : Status) (held left rest before : Option (List ℕ)) →
+    IfSome held (λ image. IsUnopened status (reading_of image)) →
+    IfSome held (λ image. IfSome left (λ lines. EndsServingOf image lines status rest before before))
+unfolding EndsServingOf
+unserved_apart status None left rest before h = tt
+unserved_apart status (Some image) None rest before h = tt
+unserved_apart status (Some image) (Some lines) rest before h =
+    unserved status (reading_of image) lines rest before h

@@ -42,6 +42,10 @@ replies_due (Err fault) given = Err (Image fault)
 unfoldable pub query_due : List ℕ → Result (List ℕ) InputFault
 query_due input = replies_due (reading_of (leading input)) (script_behind input)
 
+-- what it is to write where the image is an input of its own
+unfoldable pub query_due_of : List ℕ → List ℕ → Result (List ℕ) InputFault
+query_due_of image text = replies_due (reading_of image) (script command text)
+
 -- A listing of the file that calls leave of another one. Without a call that is the same, with its records in the same
 -- order.
 pub record IsLeft (file : Lists) (calls : List Call) (l : Lists) : Type 0 where
@@ -59,3 +63,8 @@ EndsLeaving version status (Err fault) given before now = Ends status (Err (Imag
 unfoldable pub EndsApplying : Version → List ℕ → Status → Option (List ℕ) → Option (List ℕ) → Type 0
 EndsApplying version input status before now =
     EndsLeaving version status (reading_of (leading input)) (script_behind input) before now
+
+-- how it ends where the image is an input of its own
+unfoldable pub EndsApplyingTo : Version → List ℕ → List ℕ → Status → Option (List ℕ) → Option (List ℕ) → Type 0
+EndsApplyingTo version image text status before now =
+    EndsLeaving version status (reading_of image) (script command text) before now

@@ -7,7 +7,7 @@ use Rattle.lh_image.specs.declared.version.Version.{Version}
 use Rattle.lh_image.specs.declared.version.Version.TheVariants.{Two}
 use Rattle.lh_script.specs.Commands.{command}
 use Rattle.lh_script.specs.Scripts.{script}
-use Rattle.lh_subcommands.specs.Continued.{EndsApplying, IsLeft, query_due}
+use Rattle.lh_subcommands.specs.Continued.{EndsApplying, EndsApplyingTo, IsLeft, query_due, query_due_of}
 use Rattle.lh_subcommands.specs.Images.{EndsInImage, migrate_due}
 use Rattle.lh_subcommands.specs.Run.{Ends, due, replies_text}
 use Rattle.lh_subcommands.specs.declared.status.Status.{Status}
@@ -31,3 +31,10 @@ MigrateLaw =
     (image text : List ℕ) (l : Lists) (status : Status) (before now : Option (List ℕ)) →
     IsImage image l → script command text ≡ Ok [] → EndsApplying Two (image ++ text) status before now →
     Ends status (migrate_due image) before now
+
+-- `query` and `apply` of an image that is an input of its own, and of a script, do what they do of both in one input.
+pub record ScriptApartLaw : Type 0 where
+  pub query : (image text : List ℕ) (l : Lists) → IsImage image l → query_due_of image text ≡ query_due (image ++ text)
+  pub apply : (version : Version) (image text : List ℕ) (l : Lists) (status : Status) (before now : Option (List ℕ)) →
+      IsImage image l → EndsApplyingTo version image text status before now →
+      EndsApplying version (image ++ text) status before now

@@ -74,3 +74,7 @@ EndsGoingOn (Err fault) lines status rest before now = Ends status (Err (Image f
 unfoldable pub EndsServingFrom : List ℕ → Status → Option (List ℕ) → Option (List ℕ) → Option (List ℕ) → Type 0
 EndsServingFrom input status rest before now =
     EndsGoingOn (reading_of (leading input)) (following input) status rest before now
+
+-- how `serve` ends on lines, where the image is an input of its own
+unfoldable pub EndsServingOf : List ℕ → List ℕ → Status → Option (List ℕ) → Option (List ℕ) → Option (List ℕ) → Type 0
+EndsServingOf image lines status rest before now = EndsGoingOn (reading_of image) lines status rest before now

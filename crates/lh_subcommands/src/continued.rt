@@ -1,8 +1,14 @@
-//! The subcommands that read an image, and behind its last page a script of calls: `query` tells their replies, and
-//! `apply` writes the image of the file that they leave.
-ghost use Rattle.std.specs.Prelude.{◌≡◌, IfOk, IfSome};
+//! The subcommands that read an image, and behind its last page or from another input a script of calls: `query` tells
+//! their replies, and `apply` writes the image of the file that they leave.
+ghost use Rattle.std.specs.Prelude.{◌≡◌, IfOk, IfSome, List, Result};
+ghost use Rattle.lh_bucket.specs.Listing.{Lists};
 ghost use Rattle.lh_image.specs.Reading.{leading, reading_of};
-ghost use Rattle.lh_subcommands.specs.Continued.{EndsApplying, IsLeft, ReadsContinued, query_due, script_behind};
+ghost use Rattle.lh_image.specs.declared.fault.ImageFault.{ImageFault};
+ghost use Rattle.lh_script.specs.Commands.{command};
+ghost use Rattle.lh_script.specs.Scripts.{script};
+ghost use Rattle.lh_script.specs.declared.fault.ScriptFault.{ScriptFault};
+ghost use Rattle.lh_subcommands.specs.Continued.{EndsApplying, EndsApplyingTo, EndsLeaving, IsLeft, ReadsContinued};
+ghost use Rattle.lh_subcommands.specs.Continued.{query_due, query_due_of, replies_due, script_behind};
 ghost use Rattle.lh_subcommands.specs.Run.{Ends};
 
 use crate::answer::tell;
@@ -11,7 +17,7 @@ use crate::input::{read_script, unreadable};
 use crate::status::Status;
 use lh_bucket::{Call, Listing};
 use lh_core::{Memory, serial_from};
-use lh_image::{Version, read_leading_image};
+use lh_image::{Version, read_image, read_leading_image};
 use std::alloc::Global;
 use std::io::{Read, Write};
 
@@ -37,13 +43,27 @@ fn read_continued<R: Read>(alloc: Global, reader: &mut R) -> Result<Continued, S
     }
 }
 
-/// Reads an image and a script of calls behind it, answers them in turn from the image's file, and writes their replies
-/// and the number of buckets.
-pub fn answer_query<R: Read, W: Write>(alloc: Global, reader: &mut R, writer: &mut W) -> Status
-    ensures { IfSome (R.remaining reader.old) (λ input.
-        Ends result (query_due input) (W.contents writer.old) (W.contents writer.new)) }
+/// Reads an image, all of an input of its own, and a script whole; or says how the run ends.
+fn read_apart<Q: Read, R: Read>(
+    alloc: Global,
+    image: &mut Q,
+    reader: &mut R,
+) -> Result<Continued, Status>
+    ensures { IfSome (Q.remaining image.old) (λ held. IfSome (R.remaining reader.old) (λ text.
+        ReadsContinued result (reading_of held) (script command text))) }
 {
-    let read = match read_continued(alloc, reader) {
+    let listing = read_image(alloc, image).map_err(unreadable)?;
+    let calls = read_script(alloc, reader)?;
+    Ok(Continued { listing, calls })
+}
+
+/// Answers the calls that were read in turn from their file, and writes their replies and the number of buckets.
+fn answer_read<W: Write>(alloc: Global, read: Result<Continued, Status>, writer: &mut W) -> Status
+    ensures { (file : Result Lists ImageFault) (given : Result (List Call) ScriptFault) →
+        ReadsContinued read file given →
+        Ends result (replies_due file given) (W.contents writer.old) (W.contents writer.new) }
+{
+    let read = match read {
         Ok(read) => read,
         Err(status) => return status,
     };
@@ -51,6 +71,30 @@ pub fn answer_query<R: Read, W: Write>(alloc: Global, reader: &mut R, writer: &m
         Ok(ran) => tell(alloc, &ran, writer),
         Err(_) => Status::Memory,
     }
+}
+
+/// Reads an image and a script of calls behind it, answers them in turn from the image's file, and writes their replies
+/// and the number of buckets.
+pub fn answer_query<R: Read, W: Write>(alloc: Global, reader: &mut R, writer: &mut W) -> Status
+    ensures { IfSome (R.remaining reader.old) (λ input.
+        Ends result (query_due input) (W.contents writer.old) (W.contents writer.new)) }
+{
+    let read = read_continued(alloc, reader);
+    answer_read(alloc, read, writer)
+}
+
+/// The same of an image that is an input of its own.
+pub fn answer_query_of<Q: Read, R: Read, W: Write>(
+    alloc: Global,
+    image: &mut Q,
+    reader: &mut R,
+    writer: &mut W,
+) -> Status
+    ensures { IfSome (Q.remaining image.old) (λ held. IfSome (R.remaining reader.old) (λ text.
+        Ends result (query_due_of held text) (W.contents writer.old) (W.contents writer.new))) }
+{
+    let read = read_apart(alloc, image, reader);
+    answer_read(alloc, read, writer)
 }
 
 /// The file that calls leave of another one.
@@ -64,6 +108,31 @@ fn file_left(alloc: Global, file: &Listing, calls: &[Call]) -> Result<Listing, M
     Ok(left)
 }
 
+/// Answers the calls that were read in turn from their file, and writes the file that they leave as an image of a
+/// version.
+fn apply_read<W: Write>(
+    alloc: Global,
+    version: Version,
+    read: Result<Continued, Status>,
+    writer: &mut W,
+) -> Status
+    ensures { (file : Result Lists ImageFault) (given : Result (List Call) ScriptFault) →
+        ReadsContinued read file given →
+        EndsLeaving version result file given (W.contents writer.old) (W.contents writer.new) }
+{
+    let read = match read {
+        Ok(read) => read,
+        Err(status) => return status,
+    };
+    let Ok(left) = file_left(alloc, &read.listing, read.calls.as_slice()) else {
+        return Status::Memory;
+    };
+    match write_in(version, &left, writer) {
+        Ok(()) => Status::Done,
+        Err(fault) => unwritten(fault),
+    }
+}
+
 /// Reads an image and a script of calls behind it, answers them in turn from the image's file, and writes the file that
 /// they leave as an image of a version.
 pub fn answer_apply<R: Read, W: Write>(
@@ -75,15 +144,21 @@ pub fn answer_apply<R: Read, W: Write>(
     ensures { IfSome (R.remaining reader.old) (λ input.
         EndsApplying version input result (W.contents writer.old) (W.contents writer.new)) }
 {
-    let read = match read_continued(alloc, reader) {
-        Ok(read) => read,
-        Err(status) => return status,
-    };
-    let Ok(left) = file_left(alloc, &read.listing, read.calls.as_slice()) else {
-        return Status::Memory;
-    };
-    match write_in(version, &left, writer) {
-        Ok(()) => Status::Done,
-        Err(fault) => unwritten(fault),
-    }
+    let read = read_continued(alloc, reader);
+    apply_read(alloc, version, read, writer)
+}
+
+/// The same of an image that is an input of its own.
+pub fn answer_apply_to<Q: Read, R: Read, W: Write>(
+    alloc: Global,
+    version: Version,
+    image: &mut Q,
+    reader: &mut R,
+    writer: &mut W,
+) -> Status
+    ensures { IfSome (Q.remaining image.old) (λ held. IfSome (R.remaining reader.old) (λ text.
+        EndsApplyingTo version held text result (W.contents writer.old) (W.contents writer.new))) }
+{
+    let read = read_apart(alloc, image, reader);
+    apply_read(alloc, version, read, writer)
 }

@@ -5,7 +5,7 @@ ghost use Rattle.lh_core.specs.Log.{Entry};
 ghost use Rattle.lh_page.specs.declared.pair.Pair.{Pair};
 ghost use Rattle.lh_script.specs.StepTexts.{entry_text};
 ghost use Rattle.lh_script.specs.Texts.{line, reply_text, size_text};
-ghost use Rattle.lh_subcommands.specs.ContinuedLaws.{ApplyLaw, MigrateLaw, QueryLaw};
+ghost use Rattle.lh_subcommands.specs.ContinuedLaws.{ScriptApartLaw, ApplyLaw, MigrateLaw, QueryLaw};
 ghost use Rattle.lh_subcommands.specs.Devices.{longest_output_line};
 ghost use Rattle.lh_subcommands.specs.ImageTexts.{record_text};
 ghost use Rattle.lh_subcommands.specs.LongestLine.{IsEntryInLimits, IsNumber, IsRecordInLimits, IsReplyInLimits};
@@ -36,6 +36,13 @@ pub fn apply_without_calls_is_migrate()
     an_image_leads();
     image_is_of_only_listing();
     census_counts_pages();
+}
+
+/// `query` and `apply` do the same, whether the script stands behind the image or is an input of its own.
+pub fn a_script_apart_is_one_behind()
+    ensures { ScriptApartLaw }
+{
+    an_image_leads();
 }
 
 /// `serve` and `commands` answer the same lines alike.

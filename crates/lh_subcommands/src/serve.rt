@@ -8,14 +8,14 @@ ghost use Rattle.lh_image.specs.Reading.{following, leading, reading_of};
 ghost use Rattle.lh_serving.specs.Answers.{FileSeen, file_of, first_file};
 ghost use Rattle.lh_serving.specs.Conversations.{IsAt, HasToldAll, pending};
 ghost use Rattle.lh_subcommands.specs.Devices.{TakesBeginning};
-ghost use Rattle.lh_subcommands.specs.Serve.{EndsAtFault, EndsServing, EndsServingFrom, IsCutShort, IsTelling};
-ghost use Rattle.lh_subcommands.specs.Serve.{IsUnopened};
+ghost use Rattle.lh_subcommands.specs.Serve.{EndsAtFault, EndsServing, EndsServingFrom, EndsServingOf, IsCutShort};
+ghost use Rattle.lh_subcommands.specs.Serve.{IsTelling, IsUnopened};
 
 use crate::device::write_all;
 use crate::input::unreadable;
 use crate::status::{DeviceFault, Status};
 use lh_addr::Config;
-use lh_image::{WriteFailed, read_leading_image, write_image};
+use lh_image::{WriteFailed, read_image, read_leading_image, write_image};
 use lh_serving::Conversation;
 use std::alloc::{AllocError, Global};
 use std::io::{Read, Write};
@@ -254,4 +254,33 @@ pub fn answer_serve_from<R: Read, W: Write>(alloc: Global, reader: &mut R, write
         Ok(talk) => converse(alloc, talk, reader, writer),
         Err(status) => status,
     }
+}
+
+/// A conversation over the file of an image that is an input of its own, or how the run ends.
+fn opened_apart<Q: Read>(alloc: Global, image: &mut Q) -> Result<Conversation, Status>
+    ensures quiet { IfOk result HasToldAll }
+    ensures ok { IfSome (Q.remaining image.old) (λ held. IfOk result (λ talk.
+        (l : Lists) × (reading_of held ≡ Ok l) × IsAt (file_of l) talk [] [])) }
+    ensures err { IfSome (Q.remaining image.old) (λ held.
+        IfErr result (λ status. IsUnopened status (reading_of held))) }
+{
+    let listing = read_image(alloc, image).map_err(unreadable)?;
+    Conversation::open_from(alloc, &listing).map_err(|_| Status::Memory)
+}
+
+/// Answers each line of the input from the file of an image that is an input of its own.
+pub fn answer_serve_of<Q: Read, R: Read, W: Write>(
+    alloc: Global,
+    image: &mut Q,
+    reader: &mut R,
+    writer: &mut W,
+) -> Status
+    ensures { IfSome (Q.remaining image.old) (λ held. IfSome (R.remaining reader.old) (λ lines.
+        EndsServingOf held lines result (R.remaining reader.new) (W.contents writer.old) (W.contents writer.new))) }
+{
+    let talk = match opened_apart(alloc, image) {
+        Ok(talk) => talk,
+        Err(status) => return status,
+    };
+    converse(alloc, talk, reader, writer)
 }

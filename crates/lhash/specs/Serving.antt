@@ -8,7 +8,7 @@ use Rattle.lh_image.specs.declared.version.Version.{Version}
 use Rattle.lh_image.specs.declared.version.Version.TheVariants.{One, Two}
 use Rattle.lhash.specs.Driving.{EndsDriving}
 use Rattle.lhash.specs.DrivingShards.{EndsDrivingShards}
-use Rattle.lh_subcommands.specs.Continued.{EndsApplying, query_due}
+use Rattle.lh_subcommands.specs.Continued.{EndsApplying, EndsApplyingTo, query_due, query_due_of}
 use Rattle.lh_subcommands.specs.Images.{EndsBuilding, check_due, draw_due, dump_due, migrate_due}
 use Rattle.lh_addr.specs.Settings.{Settings}
 use Rattle.lh_options.specs.Escapes.{has_no_control}
@@ -16,7 +16,7 @@ use Rattle.lh_options.specs.Options.{Accepts, Answers, Asks, AsksForHelp, IsRefu
 use Rattle.lh_options.specs.Options.{settings_given, settings_typed, version_numbered}
 use Rattle.lh_subcommands.specs.Run.{Ends, EndsReplay, EndsSteps, commands_due}
 use Rattle.lh_serving.specs.Answers.{first_file}
-use Rattle.lh_subcommands.specs.Serve.{EndsServing, EndsServingFrom}
+use Rattle.lh_subcommands.specs.Serve.{EndsServing, EndsServingFrom, EndsServingOf}
 use Rattle.lh_options.specs.declared.options.ImageVersion.{ImageVersion}
 use Rattle.lh_options.specs.declared.options.ImageVersion.TheVariants.{First, Second}
 use Rattle.lh_options.specs.declared.options.Request.{Request}
@@ -101,6 +101,31 @@ IsPerformed SettingsBesideImage status left rest before now =
 IsPerformed SnapshotsOfShards status left rest before now =
     IsWordsOf snapshots_of_shards status × Keeps left rest × Keeps before now
 
+-- What a request led to whose input is a file, with what the file had left and has, and the reader: of `query`, `apply`
+-- and `serve --image` the file is the image, and the reader has what follows; of all others the file is the whole.
+abbrev pub IsPerformedOn : Request → Status → Option (List ℕ) → Option (List ℕ) → Option (List ℕ) → Option (List ℕ) →
+    Option (List ℕ) → Option (List ℕ) → Type 0
+IsPerformedOn Query status held kept left rest before now =
+    IfSome held (λ image. IfSome left (λ text. Ends status (query_due_of image text) before now))
+IsPerformedOn (Apply version) status held kept left rest before now =
+    IfSome held
+    (λ image. IfSome left (λ text. EndsApplyingTo (wanted_version version) image text status before now))
+IsPerformedOn ServeImage status held kept left rest before now =
+    IfSome held (λ image. IfSome left (λ lines. EndsServingOf image lines status rest before now))
+IsPerformedOn request status held kept left rest before now =
+    IsPerformed request status held kept before now × Keeps left rest
+
+-- whether what a request reads behind an image is no part of the image's file
+abbrev pub is_apart : Request → Bool
+is_apart Query = true
+is_apart (Apply image) = true
+is_apart ServeImage = true
+is_apart _ = false
+
+-- whether what the words ask for is read so
+abbrev pub IsWhetherApart : List Text → Bool → Type 0
+IsWhetherApart words apart = (request : Request) × Answers words request × (apart ≡ is_apart request)
+
 -- whether a request has an image written
 abbrev pub is_image_written : Request → Bool
 is_image_written (Build config image) = true
@@ -129,11 +154,25 @@ IsRun words status left rest before now =
     ((request : Request) × Answers words request × IsPerformed request status left rest before now)
     ⊎ ((status ≡ Memory) × Keeps left rest × Keeps before now)
 
+-- what a run did with words and a file, as they name it; or memory ran out before that was known
+abbrev pub IsRunOn : List Text → Status → Option (List ℕ) → Option (List ℕ) → Option (List ℕ) → Option (List ℕ) →
+    Option (List ℕ) → Option (List ℕ) → Type 0
+IsRunOn words status held kept left rest before now =
+    ((request : Request) × Answers words request × IsPerformedOn request status held kept left rest before now)
+    ⊎ ((status ≡ Memory) × Keeps held kept × Keeps left rest × Keeps before now)
+
 -- the run ended so, or it was done, and what it left gathered could not be written
 abbrev pub IsFlushedRun : List Text → Status → Option (List ℕ) → Option (List ℕ) → Option (List ℕ) → Option (List ℕ) →
     Type 0
 IsFlushedRun words result left rest before now =
     (status : Status) × IsRun words status left rest before now
+    × ((result ≡ status) ⊎ (IsDone status × (result ≡ Device Write)))
+
+-- the same of a run with a file
+abbrev pub IsFlushedRunOn : List Text → Status → Option (List ℕ) → Option (List ℕ) → Option (List ℕ) →
+    Option (List ℕ) → Option (List ℕ) → Option (List ℕ) → Type 0
+IsFlushedRunOn words result held kept left rest before now =
+    (status : Status) × IsRunOn words status held kept left rest before now
     × ((result ≡ status) ⊎ (IsDone status × (result ≡ Device Write)))
 
 -- ---- what follows of a run for words of each kind

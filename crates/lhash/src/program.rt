@@ -2,8 +2,8 @@
 ghost use Rattle.std.specs.Prelude.{◌≡◌, ◌≤◌, ◌==◌, Bool, IfOk, IfSome, map};
 ghost use Rattle.lh_shards.specs.Hands.{IsCount};
 ghost use Rattle.lh_options.specs.Options.{IsServable};
-ghost use Rattle.lhash.specs.Serving.{EndsDrivingIn, IsHelped, IsRun, IsWhetherImageAsked, IsWordsOf, IsPerformed};
-ghost use Rattle.lhash.specs.Serving.{wanted_version};
+ghost use Rattle.lhash.specs.Serving.{EndsDrivingIn, IsHelped, IsPerformed, IsPerformedOn, IsRun, IsRunOn};
+ghost use Rattle.lhash.specs.Serving.{IsWhetherApart, IsWhetherImageAsked, IsWordsOf, wanted_version};
 
 use crate::drive::answer_drive;
 use crate::drive_shards::answer_drive_shards;
@@ -11,9 +11,9 @@ use lh_addr::Config;
 use lh_image::Version;
 use lh_options::{ImageVersion, Request, request_of};
 use lh_subcommands::{
-    DeviceFault, Status, answer_apply, answer_build, answer_check, answer_commands, answer_draw,
-    answer_dump, answer_migrate, answer_query, answer_replay, answer_serve, answer_serve_from,
-    answer_steps, write_all,
+    DeviceFault, Status, answer_apply, answer_apply_to, answer_build, answer_check,
+    answer_commands, answer_draw, answer_dump, answer_migrate, answer_query, answer_query_of,
+    answer_replay, answer_serve, answer_serve_from, answer_serve_of, answer_steps, write_all,
 };
 use std::alloc::{AllocError, Global};
 use std::io::{Read, Write};
@@ -116,6 +116,44 @@ fn serve<A: Threads + Wait + Sync, R: Read, W: Write>(
     }
 }
 
+/// Does what is asked for with a file as its input: of `query`, `apply` and `serve --image` it is the image, and the
+/// reader has what follows; of all others it is the whole.
+fn serve_on<A: Threads + Wait + Sync, Q: Read, R: Read, W: Write>(
+    rt: &A,
+    alloc: Global,
+    request: Request,
+    file: &mut Q,
+    reader: &mut R,
+    writer: &mut W,
+) -> Status
+    requires { IsServable request }
+    ensures { IsPerformedOn request result (Q.remaining file.old) (Q.remaining file.new)
+        (R.remaining reader.old) (R.remaining reader.new) (W.contents writer.old) (W.contents writer.new) }
+{
+    match request {
+        Request::Query => answer_query_of(alloc, file, reader, writer),
+        Request::Apply(version) => answer_apply_to(
+            alloc,
+            version_of(version),
+            file,
+            reader,
+            writer,
+        ),
+        Request::ServeImage => answer_serve_of(alloc, file, reader, writer),
+        whole => serve(rt, alloc, whole, file, writer),
+    }
+}
+
+/// Whether a file that the words name as input is an image alone, and standard input has what follows it.
+pub fn reads_apart<'a>(alloc: Global, words: &'a [&'a str]) -> Result<bool, AllocError>
+    ensures { IfOk result (IsWhetherApart (map (λ s. s.now) words.now)) }
+{
+    match request_of(alloc, words)? {
+        Request::Query | Request::Apply(_) | Request::ServeImage => Ok(true),
+        _ => Ok(false),
+    }
+}
+
 /// Whether the words, of which the first is the program's name, ask for an image to be written.
 pub fn asks_for_image<'a>(alloc: Global, words: &'a [&'a str]) -> Result<bool, AllocError>
     ensures asked { IfOk result (IsWhetherImageAsked (map (λ s. s.now) words.now)) }
@@ -144,6 +182,25 @@ pub fn run<'a, A: AllocGlobal + Threads + Wait + Sync, R: Read, W: Write>(
     let alloc = rt.alloc();
     match request_of(alloc, words) {
         Ok(request) => serve(rt, alloc, request, reader, writer),
+        Err(_) => Status::Memory,
+    }
+}
+
+/// Does what the words ask for with a file as its input, as they name it. Where that is an image alone, the reader has
+/// what follows it, and else nothing is read of it.
+pub fn run_on<'a, A: AllocGlobal + Threads + Wait + Sync, Q: Read, R: Read, W: Write>(
+    rt: &A,
+    words: &'a [&'a str],
+    file: &mut Q,
+    reader: &mut R,
+    writer: &mut W,
+) -> Status
+    ensures { IsRunOn (map (λ s. s.now) words.now) result (Q.remaining file.old) (Q.remaining file.new)
+        (R.remaining reader.old) (R.remaining reader.new) (W.contents writer.old) (W.contents writer.new) }
+{
+    let alloc = rt.alloc();
+    match request_of(alloc, words) {
+        Ok(request) => serve_on(rt, alloc, request, file, reader, writer),
         Err(_) => Status::Memory,
     }
 }

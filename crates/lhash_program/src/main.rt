@@ -1,17 +1,21 @@
-//! The program `lhash`: [`run`] on the process's own words, input and output.
+//! The program `lhash`: [`run`] on the process's own words, input and output, or on the files that its words name.
 #![tactic(auto)]
 
 ghost use Rattle.std.specs.Prelude.{◌≡◌, ◌⊎◌, ℕ, List, Option, [], IfNone, IfSome, codes, false, map, true};
 ghost use Rattle.std.specs.Io.Buffered.{writer_buffer, writer_contents, writer_inner};
 ghost use Rattle.std.specs.Io.KnownBytes.{Keeps};
-ghost use Rattle.lhash.specs.Serving.{IsDone, IsFlushedRun, IsRun, IsWhetherImageAsked, IsWordsOf};
+ghost use Rattle.lhash.specs.Serving.{IsDone, IsFlushedRun, IsFlushedRunOn, IsRun, IsRunOn, IsWhetherImageAsked};
+ghost use Rattle.lhash.specs.Serving.{IsWordsOf};
 
+mod ended;
+mod named;
 mod one_try;
 mod progress;
 
+use crate::ended::Ended;
+use crate::named::{Streams, Terminals, run_named};
 use crate::one_try::OneTry;
-use crate::progress::{Input, Output, Progress};
-use lhash::{DeviceFault, Status, asks_for_image, refuse, run};
+use lhash::{DeviceFault, Status, asks_for_image, files_of, refuse, run, run_on};
 use std::alloc::Global;
 use std::env;
 use std::io::{BufReader, BufWriter, ErrorKind, IsTerminal, Read, Write};
@@ -20,7 +24,7 @@ use std::rt::Runtime;
 use std::sync::Wait;
 use std::thread::Threads;
 
-/// The most bytes that one read of the process's input is asked for.
+/// The most bytes that one read is asked for.
 const READ_AHEAD: usize = 65_536;
 
 /// How many bytes of output are gathered for one write.
@@ -97,53 +101,102 @@ fn run_whole<'a, A: AllocGlobal + Threads + Wait + Sync, R: Read, W: Write + Dro
     finish(status, output)
 }
 
-/// Runs on the words of the process, with this input and output. Nothing is read before it is asked for;
+/// The same, with a file that the words name as input.
+fn run_whole_on<'a, A: AllocGlobal + Threads + Wait + Sync, Q: Read, R: Read, W: Write + Drop>(
+    rt: &A,
+    words: &'a [&'a str],
+    is_terminal: bool,
+    file: &mut Q,
+    reader: &mut R,
+    output: &mut BufWriter<W>,
+) -> Status
+    ensures done { IsDone result → (held : Option (List ℕ)) ×
+        IsRunOn (map (λ s. s.now) words.now) result (Q.remaining file.old) (Q.remaining file.new)
+        (R.remaining reader.old) (R.remaining reader.new) (writer_contents W.contents output.old) held
+        × Keeps held (W.contents (writer_inner output.new)) }
+    ensures ran { (is_terminal ≡ true → IsWhetherImageAsked (map (λ s. s.now) words.now) true → ⊥) →
+        (held : Option (List ℕ)) ×
+        IsFlushedRunOn (map (λ s. s.now) words.now) result (Q.remaining file.old) (Q.remaining file.new)
+        (R.remaining reader.old) (R.remaining reader.new) (writer_contents W.contents output.old) held
+        × Keeps held (writer_contents W.contents output.new) }
+    ensures screen { is_terminal ≡ true → IsWhetherImageAsked (map (λ s. s.now) words.now) true →
+        IsWordsOf (codes "an image is not written to a terminal") result
+        × (file.new ≡ file.old) × (reader.new ≡ reader.old) × (output.new ≡ output.old) }
+{
+    if let Some(status) = refused(rt.alloc(), words, is_terminal) {
+        return status;
+    }
+    let ended = run_on(rt, words, file, reader, output);
+    finish(ended, output)
+}
+
+/// Runs with a file as input, if there is one, this reader and this writer. Nothing is read before it is asked for;
 /// then as much as comes is read at once, and given in the pieces that are asked for. What is written goes out in
 /// larger pieces; an image doesn't go to a terminal.
-fn run_process<A: Runtime + AllocGlobal + Threads + Wait + Sync, R: Read + Drop, W: Write + Drop>(
+fn run_gathered<'a, A, Q: Read, R: Read + Drop, W: Write + Drop>(
     rt: &A,
+    words: &'a [&'a str],
+    is_terminal: bool,
+    file: Option<&mut Q>,
     reader: R,
     writer: W,
-    is_terminal: bool,
-) -> Status {
-    let words = match process_words(rt) {
-        Ok(words) => words,
-        Err(status) => return status,
-    };
-    let texts: Result<Vec<&str>, _> = words.iter().map(|word| word.as_str()).collect(rt.alloc());
+) -> Status
+where
+    A: AllocGlobal + Threads + Wait + Sync,
+{
     let input = BufReader::with_capacity(rt.alloc(), READ_AHEAD, reader);
     let output = BufWriter::with_capacity(rt.alloc(), GATHERED, OneTry(writer));
-    match (texts, input, output) {
-        (Ok(texts), Ok(mut input), Ok(mut output)) => {
-            let status = run_whole(rt, texts.as_slice(), is_terminal, &mut input, &mut output);
+    match (input, output) {
+        (Ok(mut input), Ok(mut output)) => {
+            let status = match file {
+                None => run_whole(rt, words, is_terminal, &mut input, &mut output),
+                Some(file) => run_whole_on(rt, words, is_terminal, file, &mut input, &mut output),
+            };
             // Dropped whole it would write once more what a failed write has left.
             let _ = output.into_parts();
             status
-        }
+        },
         _ => Status::Memory,
     }
 }
 
+/// Runs on the words of the process, with its input and output where they name no file.
+fn run_process<A: Runtime + AllocGlobal + Threads + Wait + Sync, R: Read + Drop, W: Write + Drop>(
+    rt: &A,
+    streams: Streams<R, W>,
+) -> Ended {
+    let words = match process_words(rt) {
+        Ok(words) => words,
+        Err(status) => return Ended::from(status),
+    };
+    let texts: Result<Vec<&str>, _> = words.iter().map(|word| word.as_str()).collect(rt.alloc());
+    let Ok(texts) = texts else {
+        return Ended::from(Status::Memory);
+    };
+    let Ok(files) = files_of(rt.alloc(), texts.as_slice()) else {
+        return Ended::from(Status::Memory);
+    };
+    run_named(rt, texts.as_slice(), &files, streams)
+}
+
 fn main(rt: HostRuntime) -> ExitCode {
     let (stdin, stdout) = (rt.stdin(), rt.stdout());
-    let progress = Progress::new(&rt, rt.stderr().is_terminal() && !stdin.is_terminal());
-    let input = Input {
-        progress: &progress,
-        bytes: 0,
-        reader: stdin,
+    let terminals = Terminals {
+        input: stdin.is_terminal(),
+        output: stdout.is_terminal(),
+        error: rt.stderr().is_terminal(),
     };
-    let is_terminal = stdout.is_terminal();
-    let output = Output {
-        progress: &progress,
-        is_told: !is_terminal,
-        bytes: 0,
-        writer: stdout,
-    };
-    let status = run_process(&rt, input, output, is_terminal);
-    progress.clear();
-    let code = status.code();
+    let ended = run_process(
+        &rt,
+        Streams {
+            reader: stdin,
+            writer: stdout,
+            terminals,
+        },
+    );
+    let code = ended.code();
     if code != 0 {
-        let _ = eprintln!(rt; "lhash: {status}");
+        let _ = eprintln!(rt; "lhash: {ended}");
     }
     ExitCode::from(code)
 }

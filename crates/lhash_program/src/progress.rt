@@ -32,6 +32,11 @@ impl<'a, A: Runtime> Progress<'a, A> {
         }
     }
 
+    /// Says that the input is to be typed.
+    fn await_input(&self) {
+        let _ = eprintln!(self.rt; "lhash: reading from the terminal; Ctrl-D ends the input");
+    }
+
     /// Leaves nothing shown.
     pub fn clear(&self) {
         if self.is_shown.get() {
@@ -41,19 +46,44 @@ impl<'a, A: Runtime> Progress<'a, A> {
     }
 }
 
-/// An input, and how many bytes of it were read.
+/// An input, how many bytes of it were read, and whether a read failed.
 #[derive(Drop)]
 pub struct Input<'a, A, R> {
-    pub progress: &'a Progress<'a, A>,
-    pub bytes: u64,
-    pub reader: R,
+    pub has_failed: bool,
+    progress: &'a Progress<'a, A>,
+    is_awaited: bool,
+    bytes: u64,
+    reader: R,
+}
+
+impl<'a, A: Runtime, R> Input<'a, A, R> {
+    /// An input; where a person is awaited to type it, the first read says so.
+    pub fn new(progress: &'a Progress<'a, A>, is_awaited: bool, reader: R) -> Self {
+        Input {
+            has_failed: false,
+            progress,
+            is_awaited,
+            bytes: 0,
+            reader,
+        }
+    }
 }
 
 impl<A: Runtime, R: Read> Read for Input<'_, A, R> {
     ghost remaining = { λ input. R.remaining input.reader };
 
     fn read(&mut self, buf: &mut [u8]) -> Result<usize> {
-        let count = self.reader.read(buf)?;
+        if self.is_awaited {
+            self.is_awaited = false;
+            self.progress.await_input();
+        }
+        let count = match self.reader.read(buf) {
+            Ok(count) => count,
+            Err(error) => {
+                self.has_failed = true;
+                return Err(error);
+            },
+        };
         let before = self.bytes / MEGABYTE;
         self.bytes = self.bytes.saturating_add(count as u64);
         let megabytes = self.bytes / MEGABYTE;
@@ -69,10 +99,22 @@ impl<A: Runtime, R: Read> Read for Input<'_, A, R> {
 /// An output, and how many bytes of it were written.
 #[derive(Drop)]
 pub struct Output<'a, A, W> {
-    pub progress: &'a Progress<'a, A>,
-    pub is_told: bool,
-    pub bytes: u64,
-    pub writer: W,
+    progress: &'a Progress<'a, A>,
+    is_told: bool,
+    bytes: u64,
+    writer: W,
+}
+
+impl<'a, A: Runtime, W> Output<'a, A, W> {
+    /// An output, of which is told how far it is, or nothing.
+    pub fn new(progress: &'a Progress<'a, A>, is_told: bool, writer: W) -> Self {
+        Output {
+            progress,
+            is_told,
+            bytes: 0,
+            writer,
+        }
+    }
 }
 
 impl<A: Runtime, W: Write> Write for Output<'_, A, W> {

@@ -191,7 +191,7 @@ fn words_that_are_no_numbers(rt: HostRuntime) -> Result<(), AllocError> {
     )?;
     expect(
         &rt,
-        ["extra"].as_slice(),
+        ["file", "extra"].as_slice(),
         "refused: unexpected argument 'extra' found",
     )
 }

@@ -6,6 +6,7 @@ use std::sync::Wait;
 use std::test::Fail;
 use std::thread::Threads;
 
+mod apart;
 pub mod continued;
 mod forged;
 mod opened;
@@ -273,7 +274,7 @@ fn turned_away(
 #[test]
 fn what_reads_an_image_takes_no_options(rt: HostRuntime) -> Result<(), Fail> {
     for subcommand in ["check", "dump", "draw", "migrate", "query", "apply"] {
-        for option in ["--max=1", "--initial=1", "extra"] {
+        for option in ["--max=1", "--initial=1", "-x"] {
             turned_away(&rt, &["lhash", subcommand, option])?;
         }
     }

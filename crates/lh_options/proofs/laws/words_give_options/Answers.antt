@@ -1,10 +1,12 @@
 -- Each example computes.
-use Rattle.std.proofs.Common.{ap, refl, inl, inr, codes, false, true}
+use Rattle.std.proofs.Common.{None, Some, ap, refl, inl, inr, codes, false, true}
 use Rattle.std.proofs.lemmas.Bool.{false≢true}
 use Rattle.clap.proofs.OnLiterals.{clap_on_literals}
 use Rattle.clap.specs.Walk.{is_empty}
 use Rattle.clap.specs.declared.error.kind.ErrorKind.TheVariants as kind
 use Rattle.lh_options.specs.OptionLaws.{GivesApply, GivesBuild, GivesCommands, GivesDrive, GivesReplay, GivesServe}
+use Rattle.lh_options.specs.OptionLaws.{GivesFiles, check_with_output, file_given, files_given, image_file_served}
+use Rattle.lh_options.specs.OptionLaws.{output_given, stream_given, two_files}
 use Rattle.lh_options.specs.OptionLaws.{GivesServeImage, GivesSteps, Refuses, apply_alone, apply_with_setting}
 use Rattle.lh_options.specs.OptionLaws.{build_given, check_alone, check_with_option, commands_with_image, draw_alone}
 use Rattle.lh_options.specs.OptionLaws.{drive_alone, drive_given, dump_alone, first_image_applied, first_image_given}
@@ -183,6 +185,38 @@ unknown : Refuses unknown_option
 unfolding clap_on_literals Accepts
 unknown = λ e. false≢true (ap is_empty e.0)
 
+file : GivesFiles file_given (Some (codes "users.lhf")) None
+unfolding clap_on_literals Accepts
+file = ((refl, refl), refl, refl)
+
+stream : GivesFiles stream_given None None
+unfolding clap_on_literals Accepts
+stream = ((refl, refl), refl, refl)
+
+files : GivesFiles files_given (Some (codes "old.lhf")) (Some (codes "new.lhf"))
+unfolding clap_on_literals Accepts
+files = ((refl, refl), refl, refl)
+
+output : GivesFiles output_given None (Some (codes "new.lhf"))
+unfolding clap_on_literals Accepts
+output = ((refl, refl), refl, refl)
+
+image_file : GivesFiles image_file_served (Some (codes "users.lhf")) None
+unfolding clap_on_literals Accepts
+image_file = ((refl, refl), refl, refl)
+
+image_and_file : GivesServeImage image_file_served false
+unfolding clap_on_literals Accepts subcommand_named
+image_and_file = (((refl, refl), refl), refl, refl)
+
+second_file : Refuses two_files
+unfolding clap_on_literals Accepts
+second_file = λ e. false≢true (ap is_empty e.0)
+
+no_output : Refuses check_with_output
+unfolding clap_on_literals Accepts
+no_output = λ e. false≢true (ap is_empty e.0)
+
 help : AsksForHelp help_asked
 unfolding clap_on_literals AsksForHelp
 help = (kind.DisplayHelp, inl refl, inl refl)
@@ -234,6 +268,14 @@ returns c = record {
   image_twice = image_twice;
   no_image = no_image;
   unknown = unknown;
+  file = file;
+  stream = stream;
+  files = files;
+  output = output;
+  image_file = image_file;
+  image_and_file = image_and_file;
+  second_file = second_file;
+  no_output = no_output;
   help = help;
   version = version;
 }

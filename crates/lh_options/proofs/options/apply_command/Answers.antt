@@ -9,4 +9,4 @@ returns c =
     IfOk-weaker c.arg.result _ _
     (λ m h.
     option-reads _ m c.image_option.result _ (option_rule (codes "image") (codes "2") 1 2) h
-    c.image_option.ensures.local c.image_option.ensures.rule c.image_command.ensures) c.arg.ensures
+    c.image_option.ensures.local c.image_option.ensures.rule c.in_ok-changing_command.ensures) c.arg.ensures

@@ -1,7 +1,6 @@
-use Rattle.std.proofs.Common.{codes}
 use Rattle.std.proofs.lemmas.Result.{IfOk-weaker}
 use Rattle.clap.specs.Words.{new_app}
-use Rattle.lh_options.specs.Options.{option_rule}
+use Rattle.lh_options.specs.Options.{file_rule}
 use Rattle.lh_options.specs.OptionSteps.{Reads}
 use Rattle.lh_options.proofs.CommandShapes.{about-reads, example-reads, option-reads}
 use Rattle.lh_options.proofs.options.file_command.Goals as goal
@@ -19,7 +18,10 @@ returns c =
     let third =
     option-reads _ _ c.option-3.result _ _ c.in_ok-arg-3.ensures c.option-3.ensures.local c.option-3.ensures.rule
     second in
-    IfOk-weaker c.arg-4.result _ _
+    let fourth =
+    option-reads _ _ c.option-4.result _ _ c.in_ok-arg-4.ensures c.option-4.ensures.local c.option-4.ensures.rule
+    third in
+    IfOk-weaker c.arg-5.result _ _
     (λ m h.
-    option-reads _ m c.option-4.result _ (option_rule (codes "max") (codes "65536") 1 65536) h
-    c.option-4.ensures.local c.option-4.ensures.rule third) c.arg-4.ensures
+    option-reads _ m c.file_operand.result _ file_rule h c.file_operand.ensures.local c.file_operand.ensures.rule
+    fourth) c.arg-5.ensures

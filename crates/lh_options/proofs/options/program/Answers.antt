@@ -8,12 +8,14 @@ pub returns : goal.returns
 returns c =
     let first =
     subcommand-reads _ _ _ scripts_app check_app c.in_ok-subcommand.ensures c.in_ok-with_scripts.ensures
-    c.image_command.ensures in
-    let second = subcommand-reads _ _ _ _ dump_app c.in_ok-subcommand-2.ensures first c.image_command-2.ensures in
+    c.in_ok-image_command.ensures in
+    let second = subcommand-reads _ _ _ _ dump_app c.in_ok-subcommand-2.ensures first c.in_ok-image_command-2.ensures in
     let third = subcommand-reads _ _ _ _ drive_app c.in_ok-subcommand-3.ensures second c.in_ok-drive_command.ensures in
-    let fourth = subcommand-reads _ _ _ _ draw_app c.in_ok-subcommand-4.ensures third c.image_command-3.ensures in
-    let fifth = subcommand-reads _ _ _ _ migrate_app c.in_ok-subcommand-5.ensures fourth c.image_command-4.ensures in
-    let sixth = subcommand-reads _ _ _ _ query_app c.in_ok-subcommand-6.ensures fifth c.image_command-5.ensures in
+    let fourth =
+    subcommand-reads _ _ _ _ draw_app c.in_ok-subcommand-4.ensures third c.in_ok-changing_command.ensures in
+    let fifth =
+    subcommand-reads _ _ _ _ migrate_app c.in_ok-subcommand-5.ensures fourth c.in_ok-changing_command-2.ensures in
+    let sixth = subcommand-reads _ _ _ _ query_app c.in_ok-subcommand-6.ensures fifth c.in_ok-image_command-3.ensures in
     let seventh = subcommand-reads _ _ _ _ apply_app c.in_ok-subcommand-7.ensures sixth c.in_ok-apply_command.ensures in
     IfOk-weaker c.subcommand-8.result _ _
     (λ m h. subcommand-reads _ _ m _ serve_app h seventh c.in_ok-serve_command.ensures) c.subcommand-8.ensures
