@@ -86,15 +86,18 @@ fn listing_after_all(alloc: Global, config: Config) -> Result<Listing, Fail> {
     listing_after(alloc, config, &calls)
 }
 
+/// The world has so many buckets, and neither its splitter nor its last worker does anything.
+fn expect_at_rest(rt: &impl Abort, world: &World<PagedBucket>, buckets: u32) {
+    expect_eq!(rt; (world.root().buckets(), world.filled()), (buckets, buckets));
+    expect_eq!(rt; (world.splitter(), world.worker(15)), (SplitState::Idle, WorkerState::Idle));
+}
+
 #[test]
 fn a_world_is_opened_from_a_listing(rt: HostRuntime) -> Result<(), Fail> {
     let config = Config::new(2, 2, 100, 65536)?;
     let before = listing_after_all(rt.alloc(), config)?;
     let world = World::open_from(rt.alloc(), &before)?;
-    expect_eq!(rt; world.root().buckets(), before.buckets());
-    expect_eq!(rt; world.filled(), before.buckets());
-    expect_eq!(rt; world.worker(15), WorkerState::Idle);
-    expect_eq!(rt; world.splitter(), SplitState::Idle);
+    expect_at_rest(&rt, &world, before.buckets());
     are_same(&rt, &world.listing()?, &before);
     Ok(())
 }
@@ -109,10 +112,16 @@ fn expect_no_split(rt: &impl Abort, alloc: Global, before: &Listing) -> Result<(
     Ok(())
 }
 
+/// A new key splits a bucket.
+fn expect_split(rt: &impl Abort, alloc: Global, before: &Listing) -> Result<(), Fail> {
+    let ran = serial_from(alloc, before, &[insert(b"e", b"5")?])?;
+    expect_eq!(rt; ran.world.root().buckets(), 3);
+    Ok(())
+}
+
 /// The number of records is that of the listing: four fill two pages, and the fifth splits a bucket.
 #[test]
 fn records_of_a_listing_count_for_the_load(rt: HostRuntime) -> Result<(), Fail> {
-    let alloc = rt.alloc();
     let config = Config::new(2, 2, 100, 65536)?;
     let four = [
         insert(b"a", b"1")?,
@@ -120,11 +129,8 @@ fn records_of_a_listing_count_for_the_load(rt: HostRuntime) -> Result<(), Fail> 
         insert(b"c", b"3")?,
         insert(b"d", b"4")?,
     ];
-    let fifth = [insert(b"e", b"5")?];
-    let before = listing_after(alloc, config, &four)?;
+    let before = listing_after(rt.alloc(), config, &four)?;
     expect_eq!(rt; before.buckets(), 2);
-    expect_no_split(&rt, alloc, &before)?;
-    let ran = serial_from(alloc, &before, &fifth)?;
-    expect_eq!(rt; ran.world.root().buckets(), 3);
-    Ok(())
+    expect_no_split(&rt, rt.alloc(), &before)?;
+    expect_split(&rt, rt.alloc(), &before)
 }

@@ -1,4 +1,6 @@
 //! A bucket without memory: what steps, runs and calls tell of it, and that they go on.
+ghost use Rattle.lh_core.specs.Serial.{IsAtRest};
+
 use super::calls::{insert, search, small};
 use lh_addr::Config;
 use lh_bucket::{Answer, Bucket, Call, Listing, Memory, PagedBucket, Reply, Verdict};
@@ -209,19 +211,51 @@ fn calls_one_after_another_end_without_memory(rt: HostRuntime) -> Result<(), Fai
     Ok(())
 }
 
+/// Inserts a key, beside as many records as it says: its record is one more, and the world has so many buckets then.
+fn expect_inserted(
+    rt: &impl Abort,
+    world: &mut World<Refusing>,
+    call: Call,
+    records: u32,
+    split_refused: bool,
+    buckets: u32,
+) -> Result<(), Fail>
+    requires { IsAtRest world.old.state }
+    ensures { IsAtRest world.new.state }
+{
+    let served = world.serve(call, u64::from(records))?;
+    let due = (Reply::Inserted, u64::from(records) + 1, split_refused);
+    expect_eq!(rt; (served.reply, served.records, served.split_refused), due);
+    expect_eq!(rt; world.root().buckets(), buckets);
+    Ok(())
+}
+
+fn go_on(rt: &impl Abort, world: &mut World<Refusing>) -> Result<(), Fail>
+    requires { IsAtRest world.old.state }
+{
+    expect!(rt; world.serve(insert(b"a", b"1")?, 0).is_err());
+    expect_inserted(rt, world, insert(b"a", b"1")?, 0, false, 1)?;
+    expect_inserted(rt, world, insert(b"b", b"1")?, 1, true, 1)?;
+    expect_inserted(rt, world, insert(b"c", b"1")?, 2, false, 2)
+}
+
 #[test]
 fn a_caller_goes_on_without_memory(rt: HostRuntime) -> Result<(), Fail> {
-    let config = Config::new(1, 1, 100, 65536)?;
-    let mut world = World::<Refusing>::new(rt.alloc(), config)?;
-    expect!(rt; world.serve(insert(b"a", b"1")?, 0).is_err());
-    let served = world.serve(insert(b"a", b"1")?, 0)?;
-    expect_eq!(rt; (served.reply, served.records, served.split_refused), (Reply::Inserted, 1, false));
-    let served = world.serve(insert(b"b", b"1")?, 1)?;
-    expect_eq!(rt; (served.reply, served.records, served.split_refused), (Reply::Inserted, 2, true));
-    expect_eq!(rt; world.root().buckets(), 1);
-    let served = world.serve(insert(b"c", b"1")?, 2)?;
-    expect_eq!(rt; (served.reply, served.records, served.split_refused), (Reply::Inserted, 3, false));
-    expect_eq!(rt; world.root().buckets(), 2);
+    go_on(
+        &rt,
+        &mut World::<Refusing>::new(rt.alloc(), Config::new(1, 1, 100, 65536)?)?,
+    )
+}
+
+/// So many records are listed after these steps.
+fn expect_listed<B: Bucket>(
+    rt: &impl Abort,
+    world: &mut World<B>,
+    events: &[Event],
+    records: u64,
+) -> Result<(), Fail> {
+    take_all(world, events)?;
+    expect_eq!(rt; listed(world)?.len(), records);
     Ok(())
 }
 
@@ -232,15 +266,14 @@ fn is_listed_whatever_a_worker_does<B: Bucket>(
 ) -> Result<(), Fail> {
     let key = [b'a'.saturating_add(worker)];
     let records = u64::from(worker);
-    let call = Event::Call(worker, insert(&key, b"1")?);
-    take_all(world, [call, Event::Read(worker)].as_slice())?;
-    expect_eq!(rt; listed(world)?.len(), records);
-    take_all(world, [Event::Lock(worker)].as_slice())?;
-    expect_eq!(rt; listed(world)?.len(), records);
-    take_all(world, [Event::Act(worker)].as_slice())?;
-    expect_eq!(rt; listed(world)?.len(), records.saturating_add(1));
-    let events = [Event::Release(worker), Event::Call(worker, search(&key)?)];
-    take_all(world, events.as_slice())
+    let (call, after) = (
+        Event::Call(worker, insert(&key, b"1")?),
+        Event::Call(worker, search(&key)?),
+    );
+    expect_listed(rt, world, &[call, Event::Read(worker)], records)?;
+    expect_listed(rt, world, &[Event::Lock(worker)], records)?;
+    expect_listed(rt, world, &[Event::Act(worker)], records.saturating_add(1))?;
+    take_all(world, &[Event::Release(worker), after])
 }
 
 fn is_listed_whatever_its_workers_do<B: Bucket>(

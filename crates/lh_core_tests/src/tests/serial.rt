@@ -74,6 +74,16 @@ fn lengths_in(alloc: Global, listing: &Listing) -> Result<Vec<usize>, Fail> {
     Ok(lengths)
 }
 
+fn expect_lengths<B: Bucket>(
+    rt: &impl Abort,
+    alloc: Global,
+    config: Config,
+    calls: &[Call],
+) -> Result<(), Fail> {
+    expect_eq!(rt; lengths_of::<B>(alloc, config, calls)?.as_slice(), [2, 2, 1].as_slice());
+    Ok(())
+}
+
 #[test]
 fn a_file_grows_past_the_threshold_and_not_at_it(rt: HostRuntime) -> Result<(), Fail> {
     let calls = [
@@ -85,17 +95,22 @@ fn a_file_grows_past_the_threshold_and_not_at_it(rt: HostRuntime) -> Result<(), 
     ];
     let full = Config::new(1, 2, 100, 65536)?;
     let fuller = Config::new(1, 2, 200, 65536)?;
-    let alloc = rt.alloc();
-    expect_eq!(rt;
-        lengths_of::<PlainBucket>(alloc, full, &calls)?.as_slice(),
-        [2, 2, 1].as_slice()
-    );
-    expect_eq!(rt;
-        lengths_of::<PagedBucket>(alloc, full, &calls)?.as_slice(),
-        [2, 2, 1].as_slice()
-    );
-    expect_eq!(rt; replies_of::<PagedBucket>(alloc, fuller, &calls)?.1, 2);
+    expect_lengths::<PlainBucket>(&rt, rt.alloc(), full, &calls)?;
+    expect_lengths::<PagedBucket>(&rt, rt.alloc(), full, &calls)?;
+    expect_eq!(rt; replies_of::<PagedBucket>(rt.alloc(), fuller, &calls)?.1, 2);
     Ok(())
+}
+
+/// The first bytes of the keys, each behind the number of its bucket.
+fn keys_in(alloc: Global, world: &World<PagedBucket>) -> Result<Vec<(u32, u8)>, Fail> {
+    let mut keys = Vec::new(alloc);
+    for i in 0..world.filled() {
+        let bucket = world.bucket(i);
+        for place in 0..bucket.len() {
+            keys.push((i, bucket.pair_at(place).key.bytes()[0]))?;
+        }
+    }
+    Ok(keys)
 }
 
 #[test]
@@ -107,15 +122,8 @@ fn buckets_hold_their_records_in_order(rt: HostRuntime) -> Result<(), Fail> {
     ];
     let config = Config::new(1, 2, 100, 65536)?;
     let SerialRan { replies: _, world } = serial::<PagedBucket>(rt.alloc(), config, &calls)?;
-    let mut keys = Vec::new(rt.alloc());
-    for i in 0..world.filled() {
-        let bucket = world.bucket(i);
-        for place in 0..bucket.len() {
-            keys.push((i, bucket.pair_at(place).key.bytes()[0]))?;
-        }
-    }
     expect_eq!(rt;
-        keys.as_slice(),
+        keys_in(rt.alloc(), &world)?.as_slice(),
         [(0, b'a'), (0, b'c'), (1, b'b')].as_slice()
     );
     Ok(())
@@ -159,13 +167,21 @@ fn inserted<B: Bucket>(world: &mut World<B>, number: u8) -> Result<(u64, u32, bo
     Ok((served.records, world.root().buckets(), served.split_refused))
 }
 
+fn insert_four(rt: &impl Abort, world: &mut World<PagedBucket>) -> Result<(), Fail>
+    requires { IsAtRest world.old.state }
+{
+    expect_eq!(rt; inserted(world, 0)?, (1, 1, false));
+    expect_eq!(rt; inserted(world, 1)?, (2, 2, false));
+    expect_eq!(rt; inserted(world, 2)?, (3, 3, false));
+    expect_eq!(rt; inserted(world, 3)?, (4, 4, false));
+    Ok(())
+}
+
 /// A caller who goes on where memory runs out has as many buckets as the policy wants, and is told of no refused split.
 #[test]
 fn each_served_call_splits_where_the_policy_wants_it(rt: HostRuntime) -> Result<(), Fail> {
-    let mut world = World::<PagedBucket>::new(rt.alloc(), Config::new(1, 1, 100, 65536)?)?;
-    expect_eq!(rt; inserted(&mut world, 0)?, (1, 1, false));
-    expect_eq!(rt; inserted(&mut world, 1)?, (2, 2, false));
-    expect_eq!(rt; inserted(&mut world, 2)?, (3, 3, false));
-    expect_eq!(rt; inserted(&mut world, 3)?, (4, 4, false));
-    Ok(())
+    insert_four(
+        &rt,
+        &mut World::new(rt.alloc(), Config::new(1, 1, 100, 65536)?)?,
+    )
 }

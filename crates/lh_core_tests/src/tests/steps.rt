@@ -32,7 +32,7 @@ fn steps_are<B: Bucket>(
     let mut world = World::<B>::new(alloc, config)?;
     for (number, (event, want)) in steps.iter().enumerate() {
         let entry = world.step(*event);
-        assert_eq!(rt; entry, *want, "at {number}");
+        expect_eq!(rt; (number, entry), (number, *want));
     }
     Ok(())
 }
@@ -76,12 +76,14 @@ fn an_old_root_by_one_split<B: Bucket>(rt: &impl Abort, alloc: Global) -> Result
         Ok(Effect::Answered(Reply::Inserted)),
         Ok(Effect::Released),
     ];
-    let world = entries_are::<B>(rt, alloc, small()?, &events, &want)?;
-    expect_eq!(rt; world.root().buckets(), 2);
-    expect_eq!(rt; world.filled(), 2);
-    expect_eq!(rt; world.splitter(), SplitState::Idle);
-    expect_eq!(rt; world.worker(0), WorkerState::Idle);
+    expect_split(rt, &entries_are::<B>(rt, alloc, small()?, &events, &want)?);
     Ok(())
+}
+
+/// The world has two buckets, and neither its splitter nor its first worker does anything.
+fn expect_split<B: Bucket>(rt: &impl Abort, world: &World<B>) {
+    expect_eq!(rt; (world.root().buckets(), world.filled()), (2, 2));
+    expect_eq!(rt; (world.splitter(), world.worker(0)), (SplitState::Idle, WorkerState::Idle));
 }
 
 #[test]
@@ -227,8 +229,7 @@ fn inserted<B: Bucket>(world: &mut World<B>, worker: u8, letter: u8) -> Result<E
 
 /// The split of bucket 0 into itself and bucket 2. After each of its steps a record is inserted in bucket 1, and before
 /// the pointer moves one in the new bucket.
-fn inserts_go_on_beside_a_split<B: Bucket>(rt: &impl Abort, alloc: Global) -> Result<(), Fail> {
-    let mut world = World::<B>::new(alloc, Config::new(2, 14, 100, 65536)?)?;
+fn insert_beside_a_split<B: Bucket>(rt: &impl Abort, world: &mut World<B>) -> Result<(), Fail> {
     let answered = Effect::Answered(Reply::Inserted);
     let steps = [
         (Event::SplitBegin, 0, b'b'),
@@ -238,7 +239,7 @@ fn inserts_go_on_beside_a_split<B: Bucket>(rt: &impl Abort, alloc: Global) -> Re
     ];
     for (event, worker, letter) in &steps {
         world.step(*event)?;
-        expect_eq!(rt; inserted(&mut world, *worker, *letter)?, answered);
+        expect_eq!(rt; inserted(world, *worker, *letter)?, answered);
         world.step(Event::Release(*worker))?;
     }
     let events = [
@@ -253,6 +254,13 @@ fn inserts_go_on_beside_a_split<B: Bucket>(rt: &impl Abort, alloc: Global) -> Re
     }
     expect_eq!(rt; world.step(Event::Act(14)), Ok(answered));
     Ok(())
+}
+
+fn inserts_go_on_beside_a_split<B: Bucket>(rt: &impl Abort, alloc: Global) -> Result<(), Fail> {
+    insert_beside_a_split(
+        rt,
+        &mut World::<B>::new(alloc, Config::new(2, 14, 100, 65536)?)?,
+    )
 }
 
 #[test]
@@ -283,8 +291,7 @@ fn a_list_of_events_may_be_long(rt: HostRuntime) -> Result<(), Fail> {
 }
 
 /// A worker that holds a bucket, before its act and after it, is in the way of no act and no split at others.
-fn a_held_bucket_is_alone_held<B: Bucket>(rt: &impl Abort, alloc: Global) -> Result<(), Fail> {
-    let mut world = World::<B>::new(alloc, Config::new(2, 14, 100, 65536)?)?;
+fn step_beside_a_held_bucket<B: Bucket>(rt: &impl Abort, world: &mut World<B>) -> Result<(), Fail> {
     let answered = Effect::Answered(Reply::Inserted);
     for event in [
         Event::Call(0, insert(b"b", b"1")?),
@@ -302,8 +309,15 @@ fn a_held_bucket_is_alone_held<B: Bucket>(rt: &impl Abort, alloc: Global) -> Res
     world.step(Event::SplitRelease)?;
     world.step(Event::SplitPoint)?;
     expect_eq!(rt; world.step(Event::Act(0)), Ok(answered));
-    expect_eq!(rt; inserted(&mut world, 1, b'a')?, answered);
+    expect_eq!(rt; inserted(world, 1, b'a')?, answered);
     Ok(())
+}
+
+fn a_held_bucket_is_alone_held<B: Bucket>(rt: &impl Abort, alloc: Global) -> Result<(), Fail> {
+    step_beside_a_held_bucket(
+        rt,
+        &mut World::<B>::new(alloc, Config::new(2, 14, 100, 65536)?)?,
+    )
 }
 
 #[test]
