@@ -1,0 +1,6 @@
+//! Sessions alone and in a crowd, images on a disk, and where memory is refused.
+mod calls;
+mod crowd;
+mod disk;
+mod memory;
+mod saving;
