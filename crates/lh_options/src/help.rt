@@ -24,13 +24,35 @@ const REQUESTS: &str =
 pub const COMMANDS: Help = Help {
     about: "Read a script of commands, and write the reply to each",
     file: SCRIPT,
-    example: "Example: lhash commands --capacity 2 script.txt",
+    example: "Lines, and the replies to them; keys and values are hexadecimal, and - is the empty value:
+  insert 616461 30313732  inserted
+  search 616461           found 30313732
+  replace 616461 -        replaced
+  delete 616461           deleted
+
+Example: lhash commands --capacity 2 script.txt",
 };
 
 pub const STEPS: Help = Help {
     about: "Read a script of steps, and write the effect of each",
     file: SCRIPT,
-    example: "Example: lhash steps --initial 3 steps.txt",
+    example: "Lines, and their effects; 0 is a worker's place, 0 to 15:
+  call 0 search 61  called
+  read 0            aim 0 0
+  split-begin       begun 0 1
+  split-lock        both 0 1
+  split-move        moved 0 1
+  split-release     freed
+  lock 0            locked 0 1
+  rehash 0          aim 1 0
+  lock 0            locked 0 1
+  act 0             absent
+  release 0         released
+  split-point       point 2
+  split-begin       begun 0 2
+  split-drop        dropped
+
+Example: lhash steps --initial 3 steps.txt",
 };
 
 pub const REPLAY: Help = Help {
@@ -84,7 +106,17 @@ pub const APPLY: Help = Help {
 pub const SERVE: Help = Help {
     about: "Answer each line of a client as it comes, until its input ends",
     file: REQUESTS,
-    example: "Example: lhash serve < requests.txt",
+    example: "Lines, and the answers to them; keys and values are hexadecimal, and - is the empty value:
+  insert 616461 30313732  inserted
+  search 616461           found 30313732
+  replace 616461 -        replaced
+  delete 616461           deleted
+  records                 records 0
+  buckets                 buckets 1
+  image                   image 8192, and behind that line so many bytes
+  frob                    fault unknown word
+
+Example: lhash serve < requests.txt",
 };
 
 pub const DRIVE: Help = Help {

@@ -11,4 +11,4 @@ pub mod laws;
 mod options;
 
 pub use escapes::escaped;
-pub use options::{ImageVersion, NamedFiles, Request, files_of, request_of};
+pub use options::{ImageVersion, NamedFiles, Request, files_of, hint_of, request_of};

@@ -398,7 +398,7 @@ fn are_in_digits(matches: &ArgMatches<'_>) -> bool
 fn signed(alloc: Global) -> Result<Request, AllocError>
     ensures { IfOk result IsRefusedText }
 {
-    Ok(Request::Refused(String::from_str(alloc, "a number may have no sign")?))
+    Ok(Request::Refused(String::from_str(alloc, "numbers have no sign")?))
 }
 
 /// The configuration that the options give, or `None` where `--max` is less than `--initial`.
@@ -557,6 +557,31 @@ fn help_text(alloc: Global, error: &Error) -> Result<String, AllocError> {
         shown.push('\n')?;
     }
     Ok(shown)
+}
+
+/// What clap says behind the first line of an error's text: of words like the one that is wrong, and of how the
+/// subcommand is used.
+fn other_lines(alloc: Global, error: &Error) -> Result<String, AllocError> {
+    let text = error.to_string(alloc)?;
+    let mut shown = String::new(alloc);
+    if error.kind() == ErrorKind::InvalidValue {
+        shown.push_str("a value stands behind its option, as in --image 2 or -o FILE\n")?;
+    }
+    for line in text.as_str().lines().skip(1) {
+        if !line.is_empty() {
+            shown.push_str(escaped(alloc, line.trim_start())?.as_str())?;
+            shown.push('\n')?;
+        }
+    }
+    Ok(shown)
+}
+
+/// What a person may be told, in lines, of words that clap refuses; the first word is the program's name.
+pub fn hint_of<'a>(alloc: Global, words: &'a [&'a str]) -> Result<Option<String>, AllocError> {
+    match program(alloc)?.try_get_matches_from(words) {
+        Err(error) => Ok(Some(other_lines(alloc, &error)?)),
+        Ok(_) => Ok(None),
+    }
 }
 
 /// What words ask for that clap doesn't accept: help or the version; otherwise they are refused.

@@ -1,7 +1,6 @@
 -- From an image and the calls behind it to what they have written
-use Rattle.std.proofs.Common.{◌≡◌, ◌∙◌, ℕ, List, [], Option, None, Some, IfSome, refl, sym, ap, subst}
+use Rattle.std.proofs.Common.{◌≡◌, ◌∙◌, ℕ, List, [], Option, None, Some, IfSome, sym, ap, subst}
 use Rattle.std.specs.Prelude.{Result, Ok, Err}
-use Rattle.std.proofs.KnownBytes.{Keeps-refl}
 use Rattle.lh_bucket.specs.declared.call.Call.{Call}
 use Rattle.lh_bucket.specs.declared.call.Reply.{Reply}
 use Rattle.lh_bucket.specs.Listing.{Lists, IsListing, size}
@@ -10,26 +9,21 @@ use Rattle.lh_core.specs.Serial.{IsSerialFrom}
 use Rattle.lh_core.specs.World.{WorldSeen}
 use Rattle.lh_image.specs.declared.fault.ImageFault.{ImageFault}
 use Rattle.lh_image.specs.declared.fault.ImageFault.TheVariants.{ReadFault, Memory as MemoryToRead}
-use Rattle.lh_image.specs.declared.fault.WriteImageFault.{WriteImageFault}
 use Rattle.lh_image.specs.declared.version.Version.{Version}
 use Rattle.lh_image.specs.Reading.{IsDueFault, following, leading, reading_of}
-use Rattle.lh_image.specs.Writing.{IsWritten}
 use Rattle.lh_script.specs.Commands.{command}
 use Rattle.lh_script.specs.Scripts.{script}
-use Rattle.lh_script.specs.Texts.{commands_text}
 use Rattle.lh_script.specs.declared.fault.ScriptFault.{ScriptFault}
 use Rattle.lh_subcommands.specs.Continued.{EndsApplying, EndsApplyingTo, EndsLeaving, IsLeft, ReadsContinued}
 use Rattle.lh_subcommands.specs.Continued.{query_due, query_due_of, replies_due, script_behind}
 use Rattle.lh_subcommands.specs.declared.continued.Continued.{Continued}
-use Rattle.lh_subcommands.specs.Images.{refused_as, unwritten_as}
+use Rattle.lh_subcommands.specs.Images.{refused_as}
 use Rattle.lh_subcommands.specs.Run.{Ends, ReadsScript}
 use Rattle.lh_subcommands.specs.declared.status.DeviceFault.TheVariants.{Read, Write}
-use Rattle.lh_subcommands.specs.declared.status.InputFault.{InputFault}
 use Rattle.lh_subcommands.specs.declared.status.InputFault.TheVariants.{Script, Image, Unwritten}
 use Rattle.lh_subcommands.specs.declared.status.Status.{Status}
 use Rattle.lh_subcommands.specs.declared.status.Status.TheVariants.{Done, Input, Words, Device, Memory, NotSettled}
-use Rattle.lh_subcommands.proofs.Building.{led_from, made_not, made_whole}
-use Rattle.lh_subcommands.proofs.Ending.{told_due}
+use Rattle.lh_subcommands.proofs.Building.{led_from}
 
 -- both were read, of one input
 abbrev pub AreRead : Option (List ℕ) → Lists → List Call → Type 0

@@ -1,5 +1,5 @@
 -- From the calls of a script to the totals of a run in threads
-use Rattle.std.proofs.Common.{◌≡◌, ◌∙◌, ℕ, ◌+◌, ◌%◌, ◌^◌, true, List, ◌++◌, All, Option, None, Some, IfSome, length}
+use Rattle.std.proofs.Common.{◌≡◌, ◌∙◌, ℕ, ◌+◌, ◌%◌, ◌^◌, true, List, All, Option, None, Some, IfSome, length}
 use Rattle.std.proofs.Common.{take, refl, sym, subst, inl, inr, arith}
 use Rattle.std.specs.Prelude.{Ok, Err}
 use Rattle.std.specs.Io.KnownBytes.{Appends}

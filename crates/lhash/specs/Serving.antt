@@ -51,11 +51,11 @@ below_initial = codes "max is less than initial"
 
 -- a setting stands beside `--image`
 abbrev pub beside_image : List ℕ
-beside_image = codes "the configuration is the image's"
+beside_image = codes "--image excludes --initial, --capacity, --load and --max"
 
 -- snapshots of more shards than one
 abbrev pub snapshots_of_shards : List ℕ
-snapshots_of_shards = codes "snapshots are of one shard"
+snapshots_of_shards = codes "--snapshots needs --shards 1"
 
 -- how `drive` ends: on one file, with snapshots or without, or on several shards
 abbrev pub EndsDrivingIn : Bool → Settings → ℕ → ℕ → List ℕ → Status → Option (List ℕ) → Option (List ℕ) → Type 0

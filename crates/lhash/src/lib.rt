@@ -15,6 +15,7 @@ mod workers;
 pub use drive::{DriveFault, drive_with, drive_with_snapshots};
 pub use drive_shards::drive_shards_with;
 pub use driven::Driven;
-pub use lh_options::{NamedFiles, escaped, files_of};
+pub use lh_options::{NamedFiles, escaped, files_of, hint_of};
+pub use lh_script::{LineFault, ScriptFault};
 pub use lh_subcommands::{DeviceFault, InputFault, Status, Unsettled};
 pub use program::{asks_for_image, reads_apart, refuse, run, run_on};

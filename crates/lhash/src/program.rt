@@ -111,8 +111,11 @@ fn serve<A: Threads + Wait + Sync, R: Read, W: Write>(
         Request::Help(text) => write_help(writer, text.as_str()),
         Request::Refused(text) => Status::Words(text),
         Request::MaxBelowInitial => refuse(alloc, "max is less than initial"),
-        Request::SettingsBesideImage => refuse(alloc, "the configuration is the image's"),
-        Request::SnapshotsOfShards => refuse(alloc, "snapshots are of one shard"),
+        Request::SettingsBesideImage => refuse(
+            alloc,
+            "--image excludes --initial, --capacity, --load and --max",
+        ),
+        Request::SnapshotsOfShards => refuse(alloc, "--snapshots needs --shards 1"),
     }
 }
 

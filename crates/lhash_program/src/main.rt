@@ -8,11 +8,13 @@ ghost use Rattle.lhash.specs.Serving.{IsDone, IsFlushedRun, IsFlushedRunOn, IsRu
 ghost use Rattle.lhash.specs.Serving.{IsWordsOf};
 
 mod ended;
+mod hints;
 mod named;
 mod one_try;
 mod progress;
 
 use crate::ended::Ended;
+use crate::hints::hint;
 use crate::named::{Streams, Terminals, run_named};
 use crate::one_try::OneTry;
 use lhash::{DeviceFault, Status, asks_for_image, files_of, refuse, run, run_on};
@@ -160,23 +162,42 @@ where
     }
 }
 
-/// Runs on the words of the process, with its input and output where they name no file.
+/// Runs on these words, with the process's input and output where they name no file.
+fn run_words<'a, A, R: Read + Drop, W: Write + Drop>(
+    rt: &A,
+    words: &'a [&'a str],
+    streams: Streams<R, W>,
+) -> Ended
+where
+    A: Runtime + AllocGlobal + Threads + Wait + Sync,
+{
+    match files_of(rt.alloc(), words) {
+        Ok(files) => run_named(rt, words, &files, streams),
+        Err(_) => Ended::from(Status::Memory),
+    }
+}
+
+/// Runs on the words of the process, and tells a person what a fault may mean.
 fn run_process<A: Runtime + AllocGlobal + Threads + Wait + Sync, R: Read + Drop, W: Write + Drop>(
     rt: &A,
     streams: Streams<R, W>,
-) -> Ended {
+) -> (Ended, Option<String>) {
     let words = match process_words(rt) {
         Ok(words) => words,
-        Err(status) => return Ended::from(status),
+        Err(status) => return (Ended::from(status), None),
     };
     let texts: Result<Vec<&str>, _> = words.iter().map(|word| word.as_str()).collect(rt.alloc());
     let Ok(texts) = texts else {
-        return Ended::from(Status::Memory);
+        return (Ended::from(Status::Memory), None);
     };
-    let Ok(files) = files_of(rt.alloc(), texts.as_slice()) else {
-        return Ended::from(Status::Memory);
+    let is_shown = streams.terminals.error;
+    let ended = run_words(rt, texts.as_slice(), streams);
+    let told = if is_shown {
+        hint(rt.alloc(), texts.as_slice(), &ended).unwrap_or(None)
+    } else {
+        None
     };
-    run_named(rt, texts.as_slice(), &files, streams)
+    (ended, told)
 }
 
 fn main(rt: HostRuntime) -> ExitCode {
@@ -186,7 +207,7 @@ fn main(rt: HostRuntime) -> ExitCode {
         output: stdout.is_terminal(),
         error: rt.stderr().is_terminal(),
     };
-    let ended = run_process(
+    let (ended, told) = run_process(
         &rt,
         Streams {
             reader: stdin,
@@ -197,6 +218,9 @@ fn main(rt: HostRuntime) -> ExitCode {
     let code = ended.code();
     if code != 0 {
         let _ = eprintln!(rt; "lhash: {ended}");
+        if let Some(told) = told {
+            let _ = eprint!(rt; "{told}");
+        }
     }
     ExitCode::from(code)
 }

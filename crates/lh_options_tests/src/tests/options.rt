@@ -122,7 +122,7 @@ fn ends_of_the_ranges(rt: HostRuntime) -> Result<(), AllocError> {
     expect(
         &rt,
         ["--initial", "+3"].as_slice(),
-        "refused: a number may have no sign",
+        "refused: numbers have no sign",
     )?;
     expect(&rt, ["--initial", "007"].as_slice(), "7 14 100 65536")?;
     expect(
@@ -248,7 +248,7 @@ fn shards_are_1_to_64(rt: HostRuntime) -> Result<(), AllocError> {
         "--shards=64",
         "1 14 80 65536, 4 threads, 64 shards, 0 snapshots",
     )?;
-    drive_expect(&rt, "--shards=+2", "refused: a number may have no sign")?;
+    drive_expect(&rt, "--shards=+2", "refused: numbers have no sign")?;
     drive_expect(
         &rt,
         "--shards=0",
@@ -315,7 +315,7 @@ fn snapshots_are_0_to_1000(rt: HostRuntime) -> Result<(), AllocError> {
         "--snapshots=1000",
         "1 14 80 65536, 4 threads, 1 shards, 1000 snapshots",
     )?;
-    drive_expect(&rt, "--snapshots=-0", "refused: a number may have no sign")?;
+    drive_expect(&rt, "--snapshots=-0", "refused: numbers have no sign")?;
     drive_expect(
         &rt,
         "--snapshots=1001",
@@ -428,7 +428,7 @@ fn what_goes_on_from_an_image_takes_no_settings(rt: HostRuntime) -> Result<(), A
     gives(
         &rt,
         ["lhash", "apply", "--image=+1"].as_slice(),
-        "refused: a number may have no sign",
+        "refused: numbers have no sign",
     )?;
     gives(
         &rt,
@@ -494,7 +494,7 @@ fn an_image_has_no_setting_beside_it(rt: HostRuntime) -> Result<(), AllocError> 
     gives(
         &rt,
         ["lhash", "serve", "--image", "--max=+7"].as_slice(),
-        "refused: a number may have no sign",
+        "refused: numbers have no sign",
     )?;
     gives(
         &rt,

@@ -137,7 +137,7 @@ fn serve_without_an_image_where_one_is_due_tells_why(rt: HostRuntime) -> Result<
         words.as_slice(),
         "",
         2,
-        "the configuration is the image's",
+        "--image excludes --initial, --capacity, --load and --max",
     )
 }
 

@@ -64,7 +64,7 @@ fn control_characters_of_words_are_escaped(rt: HostRuntime) -> Result<(), Fail> 
 
 #[test]
 fn a_number_has_no_sign(rt: HostRuntime) -> Result<(), Fail> {
-    let reason = "a number may have no sign";
+    let reason = "numbers have no sign";
     for words in [
         ["lhash", "commands", "--initial=+1"].as_slice(),
         ["lhash", "steps", "--capacity", "+1"].as_slice(),

@@ -1,0 +1,35 @@
+//! What a person is told behind a fault, where standard error is a terminal: what may be meant by it.
+use crate::ended::Ended;
+use lhash::{InputFault, LineFault, ScriptFault, Status, hint_of};
+use std::alloc::{AllocError, Global};
+
+/// What is told of a byte string that is none.
+const HEXADECIMAL: &str = "keys and values are hexadecimal, two digits a byte: ada is 616461\n";
+
+/// Some lines on a fault of a run, or none.
+fn on_fault<'a>(
+    alloc: Global,
+    words: &'a [&'a str],
+    fault: &Status,
+) -> Result<Option<String>, AllocError> {
+    match fault {
+        Status::Words(_) => hint_of(alloc, words),
+        Status::Input(InputFault::Script(ScriptFault::AtLine(_, LineFault::BadHexadecimal))) => {
+            Ok(Some(String::from_str(alloc, HEXADECIMAL)?))
+        },
+        _ => Ok(None),
+    }
+}
+
+/// Some lines on how the process ended, or none.
+pub fn hint<'a>(
+    alloc: Global,
+    words: &'a [&'a str],
+    ended: &Ended,
+) -> Result<Option<String>, AllocError> {
+    match ended {
+        Ended::Ran(fault) => on_fault(alloc, words, fault),
+        Ended::At(_, fault) => on_fault(alloc, words, fault),
+        _ => Ok(None),
+    }
+}
