@@ -81,7 +81,7 @@ impl OpenStore {
         Ok(FileSession::new(rt, self.alloc, &self.file, hand))
     }
 
-    /// Sessions for so many threads of the caller's own.
+    /// As many sessions at once, such as for threads of the caller's own.
     pub fn sessions<'a, R: Wait>(
         &'a mut self,
         rt: &'a R,

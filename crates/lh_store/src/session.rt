@@ -137,7 +137,7 @@ pub trait Session {
     /// How many acts there were so far, those of other threads too. What this session does later comes after all of them.
     fn told(&mut self) -> u64;
 
-    /// How many more calls the session may make: 2^63 where a table is new.
+    /// How many more calls the session may make. A run divides those of its table evenly, and what is left comes back.
     fn left(&self) -> u64;
 
     /// All records at one moment, which may be [saved](Store::save) while other threads go on. Writes wait while the records

@@ -80,8 +80,9 @@ impl Store {
 
     /// Opens the table, lets threads work on it, and keeps what they leave.
     ///
-    /// All their calls are one legal history of a plain map, and the records are just what that leaves: by proof, whatever
-    /// the schedule was. Where memory runs out, before the work or after it, the records are what they were before.
+    /// Meanwhile it is a traced file, so whatever the schedule is, all their calls are one legal history of a plain map, and
+    /// the records are just what that leaves. Where memory runs out, before the work or after it, the records are what they
+    /// were before.
     pub fn run<R: AllocGlobal + Threads + Wait + Sync, W: Work + Sync>(
         &mut self,
         rt: &R,
