@@ -6,8 +6,8 @@ use Rattle.lh_settling.specs.Settled.{map_in}
 use Rattle.lh_words.specs.History.Log.{IsLegalLog, left_after}
 use Rattle.lh_words.specs.declared.seat_view.Entry.{Entry}
 
--- One legal history of a plain map, of so many acts, leads from the records that a table had to those that it has: these
--- are just what it leaves, each in the bucket of its address.
+-- One legal history of a plain map, of so many acts, leads from the records that a table had to those that it has:
+-- these are just what it leaves, each in the bucket of its address.
 pub record IsOneHistory (opening : Lists) (acts : ℕ) (closing : Lists) : Type 0 where
   pub log : List Entry
   pub legal : IsLegalLog (map_in opening) log
