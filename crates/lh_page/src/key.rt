@@ -3,7 +3,7 @@ ghost use Rattle.std.specs.Prelude.{◌≡◌, ◌≢◌, ℕ, ◌<◌, ◌≤�
 ghost use Rattle.std.specs.Prelude.{IsOk, IfOk, IfErr, nat_eq, refl};
 ghost use Rattle.std.specs.Ordering.{nat_cmp};
 ghost use Rattle.std.specs.Bool.{OnTrue, OnFalse};
-ghost use Rattle.std.specs.Str.{bytes_eq};
+ghost use Rattle.std.specs.Str.{IsUtf8, bytes_eq};
 ghost use Rattle.std.specs.Cmp.{partial_equiv_from_equiv};
 ghost use Rattle.std.specs.Cmp.Lexicographic.{pointwise, slice_cmp, nat_list_eq_equiv, nat_list_cmp_total, texts_po};
 ghost use Rattle.std.specs.Cmp.Lexicographic.{texts_ties};
@@ -16,10 +16,13 @@ use crate::rows::{KEY_ROOM, PaddedBytes};
 use byteorder::{ByteOrder, LittleEndian};
 use std::cmp::Ordering;
 use std::marker::Model;
+use std::str::Utf8Error;
+use std::{fmt, str};
 use thiserror::Error;
 
-/// A key of 1 to 56 bytes. Keys are compared and ordered by their bytes, a key before its longer extensions.
-#[derive(Clone, Copy, Debug)]
+/// A key of 1 to 56 bytes. Keys are compared and ordered by their bytes, a key before its longer extensions. `Debug`
+/// writes them as a literal of Rust, as `b"ada"`.
+#[derive(Clone, Copy)]
 pub struct Key {
     bytes: PaddedBytes<KEY_ROOM>,
 }
@@ -82,6 +85,14 @@ impl Key {
         ensures kept { IsKey self.now }
     {
         self.bytes.as_slice()
+    }
+
+    /// The bytes as text, where they are UTF-8.
+    pub fn as_str(&self) -> Result<&str, Utf8Error>
+        ensures variant { IsOk result ↔ IsUtf8 self.now }
+        ensures ok { IfOk result (λ text. text.now ≡ self.now) }
+    {
+        str::from_utf8(self.bytes())
     }
 
     /// The key, with zeros behind it.
@@ -166,6 +177,12 @@ fn word(bytes: &[u8; KEY_ROOM], place: usize) -> u64
     ensures { result ≡ word_at bytes.now place }
 {
     LittleEndian::read_u64(&bytes[place..place + 8])
+}
+
+impl fmt::Debug for Key {
+    fn fmt<W: fmt::Write>(&self, f: &mut fmt::Formatter<W>) -> fmt::Result {
+        write!(f, "b\"{}\"", self.bytes().escape_ascii())
+    }
 }
 
 impl PartialEq for Key {

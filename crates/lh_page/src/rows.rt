@@ -12,7 +12,7 @@ pub const KEY_ROOM: usize = LONGEST_KEY;
 pub const VALUE_ROOM: usize = LONGEST_VALUE;
 
 /// Up to `N` bytes, at the front of a row of `N` that has zeros behind them.
-#[derive(Clone, Copy, Debug)]
+#[derive(Clone, Copy)]
 pub struct PaddedBytes<const N: usize> {
     row: [u8; N],
     // A whole word, since copies of an odd number of bytes are made of words that overlap, and each then waits for the

@@ -1,6 +1,7 @@
 //! Values: short byte strings that are kept in place and copied freely.
 ghost use Rattle.std.specs.Prelude.{◌≡◌, ℕ, ◌↔◌, List, [], length, take, Some, IsOk, IfOk, IfErr, nat_eq, refl};
 ghost use Rattle.std.specs.Ordering.{nat_cmp};
+ghost use Rattle.std.specs.Str.{IsUtf8};
 ghost use Rattle.std.specs.Cmp.{partial_equiv_from_equiv};
 ghost use Rattle.std.specs.Cmp.Lexicographic.{pointwise, slice_cmp, nat_list_eq_equiv, nat_list_cmp_total, texts_po};
 ghost use Rattle.std.specs.Cmp.Lexicographic.{texts_ties};
@@ -10,10 +11,13 @@ use crate::limits::LONGEST_VALUE;
 use crate::rows::{PaddedBytes, VALUE_ROOM};
 use std::cmp::Ordering;
 use std::marker::Model;
+use std::str::Utf8Error;
+use std::{fmt, str};
 use thiserror::Error;
 
 /// A value of 0 to 112 bytes. Values are compared and ordered by their bytes, a value before its longer extensions.
-#[derive(Clone, Copy, Debug)]
+/// `Debug` writes them as a literal of Rust, as `b"0171"`.
+#[derive(Clone, Copy)]
 pub struct Value {
     bytes: PaddedBytes<VALUE_ROOM>,
 }
@@ -94,6 +98,20 @@ impl Value {
         ensures kept { IsValue self.now }
     {
         self.bytes.as_slice()
+    }
+
+    /// The bytes as text, where they are UTF-8.
+    pub fn as_str(&self) -> Result<&str, Utf8Error>
+        ensures variant { IsOk result ↔ IsUtf8 self.now }
+        ensures ok { IfOk result (λ text. text.now ≡ self.now) }
+    {
+        str::from_utf8(self.bytes())
+    }
+}
+
+impl fmt::Debug for Value {
+    fn fmt<W: fmt::Write>(&self, f: &mut fmt::Formatter<W>) -> fmt::Result {
+        write!(f, "b\"{}\"", self.bytes().escape_ascii())
     }
 }
 
