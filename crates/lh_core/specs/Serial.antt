@@ -74,20 +74,22 @@ pub record HasGrown (world next : WorldSeen) : Type 0 where
   pub rest : IsAtRest next.state
   pub stands : (map : Records) → StandsFor world map → StandsFor next map
 
--- a call was served, and the split that it asked for
-pub record IsServed (world : WorldSeen) (map : Records) (call : Call) (told : Reply) (records : ℕ) (next : WorldSeen)
-    : Type 0 where
-  pub same : next.config ≡ world.config
-  pub rest : IsAtRest next.state
-  pub size : next.state.buckets ≡ size_after world.config (after map call) world.state.buckets (reply map call)
-  pub stands : StandsFor next (after map call)
-  pub replied : told ≡ reply map call
-  pub count : records ≡ len (after map call)
-
 -- memory ran out, and what was begun was given up: the state is as it was, and the buckets stand for the same maps
 pub record IsGivenUp (world next : WorldSeen) : Type 0 where
   pub same : next.config ≡ world.config
   pub state : next.state ≡ world.state
+  pub stands : (map : Records) → StandsFor world map → StandsFor next map
+
+-- A file at rest has grown, if the policy wants it after a reply that left so many records, and has the same records.
+-- Where the split is told as refused it was wanted, and the file has not grown.
+pub record IsGrownAfter (world : WorldSeen) (records : ℕ) (told : Reply) (refused : Bool) (next : WorldSeen)
+    : Type 0 where
+  pub same : next.config ≡ world.config
+  pub rest : IsAtRest next.state
+  pub size : next.state.buckets ≡ (if refused then world.state.buckets
+      else if grows_after world.config records world.state.buckets told then world.state.buckets + 1
+      else world.state.buckets)
+  pub asked : refused ≡ true → grows_after world.config records world.state.buckets told ≡ true
   pub stands : (map : Records) → StandsFor world map → StandsFor next map
 
 -- A call was served, and the split that it asked for. Where the split is told as refused it was asked for, and the file

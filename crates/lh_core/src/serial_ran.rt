@@ -6,7 +6,7 @@ ghost use Rattle.std.specs.FinMap.{len};
 ghost use Rattle.lh_bucket.specs.PlainMap.{IsInsert, Records};
 ghost use Rattle.lh_core.specs.History.{may_want_memory};
 ghost use Rattle.lh_core.specs.Rules.{allowed};
-ghost use Rattle.lh_core.specs.Serial.{IsAtRest, IsGivenUp, IsServedAlone, IsServed, IsServedOn, IsSerial};
+ghost use Rattle.lh_core.specs.Serial.{IsAtRest, IsGivenUp, IsGrownAfter, IsServedAlone, IsServedOn, IsSerial};
 ghost use Rattle.lh_core.specs.Serial.{IsSerialFrom, HasGrown, HasRecords, grows_after, count_after};
 ghost use Rattle.lh_core.specs.World.{IsStep, StandsFor};
 
@@ -106,18 +106,6 @@ impl<B: Bucket> World<B> {
         }
     }
 
-    /// Serves a call at once, where nobody is at work: it does what the five steps of a worker do, and no other is
-    /// there to see that they are one.
-    fn serve_at_once(&mut self, call: &Call) -> Result<Reply, Memory>
-        requires { IsAtRest self.old.state }
-        ensures ok { IfOk result (λ reply. IsServedAlone self.old call.now reply self.new) }
-        ensures err { OnErr result (IsGivenUp self.old self.new) }
-        ensures insert { OnErr result (IsInsert call.now) }
-    {
-        let act = self.control.aimed(call);
-        serve(&self.control, &mut self.buckets, &act)
-    }
-
     /// Splits once, where nobody is at work and the file may grow. Where memory runs out, the splitter
     /// gives the split up.
     fn grow(&mut self) -> Result<(), Memory>
@@ -158,31 +146,31 @@ impl<B: Bucket> World<B> {
         }
     }
 
-    /// Serves a call, and splits once where the policy wants it.
-    fn serve_and_grow(&mut self, call: Call, records: u64) -> Result<(Reply, u64), Memory>
+    /// Counts the record of a call that got this reply, and splits once where the policy wants it. The number of records
+    /// was `records`.
+    fn grow_after(&mut self, reply: Reply, records: u64) -> Served
         requires rest { IsAtRest self.old.state }
         requires few { records < 2 ^ 64 - 1 }
-        ensures few { IfOk result (λ p. p.1 ≤ records + 1) }
-        ensures served { (m : Records) → StandsFor self.old m → records ≡ len m →
-            IfOk result (λ p. IsServed self.old m call p.0 p.1 self.new) }
+        ensures reply { result.reply ≡ reply }
+        ensures count { result.records ≡ count_after records reply }
+        ensures few { result.records ≤ records + 1 }
+        ensures grown { IsGrownAfter self.old result.records reply result.split_refused self.new }
     {
-        let reply = self.serve_alone(call)?;
         let count = count_after(records, &reply);
-        if self.wants(&reply, count) {
-            match self.grow() {
-                Ok(()) => Ok((reply, count)),
-                Err(Memory) => Err(Memory),
-            }
-        } else {
-            Ok((reply, count))
+        let split_refused = self.wants(&reply, count) && self.grow().is_err();
+        Served {
+            reply,
+            records: count,
+            split_refused,
         }
     }
 
     /// Serves a call of a caller who goes on where memory runs out, and splits once where the policy wants
     /// it. The number of records was `records`.
     ///
-    /// Only an insert may fail; then nothing has changed. Where memory runs out for the split alone, the
-    /// call is served, and the next record that is added asks for a split again.
+    /// It does at once what the five steps of a worker do: nobody else is there to see that they are one. Only an insert
+    /// may fail; then nothing has changed. Where memory runs out for the split alone, the call is served, and the next
+    /// record that is added asks for a split again.
     pub fn serve(&mut self, call: Call, records: u64) -> Result<Served, Memory>
         requires rest { IsAtRest self.old.state }
         requires few { records < 2 ^ 64 - 1 }
@@ -192,14 +180,9 @@ impl<B: Bucket> World<B> {
         ensures err { OnErr result (IsGivenUp self.old self.new) }
         ensures insert { OnErr result (IsInsert call) }
     {
-        let reply = self.serve_at_once(&call)?;
-        let count = count_after(records, &reply);
-        let split_refused = self.wants(&reply, count) && self.grow().is_err();
-        Ok(Served {
-            reply,
-            records: count,
-            split_refused,
-        })
+        let act = self.control.aimed(&call);
+        let reply = serve(&self.control, &mut self.buckets, &act)?;
+        Ok(self.grow_after(reply, records))
     }
 
     /// Serves calls one after another, from this number of records on.
@@ -220,9 +203,13 @@ impl<B: Bucket> World<B> {
         let mut replies = Vec::with_capacity(alloc, calls.len())?;
         let mut records = start;
         for call in calls {
-            let (reply, count) = self.serve_and_grow(*call, records)?;
-            records = count;
-            replies.push(reply)?;
+            let reply = self.serve_alone(*call)?;
+            let served = self.grow_after(reply, records);
+            if served.split_refused {
+                return Err(Memory);
+            }
+            records = served.records;
+            replies.push(served.reply)?;
         }
         // What holds of every world: each bucket has its local level.
         self.is_kept();

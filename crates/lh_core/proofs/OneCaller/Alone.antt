@@ -1,9 +1,8 @@
 -- One worker alone, and one split alone, step by step
 use Rattle.std.proofs.Common.{◌≡◌, ℕ, ◌+◌, ◌<◌, true, false, cond, ◌∷◌, Option, Some, None, Ok, Err, nat_eq, nat_lt}
 use Rattle.std.proofs.Common.{refl, sym, ap, subst, ◌∙◌, arith, replicate}
-use Rattle.std.specs.Prelude.{IfOk, List, OnOk, Result}
+use Rattle.std.specs.Prelude.{List}
 use Rattle.std.specs.Result.{IsOk}
-use Rattle.lh_page.specs.declared.memory.Memory.{Memory}
 use Rattle.std.proofs.lemmas.Bool.Decides.{nat_tests}
 use Rattle.lh_addr.specs.Fnv.{code_of}
 use Rattle.lh_addr.specs.Settings.{Settings}
@@ -38,17 +37,16 @@ use Rattle.lh_core.specs.StepLaws.{became, told, some_same}
 use Rattle.lh_core.proofs.Logs.Leading.{idle_filled}
 
 -- a call that is served at once, while nobody is at work
-pub at_once : (c : Control) (row rows : List Seen) (call served : Call) (r : Result Reply Memory) → served ≡ call →
-    ((m : Records) → StandsFor (world_of c row) m → IfOk r (λ y. y ≡ reply m served)) →
-    ((m : Records) → StandsFor (world_of c row) m → OnOk r (StandsFor (world_of c rows) (after m served))) →
-    IfOk r (λ y. IsServedAlone (world_of c row) call y (world_of c rows))
-at_once c row rows call served (Ok y) is told stands = record {
+pub at_once : (c : Control) (row rows : List Seen) (call served : Call) (y : Reply) → served ≡ call →
+    ((m : Records) → StandsFor (world_of c row) m → y ≡ reply m served) →
+    ((m : Records) → StandsFor (world_of c row) m → StandsFor (world_of c rows) (after m served)) →
+    IsServedAlone (world_of c row) call y (world_of c rows)
+at_once c row rows call served y is told stands = record {
   same = refl;
   state = refl;
   replied = λ m p. told m p ∙ ap (reply m) is;
   stands = λ m p. subst (λ x. StandsFor (world_of c rows) (after m x)) is (stands m p);
 }
-at_once c row rows call served (Err e) is told stands = tt
 
 -- worker 0 does x, and nobody else does anything
 abbrev pub alone : ℕ → WorkerState → State

@@ -17,7 +17,7 @@ use Rattle.lh_bucket.specs.PlainMap.{Records, reply, after, replies, outcome, fo
 use Rattle.lh_core.specs.Opened.{IsOpenedWorld}
 use Rattle.lh_core.specs.State.{State, first}
 use Rattle.lh_core.specs.Kept.{IsWorld}
-use Rattle.lh_core.specs.Serial.{IsAtRest, IsGivenUp, IsServedAlone, IsServed, IsServedOn, IsSerial, IsSerialFrom}
+use Rattle.lh_core.specs.Serial.{IsAtRest, IsGivenUp, IsGrownAfter, IsServedAlone, IsServedOn, IsSerial, IsSerialFrom}
 use Rattle.lh_core.specs.Serial.{HasGrown, HasRecords, grows_after, size_after, size_from, count_after}
 use Rattle.lh_core.specs.World.{WorldSeen, IsPlaced, HasLevels, StandsFor}
 use Rattle.lh_core.proofs.Logs.Leading.{outcome_more, replies_more, idle_filled}
@@ -48,81 +48,60 @@ count_is m (Insert k v) = insert_counts m k v (contains_key m k) refl
 count_is m (Delete k) = delete_counts m k (contains_key m k) refl
 count_is m (Replace k v) = replace_counts m k v (contains_key m k) refl
 
--- a call that was served, without a split and with one
-module _ (v u : WorldSeen) (m : Records) (c : Call) (y : Reply) (j k : ℕ) (b : Bool) (h : IsServedAlone v c y u)
-    (stands : StandsFor v m) (was : j ≡ len m) (count : k ≡ count_after j y)
-    (test : b ≡ grows_after u.config k u.state.buckets y) where
-  counted : k ≡ len (after m c)
-  counted = count ∙ ap (λ n. count_after n y) was ∙ ap (count_after (len m)) (h.replied m stands) ∙ sym (count_is m c)
-
-  tested : b ≡ grows_after v.config (len (after m c)) v.state.buckets (reply m c)
-  tested =
-      test ∙ ap (λ s. grows_after s k u.state.buckets y) h.same
-      ∙ ap (λ (a : State). grows_after v.config k a.buckets y) h.state
-      ∙ ap (λ n. grows_after v.config n v.state.buckets y) counted
-      ∙ ap (grows_after v.config (len (after m c)) v.state.buckets) (h.replied m stands)
-
-  -- a call that was served alone, and asks for no split, is served
-  pub served_still : b ≡ false → IsAtRest v.state → IsServed v m c y k u
-  served_still f r = record {
-    same = h.same;
-    rest = subst IsAtRest (sym h.state) r;
-    size =
-        ap (λ (a : State). a.buckets) h.state ∙ ap (λ t. cond t (v.state.buckets + 1) v.state.buckets) (sym f ∙ tested);
-    stands = h.stands m stands;
-    replied = h.replied m stands;
-    count = counted;
-  }
-
-  -- a call that was served alone, and asks for a split, is served once the file has grown
-  pub served_grown : (w : WorldSeen) → b ≡ true → HasGrown u w → IsServed v m c y k w
-  served_grown w f g = record {
-    same = g.same ∙ h.same;
-    rest = g.rest;
-    size =
-        g.size ∙ ap (λ (a : State). a.buckets + 1) h.state
-        ∙ ap (λ t. cond t (v.state.buckets + 1) v.state.buckets) (sym f ∙ tested);
-    stands = g.stands (after m c) (h.stands m stands);
-    replied = h.replied m stands;
-    count = counted;
-  }
-
-  -- the split was given up
-  pub served_unsplit : (w : WorldSeen) → b ≡ true → IsAtRest v.state → IsGivenUp u w → IsServedOn v m c y k true w
-  served_unsplit w f r g = record {
-    same = g.same ∙ h.same;
-    rest = subst IsAtRest (sym (g.state ∙ h.state)) r;
-    size = ap (λ (a : State). a.buckets) (g.state ∙ h.state);
-    asked = λ _. sym tested ∙ f;
-    stands = g.stands (after m c) (h.stands m stands);
-    replied = h.replied m stands;
-    count = counted;
-  }
-
--- a call served with the split that it asked for is one of which no split is told as refused
-pub served_on : (v : WorldSeen) (m : Records) (c : Call) (y : Reply) (k : ℕ) (w : WorldSeen) → IsServed v m c y k w →
-    IsServedOn v m c y k false w
-served_on v m c y k w h = record {
-  same = h.same;
-  rest = h.rest;
-  size = h.size;
-  asked = λ no. absurd (false≢true no);
-  stands = h.stands;
-  replied = h.replied;
-  count = h.count;
+-- the file has grown, or memory ran out for it
+pub grown_maybe : (u w : WorldSeen) (k : ℕ) (y : Reply) {T E : Type 0} (r : Result T E) (n : Bool) → IsAtRest u.state →
+    true ≡ grows_after u.config k u.state.buckets y → OnOk r (HasGrown u w) → OnErr r (IsGivenUp u w) → n ≡ is_err r →
+    IsGrownAfter u k y n w
+grown_maybe u w k y (Ok _) n r b ok err is = record {
+  same = ok.same;
+  rest = ok.rest;
+  size = rw (is, ← b) ok.size;
+  asked = λ t. sym b;
+  stands = ok.stands;
+}
+grown_maybe u w k y (Err _) n r b ok err is = record {
+  same = err.same;
+  rest = subst IsAtRest (sym err.state) r;
+  size = rw is (ap (λ (a : State). a.buckets) err.state);
+  asked = λ t. sym b;
+  stands = err.stands;
 }
 
--- a call that was served alone, and asks for a split, is served, with the split told as refused where it was given up
-pub served_maybe : (v u : WorldSeen) (m : Records) (c : Call) (y : Reply) (j k : ℕ) (b : Bool)
-    (h : IsServedAlone v c y u) (stands : StandsFor v m) (was : j ≡ len m) (count : k ≡ count_after j y)
-    (test : b ≡ grows_after u.config k u.state.buckets y) (w : WorldSeen) {T E : Type 0} (r : Result T E) (n : Bool) →
-    IsAtRest v.state → b ≡ true → OnOk r (HasGrown u w) → OnErr r (IsGivenUp u w) → n ≡ is_err r →
-    IsServedOn v m c y k n w
-served_maybe v u m c y j k b h stands was count test w (Ok _) n r f ok err is =
-    subst (λ x. IsServedOn v m c y k x w) (sym is)
-    (served_on v m c y k w (served_grown v u m c y j k b h stands was count test w f ok))
-served_maybe v u m c y j k b h stands was count test w (Err _) n r f ok err is =
-    subst (λ x. IsServedOn v m c y k x w) (sym is) (served_unsplit v u m c y j k b h stands was count test w f r err)
+-- no split was wanted
+pub not_grown : (u : WorldSeen) (k : ℕ) (y : Reply) (n : Bool) → IsAtRest u.state →
+    false ≡ grows_after u.config k u.state.buckets y → n ≡ false → IsGrownAfter u k y n u
+not_grown u k y n r b is = record {
+  same = refl;
+  rest = r;
+  size = rw (is, ← b);
+  asked = λ t. absurd (false≢true (sym is ∙ t));
+  stands = λ m s. s;
+}
+
+-- a call that was served alone, and after which the file has grown as the policy wants, is served
+pub served_grown : (v u w : WorldSeen) (m : Records) (c : Call) (y x : Reply) (j k : ℕ) (n : Bool) →
+    IsServedAlone v c y u → StandsFor v m → j ≡ len m → x ≡ y → k ≡ count_after j y → IsGrownAfter u k y n w →
+    IsServedOn v m c x k n w
+served_grown v u w m c y x j k n h stands was told count g =
+    let said : y ≡ reply m c = h.replied m stands in
+    let counted : k ≡ len (after m c) =
+    count ∙ ap (λ i. count_after i y) was ∙ ap (count_after (len m)) said ∙ sym (count_is m c) in
+    let grows : grows_after u.config k u.state.buckets y
+    ≡ grows_after v.config (len (after m c)) v.state.buckets (reply m c) =
+    rw (h.same, h.state, counted, said) in
+    record {
+      same = g.same ∙ h.same;
+      rest = g.rest;
+      size =
+          g.size ∙ ap (λ b. cond n u.state.buckets (cond b (u.state.buckets + 1) u.state.buckets)) grows
+          ∙ ap (λ (a : State). cond n a.buckets
+          (cond (grows_after v.config (len (after m c)) v.state.buckets (reply m c)) (a.buckets + 1) a.buckets))
+          h.state;
+      asked = λ t. sym grows ∙ g.asked t;
+      stands = g.stands (after m c) (h.stands m stands);
+      replied = told ∙ said;
+      count = counted;
+    }
 
 size_more : (s : Settings) (m : Records) (n : ℕ) (cs : List Call) (c : Call) →
     size_from s m n (cs ++ c ∷ []) ≡ size_after s (after (outcome m cs) c) (size_from s m n cs) (reply (outcome m cs) c)
@@ -162,7 +141,7 @@ one_at_least (d ∷ cs) c e = cc
 -- calls that have come to a world, and one served there that adds at most a record, have come to the next
 pub served_more : (v : WorldSeen) (m : Records) (n : ℕ) (cs : List Call) (rs : List Reply) (u w : WorldSeen) (k : ℕ)
     (c : Call) (y : Reply) (j : ℕ) →
-    Served v m n cs rs u k → j ≤ k + 1 → IsServed u (outcome m cs) c y j w →
+    Served v m n cs rs u k → j ≤ k + 1 → IsServedOn u (outcome m cs) c y j false w →
     Served v m n (cs ++ c ∷ []) (rs ++ y ∷ []) w j
 served_more v m n cs rs u w k c y j h few d = record {
   same = d.same ∙ h.same;

@@ -8,7 +8,6 @@ use Rattle.lh_bucket.specs.Bucket.{Seen}
 use Rattle.lh_bucket.specs.PlainMap.{Records, reply, after}
 use Rattle.lh_core.specs.declared.control.Control.{Control}
 use Rattle.lh_core.specs.declared.control.Act.{Act}
-use Rattle.lh_core.specs.declared.state.SplitState.TheVariants as split
 use Rattle.lh_core.specs.declared.effect.Effect.{Effect}
 use Rattle.lh_core.specs.declared.effect.Effect.TheVariants as effect
 use Rattle.lh_core.specs.declared.effect.Refusal.{Refusal}

@@ -1,8 +1,9 @@
-use Rattle.std.proofs.Common.{◌≡◌, ◌+◌, ◌++◌, ◌∷◌, ◌∙◌, [], arith, take}
+use Rattle.std.proofs.Common.{◌≡◌, ◌+◌, ◌++◌, ◌∷◌, ◌∙◌, [], arith, take, subst, sym}
 use Rattle.std.proofs.lemmas.List.{length-take, take_all}
 use Rattle.lh_bucket.specs.PlainMap.{outcome}
+use Rattle.lh_core.specs.Serial.{IsAtRest, IsServedOn}
 use Rattle.lh_core.proofs.Logs.Running.{taken}
-use Rattle.lh_core.proofs.OneCaller.Serving.{served_none, served_more, served_all}
+use Rattle.lh_core.proofs.OneCaller.Serving.{served_grown, served_none, served_more, served_all}
 use Rattle.lh_core.proofs.world.World.serve_all.Goals as goal
 
 pub loop-call-init : goal.loop-call-init
@@ -10,13 +11,18 @@ loop-call-init g c =
     λ m stands count.
     rw c.in_ok-replies.ensures.items (served_none c.args.self.now m c.args.start c.requires.rest stands count)
 
-pub serve_and_grow-requires-clause-rest : goal.serve_and_grow-requires-clause-rest
-serve_and_grow-requires-clause-rest g c =
+pub serve_alone-requires : goal.serve_alone-requires
+serve_alone-requires g c =
     let had = c.requires.records in
     (c.loop-call.invariant had.0 had.1 had.2).rest
 
-pub serve_and_grow-requires-clause-few : goal.serve_and_grow-requires-clause-few
-serve_and_grow-requires-clause-few g c =
+pub grow_after-served-requires-clause-rest : goal.grow_after-served-requires-clause-rest
+grow_after-served-requires-clause-rest g c =
+    let had = c.requires.records in
+    subst IsAtRest (sym c.in_ok-reply.ensures.ok.state) (c.loop-call.invariant had.0 had.1 had.2).rest
+
+pub grow_after-served-requires-clause-few : goal.grow_after-served-requires-clause-few
+grow_after-served-requires-clause-few g c =
     let had = c.requires.records in
     let h = c.loop-call.invariant had.0 had.1 had.2 in
     omega (arith, h.few, c.requires.room, length-take c.loop-call.call-index c.args.calls.now, c.loop-call-test.true)
@@ -29,8 +35,15 @@ loop-call-preserved g c = λ m stands count.
     let h = c.loop-call.invariant m stands count in
     rw (next, c.in_ok-push.ensures.items)
     (served_more c.args.self.now m c.args.start done c.loop-call.replies.items c.loop-call.self
-    c.serve_and_grow.new.self c.loop-call.records c.call-item.result c.in_ok-reply.reply c.in_ok-reply.count h
-    c.in_ok-reply.ensures.few (c.in_ok-reply.ensures.served (outcome m done) h.stands h.count))
+    c.grow_after-served.new.self c.loop-call.records c.call-item.result c.grow_after-served.result.reply
+    c.grow_after-served.result.records h c.grow_after-served.ensures.few
+    (subst
+    (λ r. IsServedOn c.loop-call.self (outcome m done) c.call-item.result c.grow_after-served.result.reply
+    c.grow_after-served.result.records r c.grow_after-served.new.self) c.if-served.false
+    (served_grown c.loop-call.self c.serve_alone.new.self c.grow_after-served.new.self (outcome m done)
+    c.call-item.result c.in_ok-reply.reply c.grow_after-served.result.reply c.loop-call.records
+    c.grow_after-served.result.records c.grow_after-served.result.split_refused c.in_ok-reply.ensures.ok h.stands
+    h.count c.grow_after-served.ensures.reply c.grow_after-served.ensures.count c.grow_after-served.ensures.grown)))
 
 pub returns-clause-served : goal.returns-clause-served
 returns-clause-served g c = λ m stands count.
