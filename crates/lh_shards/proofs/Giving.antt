@@ -3,13 +3,12 @@ use Rattle.std.proofs.Common.{suc, ◌≡◌, ◌≢◌, ℕ, ◌+◌, ◌<◌, 
 use Rattle.std.proofs.Common.{refl, sym, ap, ◌∙◌, subst, ⊎_elim, arith}
 use Rattle.std.specs.List.{slice_get}
 use Rattle.std.proofs.lemmas.Option.{same_Some, slice_get_within, slice_get_read}
-use Rattle.lh_file.specs.FileState.{FileState}
+use Rattle.lh_file.specs.FileState.{FileState, IsOf}
 use Rattle.lh_file.specs.Words.HandState.{HandState, IsBranch}
 use Rattle.lh_words.specs.declared.view.View.{View}
 use Rattle.lh_shards.specs.Dividing.{HasGiven, EachPair}
 use Rattle.lh_shards.specs.Hands.{AreOf, AreAtHome, IsOfShard}
 use Rattle.lh_file.specs.HashFile.{Shared}
-use Rattle.lh_shards.proofs.OneShard.{Ready}
 use Rattle.lh_shards.proofs.Places.{there, at_push, set_tells, set_other, read_at, length_mapped}
 
 abbrev pub Given : ℕ → List HandState → List HandState → Type 0
@@ -70,6 +69,12 @@ branch_of_file calls n i f old new o g = record {
   right = ap (λ (v : View). v.has_right) g.view;
   home = subst (λ l. AreAtHome n i l) (sym g.acts) (λ k d lt. absurd (omega arith));
 }
+
+-- what is known of the file and of the hand at one place
+pub record Ready (states : List FileState) (olds : List HandState) (i : ℕ) (x : Shared) (h : HandState) : Type 0 where
+  pub file_at : slice_get states i ≡ Some x.state
+  pub hand_at : slice_get olds i ≡ Some h
+  pub of : IsOf x.state h
 
 -- what is known of the file and of the hand whose turn it is
 pub turn : (files : List Shared) (states : List FileState) (olds items : List HandState) (i : ℕ) (x : Shared)

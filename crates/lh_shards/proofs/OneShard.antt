@@ -1,10 +1,10 @@
 -- A call on one shard leaves hands of all
-use Rattle.std.proofs.Common.{◌≡◌, ℕ, ◌<◌, Bool, true, false, List, [], ◌∷◌, ◌++◌, length, map, set, get_or, Result}
+use Rattle.std.proofs.Common.{◌≡◌, ℕ, ◌<◌, Bool, true, false, List, [], ◌∷◌, ◌++◌, length, map, set, Result}
 use Rattle.std.proofs.Common.{Some, Ok, Err, refl, sym, ap, ◌∙◌, subst, ⊎_elim, arith}
 use Rattle.std.specs.List.{slice_get}
 use Rattle.std.proofs.lemmas.List.Elements.{All-append, All-push}
 use Rattle.std.proofs.lemmas.List.{map_push}
-use Rattle.std.proofs.lemmas.Option.{same_Some, slice_get_read, slice_get_within}
+use Rattle.std.proofs.lemmas.Option.{same_Some, slice_get_within}
 use Rattle.lh_bucket.specs.Answer.{Answered}
 use Rattle.lh_bucket.specs.Listing.{size}
 use Rattle.lh_bucket.specs.PlainMap.{key_of}
@@ -19,10 +19,10 @@ use Rattle.lh_file.specs.Words.Recording.{kept_of}
 use Rattle.lh_settling.specs.declared.act.ActLine.{ActLine}
 use Rattle.lh_file.specs.declared.fault.FileFault.{FileFault}
 use Rattle.lh_words.specs.declared.view.View.{View}
-use Rattle.lh_shards.specs.Hands.{AreOf, AtShard, AtShardOf, AreAtHome, IsOfShard, ShardFact, EachShard}
+use Rattle.lh_shards.specs.Hands.{AreOf, AtShard, AreAtHome, IsOfShard, ShardFact, EachShard}
 use Rattle.lh_shards.specs.Number.{home_of}
 use Rattle.lh_shards.specs.Told.{HasTold}
-use Rattle.lh_shards.proofs.Places.{at_set, at_push, read_at, length_mapped}
+use Rattle.lh_shards.proofs.Places.{at_set, at_push, length_mapped}
 use lib.ListN.{length-set}
 
 kept_home : (n i : ℕ) (recording : Bool) (line : ActLine) → home_of n (key_of line.call) ≡ i →
@@ -45,13 +45,6 @@ made_home : {T : Type 0} (n i : ℕ) (file : FileState) (old : HandState) (call 
 made_home n i file old call (Ok t) reply_in new m key h = served_home n i old call (reply_in t) new m.served key h
 made_home n i file old call (Err e) reply_in new m key h = subst (λ l. AreAtHome n i l) (sym m.err.acts) h
 
-serves_home : (n i : ℕ) (file : FileState) (old : HandState) (call : Call) (result : Result Answered FileFault)
-    (new : HandState) → Serves file old call result new → home_of n (key_of call) ≡ i → AreAtHome n i old.acts →
-    AreAtHome n i new.acts
-serves_home n i file old call (Ok a) new m key h =
-    served_home n i old a.call a.reply new m.served (ap (λ c. home_of n (key_of c)) m.call ∙ key) h
-serves_home n i file old call (Err e) new m key h = subst (λ l. AreAtHome n i l) (sym m.err.acts) h
-
 -- the right to split is as before
 made_right : {T : Type 0} (file : FileState) (old : HandState) (call : Call) (result : Result T FileFault)
     (reply_in : T → Reply) (new : HandState) → Makes file old call result reply_in new →
@@ -59,10 +52,17 @@ made_right : {T : Type 0} (file : FileState) (old : HandState) (call : Call) (re
 made_right file old call (Ok t) reply_in new m = ap (λ (v : View). v.has_right) m.served.view
 made_right file old call (Err e) reply_in new m = ap (λ (v : View). v.has_right) m.err.view
 
-serves_right : (file : FileState) (old : HandState) (call : Call) (result : Result Answered FileFault)
-    (new : HandState) → Serves file old call result new → new.view.has_right ≡ old.view.has_right
-serves_right file old call (Ok a) new m = ap (λ (v : View). v.has_right) m.served.view
-serves_right file old call (Err e) new m = ap (λ (v : View). v.has_right) m.err.view
+-- a call that gives an answer has made the call that was asked for, with the answer's reply
+pub makes : {file : FileState} {old : HandState} {call : Call} {new : HandState} (result : Result Answered FileFault) →
+    Serves file old call result new → Makes file old call result (λ a. a.reply) new
+makes {file} {old} {call} {new} (Ok a) s = record {
+  served = subst (λ c. HasServed old c a.reply new) s.call s.served;
+  spent = s.spent;
+  not_spent = s.not_spent;
+  err = s.err;
+  of = s.of;
+}
+makes (Err e) s = record { served = tt; spent = s.spent; not_spent = s.not_spent; err = s.err; of = s.of }
 
 -- hands of some files stay so when a hand of a shard takes the place of the one there
 pub of_after : (files : List FileState) (olds : List HandState) (i : ℕ) (f : FileState) (a : HandState) →
@@ -80,80 +80,46 @@ of_after files olds i f a h at good = record {
       (at_set olds i a j hand hj);
 }
 
--- what is known of the file and of the hand at one place
-pub record Ready (states : List FileState) (olds : List HandState) (i : ℕ) (x : Shared) (h : HandState) : Type 0 where
-  pub file_at : slice_get states i ≡ Some x.state
-  pub hand_at : slice_get olds i ≡ Some h
-  pub of : IsOf x.state h
-
--- the file and the hand that are read at one place stand there, and the hand is one of the file
-pub ready : (files : List Shared) (items : List HandState) (states : List FileState) (olds : List HandState) (i : ℕ)
-    (x : Shared) (h : HandState) → map (λ (file : Shared). file.state) files ≡ states → items ≡ olds →
-    AreOf states olds → i < length states → x ≡ get_or files i x → h ≡ get_or items i h → Ready states olds i x h
-ready files items states olds i x h seen same are lt xi hi =
-    let fa : slice_get states i ≡ Some x.state = read_at (λ (file : Shared). file.state) files states i x seen lt xi in
-    let lo : i < length olds = subst (λ n. i < n) (sym are.count) lt in
-    let ha : slice_get olds i ≡ Some h =
-    slice_get_read olds (length olds) i h refl lo (subst (λ l. h ≡ get_or l i h) same hi) in
-    record { file_at = fa; hand_at = ha; of = (are.each i x.state h fa ha).of }
+-- a hand that stays one of its file, keeps its right to split and has acts of the shard stays a hand of the shard
+pub of_kept : {file : FileState} {old new : HandState} {files : List FileState} {hands : List HandState} {i : ℕ} →
+    AreOf files hands → slice_get files i ≡ Some file → slice_get hands i ≡ Some old → IsOf file new →
+    new.view.has_right ≡ old.view.has_right →
+    (AreAtHome (length files) i old.acts → AreAtHome (length files) i new.acts) → AreOf files (set hands i new)
+of_kept {file} {old} {new} {files} {hands} {i} h at mine of right home =
+    let was : IsOfShard (length files) i file old = h.each i file old at mine in
+    of_after files hands i file new h at (record { of = of; right = right ∙ was.right; home = home was.home })
 
 -- after a call on its key's shard the hands are those of their files still
-pub of_made : {T : Type 0} {call : Call} {result : Result T FileFault} {reply_in : T → Reply} {x : Shared}
-    {b a : HandState} (states : List FileState) (olds items : List HandState) (i : ℕ) → items ≡ olds →
-    AreOf states olds → i ≡ home_of (length states) (key_of call) → Ready states olds i x b →
-    Makes x.state b call result reply_in a → AreOf states (set items i a)
-of_made {T} {call} {result} {reply_in} {x} {b} {a} states olds items i same h e r m =
-    subst (λ l. AreOf states (set l i a)) (sym same)
-    (of_after states olds i x.state a h r.file_at (record {
-      of = m.of;
-      right = made_right x.state b call result reply_in a m ∙ (h.each i x.state b r.file_at r.hand_at).right;
-      home =
-          made_home (length states) i x.state b call result reply_in a m (sym e)
-          (h.each i x.state b r.file_at r.hand_at).home;
-    }))
+pub of_made : {T : Type 0} {call : Call} {result : Result T FileFault} {reply_in : T → Reply} {file : FileState}
+    {old new : HandState} {files : List FileState} {hands : List HandState} {i : ℕ} {key : List ℕ} →
+    AreOf files hands → i ≡ home_of (length files) key → key_of call ≡ key → slice_get files i ≡ Some file →
+    slice_get hands i ≡ Some old → Makes file old call result reply_in new → AreOf files (set hands i new)
+of_made {T} {call} {result} {reply_in} {file} {old} {new} {files} {hands} {i} h home by at mine m =
+    of_kept h at mine m.of (made_right file old call result reply_in new m)
+    (made_home (length files) i file old call result reply_in new m (ap (home_of (length files)) by ∙ sym home))
 
--- the same of a call that gives an answer
-pub of_served : {call : Call} {result : Result Answered FileFault} {x : Shared} {b a : HandState}
-    (states : List FileState) (olds items : List HandState) (i : ℕ) → items ≡ olds → AreOf states olds →
-    i ≡ home_of (length states) (key_of call) → Ready states olds i x b → Serves x.state b call result a →
-    AreOf states (set items i a)
-of_served {call} {result} {x} {b} {a} states olds items i same h e r m =
-    subst (λ l. AreOf states (set l i a)) (sym same)
-    (of_after states olds i x.state a h r.file_at (record {
-      of = m.of;
-      right = serves_right x.state b call result a m ∙ (h.each i x.state b r.file_at r.hand_at).right;
-      home =
-          serves_home (length states) i x.state b call result a m (sym e) (h.each i x.state b r.file_at r.hand_at).home;
-    }))
-
--- what the file and the hand of a place have done is done on that shard, and the other hands are as they were
-pub at_place : {x : Shared} {b a : HandState} (Does : FileState → HandState → HandState → Type 0)
-    (states : List FileState) (olds items : List HandState) (i : ℕ) → items ≡ olds → Ready states olds i x b →
-    Does x.state b a → AtShard i states olds (set items i a) Does
-at_place {x} {b} {a} Does states olds items i same r d = record {
-  file = x.state;
-  before = b;
-  after = a;
-  file_is = r.file_at;
-  before_is = r.hand_at;
-  after_is = ap (λ l. set l i a) same;
-  does = d;
+-- what the file and the hand of a shard have done is done on that shard, and the other hands are as they were
+pub at_place : {file : FileState} {old new : HandState} {files : List FileState} {hands : List HandState} {i : ℕ}
+    (Does : FileState → HandState → HandState → Type 0) →
+    slice_get files i ≡ Some file → slice_get hands i ≡ Some old → Does file old new →
+    AtShard i files hands (set hands i new) Does
+at_place {file} {old} {new} Does at mine done = record {
+  file = file;
+  before = old;
+  after = new;
+  file_is = at;
+  before_is = mine;
+  after_is = refl;
+  does = done;
 }
 
 -- the same, of a shard whose number stands for another one's
-pub at_same : {x : Shared} {b a : HandState} (Does : FileState → HandState → HandState → Type 0)
-    (states : List FileState) (olds items : List HandState) (i j : ℕ) → items ≡ olds → i ≡ j →
-    Ready states olds i x b → Does x.state b a → AtShard j states olds (set items i a) Does
-at_same {x} {b} {a} Does states olds items i j same e r d =
-    subst (λ k. AtShard k states olds (set items i a) Does) e (at_place Does states olds items i same r d)
-
--- the same of a call by a key, on the key's shard
-pub at_shard : {x : Shared} {b a : HandState} (Does : FileState → HandState → HandState → Type 0) (key : List ℕ)
-    (states : List FileState) (olds items : List HandState) (i : ℕ) → items ≡ olds →
-    i ≡ home_of (length states) key → Ready states olds i x b → Does x.state b a →
-    AtShardOf key states olds (set items i a) Does
-at_shard Does key states olds items i same e r d =
-    at_same Does states olds items i (home_of (length states) key) same e r d
+pub at_same : {file : FileState} {old new : HandState} {files : List FileState} {hands : List HandState} {i j : ℕ}
+    (Does : FileState → HandState → HandState → Type 0) → i ≡ j →
+    slice_get files i ≡ Some file → slice_get hands i ≡ Some old → Does file old new →
+    AtShard j files hands (set hands i new) Does
+at_same {file} {old} {new} {files} {hands} {i} Does is at mine done =
+    subst (λ k. AtShard k files hands (set hands i new) Does) is (at_place Does at mine done)
 
 -- a shard more
 pub grown : (Fact : ShardFact) (ss : List FileState) (hs : List HandState) (s : FileState) (h : HandState) →
@@ -220,30 +186,18 @@ traced_are_of files hands n each =
     (λ i f h fi hi. let o : OpenedAs i f h = each i f h fi hi in
     (o.is_of, ap (λ (v : View). v.has_right) o.view, o.acts))
 
--- a hand that keeps its right to split and its acts, and is one of its file, stays a hand of the shard
-pub of_kept : {x : Shared} {b a : HandState} (states : List FileState) (olds items : List HandState) (i : ℕ) →
-    items ≡ olds → AreOf states olds → Ready states olds i x b → IsOf x.state a →
-    a.view.has_right ≡ b.view.has_right → a.acts ≡ b.acts → AreOf states (set items i a)
-of_kept {x} {b} {a} states olds items i same h r of right acts =
-    let was : IsOfShard (length states) i x.state b = h.each i x.state b r.file_at r.hand_at in
-    subst (λ l. AreOf states (set l i a)) (sym same)
-    (of_after states olds i x.state a h r.file_at (record {
-      of = of;
-      right = right ∙ was.right;
-      home = subst (λ l. AreAtHome (length states) i l) (sym acts) was.home;
-    }))
-
 -- the hand was told of its shard's history, and stays a hand of the shard
-pub of_told : {traced : Bool} {x : Shared} {b a : HandState} (states : List FileState) (olds items : List HandState)
-    (i count : ℕ) → items ≡ olds → AreOf states olds → Ready states olds i x b → HasTold traced x.state b count a →
-    AreOf states (set items i a)
-of_told {traced} {x} {b} {a} states olds items i count same h r t =
-    of_kept states olds items i same h r
-    (subst (λ n. IsOf x.state n) (sym t.after_is) (record {
-      table = r.of.table;
-      initial = r.of.initial;
-      max = r.of.max;
-      recording = r.of.recording;
+pub of_told : {traced : Bool} {file : FileState} {old new : HandState} {files : List FileState}
+    {hands : List HandState} {count : ℕ} (i : ℕ) → AreOf files hands → slice_get files i ≡ Some file →
+    slice_get hands i ≡ Some old → HasTold traced file old count new → AreOf files (set hands i new)
+of_told {traced} {file} {old} {new} {files} {hands} i h at mine t =
+    let was : IsOf file old = (h.each i file old at mine).of in
+    of_kept h at mine
+    (subst (λ n. IsOf file n) (sym t.after_is) (record {
+      table = was.table;
+      initial = was.initial;
+      max = was.max;
+      recording = was.recording;
     }))
     (ap (λ (n : HandState). n.view.has_right) t.after_is)
-    (ap (λ (n : HandState). n.acts) t.after_is)
+    (subst (λ (n : HandState). AreAtHome (length files) i n.acts) (sym t.after_is))

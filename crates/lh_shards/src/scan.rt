@@ -48,7 +48,7 @@ impl ShardScan {
         ensures of { IfOk result (IsScanOf shards.now) }
         ensures all { IfOk result (λ scan. (code : ℕ) → times_aimed scan.scan.initial code scan.scan.aims ≡ 1) }
     {
-        let scan = Scan::new(alloc, &shards.files[shard as usize])?;
+        let scan = Scan::new(alloc, shards.file(shard as usize))?;
         Ok(ShardScan { shard, scan })
     }
 
@@ -74,7 +74,6 @@ impl ShardScan {
         ensures of { AreOf shards.now hands.new }
     {
         let shard = self.shard as usize;
-        self.scan
-            .next(rt, &shards.files[shard], &mut hands.hands[shard])
+        self.scan.next(rt, shards.file(shard), hands.at(shard))
     }
 }

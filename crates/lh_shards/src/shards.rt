@@ -1,5 +1,5 @@
 //! The shards, and how they are created.
-ghost use Rattle.std.specs.Prelude.{◌≡◌, ◌<◌, ◌↔◌, List, ℕ, length, Err, IfOk, IsTrue};
+ghost use Rattle.std.specs.Prelude.{◌≡◌, ◌<◌, ◌↔◌, List, ℕ, length, slice_get, Some, Err, IfOk, IsTrue};
 ghost use Rattle.lh_page.specs.Slots.{FitsRoom, IsRoom};
 ghost use Rattle.lh_shards.specs.Hands.{AreCreated, IsCount};
 ghost use Rattle.lh_shards.specs.Number.{shard_of as shard_of_code};
@@ -105,5 +105,14 @@ impl<M: Mode, J: FileBrand, const ROOM: usize> SizedShards<M, J, ROOM> {
         ensures within { result < length self.now }
     {
         shard_of(code, self.count())
+    }
+
+    /// The file of a shard.
+    #[inline(always)]
+    pub(crate) fn file(&self, shard: usize) -> &SizedFile<NoGate, M, J, ROOM>
+        requires { shard < length self.now }
+        ensures { slice_get self.now shard ≡ Some result.now.state }
+    {
+        &self.files[shard]
     }
 }

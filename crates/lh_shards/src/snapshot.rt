@@ -26,6 +26,6 @@ impl<M: Mode, J: FileBrand, const ROOM: usize> SizedShards<M, J, ROOM> {
         ensures of { AreOf self.now hands.new }
     {
         let shard = shard as usize;
-        self.files[shard].snapshot(rt, &mut hands.hands[shard])
+        self.file(shard).snapshot(rt, hands.at(shard))
     }
 }

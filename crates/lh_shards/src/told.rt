@@ -19,6 +19,6 @@ impl<M: Mode, J: FileBrand, const ROOM: usize> SizedShards<M, J, ROOM> {
         ensures of { AreOf self.now hands.new }
     {
         let shard = shard as usize;
-        self.files[shard].told(&mut hands.hands[shard])
+        self.file(shard).told(hands.at(shard))
     }
 }

@@ -8,7 +8,6 @@ ghost use Rattle.lh_file.specs.History.Entered.{HasEntered};
 ghost use Rattle.lh_shards.specs.Hands.{AreOf, AtShardOf};
 
 use crate::hands::Hands;
-use crate::known_key::KnownKey;
 use crate::shards::SizedShards;
 use lh_bucket::Answer;
 use lh_file::{Coded, FileBrand, FileFault, Mode};
@@ -31,9 +30,8 @@ impl<M: Mode, J: FileBrand, const ROOM: usize> SizedShards<M, J, ROOM> {
             IfOk result (λ a. HasEntered false before a.call a.reply after)) }
         ensures of { AreOf self.now hands.new }
     {
-        let known = KnownKey::of(&key);
-        let shard = self.shard_of(known.code()) as usize;
-        self.files[shard].search(rt, &mut hands.hands[shard], known)
+        let (shard, known) = self.route(&key);
+        self.file(shard).search(rt, hands.at(shard), known)
     }
 
     /// Inserts a record, unless the key is there. Where the record is new and the load of the key's file asks for a
@@ -54,9 +52,8 @@ impl<M: Mode, J: FileBrand, const ROOM: usize> SizedShards<M, J, ROOM> {
             IfOk result (λ a. HasEntered false before a.call a.reply after)) }
         ensures of { AreOf self.now hands.new }
     {
-        let known = KnownKey::of(&key);
-        let shard = self.shard_of(known.code()) as usize;
-        self.files[shard].insert(rt, &mut hands.hands[shard], known, value)
+        let (shard, known) = self.route(&key);
+        self.file(shard).insert(rt, hands.at(shard), known, value)
     }
 
     /// Deletes a record: the answer's reply is whether the key was there.
@@ -74,9 +71,8 @@ impl<M: Mode, J: FileBrand, const ROOM: usize> SizedShards<M, J, ROOM> {
             IfOk result (λ a. HasEntered false before a.call a.reply after)) }
         ensures of { AreOf self.now hands.new }
     {
-        let known = KnownKey::of(&key);
-        let shard = self.shard_of(known.code()) as usize;
-        self.files[shard].delete(rt, &mut hands.hands[shard], known)
+        let (shard, known) = self.route(&key);
+        self.file(shard).delete(rt, hands.at(shard), known)
     }
 
     /// Gives a key this value in place of its own: the answer's reply is whether the key was there.
@@ -96,8 +92,7 @@ impl<M: Mode, J: FileBrand, const ROOM: usize> SizedShards<M, J, ROOM> {
             IfOk result (λ a. HasEntered false before a.call a.reply after)) }
         ensures of { AreOf self.now hands.new }
     {
-        let known = KnownKey::of(&key);
-        let shard = self.shard_of(known.code()) as usize;
-        self.files[shard].replace(rt, &mut hands.hands[shard], known, value)
+        let (shard, known) = self.route(&key);
+        self.file(shard).replace(rt, hands.at(shard), known, value)
     }
 }

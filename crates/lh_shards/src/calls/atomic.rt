@@ -10,7 +10,6 @@ ghost use Rattle.lh_file.specs.Calls.Atomic.{ComparesAndSets};
 ghost use Rattle.lh_shards.specs.Hands.{AreOf, AtShardOf};
 
 use crate::hands::Hands;
-use crate::known_key::KnownKey;
 use crate::shards::SizedShards;
 use lh_file::{Coded, Compared, FileBrand, FileFault, Mode};
 use lh_page::Value;
@@ -33,9 +32,8 @@ impl<M: Mode, J: FileBrand, const ROOM: usize> SizedShards<M, J, ROOM> {
             MakesAtOnce M.traced file (K.bytes key.now) before (Upserts value.now) result after) }
         ensures of { AreOf self.now hands.new }
     {
-        let known = KnownKey::of(key);
-        let shard = self.shard_of(known.code()) as usize;
-        self.files[shard].upsert(rt, &mut hands.hands[shard], &known, value)
+        let (shard, known) = self.route(key);
+        self.file(shard).upsert(rt, hands.at(shard), &known, value)
     }
 
     /// The value under a key; where there is none, the record is added, and none is answered. A bucket of the key's file
@@ -54,9 +52,9 @@ impl<M: Mode, J: FileBrand, const ROOM: usize> SizedShards<M, J, ROOM> {
             MakesAtOnce M.traced file (K.bytes key.now) before (GetsOrPuts value.now) result after) }
         ensures of { AreOf self.now hands.new }
     {
-        let known = KnownKey::of(key);
-        let shard = self.shard_of(known.code()) as usize;
-        self.files[shard].get_or_put(rt, &mut hands.hands[shard], &known, value)
+        let (shard, known) = self.route(key);
+        self.file(shard)
+            .get_or_put(rt, hands.at(shard), &known, value)
     }
 
     /// Deletes the record of a key, and hands out the value that it had, if the key was there.
@@ -72,9 +70,8 @@ impl<M: Mode, J: FileBrand, const ROOM: usize> SizedShards<M, J, ROOM> {
             MakesAtOnce M.traced file (K.bytes key.now) before Takes result after) }
         ensures of { AreOf self.now hands.new }
     {
-        let known = KnownKey::of(key);
-        let shard = self.shard_of(known.code()) as usize;
-        self.files[shard].take(rt, &mut hands.hands[shard], &known)
+        let (shard, known) = self.route(key);
+        self.file(shard).take(rt, hands.at(shard), &known)
     }
 
     /// Gives a key the value that a closure makes of its own: whether the key is there. The closure is lent the value's
@@ -96,9 +93,8 @@ impl<M: Mode, J: FileBrand, const ROOM: usize> SizedShards<M, J, ROOM> {
             (Updates (FnOnceReturnsAt F.FnOnce change)) result after) }
         ensures of { AreOf self.now hands.new }
     {
-        let known = KnownKey::of(key);
-        let shard = self.shard_of(known.code()) as usize;
-        self.files[shard].update(rt, &mut hands.hands[shard], &known, change)
+        let (shard, known) = self.route(key);
+        self.file(shard).update(rt, hands.at(shard), &known, change)
     }
 
     /// Adds a record with a first value, or gives its key the value that a closure makes of its own where the key is
@@ -122,9 +118,9 @@ impl<M: Mode, J: FileBrand, const ROOM: usize> SizedShards<M, J, ROOM> {
             (Merges first.now (FnOnceReturnsAt F.FnOnce next)) result after) }
         ensures of { AreOf self.now hands.new }
     {
-        let known = KnownKey::of(key);
-        let shard = self.shard_of(known.code()) as usize;
-        self.files[shard].merge(rt, &mut hands.hands[shard], &known, first, next)
+        let (shard, known) = self.route(key);
+        self.file(shard)
+            .merge(rt, hands.at(shard), &known, first, next)
     }
 
     /// Gives a key a value in place of the expected one: whether it did, or another value is there, or none.
@@ -144,8 +140,8 @@ impl<M: Mode, J: FileBrand, const ROOM: usize> SizedShards<M, J, ROOM> {
             (ComparesAndSets expected.now value.now) result after) }
         ensures of { AreOf self.now hands.new }
     {
-        let known = KnownKey::of(key);
-        let shard = self.shard_of(known.code()) as usize;
-        self.files[shard].compare_and_set(rt, &mut hands.hands[shard], &known, expected, value)
+        let (shard, known) = self.route(key);
+        self.file(shard)
+            .compare_and_set(rt, hands.at(shard), &known, expected, value)
     }
 }

@@ -13,7 +13,6 @@ ghost use Rattle.lh_file.specs.History.Entered.{HasEntered};
 ghost use Rattle.lh_shards.specs.Hands.{AreOf, AtShardOf};
 
 use crate::hands::Hands;
-use crate::known_key::KnownKey;
 use crate::shards::SizedShards;
 use lh_file::{Coded, FileBrand, FileFault, Mode};
 use lh_page::Value;
@@ -37,9 +36,8 @@ impl<M: Mode, J: FileBrand, const ROOM: usize> SizedShards<M, J, ROOM> {
             HasEntered false before (call.Search (K.bytes key.now)) (found value) after)) }
         ensures of { AreOf self.now hands.new }
     {
-        let known = KnownKey::of(key);
-        let shard = self.shard_of(known.code()) as usize;
-        self.files[shard].get(rt, &mut hands.hands[shard], &known)
+        let (shard, known) = self.route(key);
+        self.file(shard).get(rt, hands.at(shard), &known)
     }
 
     /// Copies the value under a key over another one: whether the key is there. Where it isn't, and after a fault, that
@@ -62,9 +60,9 @@ impl<M: Mode, J: FileBrand, const ROOM: usize> SizedShards<M, J, ROOM> {
         ensures of { AreOf self.now hands.new }
         ensures same { result ≢ Ok true → value.new ≡ value.old }
     {
-        let known = KnownKey::of(key);
-        let shard = self.shard_of(known.code()) as usize;
-        self.files[shard].read_into(rt, &mut hands.hands[shard], &known, value)
+        let (shard, known) = self.route(key);
+        self.file(shard)
+            .read_into(rt, hands.at(shard), &known, value)
     }
 
     /// Lends the bytes of the value under a key to a closure, and answers what that returns, or none where the key
@@ -89,9 +87,9 @@ impl<M: Mode, J: FileBrand, const ROOM: usize> SizedShards<M, J, ROOM> {
             HasEntered false before (call.Search (K.bytes key.now)) given after))) }
         ensures of { AreOf self.now hands.new }
     {
-        let known = KnownKey::of(key);
-        let shard = self.shard_of(known.code()) as usize;
-        self.files[shard].with_value(rt, &mut hands.hands[shard], &known, then)
+        let (shard, known) = self.route(key);
+        self.file(shard)
+            .with_value(rt, hands.at(shard), &known, then)
     }
 
     /// Adds a record, unless its key is there: whether it was added. A value that is there stays. Where the load of the
@@ -114,9 +112,8 @@ impl<M: Mode, J: FileBrand, const ROOM: usize> SizedShards<M, J, ROOM> {
             HasEntered false before (call.Insert (K.bytes key.now) value.now) (put_reply is_new) after)) }
         ensures of { AreOf self.now hands.new }
     {
-        let known = KnownKey::of(key);
-        let shard = self.shard_of(known.code()) as usize;
-        self.files[shard].put(rt, &mut hands.hands[shard], &known, value)
+        let (shard, known) = self.route(key);
+        self.file(shard).put(rt, hands.at(shard), &known, value)
     }
 
     /// Gives a key this value in place of its own: whether the key is there. The value itself takes no memory.
@@ -138,9 +135,8 @@ impl<M: Mode, J: FileBrand, const ROOM: usize> SizedShards<M, J, ROOM> {
             HasEntered false before (call.Replace (K.bytes key.now) value.now) (set_reply was_there) after)) }
         ensures of { AreOf self.now hands.new }
     {
-        let known = KnownKey::of(key);
-        let shard = self.shard_of(known.code()) as usize;
-        self.files[shard].set(rt, &mut hands.hands[shard], &known, value)
+        let (shard, known) = self.route(key);
+        self.file(shard).set(rt, hands.at(shard), &known, value)
     }
 
     /// Deletes the record of a key: whether the key was there.
@@ -160,8 +156,7 @@ impl<M: Mode, J: FileBrand, const ROOM: usize> SizedShards<M, J, ROOM> {
             HasEntered false before (call.Delete (K.bytes key.now)) (remove_reply was_there) after)) }
         ensures of { AreOf self.now hands.new }
     {
-        let known = KnownKey::of(key);
-        let shard = self.shard_of(known.code()) as usize;
-        self.files[shard].remove(rt, &mut hands.hands[shard], &known)
+        let (shard, known) = self.route(key);
+        self.file(shard).remove(rt, hands.at(shard), &known)
     }
 }

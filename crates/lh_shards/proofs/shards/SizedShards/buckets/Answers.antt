@@ -5,8 +5,7 @@ use Rattle.lh_file.specs.HashFile.{Shared}
 use Rattle.lh_file.specs.Words.Calls.{IsBuckets}
 use Rattle.lh_shards.specs.Counts.{AreAnswered}
 use Rattle.lh_shards.proofs.Counting.{so_far_next, all_answered, counted_are_of}
-use Rattle.lh_shards.proofs.Giving.{turn}
-use Rattle.lh_shards.proofs.OneShard.{Ready}
+use Rattle.lh_shards.proofs.Giving.{Ready, turn}
 use Rattle.lh_shards.proofs.Places.{length_mapped}
 use Rattle.lh_shards.proofs.shards.SizedShards.buckets.Given.{Over}
 use Rattle.lh_shards.proofs.shards.SizedShards.buckets.Goals as goal

@@ -1,25 +1,18 @@
 -- The hand at the key's shard is one of the file there, and stays one; the others are as they were.
-use Rattle.std.proofs.Common.{ap, sym, ◌∙◌, length, lit<, ℕ, List, subst}
-use Rattle.lh_page.specs.Slots.{FitsRoom}
-use Rattle.lh_shards.specs.Number.{home_of, shard_of}
-use Rattle.lh_shards.proofs.OneShard.{ready, of_made}
+use Rattle.std.proofs.Common.{lit<, ◌∙◌}
+use Rattle.lh_shards.proofs.OneShard.{of_made}
 use Rattle.lh_shards.proofs.shards.SizedShards.get_or_put.Goals as goal
 
 pub get_or_put-requires : goal.get_or_put-requires
 get_or_put-requires g c = (
   lit< tt,
   (
-    (ready _ _ _ _ _ _ _ c.self.view_is c.hands.view_is c.requires.of c.shard_of-shard.ensures.within c.index.ensures
-        c.index_mut.ensures.value).of,
-    subst (λ (key : List ℕ). FitsRoom g.row.ROOM key c.args.value.now) (sym c.of-known.ensures) c.requires.fits,
+    (c.requires.of.each _ _ _ c.file.ensures c.at.ensures.value).of,
+    rw c.route-shard.ensures.key c.requires.fits,
   ),
 )
 
 pub returns-clause-of : goal.returns-clause-of
 returns-clause-of g c =
-    of_made c.args.self.now c.args.hands.now _ _ c.hands.view_is c.requires.of
-    (c.shard_of-shard.ensures.value ∙ ap (λ code. shard_of code (length c.args.self.now)) c.code.ensures
-    ∙ ap (λ key. home_of (length c.args.self.now) key) (sym c.get_or_put.ensures.by))
-    (ready _ _ _ _ _ _ _ c.self.view_is c.hands.view_is c.requires.of c.shard_of-shard.ensures.within c.index.ensures
-    c.index_mut.ensures.value)
-    c.get_or_put.ensures.made
+    of_made c.requires.of c.route-shard.ensures.home (c.get_or_put.ensures.by ∙ c.route-shard.ensures.key)
+    c.file.ensures c.at.ensures.value c.get_or_put.ensures.made

@@ -8,8 +8,7 @@ use Rattle.lh_file.specs.Words.HandState.{HandState}
 use Rattle.lh_file.specs.declared.words.load.Load.{Load}
 use Rattle.lh_shards.specs.Counts.{capped}
 use Rattle.lh_shards.proofs.Counting.{so_far_next, all_answered, set_self}
-use Rattle.lh_shards.proofs.Giving.{turn}
-use Rattle.lh_shards.proofs.OneShard.{Ready}
+use Rattle.lh_shards.proofs.Giving.{Ready, turn}
 use Rattle.lh_shards.proofs.Places.{length_mapped}
 use Rattle.lh_shards.proofs.shards.SizedShards.load.Given.{Over}
 use Rattle.lh_shards.proofs.shards.SizedShards.load.Goals as goal

@@ -1,21 +1,12 @@
 -- The hand at the key's shard is one of the file there, and stays one; the others are as they were.
-use Rattle.std.proofs.Common.{ap, sym, ◌∙◌, length, lit<}
-use Rattle.lh_shards.specs.Number.{home_of, shard_of}
-use Rattle.lh_shards.proofs.OneShard.{ready, of_made}
+use Rattle.std.proofs.Common.{lit<, ◌∙◌}
+use Rattle.lh_shards.proofs.OneShard.{of_made}
 use Rattle.lh_shards.proofs.shards.SizedShards.take.Goals as goal
 
 pub take-requires : goal.take-requires
-take-requires g c = (
-  lit< tt,
-  (ready _ _ _ _ _ _ _ c.self.view_is c.hands.view_is c.requires c.shard_of-shard.ensures.within c.index.ensures
-      c.index_mut.ensures.value).of,
-)
+take-requires g c = (lit< tt, (c.requires.each _ _ _ c.file.ensures c.at.ensures.value).of)
 
 pub returns-clause-of : goal.returns-clause-of
 returns-clause-of g c =
-    of_made c.args.self.now c.args.hands.now _ _ c.hands.view_is c.requires
-    (c.shard_of-shard.ensures.value ∙ ap (λ code. shard_of code (length c.args.self.now)) c.code.ensures
-    ∙ ap (λ key. home_of (length c.args.self.now) key) (sym c.take.ensures.by))
-    (ready _ _ _ _ _ _ _ c.self.view_is c.hands.view_is c.requires c.shard_of-shard.ensures.within c.index.ensures
-    c.index_mut.ensures.value)
-    c.take.ensures.made
+    of_made c.requires c.route-shard.ensures.home (c.take.ensures.by ∙ c.route-shard.ensures.key) c.file.ensures
+    c.at.ensures.value c.take.ensures.made

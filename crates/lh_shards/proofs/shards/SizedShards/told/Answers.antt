@@ -1,20 +1,16 @@
 -- The hand of the shard is one of its file, and stays one; the others are as they were.
 use Rattle.std.proofs.Common.{lit<}
 use Rattle.lh_shards.specs.Told.{HasTold}
-use Rattle.lh_shards.proofs.OneShard.{at_place, ready, of_told}
+use Rattle.lh_shards.proofs.OneShard.{at_place, of_told}
 use Rattle.lh_shards.proofs.shards.SizedShards.told.Given.{Over}
 use Rattle.lh_shards.proofs.shards.SizedShards.told.Goals as goal
 use Rattle.lh_shards.proofs.shards.SizedShards.told.Goals.{After-hands-1}
 
 pub told-requires : goal.told-requires
-told-requires g c = (
-  lit< tt,
-  (ready _ _ _ _ _ _ _ c.self.view_is c.hands.view_is c.requires.of c.requires.within c.index.ensures
-      c.index_mut.ensures.value).of,
-)
+told-requires g c = (lit< tt, (c.requires.of.each _ _ _ c.file.ensures c.at.ensures.value).of)
 
 has_told : (g : Over) (c : After-hands-1 g) →
-    HasTold g.M.Mode.traced c.index.result.now.state c.index_mut.result.now c.told.result c.told.new.hand
+    HasTold g.M.Mode.traced c.file.result.now.state c.at.result.now c.told.result c.told.new.hand
 has_told g c = record {
   log = c.told.ensures.told.0;
   rises = c.told.ensures.rises;
@@ -24,15 +20,9 @@ has_told g c = record {
 
 pub returns-clause-told : goal.returns-clause-told
 returns-clause-told g c =
-    at_place _ c.args.self.now c.args.hands.now c.hands.inside.hands.items c.args.shard c.hands.view_is
-    (ready _ _ _ _ _ _ _ c.self.view_is c.hands.view_is c.requires.of c.requires.within c.index.ensures
-    c.index_mut.ensures.value)
-    (has_told g (goal.at.returns-clause-told g c).After-hands-1)
+    at_place _ c.file.ensures c.at.ensures.value (has_told g (goal.at.returns-clause-told g c).After-hands-1)
 
 pub returns-clause-of : goal.returns-clause-of
 returns-clause-of g c =
-    of_told c.args.self.now c.args.hands.now c.hands.inside.hands.items c.args.shard c.told.result c.hands.view_is
-    c.requires.of
-    (ready _ _ _ _ _ _ _ c.self.view_is c.hands.view_is c.requires.of c.requires.within c.index.ensures
-    c.index_mut.ensures.value)
+    of_told c.args.shard c.requires.of c.file.ensures c.at.ensures.value
     (has_told g (goal.at.returns-clause-of g c).After-hands-1)

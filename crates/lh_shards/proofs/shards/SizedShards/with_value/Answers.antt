@@ -1,23 +1,13 @@
 -- The hand at the key's shard is one of the file there, and stays one; the others are as they were.
-use Rattle.std.proofs.Common.{ap, ◌∙◌, length, lit<}
-use Rattle.lh_shards.specs.Number.{shard_of}
-use Rattle.lh_shards.proofs.OneShard.{ready, of_made}
+use Rattle.std.proofs.Common.{lit<}
+use Rattle.lh_shards.proofs.OneShard.{of_made}
 use Rattle.lh_shards.proofs.shards.SizedShards.with_value.Goals as goal
 
 pub with_value-requires : goal.with_value-requires
-with_value-requires g c = (
-  lit< tt,
-  (
-    (ready _ _ _ _ _ _ _ c.self.view_is c.hands.view_is c.requires.of c.shard_of-shard.ensures.within c.index.ensures
-        c.index_mut.ensures.value).of,
-    c.requires.callable,
-  ),
-)
+with_value-requires g c =
+    (lit< tt, ((c.requires.of.each _ _ _ c.file.ensures c.at.ensures.value).of, c.requires.callable))
 
 pub returns-clause-of : goal.returns-clause-of
 returns-clause-of g c =
-    of_made c.args.self.now c.args.hands.now _ _ c.hands.view_is c.requires.of
-    (c.shard_of-shard.ensures.value ∙ ap (λ code. shard_of code (length c.args.self.now)) c.code.ensures)
-    (ready _ _ _ _ _ _ _ c.self.view_is c.hands.view_is c.requires.of c.shard_of-shard.ensures.within c.index.ensures
-    c.index_mut.ensures.value)
+    of_made c.requires.of c.route-shard.ensures.home c.route-shard.ensures.key c.file.ensures c.at.ensures.value
     c.with_value.ensures.served.1
