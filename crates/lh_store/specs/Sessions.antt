@@ -1,16 +1,20 @@
 -- What contracts see of a session
-use Rattle.std.specs.Prelude.{◌≡◌, ℕ, Bool, true, false, List, Option, []}
+use denote.Ref.{Bor}
+use Rattle.std.specs.Prelude.{◌≡◌, ℕ, zero, suc, ◌+◌, Bool, true, false, List, Option, [], slice_index_or}
 use Rattle.lh_addr.specs.Settings.{default_settings}
 use Rattle.lh_bucket.specs.PlainMap.{key_of}
 use Rattle.lh_bucket.specs.declared.call.Call.{Call}
+use Rattle.lh_bucket.specs.declared.call.Call.TheVariants.{Insert}
 use Rattle.lh_bucket.specs.declared.call.Reply.{Reply}
 use Rattle.lh_file.specs.Buckets.Brands.{no_table}
 use Rattle.lh_file.specs.Calls.Atomic.{Reaction}
+use Rattle.lh_file.specs.Calls.Lean.{put_reply}
 use Rattle.lh_file.specs.Calls.Served.{HasServed}
 use Rattle.lh_file.specs.Closing.{NoneOutside}
 use Rattle.lh_file.specs.FileState.{FileState, IsOf}
 use Rattle.lh_file.specs.History.Entered.{HasActedOn, HasEntered}
 use Rattle.lh_file.specs.Words.HandState.{HandState}
+use Rattle.lh_words.specs.History.Buckets.{bit}
 
 -- its file, and its hand
 pub record SessionState : Type 0 where
@@ -50,6 +54,24 @@ pub record IsAtOnce {T : Type 0} (key : List ℕ) (meets : Call → Reply → Op
   pub by : key_of call ≡ key
   pub done : does key was t call reply
   pub made : meets call reply was
+
+-- The record at a place of a list was put, after what was done `so_far`; it is counted where it is new.
+pub record PutsNext {S : Type 0} (made : S → Call → Reply → S → Type 0) (records : List (Bor (List ℕ) × Bor (List ℕ)))
+    (place : ℕ) (so_far : ℕ → S → Type 0) (added : ℕ) (new : S) : Type 0 where
+  pub last : S
+  pub before : ℕ
+  pub first : so_far before last
+  pub is_new : Bool
+  pub put : (d : Bor (List ℕ) × Bor (List ℕ)) →
+      made last (Insert (slice_index_or records place d).0.now (slice_index_or records place d).1.now)
+      (put_reply is_new) new
+  pub count : added ≡ before + bit is_new
+
+-- So many records of a list were put, from the first on, one after the other, and so many of these were new.
+abbrev pub HasPut : {S : Type 0} → (S → Call → Reply → S → Type 0) → List (Bor (List ℕ) × Bor (List ℕ)) → S → ℕ → ℕ →
+    S → Type 0
+HasPut made records old zero added new = (new ≡ old) × (added ≡ 0)
+HasPut made records old (suc done) added new = PutsNext made records done (HasPut made records old done) added new
 
 -- no file
 abbrev pub no_state : FileState

@@ -1,10 +1,12 @@
 //! Records on disk, as images.
+ghost use Rattle.std.specs.Prelude.{◌≡◌, ◌⊎◌, OnErr, OnOk};
 
 use lh_bucket::Listing;
+use lh_draft::{Beside, Draft, KeepFault, NotMade, Stage, keep};
 use lh_image::{ImageFault, WriteImageFault, read_image, write_image};
 use std::alloc::{AllocError, Global};
-use std::fs::{self, File, Files, OpenFile};
-use std::io::{self, BufReader, BufWriter, Write};
+use std::fs::{File, Files};
+use std::io::{self, BufReader, BufWriter, ErrorKind, Write};
 use thiserror::Error;
 
 /// How many bytes of an image are gathered for one write, and asked for in one read.
@@ -18,6 +20,7 @@ pub enum SaveFault {
     /// The image would have more than 1,048,576 pages, or a write failed.
     #[error("{0}")]
     Image(#[from] WriteImageFault),
+    /// Also where the path is that of a folder, a device or a pipe.
     #[error("the new file was not made: {0}")]
     Create(io::Error),
     /// The system doesn't say that the new file has reached the disk.
@@ -42,9 +45,13 @@ pub enum LoadFault {
     Image(#[from] ImageFault),
 }
 
-impl From<AllocError> for SaveFault {
-    fn from(_error: AllocError) -> Self {
-        SaveFault::Memory
+impl From<NotMade> for SaveFault {
+    fn from(fault: NotMade) -> Self {
+        match fault {
+            NotMade::NotAFile => SaveFault::Create(io::Error::from(ErrorKind::InvalidInput)),
+            NotMade::Refused(error) => SaveFault::Create(error),
+            NotMade::Memory => SaveFault::Memory,
+        }
     }
 }
 
@@ -54,58 +61,52 @@ impl From<AllocError> for LoadFault {
     }
 }
 
-/// Writes records into a new file, all of which has reached the disk then.
-fn write_new<R: Files>(
-    files: &R,
+/// Writes records as an image.
+fn write_gathered<W: Write + Drop>(
     alloc: Global,
     listing: &Listing,
-    path: &str,
+    file: W,
 ) -> Result<(), SaveFault> {
-    let file = match File::create(files, path) {
-        Ok(file) => file,
-        Err(error) => return Err(SaveFault::Create(error)),
-    };
     let Ok(mut writer) = BufWriter::with_capacity(alloc, GATHERED, file) else {
         return Err(SaveFault::Memory);
     };
-    write_image(listing, &mut writer)?;
-    match writer.get_ref().sync_all() {
-        Ok(()) => Ok(()),
-        Err(error) => Err(SaveFault::Sync(error)),
+    Ok(write_image(listing, &mut writer)?)
+}
+
+/// Gives a new file its name where all of it was written, and removes it otherwise.
+fn settle<F: Draft>(file: &mut F, written: Result<(), SaveFault>) -> Result<(), SaveFault>
+    requires { F.stage file.old ≡ Stage.Open }
+    ensures ok { OnOk result (F.stage file.new ≡ Stage.Durable) }
+    ensures err { OnErr result ((F.stage file.new ≡ Stage.Removed) ⊎ (F.stage file.new ≡ Stage.Named)) }
+    ensures removed { OnErr written (F.stage file.new ≡ Stage.Removed) }
+{
+    match written {
+        Ok(()) => match keep(file) {
+            Ok(()) => Ok(()),
+            Err(KeepFault::Sync(error)) => Err(SaveFault::Sync(error)),
+            Err(KeepFault::Rename(error)) => Err(SaveFault::Rename(error)),
+            Err(KeepFault::Folder(error)) => Err(SaveFault::Folder(error)),
+        },
+        Err(fault) => {
+            file.remove();
+            Err(fault)
+        },
     }
 }
 
-/// The folder of a path.
-fn folder_of(path: &str) -> &str {
-    match path.rsplit_once('/') {
-        Some(("", _)) => "/",
-        Some((folder, _)) => folder,
-        None => ".",
-    }
-}
-
-/// Saves records as an image of version 2 under this path. The image goes to a new file beside it, whose name ends in
-/// `.new`, is written out and synced, and takes its name only then, in one step: whenever this is stopped, by a fault or
-/// with the machine, the path has all of its old file or all of the new one. Two must not save under one path at once.
+/// Saves records as an image of version 2 under this path; a link is followed. The image goes to a new file beside it, is
+/// written out and synced, and takes its name only then, in one step: whenever this is stopped, by a fault or with the
+/// machine, the path has all of its old file or all of the new one. With the machine the new file may stay under its own
+/// name, that of the path with `.lhash-` and a number behind it, and may be deleted.
 pub fn save<R: Files>(
     files: &R,
     alloc: Global,
     listing: &Listing,
     path: &str,
 ) -> Result<(), SaveFault> {
-    let new_path = format!(in alloc; "{path}.new")?;
-    if let Err(fault) = write_new(files, alloc, listing, new_path.as_str()) {
-        let _ = fs::remove_file(files, new_path.as_str());
-        return Err(fault);
-    }
-    if let Err(error) = fs::rename(files, new_path.as_str(), path) {
-        let _ = fs::remove_file(files, new_path.as_str());
-        return Err(SaveFault::Rename(error));
-    }
-    match File::open(files, folder_of(path)).and_then(|folder| folder.sync_all()) {
-        Ok(()) => Ok(()),
-        Err(error) => Err(SaveFault::Folder(error)),
-    }
+    let mut made = Beside::create(files, alloc, path)?;
+    let written = write_gathered(alloc, listing, &mut made);
+    settle(&mut made.written(), written)
 }
 
 /// The records of an image of either version.

@@ -24,3 +24,15 @@ impl From<Memory> for CallFault {
         CallFault::File(FileFault::Memory)
     }
 }
+
+/// Why not all records were added. Those in front of the first that was not are there.
+#[derive(Clone, Copy, Debug, PartialEq, Eq, Error)]
+#[error("record {done}: {fault}")]
+pub struct ExtendFault {
+    /// How many records were gone through: the place of the one that was not added, from 0 on.
+    pub done: usize,
+    /// How many of these were new.
+    pub added: usize,
+    /// Why it was not added.
+    pub fault: CallFault,
+}

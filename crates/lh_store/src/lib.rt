@@ -28,7 +28,7 @@ mod store;
 mod threads;
 
 pub use disk::{LoadFault, SaveFault, load, save};
-pub use fault::CallFault;
+pub use fault::{CallFault, ExtendFault};
 pub use file_session::{FileSession, SessionName, Unnamed};
 pub use lh_addr::Config;
 pub use lh_file::{BucketCopy, Compared, FileFault, Memory, Traced, Unbranded, Untraced};

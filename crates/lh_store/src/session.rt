@@ -1,6 +1,6 @@
 //! What every session can do.
 ghost use denote.Ref.{Bor};
-ghost use Rattle.std.specs.Prelude.{◌≡◌, ◌≢◌, ◌↔◌, ℕ, List, Option, true, IfOk, OnErr};
+ghost use Rattle.std.specs.Prelude.{◌≡◌, ◌≢◌, ◌↔◌, ◌<◌, ◌≤◌, ℕ, List, Option, true, length, IfOk, IfErr, OnErr};
 ghost use Rattle.std.specs.Fn.{FnOnceReturnsAt};
 ghost use Rattle.lh_bucket.specs.Listing.{Lists};
 ghost use Rattle.lh_bucket.specs.PlainMap.{found};
@@ -11,9 +11,10 @@ ghost use Rattle.lh_bucket.specs.declared.call.Reply.TheVariants.{Absent};
 ghost use Rattle.lh_file.specs.Calls.Atomic.{Upserts, GetsOrPuts, Takes, Updates, Merges, ComparesAndSets};
 ghost use Rattle.lh_file.specs.Calls.Lean.{put_reply, set_reply, remove_reply, LendsTo};
 ghost use Rattle.lh_page.specs.Limits.{IsValue};
-ghost use Rattle.lh_store.specs.Sessions.{IsAtOnce};
+ghost use Rattle.lh_store.specs.Sessions.{IsAtOnce, HasPut};
+ghost use Rattle.lh_words.specs.History.Buckets.{bit};
 
-use crate::fault::CallFault;
+use crate::fault::{CallFault, ExtendFault};
 use crate::store::Store;
 use lh_file::{BucketCopy, Compared};
 use lh_page::Value;
@@ -58,6 +59,26 @@ pub trait Session {
         ensures made { IfOk result (λ is_new.
             made self.old (call.Insert key.now value.now) (put_reply is_new) self.new) }
         ensures err { OnErr result (idle self.old self.new) };
+
+    /// Adds records one after the other, each unless its key is there: how many are new. Each is a call of its own, as
+    /// [`put`](Self::put) makes it. After a fault those in front of it are there, and the fault tells how many.
+    fn extend(&mut self, records: &[(&[u8], &[u8])]) -> Result<usize, ExtendFault>
+        ensures all { IfOk result (λ added. HasPut made records.now self.old (length records.now) added self.new) }
+        ensures some { IfErr result (λ fault. (last : Self)
+            × HasPut made records.now self.old fault.done fault.added last × idle last self.new) }
+        ensures done { IfErr result (λ fault. fault.done < length records.now) }
+    {
+        let mut added = 0;
+        let mut done = 0;
+        for (key, value) in records {
+            match self.put(key, value) {
+                Ok(is_new) => added += one_if(is_new),
+                Err(fault) => return Err(ExtendFault { done, added, fault }),
+            }
+            done += 1;
+        }
+        Ok(added)
+    }
 
     /// Replaces the value of a key: whether the key is there. It takes no memory.
     fn set(&mut self, key: &[u8], value: &[u8]) -> Result<bool, CallFault>
@@ -149,4 +170,12 @@ pub trait Session {
     /// all along is in one of them, and none is in two. No bucket is held meanwhile, so the closure may take its time.
     fn for_each<F: FnMut(BucketCopy)>(&mut self, f: F) -> Result<(), CallFault>
         requires { F.IsAlwaysCallable f };
+}
+
+/// How many records are new, of one.
+fn one_if(is_new: bool) -> usize
+    ensures value { result ≡ bit is_new }
+    ensures most { result ≤ 1 }
+{
+    if is_new { 1 } else { 0 }
 }

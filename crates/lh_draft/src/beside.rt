@@ -2,7 +2,7 @@
 ghost use Rattle.std.specs.Prelude.{◌≡◌};
 
 use crate::draft::{Draft, Stage};
-use std::alloc::AllocError;
+use std::alloc::{AllocError, Global};
 use std::fs::{File, Files, OpenFile, Permissions};
 use std::io::{Error, ErrorKind, Write};
 use std::{fs, io};
@@ -55,12 +55,10 @@ pub struct Written<'a, R: Files> {
 }
 
 /// The name that a file is to take: that of what a link leads to.
-fn followed(rt: &(impl Files + AllocGlobal), name: &str) -> Result<String, NotMade> {
-    match fs::canonicalize(rt, name) {
-        Ok(path) => Ok(String::from_str(rt.alloc(), path.as_path().as_str())?),
-        Err(error) if error.kind() == ErrorKind::NotFound => {
-            Ok(String::from_str(rt.alloc(), name)?)
-        },
+fn followed(files: &impl Files, alloc: Global, name: &str) -> Result<String, NotMade> {
+    match files.canonicalize(alloc, name) {
+        Ok(path) => Ok(String::from_str(alloc, path.as_path().as_str())?),
+        Err(error) if error.kind() == ErrorKind::NotFound => Ok(String::from_str(alloc, name)?),
         Err(error) => Err(NotMade::from(error)),
     }
 }
@@ -76,10 +74,14 @@ fn permissions_of(files: &impl Files, name: &str) -> Result<Option<Permissions>,
 }
 
 /// A file that is new, and its name: beside the one whose name it is to take, in the same folder.
-fn new_beside<R: Files + AllocGlobal>(rt: &R, name: &str) -> Result<(R::File, String), NotMade> {
+fn new_beside<R: Files>(
+    files: &R,
+    alloc: Global,
+    name: &str,
+) -> Result<(R::File, String), NotMade> {
     for number in 0..TRIES {
-        let path = format!(in rt.alloc(); "{name}.lhash-{number}")?;
-        match File::create_new(rt, path.as_str()) {
+        let path = format!(in alloc; "{name}.lhash-{number}")?;
+        match File::create_new(files, path.as_str()) {
             Ok(file) => return Ok((file, path)),
             Err(error) if error.kind() == ErrorKind::AlreadyExists => {},
             Err(error) => return Err(NotMade::from(error)),
@@ -97,21 +99,21 @@ fn folder_of(name: &str) -> &str {
     }
 }
 
-impl<'a, R: Files + AllocGlobal> Beside<'a, R> {
+impl<'a, R: Files> Beside<'a, R> {
     /// A new file that is to take a name; a link is followed. Where a file has that name, the new one may be read and
-    /// written by the same people.
-    pub fn create(rt: &'a R, name: &str) -> Result<Beside<'a, R>, NotMade> {
-        let name = followed(rt, name)?;
-        let permissions = permissions_of(rt, name.as_str())?;
-        let (file, path) = new_beside(rt, name.as_str())?;
+    /// written by the same people. Until it takes that name its own is that one with `.lhash-` and a number behind it.
+    pub fn create(files: &'a R, alloc: Global, name: &str) -> Result<Beside<'a, R>, NotMade> {
+        let name = followed(files, alloc, name)?;
+        let permissions = permissions_of(files, name.as_str())?;
+        let (file, path) = new_beside(files, alloc, name.as_str())?;
         if let Some(permissions) = permissions
             && let Err(error) = file.set_permissions(permissions)
         {
-            let _ = fs::remove_file(rt, path.as_str());
+            let _ = fs::remove_file(files, path.as_str());
             return Err(NotMade::from(error));
         }
         Ok(Beside {
-            files: rt,
+            files,
             file,
             path,
             name,
@@ -152,10 +154,14 @@ impl<R: Files> Draft for Written<'_, R> {
         let file = &self.file;
         fs::rename(file.files, file.path.as_str(), file.name.as_str())?;
         self.stage = Stage::Named;
-        // The name reaches the disk with its folder. Not every system can wait for that.
-        if let Ok(folder) = fs::open(file.files, folder_of(file.name.as_str())) {
-            let _ = folder.sync_all();
-        }
+        Ok(())
+    }
+
+    /// A name reaches the disk with its folder.
+    fn sync_name(&mut self) -> io::Result<()> {
+        let file = &self.file;
+        File::open(file.files, folder_of(file.name.as_str()))?.sync_all()?;
+        self.stage = Stage::Durable;
         Ok(())
     }
 
