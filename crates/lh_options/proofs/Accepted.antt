@@ -135,6 +135,9 @@ apply_built = shape_at 10 (built program_app).subs
 abbrev serve_built : Shape
 serve_built = shape_at 11 (built program_app).subs
 
+abbrev get_built : Shape
+get_built = shape_at 12 (built program_app).subs
+
 -- a subcommand whose first rules are the four options, and none of whose others has the id of one of them
 abbrev lead : List Rule → List Rule
 lead rest = filled (option_rule (codes "initial") (codes "1") 1 most_initial)
@@ -311,7 +314,7 @@ accepted-rows words e = entered-some (built program_app) IsEntered (
                     (
                       (λ t is other ws f.
                           inr (
-                            inr (inr (inr (inr (inr refl)))),
+                            inr (inr (inr (inr (inr (inl refl))))),
                             no-settings apply_built refl ws f,
                             λ _. applied-after ws f,
                           )),
@@ -323,7 +326,15 @@ accepted-rows words e = entered-some (built program_app) IsEntered (
                               other-name (codes "serve") _ refl,
                               other-name (codes "serve") _ refl,
                             )),
-                        ((λ t is other ws f. absurd (false≢true (sym other ∙ is_help t is))), tt),
+                        (
+                          (λ t is other ws f.
+                              inr (
+                                inr (inr (inr (inr (inr (inr refl))))),
+                                no-settings get_built refl ws f,
+                                other-name (codes "get") _ refl,
+                              )),
+                          ((λ t is other ws f. absurd (false≢true (sym other ∙ is_help t is))), tt),
+                        ),
                       ),
                     ),
                   ),
@@ -342,7 +353,8 @@ accepted-rows words e = entered-some (built program_app) IsEntered (
 abbrev reads_image : Text → Bool
 reads_image name =
     bytes_eq name (codes "check") || (bytes_eq name (codes "dump") || (bytes_eq name (codes "draw") || (
-    bytes_eq name (codes "migrate") || (bytes_eq name (codes "query") || bytes_eq name (codes "apply")))))
+    bytes_eq name (codes "migrate") || (bytes_eq name (codes "query") || (bytes_eq name (codes "apply")
+    || bytes_eq name (codes "get"))))))
 
 file-reads : (name : Text) → IsFileCommand name → reads_image name ≡ false
 file-reads name (inl is) = ap reads_image is
@@ -358,7 +370,8 @@ image-reads name (inr (inl is)) = ap reads_image is
 image-reads name (inr (inr (inl is))) = ap reads_image is
 image-reads name (inr (inr (inr (inl is)))) = ap reads_image is
 image-reads name (inr (inr (inr (inr (inl is))))) = ap reads_image is
-image-reads name (inr (inr (inr (inr (inr is))))) = ap reads_image is
+image-reads name (inr (inr (inr (inr (inr (inl is)))))) = ap reads_image is
+image-reads name (inr (inr (inr (inr (inr (inr is)))))) = ap reads_image is
 
 -- no subcommand has settings and reads an image
 apart : (name : Text) → IsFileCommand name → IsImageCommand name → ⊥
@@ -386,7 +399,7 @@ entered-image name rows (inr h) is = absurd (apart name (inr (inr (inl is))) h.0
 
 -- the same of `apply`
 pub entered-applied : (name : Text) (rows : List Row) → IsEntered name rows → name ≡ codes "apply" → HasImage rows
-entered-applied name rows (inl h) is = absurd (apart name h.0 (inr (inr (inr (inr (inr is))))))
+entered-applied name rows (inl h) is = absurd (apart name h.0 (inr (inr (inr (inr (inr (inl is)))))))
 entered-applied name rows (inr h) is = h.2 is
 
 -- the rows of a subcommand that reads an image give no settings

@@ -27,11 +27,10 @@ use Rattle.lh_addr.specs.Config.{IsFirstOutOfRange}
 use Rattle.lh_addr.specs.declared.config.Range.{Range}
 use Rattle.lh_addr.specs.declared.config.Range.TheVariants.{Max}
 use Rattle.lh_options.specs.Options.{Accepts, Answers, AreNamed, AsksForHelp, IsRefused, IsServable, all_in_digits}
-use Rattle.lh_options.specs.Options.{asked_by, asked_for, file_named, image_begins, number_in, numeral_value}
-use Rattle.lh_options.specs.Options.{program_app, setting_typed_in}
+use Rattle.lh_options.specs.Options.{asked_by, asked_for, file_named, image_begins, keys_given, number_in}
+use Rattle.lh_options.specs.Options.{numeral_value, program_app, setting_typed_in}
 use Rattle.lh_options.specs.Options.{settings_from, settings_given, settings_typed, subcommand_named, text_given}
-use Rattle.lh_options.specs.Options.{typed_in}
-use Rattle.lh_options.specs.Options.{write_digits}
+use Rattle.lh_options.specs.Options.{typed_in, words_in, write_digits}
 use Rattle.lh_options.specs.OptionSteps.{HasNumber, IsRefusal, IsRefusedText, asked_in, settings_in}
 use Rattle.lh_options.specs.declared.options.NamedFiles.{NamedFiles}
 use Rattle.lh_options.specs.declared.options.Request.{Request}
@@ -135,10 +134,12 @@ asked-is words name rows is =
     ap (λ (o : Option (Text × List Row)). option_map_or (λ s. typed_in s.1 (codes "from_image")) o false) is in
     let typed : settings_typed words ≡ setting_typed_in rows =
     ap (λ (o : Option (Text × List Row)). option_map_or (λ s. setting_typed_in s.1) o false) is in
+    let keys : keys_given words ≡ words_in rows (codes "keys") =
+    ap (λ (o : Option (Text × List Row)). option_map_or (λ s. words_in s.1 (codes "keys")) o []) is in
     λ i. option_and_then
     (λ n.
     asked_by n (settings-at words name rows is i) (λ o. option_and_then (λ s. number_in s.1 o) (is i)) (begins i)
-    (typed i))
+    (typed i) (keys i))
     (named i)
 
 -- one of some kinds, where there is none
@@ -168,6 +169,7 @@ refusal-answers words e request.Draw among h = absurd h
 refusal-answers words e request.Migrate among h = absurd h
 refusal-answers words e request.Query among h = absurd h
 refusal-answers words e (request.Apply version) among h = absurd h
+refusal-answers words e (request.Get keys) among h = absurd h
 refusal-answers words e request.ServeImage among h = absurd h
 refusal-answers words e request.MaxBelowInitial among h = absurd h
 refusal-answers words e request.SettingsBesideImage among h = absurd h

@@ -3,8 +3,8 @@ use Rattle.std.specs.Prelude.{◌≡◌, ℕ, Bool, true, false, List, [], ◌�
 use Rattle.clap.specs.Walk.{Text}
 use Rattle.lh_addr.specs.Settings.{Settings}
 use Rattle.lh_options.specs.declared.options.ImageVersion.{ImageVersion}
-use Rattle.lh_options.specs.Options.{Accepts, Asks, file_named, image_begins, number_given, settings_given}
-use Rattle.lh_options.specs.Options.{settings_typed, text_given, version_numbered}
+use Rattle.lh_options.specs.Options.{Accepts, Asks, file_named, image_begins, keys_given, number_given}
+use Rattle.lh_options.specs.Options.{settings_given, settings_typed, text_given, version_numbered}
 
 abbrev pub no_options : List Text
 no_options = codes "lhash" ∷ codes "commands" ∷ []
@@ -89,6 +89,15 @@ first_image_applied = codes "lhash" ∷ codes "apply" ∷ codes "--image" ∷ co
 
 abbrev pub apply_with_setting : List Text
 apply_with_setting = codes "lhash" ∷ codes "apply" ∷ codes "--max" ∷ codes "1" ∷ []
+
+abbrev pub get_given : List Text
+get_given = codes "lhash" ∷ codes "get" ∷ codes "users.lhf" ∷ codes "616461" ∷ codes "626f62" ∷ []
+
+abbrev pub get_without_key : List Text
+get_without_key = codes "lhash" ∷ codes "get" ∷ codes "users.lhf" ∷ []
+
+abbrev pub get_with_setting : List Text
+get_with_setting = codes "lhash" ∷ codes "get" ∷ codes "--max=1" ∷ codes "users.lhf" ∷ codes "616461" ∷ []
 
 abbrev pub check_alone : List Text
 check_alone = codes "lhash" ∷ codes "check" ∷ []
@@ -193,6 +202,11 @@ GivesBuild words s version =
 abbrev pub GivesApply : List Text → ImageVersion → Type 0
 GivesApply words version =
     Asks words (codes "apply") × (option_map version_numbered (number_given words (codes "image")) ≡ Some version)
+
+-- the words are accepted, name `get`, and give this file and these words of keys
+abbrev pub GivesGet : List Text → Option Text → List Text → Type 0
+GivesGet words input keys =
+    Asks words (codes "get") × (file_named (text_given words (codes "file")) ≡ input) × (keys_given words ≡ keys)
 
 -- the words are accepted, name `drive`, and give these settings and numbers of threads, of shards and of snapshots
 abbrev pub GivesDrive : List Text → Settings → ℕ → ℕ → ℕ → Type 0

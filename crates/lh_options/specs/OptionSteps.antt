@@ -12,7 +12,7 @@ use Rattle.lh_addr.specs.Limits.{most_initial, most_capacity, least_load, most_l
 use Rattle.lh_addr.specs.Settings.{Settings}
 use Rattle.lh_options.specs.Escapes.{has_no_control}
 use Rattle.lh_options.specs.Options.{IsShown, asked_by, drive_asked, most_snapshots, number_in, serve_asked}
-use Rattle.lh_options.specs.Options.{setting_typed_in, settings_from, typed_in}
+use Rattle.lh_options.specs.Options.{setting_typed_in, settings_from, typed_in, words_in}
 use Rattle.lh_options.specs.declared.options.Request.{Request}
 use Rattle.lh_options.specs.declared.options.Request.TheVariants as request
 
@@ -61,12 +61,13 @@ IsFileCommand name =
 abbrev pub IsImageCommand : Text → Type 0
 IsImageCommand name =
     (name ≡ codes "check") ⊎ ((name ≡ codes "dump") ⊎ ((name ≡ codes "draw") ⊎ (
-    (name ≡ codes "migrate") ⊎ ((name ≡ codes "query") ⊎ (name ≡ codes "apply")))))
+    (name ≡ codes "migrate") ⊎ ((name ≡ codes "query") ⊎ ((name ≡ codes "apply") ⊎ (name ≡ codes "get"))))))
 
 -- what a subcommand asks for by its rows
 abbrev pub asked_in : Text → List Row → Option Request
 asked_in name rows =
     asked_by name (settings_in rows) (number_in rows) (typed_in rows (codes "from_image")) (setting_typed_in rows)
+    (words_in rows (codes "keys"))
 
 -- what `drive` asks for by its rows, with settings in order
 abbrev pub drive_asked_in : List Row → Settings → Option Request

@@ -1,7 +1,7 @@
 -- The command line: the program's command, the numbers that the words give its options,
 -- and what a request says of the words
 use Rattle.std.specs.Prelude.{◌≡◌, ◌⊎◌, ◌<◌, ◌≤◌, ℕ, List, [], ◌∷◌, Option, Some, None, codes, pos, false, true, nat_lt}
-use Rattle.std.specs.Prelude.{Bool, ◌&&◌, ◌||◌, ◌==◌, find, option_map, option_and_then, if◌then◌else◌}
+use Rattle.std.specs.Prelude.{Bool, ◌&&◌, ◌||◌, ◌==◌, find, option_map, option_and_then, unwrap_or, if◌then◌else◌}
 use Rattle.std.specs.Char.{is_ascii_digit}
 use Rattle.std.specs.List.{list_all}
 use Rattle.std.specs.Option.{option_map_or}
@@ -10,10 +10,10 @@ use Rattle.std.specs.String.{string_bytes}
 use Rattle.std.specs.Str.Parse.{digits_value, without_leading_plus}
 use Rattle.clap.specs.ValueTests.{is_numeral}
 pub use Rattle.clap.specs.Walk.{Text}
-use Rattle.clap.specs.Words.{App, Row, Rule, fault_of, first_of, new_app, new_rule, one_of, subcommand_of, with_rule}
-use Rattle.clap.specs.Words.{with_subcommand}
+use Rattle.clap.specs.Words.{App, Row, Rule, all_of, fault_of, first_of, new_app, new_rule, one_of, subcommand_of}
+use Rattle.clap.specs.Words.{with_rule, with_subcommand}
 use Rattle.clap.specs.Kinds.{IsAmong}
-use Rattle.clap.specs.declared.builder.action.ArgAction.TheVariants.{Set, SetTrue}
+use Rattle.clap.specs.declared.builder.action.ArgAction.TheVariants.{Append, Set, SetTrue}
 use Rattle.clap.specs.declared.builder.value_parser.ValueParser.TheVariants as parser
 use Rattle.clap.specs.declared.parser.matches.ValueSource.{ValueSource}
 use Rattle.clap.specs.declared.parser.matches.ValueSource.TheVariants.{CommandLine}
@@ -107,6 +107,18 @@ query_app = with_file (new_app (codes "query"))
 abbrev pub apply_app : App
 apply_app = with_image (with_output (with_file (new_app (codes "apply"))))
 
+-- the operand that names a file to read, where one is to be named
+abbrev pub needed_file_rule : Rule
+needed_file_rule = record file_rule { required = true }
+
+-- the operand with the words of keys, of which there is to be one at least
+abbrev pub keys_rule : Rule
+keys_rule = record (new_rule (codes "keys")) { action = Some Append; value_names = 1; required = true }
+
+-- the subcommand that looks keys up in an image
+abbrev pub get_app : App
+get_app = with_rule (with_rule (new_app (codes "get")) needed_file_rule) keys_rule
+
 -- the subcommand that answers a client; the flag `--image` has an id of its own
 abbrev pub serve_app : App
 serve_app =
@@ -153,11 +165,11 @@ scripts_app =
 -- the program's command
 abbrev pub program_app : App
 program_app =
-    with_subcommand
+    with_subcommand (with_subcommand
     (with_subcommand (with_subcommand (with_subcommand (with_subcommand (with_subcommand (with_subcommand (
     with_subcommand scripts_app check_app.top) dump_app.top) drive_app.top) draw_app.top) migrate_app.top)
     query_app.top)
-    apply_app.top) serve_app.top
+    apply_app.top) serve_app.top) get_app.top
 
 -- the whole number that a text writes in decimal digits, where it is such a text; a plus may stand first, as clap has
 -- it, though not in words that are accepted
@@ -227,6 +239,14 @@ settings_given words = settings_from
 -- the text that the words give an option or an operand
 abbrev pub text_given : List Text → Text → Option Text
 text_given words name = option_and_then (λ s. first_of name s.1) (subcommand_of program_app words)
+
+-- the words that rows give an operand which takes several
+abbrev pub words_in : List Row → Text → List Text
+words_in rows name = unwrap_or (all_of name rows) []
+
+-- the words of the keys that the words give `get`
+abbrev pub keys_given : List Text → List Text
+keys_given words = option_map_or (λ s. words_in s.1 (codes "keys")) (subcommand_of program_app words) []
 
 -- the file that a text names: `-` is a stream of the process, and names none
 abbrev pub file_named : Option Text → Option Text
@@ -312,9 +332,9 @@ serve_asked settings image typed =
     else in_order settings (λ s. Some (request.Serve s))
 
 -- what a subcommand asks for, with the settings and the numbers of other options that the words give, whether they say
--- that the input begins with an image, and whether they give one of the settings
-unfoldable pub asked_by : Text → Option Settings → (Text → Option ℕ) → Bool → Bool → Option Request
-asked_by name settings numbers image typed =
+-- that the input begins with an image, whether they give one of the settings, and which words of keys they give
+unfoldable pub asked_by : Text → Option Settings → (Text → Option ℕ) → Bool → Bool → List Text → Option Request
+asked_by name settings numbers image typed keys =
     if bytes_eq name (codes "commands") then in_order settings (λ s. Some (request.Commands s))
     else if bytes_eq name (codes "steps") then in_order settings (λ s. Some (request.Steps s))
     else if bytes_eq name (codes "replay") then in_order settings (λ s. Some (request.Replay s))
@@ -327,6 +347,7 @@ asked_by name settings numbers image typed =
     else if bytes_eq name (codes "migrate") then asked_without_settings settings request.Migrate
     else if bytes_eq name (codes "query") then asked_without_settings settings request.Query
     else if bytes_eq name (codes "apply") then apply_asked settings (numbers (codes "image"))
+    else if bytes_eq name (codes "get") then asked_without_settings settings (request.Get keys)
     else if bytes_eq name (codes "serve") then serve_asked settings image typed
     else None
 
@@ -334,7 +355,9 @@ asked_by name settings numbers image typed =
 abbrev pub asked_for : List Text → Option Request
 asked_for words =
     option_and_then
-    (λ name. asked_by name (settings_given words) (number_given words) (image_begins words) (settings_typed words))
+    (λ name.
+    asked_by name (settings_given words) (number_given words) (image_begins words) (settings_typed words)
+    (keys_given words))
     (subcommand_named words)
 
 -- why words that are not accepted are turned away: they ask for a text that is shown, or are refused, for a reason in

@@ -97,6 +97,19 @@ pub const QUERY: Help = Help {
     example: "Example: lhash query file.lhf < script.txt",
 };
 
+pub const GET: Help = Help {
+    about: "Look keys up in an image, and write what is found of each",
+    file: "Image to read; - is standard input",
+    example: "Lines, one for each key in turn; keys and values are hexadecimal:
+  found 30313732
+  absent
+
+Where a key is absent, all lines are written, and the exit status is 6. No page is looked at
+that no key leads to; 'lhash check' looks at all.
+
+Example: lhash get users.lhf 616461 626f62",
+};
+
 pub const APPLY: Help = Help {
     about: "Read an image and a script of commands behind it, and write the resulting file as an image",
     file: LEADING,

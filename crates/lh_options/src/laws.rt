@@ -1,11 +1,12 @@
 //! What the options give, at words that are written out.
-ghost use Rattle.std.specs.Prelude.{None, Some, codes, false, true};
+ghost use Rattle.std.specs.Prelude.{[], ◌∷◌, None, Some, codes, false, true};
 ghost use Rattle.lh_options.specs.OptionLaws.{
   GivesApply,
   GivesBuild,
   GivesCommands,
   GivesDrive,
   GivesFiles,
+  GivesGet,
   GivesReplay,
   GivesServe,
   GivesServeImage,
@@ -25,6 +26,9 @@ ghost use Rattle.lh_options.specs.OptionLaws.{
   files_given,
   first_image_applied,
   first_image_given,
+  get_given,
+  get_with_setting,
+  get_without_key,
   help_asked,
   image_file_served,
   image_served,
@@ -68,7 +72,8 @@ ghost use Rattle.lh_options.specs.declared.options.ImageVersion.TheVariants.{Fir
 /// The words give the options the numbers that stand in them, and an option that is left out its
 /// default. A number out of its range or with a sign, an option given twice and an unknown one are refused, and so is
 /// each setting of a subcommand that reads an image. `serve` says whether its input begins with an image, and whether a
-/// setting stands beside that. A file is named by an operand or by `-o`; `-` names none, and there is no second one.
+/// setting stands beside that. `get` has a file and the words of keys, of which there is one at least. A file is named
+/// by an operand or by `-o`; `-` names none, and there is no second one.
 pub fn words_give_options()
     ensures left_out { GivesCommands no_options (record { initial = 1; capacity = 14; load = 100; max = 65536 }) }
     ensures given { GivesCommands max_given (record { initial = 3; capacity = 14; load = 100; max = 7 }) }
@@ -93,6 +98,9 @@ pub fn words_give_options()
     ensures draw { Asks draw_alone (codes "draw") }
     ensures query { Asks query_alone (codes "query") }
     ensures apply { GivesApply apply_alone Second }
+    ensures get { GivesGet get_given (Some (codes "users.lhf")) (codes "616461" ∷ codes "626f62" ∷ []) }
+    ensures without_key { Refuses get_without_key }
+    ensures get_without_settings { Refuses get_with_setting }
     ensures serve { GivesServe serve_given (record { initial = 2; capacity = 1; load = 100; max = 65536 }) }
     ensures serve_image { GivesServeImage image_served false }
     ensures beside_image { GivesServeImage max_beside_image true }

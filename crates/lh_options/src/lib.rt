@@ -7,8 +7,10 @@
 
 mod escapes;
 mod help;
+mod key_words;
 pub mod laws;
 mod options;
 
 pub use escapes::escaped;
+pub use key_words::KeyWords;
 pub use options::{ImageVersion, NamedFiles, Request, files_of, hint_of, request_of};

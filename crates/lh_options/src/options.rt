@@ -8,18 +8,20 @@ ghost use Rattle.lh_addr.specs.Settings.{IsInRange};
 ghost use Rattle.clap.specs.Words.{first_of, found_of, kind_of, new_app, rows_of, rule_of};
 ghost use Rattle.lh_options.specs.Escapes.{has_no_control};
 ghost use Rattle.lh_options.specs.Options.{AreNamed, Answers, IsMaxBelowInitial, IsServable, all_in_digits, in_digits, number_in};
-ghost use Rattle.lh_options.specs.Options.{apply_app, build_app, drive_app, file_named, file_rule, flag_rule};
-ghost use Rattle.lh_options.specs.Options.{option_rule, output_rule, program_app, root_app, scripts_app, serve_app};
-ghost use Rattle.lh_options.specs.Options.{setting_typed_in, typed_in, version_numbered, with_file, with_output};
-ghost use Rattle.lh_options.specs.Options.{with_settings};
+ghost use Rattle.lh_options.specs.Options.{apply_app, build_app, drive_app, file_named, file_rule, flag_rule, get_app};
+ghost use Rattle.lh_options.specs.Options.{keys_rule, needed_file_rule, option_rule, output_rule, program_app};
+ghost use Rattle.lh_options.specs.Options.{root_app, scripts_app, serve_app, setting_typed_in, typed_in};
+ghost use Rattle.lh_options.specs.Options.{version_numbered, with_file, with_output, with_settings, words_in};
 ghost use Rattle.lh_options.specs.OptionSteps.{HasNumber, HasSettings, HasDriveNumbers, HasImage, IsFileCommand};
 ghost use Rattle.lh_options.specs.OptionSteps.{IsImageCommand, IsRefusal, IsRefusedText, Reads, asked_in};
 ghost use Rattle.lh_options.specs.OptionSteps.{drive_asked_in, serve_asked_in, settings_in};
 
 use crate::escapes::escaped;
 use crate::help::{
-    APPLY, BUILD, CHECK, COMMANDS, DRAW, DRIVE, DUMP, Help, MIGRATE, QUERY, REPLAY, SERVE, STEPS,
+    APPLY, BUILD, CHECK, COMMANDS, DRAW, DRIVE, DUMP, GET, Help, MIGRATE, QUERY, REPLAY, SERVE,
+    STEPS,
 };
+use crate::key_words::KeyWords;
 use clap::error::ErrorKind;
 use clap::parser::ValueSource;
 use clap::{Arg, ArgAction, ArgMatches, Command, Error};
@@ -104,6 +106,8 @@ pub enum Request {
     Query,
     /// The subcommand `apply`, with the version of the image that its option gives.
     Apply(ImageVersion),
+    /// The subcommand `get`, with the words of its keys, of which clap asks for one at least.
+    Get(KeyWords),
     /// The subcommand `drive`, with the configuration and the numbers of threads, of shards and of snapshots that its
     /// options give.
     Drive {
@@ -227,6 +231,37 @@ fn image_command<'a>(alloc: Global, name: &'a str, help: Help) -> Result<Command
         .arg(file_operand(alloc, help.file))
 }
 
+/// The same operand, where a file is to be named.
+fn needed_file_operand<'a>(alloc: Global, help: &'a str) -> Arg<'a>
+    ensures local { result.global ≡ false }
+    ensures rule { rule_of result ≡ needed_file_rule }
+{
+    file_operand(alloc, help).required(true)
+}
+
+/// The operand with the words of keys.
+fn keys_operand<'a>(alloc: Global) -> Arg<'a>
+    ensures local { result.global ≡ false }
+    ensures rule { rule_of result ≡ keys_rule }
+{
+    Arg::new(alloc, "keys")
+        .help("Keys to look up, in hexadecimal, two digits a byte")
+        .value_name("KEY")
+        .action(ArgAction::Append)
+        .required(true)
+}
+
+/// The subcommand that looks keys up in an image.
+fn get_command<'a>(alloc: Global, help: Help) -> Result<Command<'a>, AllocError>
+    ensures { IfOk result (Reads get_app) }
+{
+    Command::new(alloc, "get")
+        .about(help.about)
+        .after_help(help.example)
+        .arg(needed_file_operand(alloc, help.file))?
+        .arg(keys_operand(alloc))
+}
+
 /// A subcommand that reads an image, and writes a picture or an image.
 fn changing_command<'a>(alloc: Global, name: &'a str, help: Help) -> Result<Command<'a>, AllocError>
     ensures { IfOk result (Reads (with_output (with_file (new_app name.now)))) }
@@ -323,7 +358,7 @@ fn root<'a>(alloc: Global) -> Command<'a>
         .after_help(
             "'lhash COMMAND --help' lists the options of a command.\n\nExample: echo insert 61 31 | lhash commands",
         )
-        .version("0.1.0")
+        .version("0.2.0")
         .subcommand_required(true)
 }
 
@@ -349,7 +384,8 @@ fn program<'a>(alloc: Global) -> Result<Command<'a>, AllocError>
         .subcommand(changing_command(alloc, "migrate", MIGRATE)?)?
         .subcommand(image_command(alloc, "query", QUERY)?)?
         .subcommand(apply_command(alloc)?)?
-        .subcommand(serve_command(alloc)?)
+        .subcommand(serve_command(alloc)?)?
+        .subcommand(get_command(alloc, GET)?)
 }
 
 /// The number of an option.
@@ -511,34 +547,49 @@ fn serve_asked(matches: &ArgMatches<'_>) -> Request
     }
 }
 
+/// The words of the keys that `get` has.
+fn keys_in(alloc: Global, matches: &ArgMatches<'_>) -> Result<KeyWords, AllocError>
+    ensures { IfOk result (λ keys. keys ≡ words_in (rows_of (found_of matches.now)) (codes "keys")) }
+{
+    match matches.get_strs("keys") {
+        Some(words) => KeyWords::of(alloc, words),
+        None => KeyWords::of(alloc, &[]),
+    }
+}
+
 /// What a subcommand asks for.
-fn asked(name: &str, matches: &ArgMatches<'_>) -> Request
+fn asked(alloc: Global, name: &str, matches: &ArgMatches<'_>) -> Result<Request, AllocError>
     requires named { IsFileCommand name.now ⊎ IsImageCommand name.now }
     requires settings { IsFileCommand name.now → HasSettings (rows_of (found_of matches.now)) }
     requires drive { name.now ≡ codes "drive" → HasDriveNumbers (rows_of (found_of matches.now)) }
     requires image { name.now ≡ codes "build" → HasImage (rows_of (found_of matches.now)) }
     requires applied { name.now ≡ codes "apply" → HasImage (rows_of (found_of matches.now)) }
     requires none { IsImageCommand name.now → settings_in (rows_of (found_of matches.now)) ≡ None }
-    ensures value { asked_in name.now (rows_of (found_of matches.now)) ≡ Some result }
-    ensures servable { IsServable result }
+    ensures value { IfOk result (λ request. asked_in name.now (rows_of (found_of matches.now)) ≡ Some request) }
+    ensures servable { IfOk result IsServable }
 {
     match name {
-        "check" => Request::Check,
-        "dump" => Request::Dump,
-        "draw" => Request::Draw,
-        "migrate" => Request::Migrate,
-        "query" => Request::Query,
-        "apply" => Request::Apply(version_in(matches)),
-        "serve" => serve_asked(matches),
-        _ => file_asked(name, matches),
+        "check" => Ok(Request::Check),
+        "dump" => Ok(Request::Dump),
+        "draw" => Ok(Request::Draw),
+        "migrate" => Ok(Request::Migrate),
+        "query" => Ok(Request::Query),
+        "apply" => Ok(Request::Apply(version_in(matches))),
+        "get" => Ok(Request::Get(keys_in(alloc, matches)?)),
+        "serve" => Ok(serve_asked(matches)),
+        _ => Ok(file_asked(name, matches)),
     }
 }
 
 /// What clap says is wrong: the first line of the error's text, which a line feed in a word ends too, with the control
-/// characters of its words escaped; and how to ask for help, where no subcommand is named.
+/// characters of its words escaped; and how to ask for help, where no subcommand is named. Which operands are missing
+/// stands in the lines behind that, so it is said in its place; only `get` has some that must be there.
 fn first_line(alloc: Global, error: &Error) -> Result<String, AllocError>
     ensures { IfOk result (λ line. has_no_control (string_bytes line) ≡ true) }
 {
+    if error.kind() == ErrorKind::MissingRequiredArgument {
+        return String::from_str(alloc, "get takes a FILE and one KEY or more");
+    }
     let text = error.to_string(alloc)?;
     let line = text.as_str().lines().next().unwrap_or("");
     let mut reason = escaped(alloc, line.strip_prefix("error: ").unwrap_or(line))?;
@@ -656,7 +707,7 @@ pub fn request_of<'a>(alloc: Global, words: &'a [&'a str]) -> Result<Request, Al
                 if !are_in_digits(matches) {
                     return signed(alloc);
                 }
-                Ok(asked(name, matches))
+                asked(alloc, name, matches)
             },
             None => unreachable!(),
         },

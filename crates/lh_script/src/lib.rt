@@ -23,6 +23,7 @@ mod steps;
 mod texts;
 
 pub use fault::{LineFault, ParseError, ScriptFault};
+pub use operands::read_key;
 pub use requests::{ClientRequest, cut_line, read_request};
 pub use script::{MOST_BYTES, Statement, parse};
 pub use step_texts::{EffectText, EntryText, RefusalText};

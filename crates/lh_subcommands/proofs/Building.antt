@@ -31,7 +31,8 @@ use Rattle.lh_script.specs.declared.fault.ScriptFault.{ScriptFault}
 use Rattle.lh_subcommands.specs.declared.status.DeviceFault.TheVariants.{Read, Write}
 use Rattle.lh_subcommands.specs.declared.status.InputFault.TheVariants.{Script, Image, Unwritten}
 use Rattle.lh_subcommands.specs.declared.status.Status.{Status}
-use Rattle.lh_subcommands.specs.declared.status.Status.TheVariants.{Done, Input, Words, Device, Memory, NotSettled}
+use Rattle.lh_subcommands.specs.declared.status.Status.TheVariants.{Done, Input, Words, Device, KeyAbsent, Memory}
+use Rattle.lh_subcommands.specs.declared.status.Status.TheVariants.{NotSettled}
 
 -- the listing of a world after calls is one of the file that they lead to
 pub led_from : (settings : Settings) (map : Records) (start : ℕ) (calls : List Call) (told : List Reply)
@@ -72,6 +73,7 @@ unmade LeadsTo version (Device Read) given a h = Keeps-refl a
 unmade LeadsTo version (Device Write) given a h = absurd h
 unmade LeadsTo version Memory given a h = Keeps-refl a
 unmade LeadsTo version (NotSettled fault) given a h = absurd h
+unmade LeadsTo version KeyAbsent given a h = absurd h
 
 -- a run of `build` that read no script ends without a write
 pub unbuilt : (version : Version) (settings : Settings) (status : Status) (left a : Option (List ℕ)) →

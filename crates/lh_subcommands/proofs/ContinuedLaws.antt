@@ -28,7 +28,8 @@ use Rattle.lh_subcommands.specs.Run.{Ends}
 use Rattle.lh_subcommands.specs.declared.status.DeviceFault.TheVariants.{Read, Write}
 use Rattle.lh_subcommands.specs.declared.status.InputFault.TheVariants.{Script, Image, Unwritten}
 use Rattle.lh_subcommands.specs.declared.status.Status.{Status}
-use Rattle.lh_subcommands.specs.declared.status.Status.TheVariants.{Done, Input, Words, Device, Memory, NotSettled}
+use Rattle.lh_subcommands.specs.declared.status.Status.TheVariants.{Done, Input, Words, Device, KeyAbsent, Memory}
+use Rattle.lh_subcommands.specs.declared.status.Status.TheVariants.{NotSettled}
 use Rattle.lh_subcommands.proofs.Inspecting.{few_pages}
 
 -- an image is read as its listing
@@ -101,6 +102,7 @@ without_calls census image l h due (Device Write) given before now none (calls, 
     (canonical Two l, due, subst (TakesBeginning before now) (made.bytes ∙ ap (canonical Two) same) took)
 without_calls census image l h due Memory given before now none ends = ends
 without_calls census image l h due (NotSettled fault) given before now none ends = absurd ends
+without_calls census image l h due KeyAbsent given before now none ends = absurd ends
 
 -- `apply` of a script without calls ends as `migrate` does for the image alone
 pub migrate_law : LeadingLaw → OneListingLaw → CensusLaw → MigrateLaw

@@ -22,7 +22,8 @@ use Rattle.lh_subcommands.specs.Run.{Ends, ReadsScript}
 use Rattle.lh_subcommands.specs.declared.status.DeviceFault.TheVariants.{Read, Write}
 use Rattle.lh_subcommands.specs.declared.status.InputFault.TheVariants.{Script, Image, Unwritten}
 use Rattle.lh_subcommands.specs.declared.status.Status.{Status}
-use Rattle.lh_subcommands.specs.declared.status.Status.TheVariants.{Done, Input, Words, Device, Memory, NotSettled}
+use Rattle.lh_subcommands.specs.declared.status.Status.TheVariants.{Done, Input, Words, Device, KeyAbsent, Memory}
+use Rattle.lh_subcommands.specs.declared.status.Status.TheVariants.{NotSettled}
 use Rattle.lh_subcommands.proofs.Building.{led_from}
 
 -- both were read, of one input
@@ -50,6 +51,7 @@ no_script (Device Read) l file given is h = tt
 no_script (Device Write) l file given is h = absurd h
 no_script Memory l file given is h = tt
 no_script (NotSettled fault) l file given is h = absurd h
+no_script KeyAbsent l file given is h = absurd h
 
 -- a run whose input was not read as an image ends by that fault
 pub image_refused : (fault : ImageFault) (status : Status) (left : Option (List ℕ)) → status ≡ refused_as fault →

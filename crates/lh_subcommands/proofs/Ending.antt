@@ -25,7 +25,8 @@ use Rattle.lh_subcommands.specs.declared.status.DeviceFault.TheVariants.{Read, W
 use Rattle.lh_subcommands.specs.declared.status.InputFault.{InputFault}
 use Rattle.lh_subcommands.specs.declared.status.InputFault.TheVariants.{Script, Image, Unwritten}
 use Rattle.lh_subcommands.specs.declared.status.Status.{Status}
-use Rattle.lh_subcommands.specs.declared.status.Status.TheVariants.{Done, Input, Words, Device, Memory, NotSettled}
+use Rattle.lh_subcommands.specs.declared.status.Status.TheVariants.{Done, Input, Words, Device, KeyAbsent, Memory}
+use Rattle.lh_subcommands.specs.declared.status.Status.TheVariants.{NotSettled}
 use Rattle.lh_script.specs.Scripts.{Reading, script}
 
 -- a run that read no script ends without a write
@@ -41,6 +42,7 @@ unread (Device Read) given output a h = Keeps-refl a
 unread (Device Write) given output a h = absurd h
 unread Memory given output a h = Keeps-refl a
 unread (NotSettled fault) given output a h = absurd h
+unread KeyAbsent given output a h = absurd h
 
 -- what was told of a script's calls is what is due
 pub told_due : (settings : Settings) (map : Records) (start : ℕ) (given : Result (List Call) ScriptFault)
@@ -75,6 +77,7 @@ untold IsOutput (Device Read) given a h = Keeps-refl a
 untold IsOutput (Device Write) given a h = absurd h
 untold IsOutput Memory given a h = Keeps-refl a
 untold IsOutput (NotSettled fault) given a h = absurd h
+untold IsOutput KeyAbsent given a h = absurd h
 
 -- a run of `steps` that read no script ends without a write
 pub no_steps : (settings : Settings) (status : Status) (input : List ℕ) (a : Option (List ℕ)) →

@@ -3,6 +3,7 @@ pub mod ContinuedLaws
 pub mod Continuing
 pub mod Devices
 pub mod Ending
+pub mod Getting
 pub mod Inspecting
 pub mod LineLengths
 pub mod RecordLines

@@ -7,6 +7,7 @@ use Rattle.lh_core.specs.Log.{Entry}
 use Rattle.lh_subcommands.specs.Devices.{TakesBeginning}
 use Rattle.lh_script.specs.StepTexts.{entry_text, steps_text}
 use Rattle.lh_script.specs.Texts.{line, reply_text, size_text, commands_text}
+use Rattle.lh_subcommands.specs.Get.{found_text}
 use Rattle.lh_subcommands.proofs.Sending.{begins_longer}
 
 abbrev pub lines_of : {X : Type 0} → (X → List ℕ) → List X → List ℕ
@@ -57,6 +58,20 @@ pub commands_text-all : (replies : List Reply) (i buckets : ℕ) → length repl
     reply_lines (take i replies) ++ line (size_text buckets) ≡ commands_text replies buckets
 unfolding commands_text
 commands_text-all replies i buckets h = ap (λ all. reply_lines all ++ line (size_text buckets)) (take_all i replies h)
+
+-- a beginning of the lines up to that of a reply to a look-up
+pub begins_found : (before now : Option (List ℕ)) (replies : List Reply) (i : ℕ) (reply : Reply) → i < length replies →
+    reply ≡ get_or replies i reply →
+    TakesBeginning before now (reply_lines (take i replies) ++ line (reply_text reply)) →
+    TakesBeginning before now (found_text replies)
+unfolding found_text
+begins_found before now replies i reply h e begins = begins_lines reply_text before now replies i reply h e begins
+
+-- the lines of all replies to look-ups
+pub found_text-all : (replies : List Reply) (i : ℕ) → length replies ≤ i →
+    reply_lines (take i replies) ≡ found_text replies
+unfolding found_text
+found_text-all replies i h = ap reply_lines (take_all i replies h)
 
 abbrev pub entry_lines : List Entry → List ℕ
 entry_lines = lines_of entry_text

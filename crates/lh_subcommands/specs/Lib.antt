@@ -1,6 +1,7 @@
 pub mod Continued
 pub mod ContinuedLaws
 pub mod Devices
+pub mod Get
 pub mod ImageTexts
 pub mod Images
 pub mod LongestLine

@@ -25,7 +25,8 @@ use Rattle.lh_subcommands.specs.declared.status.DeviceFault.TheVariants.{Read, W
 use Rattle.lh_subcommands.specs.declared.status.InputFault.{InputFault}
 use Rattle.lh_subcommands.specs.declared.status.InputFault.TheVariants.{Script}
 use Rattle.lh_subcommands.specs.declared.status.Status.{Status}
-use Rattle.lh_subcommands.specs.declared.status.Status.TheVariants.{Done, Input, Words, Device, Memory, NotSettled}
+use Rattle.lh_subcommands.specs.declared.status.Status.TheVariants.{Done, Input, Words, Device, KeyAbsent, Memory}
+use Rattle.lh_subcommands.specs.declared.status.Status.TheVariants.{NotSettled}
 
 -- the statements of a script were read, or how the run ends: with the script's first fault, or where the device or
 -- memory failed
@@ -61,6 +62,7 @@ Ends (Device Read) due before now = Keeps before now
 Ends Memory due before now = Keeps before now
 Ends (Words text) due before now = ⊥
 Ends (NotSettled fault) due before now = ⊥
+Ends KeyAbsent due before now = ⊥
 
 -- whether memory ran out at an event
 abbrev pub is_want : Entry → Bool

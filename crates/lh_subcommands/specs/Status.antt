@@ -8,7 +8,8 @@ use Rattle.lh_subcommands.specs.declared.status.DeviceFault.TheVariants.{Read, W
 use Rattle.lh_subcommands.specs.declared.status.InputFault.{InputFault}
 use Rattle.lh_subcommands.specs.declared.status.InputFault.TheVariants.{Script, Image, Unwritten}
 use Rattle.lh_subcommands.specs.declared.status.Status.{Status}
-use Rattle.lh_subcommands.specs.declared.status.Status.TheVariants.{Done, Input, Words, Device, Memory, NotSettled}
+use Rattle.lh_subcommands.specs.declared.status.Status.TheVariants.{Done, Input, Words, Device, KeyAbsent, Memory}
+use Rattle.lh_subcommands.specs.declared.status.Status.TheVariants.{NotSettled}
 use Rattle.lh_subcommands.specs.Unsettled.{unsettled_text}
 
 -- the exit status
@@ -19,6 +20,7 @@ status_code (Words text) = 2
 status_code (Device fault) = 3
 status_code Memory = 4
 status_code (NotSettled fault) = 5
+status_code KeyAbsent = 6
 
 abbrev pub input_fault_text : InputFault → List ℕ
 input_fault_text (Script fault) = script_fault_text fault
@@ -36,3 +38,4 @@ status_text (Words text) = string_bytes text
 status_text (Device fault) = device_text fault
 status_text Memory = codes "no memory"
 status_text (NotSettled fault) = codes "not settled: " ++ unsettled_text fault
+status_text KeyAbsent = codes "a key is absent"

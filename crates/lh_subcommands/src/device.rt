@@ -57,7 +57,7 @@ fn read_more<R: Read>(
 /// The bytes of an input to its end, of which at most one more than `most` is taken.
 #[tactic(auto, using(crate::proofs::Devices::reads_none, crate::proofs::Devices::reads_more, crate::proofs::Devices::read_whole, crate::proofs::Devices::read_part))]
 pub fn read_up_to<R: Read>(alloc: Global, reader: &mut R, most: usize) -> Result<Vec<u8>, ReadError>
-    requires { most ≤ 1073741824 }
+    requires { most ≤ 9223372036854775807 }
     ensures read { IfOk result (λ bytes. IfSome (R.remaining reader.old) (λ input. IsReadOf most input bytes.items)) }
     ensures few { IfOk result (λ bytes. length bytes.items ≤ most + 1) }
     ensures taken { IfOk result (λ bytes.
@@ -72,6 +72,20 @@ pub fn read_up_to<R: Read>(alloc: Global, reader: &mut R, most: usize) -> Result
         if read_more(reader, chunk.as_mut_slice(), &mut bytes, limit)? == 0 {
             return Ok(bytes);
         }
+    }
+    Ok(bytes)
+}
+
+/// More bytes than there is memory for.
+const BEYOND_MEMORY: usize = 9_223_372_036_854_775_807;
+
+/// The bytes of an input to its end, however many they are.
+pub fn read_whole<R: Read>(alloc: Global, reader: &mut R) -> Result<Vec<u8>, ReadError>
+    ensures { IfOk result (λ bytes. IfSome (R.remaining reader.old) (λ input. input ≡ bytes.items)) }
+{
+    let bytes = read_up_to(alloc, reader, BEYOND_MEMORY)?;
+    if bytes.len() > BEYOND_MEMORY {
+        return Err(ReadError::Memory);
     }
     Ok(bytes)
 }

@@ -5,14 +5,16 @@
 //! its steps and writes the effect of each; `replay` draws them. `build` reads a command script and writes the
 //! resulting file as an image; `check` reads an image and writes its counts, `dump` its records, `draw` a drawing, and
 //! `migrate` its image in version 2. `query` and `apply` read an image and behind it a command script: `query` writes
-//! the replies, and `apply` the image of the file that the calls leave. `serve` answers lines as they come. The image of
-//! these three may be an input of its own. What the one that works in threads shares with them stands here too.
+//! the replies, and `apply` the image of the file that the calls leave. `serve` answers lines as they come. The image
+//! of these three may be an input of its own. `get` looks keys up in the bytes of an image. What the one that works in
+//! threads shares with them stands here too.
 #![tactic(auto)]
 
 mod answer;
 mod continued;
 mod device;
 mod draw;
+mod get;
 mod image_texts;
 mod images;
 mod input;
@@ -27,6 +29,7 @@ pub use answer::{answer_commands, answer_steps};
 pub use continued::{answer_apply, answer_apply_to, answer_query, answer_query_of};
 pub use device::write_all;
 pub use draw::answer_draw;
+pub use get::answer_get;
 pub use images::{answer_build, answer_check, answer_dump, answer_migrate};
 pub use input::read_script;
 pub use lh_image::WriteFailed;

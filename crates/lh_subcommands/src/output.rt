@@ -56,7 +56,7 @@ fn send_enough<W: Write>(writer: &mut W, waiting: &mut String) -> Result<(), Wri
 
 /// Adds a line to those that wait, and writes them where they are enough. A line that cannot be
 /// made counts as a failed write; with the room that [`room`] makes there is none.
-fn put_line<W: Write, D: Display + Drop>(
+pub fn put_line<W: Write, D: Display + Drop>(
     writer: &mut W,
     waiting: &mut String,
     text: D,

@@ -42,11 +42,13 @@ pub enum Status {
     Memory,
     /// What threads did is not settled, and nothing was written.
     NotSettled(Unsettled),
+    /// A key that was looked up is absent. All was read and written, as where a run is done.
+    KeyAbsent,
 }
 
 impl Status {
     /// The exit status: 0 done, 1 a fault in the input, 2 the words, 3 a device, 4 out of memory,
-    /// 5 not settled.
+    /// 5 not settled, 6 a key is absent.
     pub fn code(&self) -> u8
         ensures { result ≡ status_code self.now }
     {
@@ -57,6 +59,7 @@ impl Status {
             Status::Device(_) => 3,
             Status::Memory => 4,
             Status::NotSettled(_) => 5,
+            Status::KeyAbsent => 6,
         }
     }
 }
@@ -99,6 +102,7 @@ impl fmt::Display for Status {
             Status::Device(fault) => write!(f, "{fault}"),
             Status::Memory => write!(f, "no memory"),
             Status::NotSettled(fault) => write!(f, "not settled: {fault}"),
+            Status::KeyAbsent => write!(f, "a key is absent"),
         }
     }
 }

@@ -33,7 +33,7 @@ use Rattle.lhash.specs.Workers.{HasTakenOne}
 use Rattle.lh_subcommands.specs.declared.status.DeviceFault.TheVariants.{Read, Write}
 use Rattle.lh_subcommands.specs.declared.status.InputFault.TheVariants.{Script, Image, Unwritten}
 use Rattle.lh_subcommands.specs.declared.status.Status.{Status}
-use Rattle.lh_subcommands.specs.declared.status.Status.TheVariants.{Done, Input, Words, Device, NotSettled}
+use Rattle.lh_subcommands.specs.declared.status.Status.TheVariants.{Done, Input, Words, Device, KeyAbsent, NotSettled}
 use Rattle.lh_subcommands.specs.declared.status.Status.TheVariants.{Memory as NoMemory}
 
 -- the script was read
@@ -54,6 +54,7 @@ module _ (Totals : List CallOf → List ℕ → Type 0) (Fault : DriveFault → 
   unread (Device Write) input a h = absurd h
   unread NoMemory input a h = Keeps-refl a
   unread (NotSettled reason) input a h = absurd h
+  unread KeyAbsent input a h = absurd h
 
   -- one that read no script ends without a write
   pub unrun : (status : Status) (left a : Option (List ℕ)) →

@@ -9,23 +9,24 @@ use Rattle.lh_bucket.specs.Listing.{Lists}
 use Rattle.lh_image.specs.declared.fault.ImageFault.{ImageFault}
 use Rattle.lh_image.specs.declared.version.Version.{Version}
 use Rattle.lh_image.specs.Reading.{following, leading, reading_of}
-use Rattle.lh_options.specs.Options.{Asks, Text, asked_by, asked_for, image_begins, number_given}
+use Rattle.lh_options.specs.Options.{Asks, Text, asked_by, asked_for, image_begins, keys_given, number_given}
 use Rattle.lh_options.specs.Options.{settings_given, settings_typed, subcommand_named, version_numbered}
-use Rattle.lh_options.specs.AskingLaws.{apply, asked_named, build, commands, drive, refused_alone, refuses_setting}
-use Rattle.lh_options.specs.AskingLaws.{replay}
-use Rattle.lh_options.specs.AskingLaws.{serves_file, serves_image, steps, unapplied, undriven}
+use Rattle.lh_options.specs.AskingLaws.{apply, asked_named, build, commands, drive, get, refused_alone}
+use Rattle.lh_options.specs.AskingLaws.{refuses_setting, replay, serves_file, serves_image, steps, unapplied, undriven}
 use Rattle.lh_options.specs.declared.options.Request.{Request}
 use Rattle.lh_options.specs.declared.options.Request.TheVariants as request
 use Rattle.lh_script.specs.declared.fault.ScriptFault.{ScriptFault}
 use Rattle.lhash.specs.Driving.{EndsThreaded}
 use Rattle.lh_subcommands.specs.Continued.{EndsApplying, EndsLeaving, query_due, script_behind}
+use Rattle.lh_subcommands.specs.Get.{EndsFound, EndsGetting, EndsGettingOf, IsRefusedFor, found_of, keys_of}
 use Rattle.lh_subcommands.specs.Images.{EndsBuilding, check_due, draw_due, dump_due, migrate_due}
 use Rattle.lh_subcommands.specs.Run.{EndsReplay, EndsSteps}
 use Rattle.lh_serving.specs.Answers.{FileSeen, first_file}
 use Rattle.lh_subcommands.specs.Serve.{EndsGoingOn, EndsServing, EndsServingFrom}
 use Rattle.lhash.specs.Serving.{Ending, EndsCommands, EndsDrivingIn, EndsTold, IsRun, IsWordsOf}
 use Rattle.lhash.specs.Serving.{RefusesBelow, RefusesBeside, RefusesSnapshots, IsPerformed, ServesApply, ServesBuild}
-use Rattle.lhash.specs.Serving.{ServesClient, ServesDrive, ServesFile, ServesFrom, ServesImage}
+use Rattle.lhash.specs.Serving.{ServesClient, ServesDrive, ServesFile, ServesFrom, ServesGet}
+use Rattle.lhash.specs.Serving.{ServesImage}
 use Rattle.lhash.specs.Serving.{below_initial, beside_image, snapshots_of_shards, wanted_version}
 use Rattle.lh_subcommands.specs.declared.status.Status.{Status}
 use Rattle.lh_subcommands.specs.declared.status.Status.TheVariants.{Memory}
@@ -52,20 +53,26 @@ below_asked words None named none settings given below r is =
     let empty : asked_for words ≡ None =
     ap
     (option_and_then
-    (λ n. asked_by n (settings_given words) (number_given words) (image_begins words) (settings_typed words)))
+    (λ n. asked_by n (settings_given words) (number_given words) (image_begins words) (settings_typed words)
+    (keys_given words)))
     named in
     absurd cc
 below_asked words (Some name) named none settings given below r is =
     let one : asked_for words ≡
-    asked_by name (settings_given words) (number_given words) (image_begins words) (settings_typed words) =
+    asked_by name (settings_given words) (number_given words) (image_begins words) (settings_typed words)
+    (keys_given words) =
     ap
     (option_and_then
-    (λ n. asked_by n (settings_given words) (number_given words) (image_begins words) (settings_typed words)))
+    (λ n. asked_by n (settings_given words) (number_given words) (image_begins words) (settings_typed words)
+    (keys_given words)))
     named in
-    let by : asked_by name (settings_given words) (number_given words) (image_begins words) (settings_typed words) ≡
-    asked_by name (Some settings) (number_given words) (image_begins words) (settings_typed words) =
-    ap (λ s. asked_by name s (number_given words) (image_begins words) (settings_typed words)) given in
-    refused_alone name (number_given words) (image_begins words) (settings_typed words) settings r below
+    let by : asked_by name (settings_given words) (number_given words) (image_begins words) (settings_typed words)
+    (keys_given words) ≡
+    asked_by name (Some settings) (number_given words) (image_begins words) (settings_typed words) (keys_given words) =
+    ap (λ s. asked_by name s (number_given words) (image_begins words) (settings_typed words)
+    (keys_given words)) given in
+    refused_alone name (number_given words) (image_begins words) (settings_typed words)
+    (keys_given words) settings r below
     (λ n. none (named ∙ ap (λ x. Some x) n)) (sym (one ∙ by) ∙ is)
 
 -- a run for words that ask for one thing served it, or ran out of memory
@@ -74,7 +81,8 @@ served : (words : List Text) (status : Status) (left rest before now : Option (L
     (IsPerformed r status left rest before now → IfSome left (λ input. EndsWith input status before now)) →
     ((input : List ℕ) → Keeps before now → EndsWith input Memory before now) →
     Asks words name →
-    asked_by name (settings_given words) (number_given words) (image_begins words) (settings_typed words) ≡ Some r →
+    asked_by name (settings_given words) (number_given words) (image_begins words) (settings_typed words)
+    (keys_given words) ≡ Some r →
     IsRun words status left rest before now → IfSome left (λ input. EndsWith input status before now)
 served words status left rest before now name r EndsWith ends allows asks is (inl run) =
     let same : Some run.0 ≡ Some r = sym (asked_named words name run.0 asks run.1) ∙ is in
@@ -88,7 +96,8 @@ pub serves_commands : ServesFile (codes "commands") EndsCommands
 serves_commands words status left rest before now settings asks given within run =
     served words status left rest before now (codes "commands") (request.Commands settings) (EndsCommands settings)
     (λ h. h) (λ input keeps. keeps) asks
-    (commands (codes "commands") _ _ (image_begins words) (settings_typed words) settings refl given within) run
+    (commands (codes "commands") _ _ (image_begins words) (settings_typed words)
+    (keys_given words) settings refl given within) run
 
 -- the same of `steps`
 pub serves_steps : ServesFile (codes "steps") EndsSteps
@@ -96,7 +105,8 @@ unfolding EndsSteps
 serves_steps words status left rest before now settings asks given within run =
     served words status left rest before now (codes "steps") (request.Steps settings) (EndsSteps settings)
     (λ h. h) (λ input keeps. keeps) asks
-    (steps (codes "steps") _ _ (image_begins words) (settings_typed words) settings refl given within) run
+    (steps (codes "steps") _ _ (image_begins words) (settings_typed words)
+    (keys_given words) settings refl given within) run
 
 -- the same of `replay`
 pub serves_replay : ServesFile (codes "replay") EndsReplay
@@ -104,7 +114,8 @@ unfolding EndsReplay
 serves_replay words status left rest before now settings asks given within run =
     served words status left rest before now (codes "replay") (request.Replay settings) (EndsReplay settings)
     (λ h. h) (λ input keeps. keeps) asks
-    (replay (codes "replay") _ _ (image_begins words) (settings_typed words) settings refl given within) run
+    (replay (codes "replay") _ _ (image_begins words) (settings_typed words)
+    (keys_given words) settings refl given within) run
 
 -- a conversation that did not begin, with nothing read and nothing written
 unserved : (start : FileSeen) (status : Status) (left rest before now : Option (List ℕ)) → status ≡ Memory →
@@ -159,7 +170,8 @@ serves_build words status left rest before now settings n asks given image withi
     served words status left rest before now (codes "build") (request.Build settings (version_numbered n))
     (EndsBuilding (wanted_version (version_numbered n)) settings)
     (λ h. h) (λ input keeps. keeps) asks
-    (build (codes "build") _ _ (image_begins words) (settings_typed words) settings (version_numbered n) refl given
+    (build (codes "build") _ _ (image_begins words) (settings_typed words) (keys_given words) settings
+    (version_numbered n) refl given
     (ap (option_map version_numbered) image) within) run
 
 -- a run in threads that ended out of memory wrote nothing
@@ -182,13 +194,15 @@ driven words status left rest before now settings h k (Some n) counted asks give
     served words status left rest before now (codes "drive") (request.Drive settings n h k)
     (EndsDrivingIn (h == 1) settings h k)
     (λ h. h) (λ input keeps. driven_nothing (h == 1) settings h k input before now keeps) asks
-    (drive (codes "drive") _ _ (image_begins words) (settings_typed words) settings n h k refl given counted parts taken
+    (drive (codes "drive") _ _ (image_begins words) (settings_typed words)
+    (keys_given words) settings n h k refl given counted parts taken
     within
     ∙ ap (λ b. Some (cond b (request.Drive settings n h k) request.SnapshotsOfShards)) allowed) run
 driven words status left rest before now settings h k None counted asks given parts taken allowed within (inl run) =
     let none : asked_by (codes "drive") (settings_given words) (number_given words) (image_begins words)
-    (settings_typed words) ≡ None =
-    undriven (codes "drive") _ _ (image_begins words) (settings_typed words) settings refl given (inl counted) within in
+    (settings_typed words) (keys_given words) ≡ None =
+    undriven (codes "drive") _ _ (image_begins words) (settings_typed words) (keys_given words) settings refl given
+    (inl counted) within in
     let some = asked_named words (codes "drive") run.0 asks run.1 in
     let apart : Some run.0 ≡ None = sym some ∙ none in
     absurd cc
@@ -207,7 +221,8 @@ pub refuses_snapshots : RefusesSnapshots
 refuses_snapshots words status left rest before now settings n h k asks given counted parts taken apart within
     (inl run) =
     let is =
-    drive (codes "drive") _ _ (image_begins words) (settings_typed words) settings n h k refl given counted parts
+    drive (codes "drive") _ _ (image_begins words) (settings_typed words)
+    (keys_given words) settings n h k refl given counted parts
     taken within
     ∙ ap (λ b. Some (cond b (request.Drive settings n h k) request.SnapshotsOfShards)) apart in
     let same : Some run.0 ≡ Some request.SnapshotsOfShards =
@@ -224,20 +239,22 @@ serves_alone : (words : List Text) (status : Status) (left rest before now : Opt
     (settings : Option Settings) → settings_given words ≡ settings →
     (IsPerformed r status left rest before now → IfSome left (λ input. EndsWith input status before now)) →
     ((input : List ℕ) → Keeps before now → EndsWith input Memory before now) → Asks words name →
-    ((numbers : Text → Option ℕ) (image typed : Bool) → asked_by name None numbers image typed ≡ Some r) →
-    ((s : Settings) (numbers : Text → Option ℕ) (image typed : Bool) →
-    asked_by name (Some s) numbers image typed ≡ None) →
+    ((numbers : Text → Option ℕ) (image typed : Bool) (keys : List Text) →
+    asked_by name None numbers image typed keys ≡ Some r) →
+    ((s : Settings) (numbers : Text → Option ℕ) (image typed : Bool) (keys : List Text) →
+    asked_by name (Some s) numbers image typed keys ≡ None) →
     IsRun words status left rest before now → IfSome left (λ input. EndsWith input status before now)
 serves_alone words status left rest before now name r EndsWith None given ends allows asks alone none run =
     served words status left rest before now name r EndsWith ends allows asks
-    (ap (λ s. asked_by name s (number_given words) (image_begins words) (settings_typed words)) given
-    ∙ alone (number_given words) (image_begins words) (settings_typed words)) run
+    (ap (λ s. asked_by name s (number_given words) (image_begins words) (settings_typed words) (keys_given words)) given
+    ∙ alone (number_given words) (image_begins words) (settings_typed words) (keys_given words)) run
 serves_alone words status left rest before now name r EndsWith (Some s) given ends allows asks alone none (inl run) =
     let some = asked_named words name run.0 asks run.1 in
-    let same : asked_by name (settings_given words) (number_given words) (image_begins words) (settings_typed words) ≡
+    let same : asked_by name (settings_given words) (number_given words) (image_begins words) (settings_typed words)
+    (keys_given words) ≡
     None =
-    ap (λ x. asked_by name x (number_given words) (image_begins words) (settings_typed words)) given
-    ∙ none s (number_given words) (image_begins words) (settings_typed words) in
+    ap (λ x. asked_by name x (number_given words) (image_begins words) (settings_typed words) (keys_given words)) given
+    ∙ none s (number_given words) (image_begins words) (settings_typed words) (keys_given words) in
     absurd cc
 serves_alone words status left rest before now name r EndsWith (Some s) given ends allows asks alone none (inr run) =
     unwritten EndsWith status left before now allows run.0 run.2
@@ -248,7 +265,7 @@ unfolding asked_by
 serves_check words status left rest before now asks run =
     serves_alone words status left rest before now (codes "check") request.Check (EndsTold check_due)
     (settings_given words) refl
-    (λ h. h) (λ input keeps. keeps) asks (λ numbers image typed. refl) (λ s numbers image typed. refl) run
+    (λ h. h) (λ input keeps. keeps) asks (λ numbers image typed keys. refl) (λ s numbers image typed keys. refl) run
 
 -- the same of `dump`
 pub serves_dump : ServesImage (codes "dump") (EndsTold dump_due)
@@ -256,7 +273,7 @@ unfolding asked_by
 serves_dump words status left rest before now asks run =
     serves_alone words status left rest before now (codes "dump") request.Dump (EndsTold dump_due)
     (settings_given words) refl
-    (λ h. h) (λ input keeps. keeps) asks (λ numbers image typed. refl) (λ s numbers image typed. refl) run
+    (λ h. h) (λ input keeps. keeps) asks (λ numbers image typed keys. refl) (λ s numbers image typed keys. refl) run
 
 -- the same of `draw`
 pub serves_draw : ServesImage (codes "draw") (EndsTold draw_due)
@@ -264,7 +281,7 @@ unfolding asked_by
 serves_draw words status left rest before now asks run =
     serves_alone words status left rest before now (codes "draw") request.Draw (EndsTold draw_due)
     (settings_given words) refl
-    (λ h. h) (λ input keeps. keeps) asks (λ numbers image typed. refl) (λ s numbers image typed. refl) run
+    (λ h. h) (λ input keeps. keeps) asks (λ numbers image typed keys. refl) (λ s numbers image typed keys. refl) run
 
 -- the same of `migrate`
 pub serves_migrate : ServesImage (codes "migrate") (EndsTold migrate_due)
@@ -272,7 +289,7 @@ unfolding asked_by
 serves_migrate words status left rest before now asks run =
     serves_alone words status left rest before now (codes "migrate") request.Migrate (EndsTold migrate_due)
     (settings_given words) refl
-    (λ h. h) (λ input keeps. keeps) asks (λ numbers image typed. refl) (λ s numbers image typed. refl) run
+    (λ h. h) (λ input keeps. keeps) asks (λ numbers image typed keys. refl) (λ s numbers image typed keys. refl) run
 
 -- the same of `query`
 pub serves_query : ServesImage (codes "query") (EndsTold query_due)
@@ -280,7 +297,52 @@ unfolding asked_by
 serves_query words status left rest before now asks run =
     serves_alone words status left rest before now (codes "query") request.Query (EndsTold query_due)
     (settings_given words) refl
-    (λ h. h) (λ input keeps. keeps) asks (λ numbers image typed. refl) (λ s numbers image typed. refl) run
+    (λ h. h) (λ input keeps. keeps) asks (λ numbers image typed keys. refl) (λ s numbers image typed keys. refl) run
+
+-- no key was looked up, for want of memory
+ungot : (given : Result (List (List ℕ)) _) (status : Status) (left rest before now : Option (List ℕ)) →
+    status ≡ Memory → Keeps left rest → Keeps before now → EndsGettingOf given status left rest before now
+ungot (Ok keys) status None rest before now is unread keeps = tt
+ungot (Ok keys) status (Some input) rest before now is unread keeps =
+    subst (λ (s : Status). EndsFound s (found_of input keys) before now) (sym is) keeps
+ungot (Err wrong) status left rest before now is unread keeps =
+    (subst (IsRefusedFor wrong) (sym is) tt, unread, keeps)
+
+got_nothing : (words : List Text) (status : Status) (left rest before now : Option (List ℕ)) → status ≡ Memory →
+    Keeps left rest → Keeps before now → EndsGetting (keys_given words) status left rest before now
+unfolding EndsGetting
+got_nothing words status left rest before now is unread keeps =
+    ungot (keys_of (keys_given words)) status left rest before now is unread keeps
+
+-- words that ask for look-ups give no settings, or ask for nothing
+got : (words : List Text) (status : Status) (left rest before now : Option (List ℕ)) (settings : Option Settings) →
+    settings_given words ≡ settings → Asks words (codes "get") → IsRun words status left rest before now →
+    EndsGetting (keys_given words) status left rest before now
+unfolding asked_by
+got words status left rest before now None given asks (inl run) =
+    let is = get (codes "get") (settings_given words) (number_given words) (image_begins words) (settings_typed words)
+    (keys_given words) refl given in
+    let same : Some run.0 ≡ Some (request.Get (keys_given words)) =
+    sym (asked_named words (codes "get") run.0 asks run.1) ∙ is in
+    let one : run.0 ≡ request.Get (keys_given words) = cc in
+    subst (λ (x : Request). IsPerformed x status left rest before now) one run.2
+got words status left rest before now (Some s) given asks (inl run) =
+    let none : asked_by (codes "get") (settings_given words) (number_given words) (image_begins words)
+    (settings_typed words) (keys_given words) ≡ None =
+    ap
+    (λ x.
+    asked_by (codes "get") x (number_given words) (image_begins words) (settings_typed words) (keys_given words))
+    given in
+    let some = asked_named words (codes "get") run.0 asks run.1 in
+    let apart : Some run.0 ≡ None = sym some ∙ none in
+    absurd cc
+got words status left rest before now settings given asks (inr run) =
+    got_nothing words status left rest before now run.0 run.1 run.2
+
+-- a run for words that ask for `get` ends by the words of their keys
+pub serves_get : ServesGet
+serves_get words status left rest before now asks run =
+    got words status left rest before now (settings_given words) refl asks run
 
 -- an image that is not written keeps what the writer holds
 leaves_nothing : (version : Version) (file : Result Lists ImageFault) (given : Result (List Call) ScriptFault)
@@ -295,10 +357,10 @@ unfolding EndsApplying
 applies_nothing version input before now keeps =
     leaves_nothing version (reading_of (leading input)) (script_behind input) before now keeps
 
-unasked : (s : Settings) (numbers : Text → Option ℕ) (image typed : Bool) →
-    asked_by (codes "apply") (Some s) numbers image typed ≡ None
+unasked : (s : Settings) (numbers : Text → Option ℕ) (image typed : Bool) (keys : List Text) →
+    asked_by (codes "apply") (Some s) numbers image typed keys ≡ None
 unfolding asked_by
-unasked s numbers image typed = unapplied s (numbers (codes "image"))
+unasked s numbers image typed keys = unapplied s (numbers (codes "image"))
 
 -- words that ask for the image which a script leaves give no settings, or ask for nothing
 applied : (words : List Text) (status : Status) (left rest before now : Option (List ℕ)) (n : ℕ)
@@ -310,13 +372,15 @@ applied words status left rest before now n None given asks image run =
     served words status left rest before now (codes "apply") (request.Apply (version_numbered n))
     (EndsApplying (wanted_version (version_numbered n)))
     (λ h. h) (λ input keeps. applies_nothing (wanted_version (version_numbered n)) input before now keeps) asks
-    (apply (codes "apply") _ _ (image_begins words) (settings_typed words) (version_numbered n) refl given
+    (apply (codes "apply") _ _ (image_begins words) (settings_typed words) (keys_given words)
+    (version_numbered n) refl given
     (ap (option_map version_numbered) image)) run
 applied words status left rest before now n (Some s) given asks image (inl run) =
     let none : asked_by (codes "apply") (settings_given words) (number_given words) (image_begins words)
-    (settings_typed words) ≡ None =
-    ap (λ x. asked_by (codes "apply") x (number_given words) (image_begins words) (settings_typed words)) given
-    ∙ unasked s (number_given words) (image_begins words) (settings_typed words) in
+    (settings_typed words) (keys_given words) ≡ None =
+    ap (λ x. asked_by (codes "apply") x (number_given words) (image_begins words) (settings_typed words)
+    (keys_given words)) given
+    ∙ unasked s (number_given words) (image_begins words) (settings_typed words) (keys_given words) in
     let some = asked_named words (codes "apply") run.0 asks run.1 in
     let apart : Some run.0 ≡ None = sym some ∙ none in
     absurd cc

@@ -9,11 +9,12 @@ use Rattle.lh_image.specs.declared.version.Version.TheVariants.{One, Two}
 use Rattle.lhash.specs.Driving.{EndsDriving}
 use Rattle.lhash.specs.DrivingShards.{EndsDrivingShards}
 use Rattle.lh_subcommands.specs.Continued.{EndsApplying, EndsApplyingTo, query_due, query_due_of}
+use Rattle.lh_subcommands.specs.Get.{EndsGetting}
 use Rattle.lh_subcommands.specs.Images.{EndsBuilding, check_due, draw_due, dump_due, migrate_due}
 use Rattle.lh_addr.specs.Settings.{Settings}
 use Rattle.lh_options.specs.Escapes.{has_no_control}
-use Rattle.lh_options.specs.Options.{Accepts, Answers, Asks, AsksForHelp, IsRefused, Text, image_begins, number_given}
-use Rattle.lh_options.specs.Options.{settings_given, settings_typed, version_numbered}
+use Rattle.lh_options.specs.Options.{Accepts, Answers, Asks, AsksForHelp, IsRefused, Text, image_begins, keys_given}
+use Rattle.lh_options.specs.Options.{number_given, settings_given, settings_typed, version_numbered}
 use Rattle.lh_subcommands.specs.Run.{Ends, EndsReplay, EndsSteps, commands_due}
 use Rattle.lh_serving.specs.Answers.{first_file}
 use Rattle.lh_subcommands.specs.Serve.{EndsServing, EndsServingFrom, EndsServingOf}
@@ -21,17 +22,22 @@ use Rattle.lh_options.specs.declared.options.ImageVersion.{ImageVersion}
 use Rattle.lh_options.specs.declared.options.ImageVersion.TheVariants.{First, Second}
 use Rattle.lh_options.specs.declared.options.Request.{Request}
 use Rattle.lh_options.specs.declared.options.Request.TheVariants.{Commands, Steps, Replay, Build, Check, Draw, Dump}
-use Rattle.lh_options.specs.declared.options.Request.TheVariants.{Drive, Migrate, Query, Apply, Serve, ServeImage, Help}
+use Rattle.lh_options.specs.declared.options.Request.TheVariants.{Drive, Get, Migrate, Query, Apply, Serve, ServeImage}
+use Rattle.lh_options.specs.declared.options.Request.TheVariants.{Help}
 use Rattle.lh_options.specs.declared.options.Request.TheVariants.{Refused, MaxBelowInitial, SettingsBesideImage}
 use Rattle.lh_options.specs.declared.options.Request.TheVariants.{SnapshotsOfShards}
 use Rattle.lh_subcommands.specs.declared.status.DeviceFault.TheVariants.{Write}
 use Rattle.lh_subcommands.specs.declared.status.InputFault.{InputFault}
 use Rattle.lh_subcommands.specs.declared.status.Status.{Status}
-use Rattle.lh_subcommands.specs.declared.status.Status.TheVariants.{Done, Words, Device, Memory}
+use Rattle.lh_subcommands.specs.declared.status.Status.TheVariants.{Done, Words, Device, KeyAbsent, Memory}
 
 -- all was done
 abbrev pub IsDone : Status → Type 0
 IsDone status = status ≡ Done
+
+-- all was done, also where a key was absent
+abbrev pub WritesAll : Status → Type 0
+WritesAll status = IsDone status ⊎ (status ≡ KeyAbsent)
 
 -- the words are refused for this reason, unless memory ran out
 abbrev pub IsWordsOf : List ℕ → Status → Type 0
@@ -86,6 +92,7 @@ IsPerformed Migrate status left rest before now = IfSome left (λ input. Ends st
 IsPerformed Query status left rest before now = IfSome left (λ input. Ends status (query_due input) before now)
 IsPerformed (Apply image) status left rest before now =
     IfSome left (λ input. EndsApplying (wanted_version image) input status before now)
+IsPerformed (Get keys) status left rest before now = EndsGetting keys status left rest before now
 IsPerformed (Drive config threads shards snapshots) status left rest before now =
     IfSome left (λ input. EndsDrivingIn (shards == 1) config shards snapshots input status before now)
 IsPerformed (Serve config) status left rest before now =
@@ -161,19 +168,19 @@ IsRunOn words status held kept left rest before now =
     ((request : Request) × Answers words request × IsPerformedOn request status held kept left rest before now)
     ⊎ ((status ≡ Memory) × Keeps held kept × Keeps left rest × Keeps before now)
 
--- the run ended so, or it was done, and what it left gathered could not be written
+-- the run ended so, or it was done, also with a key absent, and what it left gathered could not be written
 abbrev pub IsFlushedRun : List Text → Status → Option (List ℕ) → Option (List ℕ) → Option (List ℕ) → Option (List ℕ) →
     Type 0
 IsFlushedRun words result left rest before now =
     (status : Status) × IsRun words status left rest before now
-    × ((result ≡ status) ⊎ (IsDone status × (result ≡ Device Write)))
+    × ((result ≡ status) ⊎ (WritesAll status × (result ≡ Device Write)))
 
 -- the same of a run with a file
 abbrev pub IsFlushedRunOn : List Text → Status → Option (List ℕ) → Option (List ℕ) → Option (List ℕ) →
     Option (List ℕ) → Option (List ℕ) → Option (List ℕ) → Type 0
 IsFlushedRunOn words result held kept left rest before now =
     (status : Status) × IsRunOn words status held kept left rest before now
-    × ((result ≡ status) ⊎ (IsDone status × (result ≡ Device Write)))
+    × ((result ≡ status) ⊎ (WritesAll status × (result ≡ Device Write)))
 
 -- ---- what follows of a run for words of each kind
 
@@ -243,6 +250,13 @@ ServesApply =
     (words : List Text) (status : Status) (left rest before now : Option (List ℕ)) (n : ℕ) →
     Asks words (codes "apply") → number_given words (codes "image") ≡ Some n → IsRun words status left rest before now →
     IfSome left (λ input. EndsApplying (wanted_version (version_numbered n)) input status before now)
+
+-- a run for words that ask for `get` ends by the words of their keys
+abbrev pub ServesGet : Type 0
+ServesGet =
+    (words : List Text) (status : Status) (left rest before now : Option (List ℕ)) →
+    Asks words (codes "get") → IsRun words status left rest before now →
+    EndsGetting (keys_given words) status left rest before now
 
 -- a run for words that give settings out of order refuses them; those of `serve` with an image are refused, too, but
 -- for another reason

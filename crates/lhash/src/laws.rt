@@ -6,7 +6,7 @@ ghost use Rattle.lh_subcommands.specs.Images.{check_due, draw_due, dump_due, mig
 ghost use Rattle.lh_subcommands.specs.Run.{EndsReplay, EndsSteps};
 ghost use Rattle.lhash.specs.Serving.{EndsCommands, EndsTold, RefusesBelow, RefusesBeside, RefusesSnapshots};
 ghost use Rattle.lhash.specs.Serving.{ServesApply, ServesBuild, ServesClient, ServesDrive, ServesFile, ServesFrom};
-ghost use Rattle.lhash.specs.Serving.{ServesImage, TurnsAway};
+ghost use Rattle.lhash.specs.Serving.{ServesGet, ServesImage, TurnsAway};
 
 /// Words that ask for `commands` have the replies of one plain map to the script's calls written, and the number of
 /// buckets that the split policy gives; or the run ends at the script's first fault, with nothing written.
@@ -68,6 +68,13 @@ pub fn query_is_served()
 /// script behind the input's image leave; or the reason why it has none.
 pub fn apply_is_served()
     ensures { ServesApply }
+{}
+
+/// Words that ask for `get` have a line written for each key that they give, in turn: what a look-up in the bytes of
+/// the image finds; and the status says whether each key was there. Or the run ends at the first fault that opening the
+/// image or a look-up meets, with nothing written; or at the first word that is no key, with nothing read.
+pub fn get_is_served()
+    ensures { ServesGet }
 {}
 
 /// Words that ask for `serve` have each line of the input answered by one plain map, in its order: all of them, where

@@ -12,8 +12,9 @@ use lh_image::Version;
 use lh_options::{ImageVersion, Request, request_of};
 use lh_subcommands::{
     DeviceFault, Status, answer_apply, answer_apply_to, answer_build, answer_check,
-    answer_commands, answer_draw, answer_dump, answer_migrate, answer_query, answer_query_of,
-    answer_replay, answer_serve, answer_serve_from, answer_serve_of, answer_steps, write_all,
+    answer_commands, answer_draw, answer_dump, answer_get, answer_migrate, answer_query,
+    answer_query_of, answer_replay, answer_serve, answer_serve_from, answer_serve_of, answer_steps,
+    write_all,
 };
 use std::alloc::{AllocError, Global};
 use std::io::{Read, Write};
@@ -98,6 +99,7 @@ fn serve<A: Threads + Wait + Sync, R: Read, W: Write>(
         Request::Migrate => answer_migrate(alloc, reader, writer),
         Request::Query => answer_query(alloc, reader, writer),
         Request::Apply(version) => answer_apply(alloc, version_of(version), reader, writer),
+        Request::Get(keys) => answer_get(alloc, keys.as_slice(), reader, writer),
         Request::Drive {
             config,
             threads,

@@ -6,6 +6,20 @@ use std::alloc::{AllocError, Global};
 /// What is told of a byte string that is none.
 const HEXADECIMAL: &str = "keys and values are hexadecimal, two digits a byte: ada is 616461\n";
 
+/// Some lines on words that are refused, or none: what clap says of them, or of a key that `get` can't read.
+fn on_words<'a>(
+    alloc: Global,
+    words: &'a [&'a str],
+    reason: &str,
+) -> Result<Option<String>, AllocError> {
+    match hint_of(alloc, words)? {
+        None if reason.ends_with("bad hexadecimal") => {
+            Ok(Some(String::from_str(alloc, HEXADECIMAL)?))
+        },
+        told => Ok(told),
+    }
+}
+
 /// Some lines on a fault of a run, or none.
 fn on_fault<'a>(
     alloc: Global,
@@ -13,7 +27,7 @@ fn on_fault<'a>(
     fault: &Status,
 ) -> Result<Option<String>, AllocError> {
     match fault {
-        Status::Words(_) => hint_of(alloc, words),
+        Status::Words(reason) => on_words(alloc, words, reason.as_str()),
         Status::Input(InputFault::Script(ScriptFault::AtLine(_, LineFault::BadHexadecimal))) => {
             Ok(Some(String::from_str(alloc, HEXADECIMAL)?))
         },

@@ -4,7 +4,7 @@
 ghost use Rattle.std.specs.Prelude.{◌≡◌, ◌⊎◌, ℕ, List, Option, [], IfNone, IfSome, codes, false, map, true};
 ghost use Rattle.std.specs.Io.Buffered.{writer_buffer, writer_contents, writer_inner};
 ghost use Rattle.std.specs.Io.KnownBytes.{Keeps};
-ghost use Rattle.lhash.specs.Serving.{IsDone, IsFlushedRun, IsFlushedRunOn, IsRun, IsRunOn, IsWhetherImageAsked};
+ghost use Rattle.lhash.specs.Serving.{IsFlushedRun, IsFlushedRunOn, IsRun, IsRunOn, IsWhetherImageAsked, WritesAll};
 ghost use Rattle.lhash.specs.Serving.{IsWordsOf};
 
 mod ended;
@@ -41,16 +41,15 @@ fn process_words(rt: &(impl Runtime + AllocGlobal)) -> Result<Vec<String>, Statu
     }
 }
 
-/// How a run ends once what it left gathered is written, as it must be where all was done.
+/// How a run ends once what it left gathered is written, as it must be where all was done, also with a key absent.
 fn finish<W: Write + Drop>(status: Status, output: &mut BufWriter<W>) -> Status
-    ensures done { IsDone result → IsDone status × (writer_buffer output.new ≡ []) }
-    ensures flushed { IsDone status → IsDone result ⊎ (result ≡ Status.Device DeviceFault.Write) }
-    ensures others { (IsDone status → ⊥) → result ≡ status }
+    ensures done { WritesAll result → (result ≡ status) × (writer_buffer output.new ≡ []) }
+    ensures flushed { (result ≡ status) ⊎ (WritesAll status × (result ≡ Status.Device DeviceFault.Write)) }
     ensures kept { Keeps (writer_contents W.contents output.old) (writer_contents W.contents output.new) }
 {
     match status {
-        Status::Done => match output.flush() {
-            Ok(()) => Status::Done,
+        Status::Done | Status::KeyAbsent => match output.flush() {
+            Ok(()) => status,
             Err(_) => Status::Device(DeviceFault::Write),
         },
         other => other,
@@ -74,8 +73,8 @@ fn refused<'a>(alloc: Global, words: &'a [&'a str], is_terminal: bool) -> Option
     }
 }
 
-/// Does what the words ask for; but no image is written to a terminal. Where all was done, all of it is with the
-/// device, and nothing is left gathered.
+/// Does what the words ask for; but no image is written to a terminal. Where all was done, also with a key absent, all
+/// of it is with the device, and nothing is left gathered.
 fn run_whole<'a, A: AllocGlobal + Threads + Wait + Sync, R: Read, W: Write + Drop>(
     rt: &A,
     words: &'a [&'a str],
@@ -83,7 +82,7 @@ fn run_whole<'a, A: AllocGlobal + Threads + Wait + Sync, R: Read, W: Write + Dro
     reader: &mut R,
     output: &mut BufWriter<W>,
 ) -> Status
-    ensures done { IsDone result → (held : Option (List ℕ)) ×
+    ensures done { WritesAll result → (held : Option (List ℕ)) ×
         IsRun (map (λ s. s.now) words.now) result (R.remaining reader.old) (R.remaining reader.new)
         (writer_contents W.contents output.old) held
         × Keeps held (W.contents (writer_inner output.new)) }
@@ -112,7 +111,7 @@ fn run_whole_on<'a, A: AllocGlobal + Threads + Wait + Sync, Q: Read, R: Read, W:
     reader: &mut R,
     output: &mut BufWriter<W>,
 ) -> Status
-    ensures done { IsDone result → (held : Option (List ℕ)) ×
+    ensures done { WritesAll result → (held : Option (List ℕ)) ×
         IsRunOn (map (λ s. s.now) words.now) result (Q.remaining file.old) (Q.remaining file.new)
         (R.remaining reader.old) (R.remaining reader.new) (writer_contents W.contents output.old) held
         × Keeps held (W.contents (writer_inner output.new)) }

@@ -4,7 +4,8 @@ ghost use Rattle.std.specs.Prelude.{◌≡◌};
 use crate::ended::Ended;
 use crate::progress::{Input, Output, Progress};
 use crate::{READ_AHEAD, run_gathered};
-use lh_output::{Beside, NotMade, settle};
+use lh_draft::{Beside, NotMade};
+use lh_output::settle;
 use lhash::{DeviceFault, InputFault, NamedFiles, Status, escaped, reads_apart};
 use std::alloc::Global;
 use std::fs;
@@ -72,10 +73,11 @@ fn ended<'a>(
     status: Status,
     has_failed: bool,
 ) -> Ended
-    ensures { status ≡ Status.Done → result ≡ Ended.Ran Status.Done }
+    ensures done { status ≡ Status.Done → result ≡ Ended.Ran Status.Done }
+    ensures absent { status ≡ Status.KeyAbsent → result ≡ Ended.Ran Status.KeyAbsent }
 {
     // What was done stays so, though memory may be gone.
-    if matches!(status, Status::Done) {
+    if matches!(status, Status::Done | Status::KeyAbsent) {
         return Ended::Ran(status);
     }
     let Ok(is_apart) = reads_apart(alloc, words) else {
@@ -142,7 +144,7 @@ where
         let output = Output::new(progress, !is_terminal, streams.writer);
         return Ok(run_gathered(rt, words, is_terminal, file, input, output));
     };
-    let mut made = Beside::create(rt, name)?;
+    let mut made = Beside::create(rt, rt.alloc(), name)?;
     let output = Output::new(progress, true, &mut made);
     let status = run_gathered(rt, words, false, file, input, output);
     Ok(settle(&mut made.written(), status))

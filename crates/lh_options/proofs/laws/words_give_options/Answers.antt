@@ -1,11 +1,12 @@
 -- Each example computes.
-use Rattle.std.proofs.Common.{None, Some, ap, refl, inl, inr, codes, false, true}
+use Rattle.std.proofs.Common.{[], ◌∷◌, None, Some, ap, refl, inl, inr, codes, false, true}
 use Rattle.std.proofs.lemmas.Bool.{false≢true}
 use Rattle.clap.proofs.OnLiterals.{clap_on_literals}
 use Rattle.clap.specs.Walk.{is_empty}
 use Rattle.clap.specs.declared.error.kind.ErrorKind.TheVariants as kind
 use Rattle.lh_options.specs.OptionLaws.{GivesApply, GivesBuild, GivesCommands, GivesDrive, GivesReplay, GivesServe}
-use Rattle.lh_options.specs.OptionLaws.{GivesFiles, check_with_output, file_given, files_given, image_file_served}
+use Rattle.lh_options.specs.OptionLaws.{GivesFiles, GivesGet, check_with_output, file_given, files_given, get_given}
+use Rattle.lh_options.specs.OptionLaws.{get_with_setting, get_without_key, image_file_served}
 use Rattle.lh_options.specs.OptionLaws.{output_given, stream_given, two_files}
 use Rattle.lh_options.specs.OptionLaws.{GivesServeImage, GivesSteps, Refuses, apply_alone, apply_with_setting}
 use Rattle.lh_options.specs.OptionLaws.{build_given, check_alone, check_with_option, commands_with_image, draw_alone}
@@ -96,6 +97,18 @@ apply = (((refl, refl), refl), refl)
 first_applied : GivesApply first_image_applied First
 unfolding clap_on_literals Accepts subcommand_named
 first_applied = (((refl, refl), refl), refl)
+
+get : GivesGet get_given (Some (codes "users.lhf")) (codes "616461" ∷ codes "626f62" ∷ [])
+unfolding clap_on_literals Accepts subcommand_named
+get = (((refl, refl), refl), refl, refl)
+
+without_key : Refuses get_without_key
+unfolding clap_on_literals Accepts
+without_key = λ e. false≢true (ap is_empty e.0)
+
+get_without_settings : Refuses get_with_setting
+unfolding clap_on_literals Accepts
+get_without_settings = λ e. false≢true (ap is_empty e.0)
 
 serve : GivesServe serve_given (record { initial = 2; capacity = 1; load = 100; max = 65536 })
 unfolding clap_on_literals Accepts settings_given subcommand_named
@@ -246,6 +259,9 @@ returns c = record {
   query = query;
   apply = apply;
   first_applied = first_applied;
+  get = get;
+  without_key = without_key;
+  get_without_settings = get_without_settings;
   serve = serve;
   serve_image = serve_image;
   beside_image = beside_image;

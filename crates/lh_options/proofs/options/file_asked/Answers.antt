@@ -1,4 +1,4 @@
-use Rattle.std.proofs.Common.{◌≡◌, ◌∙◌, ℕ, Bool, Option, None, Some, ap, codes, false, if◌then◌else◌, inl, inr}
+use Rattle.std.proofs.Common.{◌≡◌, ◌∙◌, ℕ, Bool, List, Option, None, Some, ap, codes, false, if◌then◌else◌, inl, inr}
 use Rattle.std.proofs.lemmas.Bool.{lt-ltb}
 use Rattle.clap.specs.Walk.{Text}
 use Rattle.lh_addr.specs.Settings.{Settings}
@@ -17,46 +17,48 @@ serve-refuses (Some s) image typed none below =
     ∙ ap (λ b. if b then Some request.MaxBelowInitial else Some (request.Serve s)) (lt-ltb s.max s.initial below)
 
 -- so does each subcommand with the options of a file's settings
-file-refuses : (name : Text) (settings : Option Settings) (numbers : Text → Option ℕ) (image typed : Bool) →
+file-refuses : (name : Text) (settings : Option Settings) (numbers : Text → Option ℕ) (image typed : Bool)
+    (keys : List Text) →
     IsFileCommand name → (name ≡ codes "serve" → image ≡ false) → IsMaxBelowInitial settings →
-    asked_by name settings numbers image typed ≡ Some request.MaxBelowInitial
-file-refuses name settings numbers image typed (inl n) none below = out_of_order _ _ _ _ _ (inl n) below
-file-refuses name settings numbers image typed (inr (inl n)) none below = out_of_order _ _ _ _ _ (inr (inl n)) below
-file-refuses name settings numbers image typed (inr (inr (inl n))) none below =
-    out_of_order _ _ _ _ _ (inr (inr (inl n))) below
-file-refuses name settings numbers image typed (inr (inr (inr (inl n)))) none below =
-    out_of_order _ _ _ _ _ (inr (inr (inr (inl n)))) below
-file-refuses name settings numbers image typed (inr (inr (inr (inr (inl n))))) none below =
-    out_of_order _ _ _ _ _ (inr (inr (inr (inr n)))) below
-file-refuses name settings numbers image typed (inr (inr (inr (inr (inr n))))) none below =
-    serve_by name settings numbers image typed n ∙ serve-refuses settings image typed (none n) below
+    asked_by name settings numbers image typed keys ≡ Some request.MaxBelowInitial
+file-refuses name settings numbers image typed keys (inl n) none below = out_of_order _ _ _ _ _ _ (inl n) below
+file-refuses name settings numbers image typed keys (inr (inl n)) none below = out_of_order _ _ _ _ _ _
+    (inr (inl n)) below
+file-refuses name settings numbers image typed keys (inr (inr (inl n))) none below =
+    out_of_order _ _ _ _ _ _ (inr (inr (inl n))) below
+file-refuses name settings numbers image typed keys (inr (inr (inr (inl n)))) none below =
+    out_of_order _ _ _ _ _ _ (inr (inr (inr (inl n)))) below
+file-refuses name settings numbers image typed keys (inr (inr (inr (inr (inl n))))) none below =
+    out_of_order _ _ _ _ _ _ (inr (inr (inr (inr n)))) below
+file-refuses name settings numbers image typed keys (inr (inr (inr (inr (inr n))))) none below =
+    serve_by name settings numbers image typed keys n ∙ serve-refuses settings image typed (none n) below
 
 pub returns-in_default-clause-value : goal.returns-in_default-clause-value
 returns-in_default-clause-value c =
-    file-refuses _ _ _ _ _ c.requires.named c.requires.serve c.in_default.ensures.none
+    file-refuses _ _ _ _ _ _ c.requires.named c.requires.serve c.in_default.ensures.none
 
 pub returns-in-commands-clause-value : goal.returns-in-commands-clause-value
 returns-in-commands-clause-value c =
-    commands _ _ _ _ _ _ c.in-commands.is c.in-Some.ensures.some c.in-Some.ensures.in_range.max.0
+    commands _ _ _ _ _ _ _ c.in-commands.is c.in-Some.ensures.some c.in-Some.ensures.in_range.max.0
 
 pub returns-in-steps-clause-value : goal.returns-in-steps-clause-value
 returns-in-steps-clause-value c =
-    steps _ _ _ _ _ _ c.in-steps.is c.in-Some.ensures.some c.in-Some.ensures.in_range.max.0
+    steps _ _ _ _ _ _ _ c.in-steps.is c.in-Some.ensures.some c.in-Some.ensures.in_range.max.0
 
 pub returns-in-build-clause-value : goal.returns-in-build-clause-value
 returns-in-build-clause-value c =
-    build _ _ _ _ _ _ _ c.in-build.is c.in-Some.ensures.some c.version_in.ensures c.in-Some.ensures.in_range.max.0
+    build _ _ _ _ _ _ _ _ c.in-build.is c.in-Some.ensures.some c.version_in.ensures c.in-Some.ensures.in_range.max.0
 
 pub returns-in-drive-clause-value : goal.returns-in-drive-clause-value
 returns-in-drive-clause-value c =
-    drive_by _ _ _ _ _ _ c.in-drive.is c.in-Some.ensures.some c.in-Some.ensures.in_range.max.0
+    drive_by _ _ _ _ _ _ _ c.in-drive.is c.in-Some.ensures.some c.in-Some.ensures.in_range.max.0
     ∙ c.drive_asked.ensures.value
 
 pub returns-in-replay-clause-value : goal.returns-in-replay-clause-value
 returns-in-replay-clause-value c =
-    replay _ _ _ _ _ _ c.in-replay.is c.in-Some.ensures.some c.in-Some.ensures.in_range.max.0
+    replay _ _ _ _ _ _ _ c.in-replay.is c.in-Some.ensures.some c.in-Some.ensures.in_range.max.0
 
 pub returns-in-serve-clause-value : goal.returns-in-serve-clause-value
 returns-in-serve-clause-value c =
-    serve _ _ _ _ _ _ c.in-serve.is (c.requires.serve c.in-serve.is) c.in-Some.ensures.some
+    serve _ _ _ _ _ _ _ c.in-serve.is (c.requires.serve c.in-serve.is) c.in-Some.ensures.some
     c.in-Some.ensures.in_range.max.0

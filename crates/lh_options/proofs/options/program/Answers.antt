@@ -1,6 +1,6 @@
 use Rattle.std.proofs.lemmas.Result.{IfOk-weaker}
-use Rattle.lh_options.specs.Options.{apply_app, check_app, draw_app, drive_app, dump_app, migrate_app, query_app}
-use Rattle.lh_options.specs.Options.{scripts_app, serve_app}
+use Rattle.lh_options.specs.Options.{apply_app, check_app, draw_app, drive_app, dump_app, get_app, migrate_app}
+use Rattle.lh_options.specs.Options.{query_app, scripts_app, serve_app}
 use Rattle.lh_options.proofs.CommandShapes.{subcommand-reads}
 use Rattle.lh_options.proofs.options.program.Goals as goal
 
@@ -17,5 +17,7 @@ returns c =
     subcommand-reads _ _ _ _ migrate_app c.in_ok-subcommand-5.ensures fourth c.in_ok-changing_command-2.ensures in
     let sixth = subcommand-reads _ _ _ _ query_app c.in_ok-subcommand-6.ensures fifth c.in_ok-image_command-3.ensures in
     let seventh = subcommand-reads _ _ _ _ apply_app c.in_ok-subcommand-7.ensures sixth c.in_ok-apply_command.ensures in
-    IfOk-weaker c.subcommand-8.result _ _
-    (λ m h. subcommand-reads _ _ m _ serve_app h seventh c.in_ok-serve_command.ensures) c.subcommand-8.ensures
+    let eighth =
+    subcommand-reads _ _ _ _ serve_app c.in_ok-subcommand-8.ensures seventh c.in_ok-serve_command.ensures in
+    IfOk-weaker c.subcommand-9.result _ _
+    (λ m h. subcommand-reads _ _ m _ get_app h eighth c.in_ok-get_command.ensures) c.subcommand-9.ensures

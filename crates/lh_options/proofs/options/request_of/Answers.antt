@@ -93,7 +93,8 @@ returns-else-not-are_in_digits-clause-answers c =
     c.in_ok-program.ensures.0 c.in-Ok.ensures.kinds c.in-Ok.ensures.matches c.in-Some.ensures.name
     c.in-Some.ensures.rows in
     let digits : c.are_in_digits.result ≡ true = search (rules, is-true) in
-    asked-answers words name rows c.asked.result entered (sym c.are_in_digits.ensures ∙ digits) c.asked.ensures.value
+    IfOk-weaker c.asked.result _ _
+    (λ r h. asked-answers words name rows r entered (sym c.are_in_digits.ensures ∙ digits) h) c.asked.ensures.value
 
 pub returns-then-not-are_in_digits-clause-servable : goal.returns-then-not-are_in_digits-clause-servable
 returns-then-not-are_in_digits-clause-servable c = IfOk-weaker c.signed.result _ _ signed-servable c.signed.ensures

@@ -60,3 +60,6 @@ returns-in-Query g c = served_as c.in-Query.is _ _ _ _ _ c.answer_query.ensures
 
 pub returns-in-Apply : goal.returns-in-Apply
 returns-in-Apply g c = served_as c.in-Apply.is _ _ _ _ _ (rw c.version_of-in-Apply.ensures at c.answer_apply.ensures)
+
+pub returns-in-Get : goal.returns-in-Get
+returns-in-Get g c = served_as c.in-Get.is _ _ _ _ _ (rw c.as_slice.ensures at c.answer_get.ensures)

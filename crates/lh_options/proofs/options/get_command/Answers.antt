@@ -1,0 +1,20 @@
+use Rattle.std.proofs.Common.{codes}
+use Rattle.std.proofs.lemmas.Result.{IfOk-weaker}
+use Rattle.clap.specs.Words.{new_app}
+use Rattle.lh_options.specs.Options.{keys_rule, needed_file_rule}
+use Rattle.lh_options.specs.OptionSteps.{Reads}
+use Rattle.lh_options.proofs.CommandShapes.{about-reads, example-reads, option-reads}
+use Rattle.lh_options.proofs.options.get_command.Goals as goal
+
+pub returns : goal.returns
+returns c =
+    let start : Reads (new_app (codes "get")) c.after_help.result =
+    example-reads _ _ _ _ c.after_help.ensures
+    (about-reads _ _ _ _ c.about.ensures (c.new.ensures.app, c.new.ensures.local)) in
+    let first =
+    option-reads _ _ c.needed_file_operand.result _ needed_file_rule c.in_ok-arg.ensures
+    c.needed_file_operand.ensures.local c.needed_file_operand.ensures.rule start in
+    IfOk-weaker c.arg-2.result _ _
+    (λ m h.
+    option-reads _ m c.keys_operand.result _ keys_rule h c.keys_operand.ensures.local c.keys_operand.ensures.rule
+    first) c.arg-2.ensures
