@@ -26,8 +26,9 @@ PROGRAM = {"libcuckoo": "cuckoo", "bdb_hash": "bdb", **{name: FILE for name in W
 ONLY = {"lh_image1": {"W5", "W10"}}  # the workloads of a peer, where it has not all
 UNRANKED = {"null"}
 REFERENCE = "std_onelock"  # its digests at one thread are those due
-# What the picture shows, and under which names.
-SHOWN = {"lh_bench": "this file", "twin_tags": "the same in C++", "dashmap": "DashMap", "tbb": "oneTBB", "libcuckoo": "libcuckoo",
+# What the pictures show, and under which names; the bars of those that are this file are red.
+OURS = {"lh_bench": "this file", "lh_default": "this file", "lh_room32": "of small records"}
+SHOWN = {**OURS, "twin_tags": "the same in C++", "dashmap": "DashMap", "tbb": "oneTBB", "libcuckoo": "libcuckoo",
          "std_onelock": "one lock", "kc_hash": "Kyoto Cabinet", "lmdb": "LMDB", "tdb": "TDB", "gdbm": "GDBM", "bdb_hash": "Berkeley DB"}
 TITLES = {"W1": "W1 inserts", "W2": "W2 searches", "W3": "W3, 1 insert to 19 searches", "W4": "W4, half are writes",
           "W5": "W5, to a file and back", "W6": "W6 new values", "W7": "W7, skewed searches", "W8": "W8, searches that miss",
@@ -122,47 +123,60 @@ def title_of(workload, threads):
     return TITLES[workload] + (", %d thread%s" % (threads, "s" * (threads > 1)) if workload in THREADS else "")
 
 
-def picture(rows, path):
-    """Writes an SVG of the greatest size: of each workload the speed of the tables in SHOWN, over that of the fastest of
-    them in the same round."""
-    most = max((r["records"] for r in rows), default=0)
-    good = [r for r in rows if r["check"] == "ok" and r["peer"] in SHOWN and r["records"] == most]
+def shown(rows, records):
+    """The sound runs of one size of the tables in SHOWN, and which of these ran."""
+    good = [r for r in rows if r["check"] == "ok" and r["peer"] in SHOWN and r["records"] == records]
+    return good, [p for p in SHOWN if any(r["peer"] == p for r in good)]
+
+
+def picture_of_speeds(rows, records):
+    """An SVG of one size: of each workload the speed of each table over that of the fastest in the same round."""
+    good, peers = shown(rows, records)
     best = fastest(good)
     panels = []
     for shape in sorted({(r["workload"], r["threads"]) for r in good}):
         if shape[0] in TITLES and shape[1] in (1, 4):
             ratios = {p: [speed(r) / best[(r["round"], *shape)] for r in good if (r["peer"], r["workload"], r["threads"]) == (p, *shape)]
-                      for p in SHOWN}
+                      for p in peers}
             panels.append((title_of(*shape), {p: statistics.median(found) for p, found in ratios.items() if found}))
-    with open(path, "w") as f:
-        f.write(drawn(panels, most))
-
-
-def drawn(panels, records):
-    """Bars in SVG: of each panel, a title and the ratios of the tables that ran, two panels in a row."""
-    wide, bar, head, room, above = 338, 15, 26, 104, 28
-    tall = head + bar * len(SHOWN) + 10
-    label = '<text x="%d" y="%d" class="%s">%s</text>'
     says = "Speed over that of the fastest of the same round, %s records: longer is faster" % format(records, ",")
+    return drawn(panels, peers, says, "%.2f")
+
+
+def picture_of_bytes(rows, records):
+    """An SVG of one size: by how many bytes a record each table has made its process grow in W1."""
+    good, peers = shown(rows, records)
+    grown = {p: [r["rss_bytes"] / r["records"] for r in good if (r["peer"], r["workload"]) == (p, "W1")] for p in peers}
+    panel = {p: statistics.median(found) for p, found in grown.items() if found}
+    says = "Bytes a record of 16 + 16 bytes, %s records: shorter is smaller" % format(records, ",")
+    return drawn([("Growth of the process in W1", panel)], peers, says, "%.0f")
+
+
+def drawn(panels, peers, says, form):
+    """Bars in SVG: of each panel, a title and a number for each table that ran, at most two panels in a row."""
+    across = 2 if len(panels) > 1 else 1
+    wide, bar, head, room, above = 676 // across, 15, 26, 104, 28
+    tall = head + bar * len(peers) + 10
+    label = '<text x="%d" y="%d" class="%s">%s</text>'
     out = [label % (4, 16, "t", says)]
-    for n, (title, ratios) in enumerate(panels):
-        x, y = (n % 2) * wide, above + (n // 2) * tall
+    for n, (title, values) in enumerate(panels):
+        x, y = (n % across) * wide, above + (n // across) * tall
         out.append(label % (x + 4, y + 16, "t", title))
-        for k, (peer, name) in enumerate(SHOWN.items()):
-            top, here = y + head + k * bar, peer == "lh_bench"
-            out.append(label % (x + room, top + 11, "n me" if here else "n", name))
-            if peer not in ratios:
+        for k, peer in enumerate(peers):
+            top = y + head + k * bar
+            out.append(label % (x + room, top + 11, "n me" if peer in OURS else "n", SHOWN[peer]))
+            if peer not in values:
                 out.append(label % (x + room + 6, top + 11, "v", "not run"))
                 continue
-            length = ratios[peer] * (wide - room - 50)
-            out.append('<rect x="%d" y="%d" width="%.1f" height="%d" class="%s"/>' % (x + room + 4, top + 1, length, bar - 4, "b me" if here else "b"))
-            out.append(label % (x + room + 9 + length, top + 11, "v", "%.2f" % ratios[peer]))
+            length = values[peer] / max(values.values()) * (wide - room - 50)
+            out.append('<rect x="%d" y="%d" width="%.1f" height="%d" class="%s"/>' % (x + room + 4, top + 1, length, bar - 4, "b me" if peer in OURS else "b"))
+            out.append(label % (x + room + 9 + length, top + 11, "v", form % values[peer]))
     style = ("text{font:11px sans-serif;fill:#444}.t{font-weight:bold;fill:#111}.n{text-anchor:end}.me{font-weight:bold;fill:#111}"
              ".b{fill:#788ea3}.b.me{fill:#c2452d}")
-    size = (2 * wide, above + (len(panels) + 1) // 2 * tall)
-    means = ("Bars in groups, one for each workload, and in a group one for each table, with its number; this file's bar is red. "
-             "Medians of the rounds. " + " ".join("%s: this file %.2f." % (title, ratios["lh_bench"])
-                                                for title, ratios in panels if "lh_bench" in ratios))
+    size = (across * wide, above + -(-len(panels) // across) * tall)
+    means = "Bars, one for each table, in a group for each workload; those of this file are red. Medians of the rounds. " + " ".join(
+        "%s: %s." % (title, ", ".join("%s %s" % (SHOWN[peer], form % values[peer]) for peer in peers if peer in OURS and peer in values))
+        for title, values in panels)
     return ('<svg xmlns="http://www.w3.org/2000/svg" width="%d" height="%d" viewBox="0 0 %d %d" role="img" aria-labelledby="title desc">\n'
             '<title id="title">%s</title>\n<desc id="desc">%s</desc>\n<style>%s</style>\n'
             '<rect width="100%%" height="100%%" fill="#fff"/>\n%s\n</svg>\n' % (*size, *size, says, means, style, "\n".join(out)))
@@ -306,12 +320,15 @@ def main():
     a.add_argument("--append", action="store_true", help="keep the lines in the file and go on with their rounds")
     a.add_argument("--to", metavar="PEER", help="ratios to this peer, in place of the fastest")
     a.add_argument("--show", nargs="+", metavar="FILE", help="only print the table of these result files")
-    a.add_argument("--svg", metavar="FILE", help="draw the ratios to the fastest, too")
+    a.add_argument("--svg", metavar="FILE", help="draw the ratios to the fastest, too, of the greatest size or of --size")
+    a.add_argument("--svg-bytes", metavar="FILE", help="draw the bytes a record, too")
+    a.add_argument("--size", type=int, help="the size that is drawn")
     args = a.parse_args()
-    os.makedirs(os.path.dirname(args.out), exist_ok=True)
     if args.show:
         rows = [json.loads(line) for f in args.show for line in open(f)]
+        rows = [r for r in rows if not args.peers or r["peer"] in args.peers.split(",")]
     else:
+        os.makedirs(os.path.dirname(args.out), exist_ok=True)
         if args.quick:
             args.records, args.rounds = "3000,10000,100000", 1
         contestants = {}
@@ -321,8 +338,11 @@ def main():
             contestants[name or os.path.basename(path)] = [os.path.abspath(path), *words]
         rows = measure(args, contestants)
     tables(rows, args.to)
-    if args.svg:
-        picture(rows, args.svg)
+    size = args.size or max((r["records"] for r in rows), default=0)
+    for path, picture in [(args.svg, picture_of_speeds), (args.svg_bytes, picture_of_bytes)]:
+        if path:
+            with open(path, "w") as f:
+                f.write(picture(rows, size))
     return 0 if all(r["check"] in ("ok", "unsupported") for r in rows) else 1
 
 

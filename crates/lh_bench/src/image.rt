@@ -1,5 +1,6 @@
 //! A table that is written as images, one a file, read back and searched.
 ghost use Rattle.std.specs.Prelude.{IfOk};
+ghost use Rattle.lh_page.specs.Slots.{IsRoom};
 ghost use Rattle.lh_file.specs.FileState.{IsOf};
 ghost use Rattle.lh_shards.specs.Hands.{AreOf};
 
@@ -8,17 +9,17 @@ use crate::listed::{Listed, list};
 use crate::meter::{Stopwatch, TimeSpent};
 use crate::on_file::OnFile;
 use crate::on_shards::OnShards;
-use crate::order::Order;
+use crate::order::{Order, Room};
 use crate::report::Outcome;
 use crate::streams::Searches;
 use crate::table::Table;
 use crate::tally::Tally;
-use crate::workloads::{empty_file, empty_shards};
+use crate::workloads::{empty_shards, empty_sized_file};
 use anyhow::Result;
 use lh_bucket::Listing;
-use lh_file::{Hand, HashFile, NoGate};
+use lh_file::{Hand, NoGate, SizedFile, Unbranded, Untraced, WIDEST_ROOM};
 use lh_image::{Version, read_image, write_image, write_image_v1};
-use lh_shards::{Hands, Shards};
+use lh_shards::{Hands, SizedShards};
 use std::alloc::Global;
 use std::fs;
 use std::io::{BufReader, BufWriter, Write};
@@ -28,6 +29,12 @@ use std::sync::Wait;
 use std::time::CpuClock;
 
 const BUFFER: usize = 1 << 17;
+
+/// A file without history.
+type File<const ROOM: usize> = SizedFile<NoGate, Untraced, Unbranded, ROOM>;
+
+/// Files without history, as one.
+type Shards<const ROOM: usize> = SizedShards<Untraced, Unbranded, ROOM>;
 
 /// The path of the image of this file of a table.
 fn path_of(alloc: Global, file: u32) -> Result<String> {
@@ -69,19 +76,20 @@ where
 /// Inserts the records into an empty table, and writes images of it. Answers how long that took, and whether all were
 /// inserted.
 // The table is made, and it and the listings are let go, off the clock.
-fn write<R>(rt: &R, order: &Order) -> Result<(TimeSpent, bool)>
+fn write<R, const ROOM: usize>(rt: &R, order: &Order) -> Result<(TimeSpent, bool)>
 where
     R: Wait + Files + Clock + CpuClock + AllocGlobal,
+    requires { IsRoom ROOM }
 {
     match order.shards {
         None => {
-            let (file, hand) = empty_file(rt.alloc(), false)?;
+            let (file, hand) = empty_sized_file::<ROOM>(rt.alloc())?;
             let watch = Stopwatch::start(rt)?;
             let listed = list(rt, OnFile::new(&file, hand), order)?;
             write_listed(rt, order, &listed, watch)
         }
         Some(shards) => {
-            let (shards, hands) = empty_shards(rt.alloc(), shards)?;
+            let (shards, hands) = empty_shards::<ROOM>(rt.alloc(), shards)?;
             let watch = Stopwatch::start(rt)?;
             let listed = list(rt, OnShards::new(&shards, hands), order)?;
             write_listed(rt, order, &listed, watch)
@@ -97,21 +105,28 @@ fn read_listing(rt: &(impl Files + AllocGlobal), file: u32) -> Result<Listing> {
 }
 
 /// The file that was written.
-fn read_file(rt: &(impl Files + AllocGlobal)) -> Result<(HashFile<NoGate>, Hand)>
+fn read_file<R: Files + AllocGlobal, const ROOM: usize>(rt: &R) -> Result<(File<ROOM>, Hand)>
+    requires { IsRoom ROOM }
     ensures { IfOk result (λ made. IsOf made.0.state made.1) }
 {
     let listing = read_listing(rt, 0)?;
-    Ok(HashFile::open_from(rt.alloc(), &listing, false, NoGate)?)
+    File::<ROOM>::fit_listing(&listing)?;
+    Ok(File::open_from(rt.alloc(), &listing, false, NoGate)?)
 }
 
 /// The shards that were written.
-fn read_shards(rt: &(impl Files + AllocGlobal), shards: u32) -> Result<(Shards, Hands)>
+fn read_shards<R: Files + AllocGlobal, const ROOM: usize>(
+    rt: &R,
+    shards: u32,
+) -> Result<(Shards<ROOM>, Hands)>
+    requires { IsRoom ROOM }
     ensures { IfOk result (λ made. AreOf made.0 made.1) }
 {
     let mut listings = Vec::new(rt.alloc());
     for shard in 0..shards {
         listings.push(read_listing(rt, shard)?)?;
     }
+    Shards::<ROOM>::fit_listings(&listings)?;
     Ok(Shards::open_from(rt.alloc(), &listings, false)?)
 }
 
@@ -131,18 +146,19 @@ fn search_all<T: Table, R: Wait + Clock + CpuClock>(
 }
 
 /// Reads the images, and searches. Answers how long that took, and the replies.
-fn read<R>(rt: &R, order: &Order) -> Result<(TimeSpent, Tally)>
+fn read<R, const ROOM: usize>(rt: &R, order: &Order) -> Result<(TimeSpent, Tally)>
 where
     R: Wait + Files + Clock + CpuClock + AllocGlobal,
+    requires { IsRoom ROOM }
 {
     let watch = Stopwatch::start(rt)?;
     match order.shards {
         None => {
-            let (file, hand) = read_file(rt)?;
+            let (file, hand) = read_file::<R, ROOM>(rt)?;
             search_all(rt, OnFile::new(&file, hand), order, watch)
         }
         Some(shards) => {
-            let (shards, hands) = read_shards(rt, shards)?;
+            let (shards, hands) = read_shards::<R, ROOM>(rt, shards)?;
             search_all(rt, OnShards::new(&shards, hands), order, watch)
         }
     }
@@ -165,14 +181,15 @@ fn remove_images(rt: &(impl Files + AllocGlobal), order: &Order) -> Result<()> {
     Ok(())
 }
 
-/// Writes, reads and searches.
-pub fn write_and_read<R>(rt: &R, order: &Order) -> Result<Outcome>
+/// Writes, reads and searches a table whose records have this much room.
+fn write_and_read_sized<R, const ROOM: usize>(rt: &R, order: &Order) -> Result<Outcome>
 where
     R: Wait + Files + Clock + CpuClock + AllocGlobal,
+    requires { IsRoom ROOM }
 {
-    let (writing, is_written) = write(rt, order)?;
+    let (writing, is_written) = write::<R, ROOM>(rt, order)?;
     let file_bytes = bytes_on_disk(rt, order)?;
-    let (reading, tally) = read(rt, order)?;
+    let (reading, tally) = read::<R, ROOM>(rt, order)?;
     remove_images(rt, order)?;
     let is_due = is_written && tally.found == order.records;
     Ok(Outcome {
@@ -181,4 +198,15 @@ where
         file_bytes,
         ..Outcome::new(order.calls(), writing.with(reading), tally, is_due)
     })
+}
+
+/// Writes, reads and searches.
+pub fn write_and_read<R>(rt: &R, order: &Order) -> Result<Outcome>
+where
+    R: Wait + Files + Clock + CpuClock + AllocGlobal,
+{
+    match order.room {
+        Room::Any => write_and_read_sized::<R, WIDEST_ROOM>(rt, order),
+        Room::Bytes32 => write_and_read_sized::<R, 32>(rt, order),
+    }
 }

@@ -8,7 +8,7 @@ use crate::order::Order;
 use crate::table::Table;
 use crate::workloads::{empty_file, empty_shards, load};
 use anyhow::Result;
-use lh_bucket::Listing;
+use lh_bucket::{Listing, WIDEST_ROOM};
 use std::sync::Wait;
 
 /// The listings of a table that records were inserted into, one a file.
@@ -41,7 +41,7 @@ pub fn list_table<R: Wait + AllocGlobal>(rt: &R, order: &Order) -> Result<Listed
             list(rt, OnFile::new(&file, hand), order)
         }
         Some(shards) => {
-            let (shards, hands) = empty_shards(rt.alloc(), shards)?;
+            let (shards, hands) = empty_shards::<WIDEST_ROOM>(rt.alloc(), shards)?;
             list(rt, OnShards::new(&shards, hands), order)
         }
     }

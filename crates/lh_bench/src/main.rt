@@ -6,10 +6,11 @@
 //! ```
 //!
 //! With `--shards 16` the table is 16 files as one, and the line says so. With `--traced` the file is traced, and the
-//! line says so. `--workload all` runs on a file first, and then on what of both is asked for. With `--lent` the calls
-//! are those without an answer, and a value is compared where it is lent. With `--image 1` the image of W5 and W10 is
-//! one of version 1, which has room for its records too. With `--longest` each insert of W1 is timed, and the line
-//! tells the longest.
+//! line says so. With `--room 32` each record has room for 32 bytes of key and value, and the line says so.
+//! `--workload all` runs on a file first, and then on what of these is asked for. With `--lent` the calls are those
+//! without an answer, and a value is compared where it is lent. With `--image 1` the image of W5 and W10 is one of
+//! version 1, which has room for its records too. With `--longest` each insert of W1 is timed, and the line tells the
+//! longest.
 #![tactic(auto)]
 
 mod caller;
@@ -39,7 +40,7 @@ mod tally;
 mod units;
 mod workloads;
 
-use crate::order::{Asked, Order, Workload, read_words};
+use crate::order::{Asked, Order, Room, Workload, read_words};
 use crate::report::{Form, Outcome, unsupported};
 use anyhow::{Result, bail};
 use std::env;
@@ -102,9 +103,9 @@ where
     Ok(())
 }
 
-/// Runs one workload on an untraced file, and then on a traced one and on shards, where they are asked for and it may
-/// run on them.
-fn run_on_each<R>(rt: &R, order: &Order, form: Form) -> Result<()>
+/// Runs one workload with this room on an untraced file, and then on a traced one and on shards, where they are asked
+/// for and it may run on them.
+fn run_in_room<R>(rt: &R, order: &Order, form: Form) -> Result<()>
 where
     R: Runtime + AllocGlobal + CpuClock + Threads + Wait + Sync,
 {
@@ -127,6 +128,22 @@ where
             ..plain
         };
         run_one(rt, &sharded, form)?;
+    }
+    Ok(())
+}
+
+/// Runs one workload with room for any record, and then with the room that is asked for, where it may have that.
+fn run_on_each<R>(rt: &R, order: &Order, form: Form) -> Result<()>
+where
+    R: Runtime + AllocGlobal + CpuClock + Threads + Wait + Sync,
+{
+    let wide = Order {
+        room: Room::Any,
+        ..*order
+    };
+    run_in_room(rt, &wide, form)?;
+    if order.room != Room::Any && order.may_have_little_room() {
+        run_in_room(rt, order, form)?;
     }
     Ok(())
 }

@@ -1,14 +1,13 @@
 //! The workloads' calls on a file.
-ghost use Rattle.std.specs.Prelude.{◌≡◌, OnOk};
-ghost use Rattle.lh_page.specs.Slots.{FitsRoom};
+ghost use Rattle.std.specs.Prelude.{◌≡◌};
 ghost use Rattle.lh_file.specs.FileState.{IsOf};
 
 use crate::contents::Contents;
 use crate::counting::{counter, one_more};
 use crate::passes::Met;
-use crate::table::{CALLS, Table};
+use crate::table::{CALLS, Table, check_room};
 use anyhow::Result;
-use lh_bucket::{Answer, SizedBucket};
+use lh_bucket::Answer;
 use lh_file::{Closed, FileBrand, FileFault, Hand, Mode, NoGate, Scan, SizedFile};
 use lh_page::{Key, Value};
 use std::marker::Model;
@@ -38,18 +37,6 @@ impl<'a, M: Mode, J: FileBrand, const ROOM: usize> OnFile<'a, M, J, ROOM> {
         ensures { result ≡ hand }
     {
         OnFile { file, hand }
-    }
-}
-
-/// Makes sure that a record has room. A workload with longer records is run with room for any alone.
-#[inline(always)]
-fn check_room<const ROOM: usize>(key: &Key, value: &Value) -> Result<(), FileFault>
-    ensures { OnOk result (FitsRoom ROOM key.now value.now) }
-{
-    if SizedBucket::<ROOM>::fits(key, value) {
-        Ok(())
-    } else {
-        Err(FileFault::Memory)
     }
 }
 

@@ -6,23 +6,26 @@ ghost use Rattle.lh_shards.specs.Hands.{AreOf, IsCount};
 use crate::contents::Contents;
 use crate::counting::{counter, one_more};
 use crate::passes::Met;
-use crate::table::{CALLS, Table};
+use crate::table::{CALLS, Table, check_room};
 use anyhow::Result;
 use lh_bucket::Answer;
-use lh_file::{Closed, FileFault};
+use lh_file::{Closed, FileFault, Unbranded, Untraced};
 use lh_page::{Key, Value};
-use lh_shards::{Hands, ShardScan, Shards};
+use lh_shards::{Hands, ShardScan, SizedShards};
 use std::marker::Model;
 use std::sync::Wait;
 
+/// Files without history, as one.
+type Shards<const ROOM: usize> = SizedShards<Untraced, Unbranded, ROOM>;
+
 /// Shards, and hands of them.
 #[derive(Drop)]
-pub struct OnShards<'a> {
-    shards: &'a Shards,
+pub struct OnShards<'a, const ROOM: usize> {
+    shards: &'a Shards<ROOM>,
     hands: Hands,
 }
 
-impl<'a> Model for OnShards<'a> {
+impl<'a, const ROOM: usize> Model for OnShards<'a, ROOM> {
     ghost use Rattle.std.specs.Prelude.{List};
     ghost use Rattle.lh_file.specs.Words.HandState.{HandState};
     ghost use Rattle.lh_shards.specs.Hands.{AreOf};
@@ -34,8 +37,8 @@ impl<'a> Model for OnShards<'a> {
     ghost invariant = { λ own. AreOf own.shards.now own.hands };
 }
 
-impl<'a> OnShards<'a> {
-    pub fn new(shards: &'a Shards, hands: Hands) -> OnShards<'a>
+impl<'a, const ROOM: usize> OnShards<'a, ROOM> {
+    pub fn new(shards: &'a Shards<ROOM>, hands: Hands) -> OnShards<'a, ROOM>
         requires { AreOf shards.now hands }
         ensures { result ≡ hands }
     {
@@ -44,9 +47,9 @@ impl<'a> OnShards<'a> {
 }
 
 /// A snapshot of each shard, one after another.
-fn snapshots_of<R: Wait + AllocGlobal>(
+fn snapshots_of<R: Wait + AllocGlobal, const ROOM: usize>(
     rt: &R,
-    shards: &Shards,
+    shards: &Shards<ROOM>,
     hands: &mut Hands,
 ) -> Result<Vec<Closed>>
     requires { AreOf shards.now hands.old }
@@ -63,9 +66,9 @@ fn snapshots_of<R: Wait + AllocGlobal>(
 }
 
 /// Adds what a scan of a shard meets.
-fn meet<R: Wait + AllocGlobal>(
+fn meet<R: Wait + AllocGlobal, const ROOM: usize>(
     rt: &R,
-    shards: &Shards,
+    shards: &Shards<ROOM>,
     hands: &mut Hands,
     shard: u32,
     met: &mut Met,
@@ -85,7 +88,11 @@ fn meet<R: Wait + AllocGlobal>(
 }
 
 /// What scans of all shards meet.
-fn met_by_scans<R: Wait + AllocGlobal>(rt: &R, shards: &Shards, hands: &mut Hands) -> Result<Met>
+fn met_by_scans<R: Wait + AllocGlobal, const ROOM: usize>(
+    rt: &R,
+    shards: &Shards<ROOM>,
+    hands: &mut Hands,
+) -> Result<Met>
     requires { AreOf shards.now hands.old }
     ensures { AreOf shards.now hands.new }
 {
@@ -96,7 +103,7 @@ fn met_by_scans<R: Wait + AllocGlobal>(rt: &R, shards: &Shards, hands: &mut Hand
     Ok(met)
 }
 
-impl<'a> Table for OnShards<'a> {
+impl<'a, const ROOM: usize> Table for OnShards<'a, ROOM> {
     #[inline(always)]
     fn search<R: Wait>(&mut self, rt: &R, key: Key) -> Result<Answer, FileFault> {
         self.shards.search(rt, &mut self.hands, key)
@@ -104,6 +111,7 @@ impl<'a> Table for OnShards<'a> {
 
     #[inline(always)]
     fn insert<R: Wait>(&mut self, rt: &R, key: Key, value: Value) -> Result<Answer, FileFault> {
+        check_room::<ROOM>(&key, &value)?;
         self.shards.insert(rt, &mut self.hands, key, value)
     }
 
@@ -114,6 +122,7 @@ impl<'a> Table for OnShards<'a> {
 
     #[inline(always)]
     fn replace<R: Wait>(&mut self, rt: &R, key: Key, value: Value) -> Result<Answer, FileFault> {
+        check_room::<ROOM>(&key, &value)?;
         self.shards.replace(rt, &mut self.hands, key, value)
     }
 
@@ -131,11 +140,13 @@ impl<'a> Table for OnShards<'a> {
 
     #[inline(always)]
     fn put<R: Wait>(&mut self, rt: &R, key: &Key, value: &Value) -> Result<bool, FileFault> {
+        check_room::<ROOM>(key, value)?;
         self.shards.put(rt, &mut self.hands, key, value)
     }
 
     #[inline(always)]
     fn set<R: Wait>(&mut self, rt: &R, key: &Key, value: &Value) -> Result<bool, FileFault> {
+        check_room::<ROOM>(key, value)?;
         self.shards.set(rt, &mut self.hands, key, value)
     }
 
@@ -146,13 +157,18 @@ impl<'a> Table for OnShards<'a> {
 
     #[inline(always)]
     fn count<R: Wait>(&mut self, rt: &R, key: &Key) -> Result<bool, FileFault> {
+        let first = counter(1);
+        check_room::<ROOM>(key, &first)?;
         self.shards
-            .merge(rt, &mut self.hands, key, &counter(1), one_more)
+            .merge(rt, &mut self.hands, key, &first, one_more)
     }
 
-    fn divide(&mut self) -> Result<OnShards<'a>> {
+    fn divide(&mut self) -> Result<OnShards<'a, ROOM>> {
         let hands = self.shards.split_hands(&mut self.hands, CALLS)?;
-        Ok(OnShards::new(self.shards, hands))
+        Ok(OnShards {
+            shards: self.shards,
+            hands,
+        })
     }
 
     fn buckets(&mut self) -> u64 {

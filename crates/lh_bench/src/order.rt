@@ -252,7 +252,7 @@ impl Order {
         } else if is_sharded && !self.workload.may_shard() {
             Some("it has one file")
         } else if self.room != Room::Any && !self.may_have_little_room() {
-            Some("its records, or files, have room for any record")
+            Some("its records have room for any record")
         } else if self.longest && self.workload != Workload::Inserts {
             Some("W1 alone tells its longest insert")
         } else {
@@ -265,11 +265,17 @@ impl Order {
         self.workload.may_trace() && self.shards.is_none()
     }
 
-    /// Whether it can be run with room for its records alone: on an untraced file, with keys and values of 16 bytes.
-    fn may_have_little_room(&self) -> bool {
-        self.may_trace()
-            && !self.traced
-            && !matches!(self.workload, Workload::Replaces | Workload::LongRecords)
+    /// Whether it can be run with room for its records alone: where their keys and values have 16 bytes.
+    pub fn may_have_little_room(&self) -> bool {
+        !matches!(
+            self.workload,
+            Workload::Replaces
+                | Workload::LongRecords
+                | Workload::LookUps
+                | Workload::Steps
+                | Workload::Settling
+                | Workload::All
+        )
     }
 
     /// Whether an image is written of another version than a program writes that isn't asked for one.
@@ -343,7 +349,7 @@ fn command<'a>(alloc: Global) -> Result<Command<'a>, Error> {
         .action(ArgAction::SetTrue);
     let room = Arg::new(alloc, "room")
         .long("room")
-        .help("Bytes of room that a record has")
+        .help("Bytes of room that a record has; with all, beside room for any record")
         .action(ArgAction::Set)
         .value_parser(ValueParser::Names(&ROOMS))
         .default_value("168");

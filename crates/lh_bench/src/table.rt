@@ -1,12 +1,13 @@
 //! What the workloads call.
-ghost use Rattle.std.specs.Prelude.{All, IfOk, length};
+ghost use Rattle.std.specs.Prelude.{All, IfOk, OnOk, length};
+ghost use Rattle.lh_page.specs.Slots.{FitsRoom};
 ghost use Rattle.lh_settling.specs.ClosedFile.{IsWhole};
 ghost use Rattle.lh_shards.specs.Hands.{IsCount};
 
 use crate::contents::Contents;
 use crate::passes::Met;
 use anyhow::Result;
-use lh_bucket::Answer;
+use lh_bucket::{Answer, SizedBucket};
 use lh_file::{Closed, FileFault};
 use lh_page::{Key, Value};
 use std::sync::Wait;
@@ -55,3 +56,15 @@ pub trait Table: Drop {
 
 /// How many calls each thread may make: more than there will be.
 pub const CALLS: u64 = 1 << 40;
+
+/// Makes sure that a record has room. A workload with longer records is run with room for any alone.
+#[inline(always)]
+pub fn check_room<const ROOM: usize>(key: &Key, value: &Value) -> Result<(), FileFault>
+    ensures { OnOk result (FitsRoom ROOM key.now value.now) }
+{
+    if SizedBucket::<ROOM>::fits(key, value) {
+        Ok(())
+    } else {
+        Err(FileFault::Memory)
+    }
+}

@@ -17,7 +17,7 @@ use crate::tally::Tally;
 use anyhow::{Result, bail};
 use lh_addr::Config;
 use lh_file::{Hand, HashFile, NoGate, SizedFile, Unbranded, Untraced};
-use lh_shards::{Hands, Shards};
+use lh_shards::{Hands, SizedShards};
 use std::alloc::Global;
 use std::rt::{Clock, Files};
 use std::sync::Wait;
@@ -49,11 +49,15 @@ pub fn empty_sized_file<const ROOM: usize>(
     Ok(SizedFile::create(alloc, settings()?, false, NoGate)?)
 }
 
-/// This many empty files with these settings, as one table.
-pub fn empty_shards(alloc: Global, shards: u32) -> Result<(Shards, Hands)>
+/// This many empty files with these settings whose records have this much room, as one table.
+pub fn empty_shards<const ROOM: usize>(
+    alloc: Global,
+    shards: u32,
+) -> Result<(SizedShards<Untraced, Unbranded, ROOM>, Hands)>
+    requires { IsRoom ROOM }
     ensures { IfOk result (λ made. AreOf made.0 made.1) }
 {
-    Ok(Shards::create(alloc, settings()?, shards, false)?)
+    Ok(SizedShards::create(alloc, settings()?, shards, false)?)
 }
 
 /// The inserts of each `stride`th record.
