@@ -4,6 +4,7 @@ mod devices;
 mod draw;
 mod drive;
 mod drive_shards;
+mod get;
 mod images;
 mod memory;
 mod replay;

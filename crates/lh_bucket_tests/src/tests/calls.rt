@@ -58,7 +58,7 @@ pub(super) fn expect_replies<B: Bucket>(
     ensures { (B.seen bucket.new).head ≡ (B.seen bucket.old).head }
 {
     for (call, reply) in rows {
-        expect_eq!(rt; reply_of(bucket, *call)?, *reply);
+        expect_eq!(rt, reply_of(bucket, *call)?, *reply);
     }
     Ok(())
 }
@@ -94,7 +94,11 @@ fn calls_are_of_kinds(rt: HostRuntime) -> Result<(), Fail> {
         (Call::Delete(record.key), false, false),
         (Call::Replace(record.key, record.value), false, false),
     ] {
-        expect_eq!(rt; (call.is_search(), call.is_insert()), (is_search, is_insert));
+        expect_eq!(
+            &rt,
+            (call.is_search(), call.is_insert()),
+            (is_search, is_insert)
+        );
     }
     Ok(())
 }

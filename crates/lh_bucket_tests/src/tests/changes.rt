@@ -56,12 +56,12 @@ fn reply_to(rt: &impl Abort, bucket: &mut PagedBucket, change: Change<'_>) -> Re
         Ok(answer) => answer,
         Err(Memory) => {
             expect_eq!(rt; bucket.len(), count);
-            expect_eq!(rt; bucket.find(change.key()), None);
+            expect_eq!(rt, bucket.find(change.key()), None);
             change_here(bucket, change)?
         }
     };
     let answer = answer.ok_or("not the bucket")?;
-    expect_eq!(rt; answer.call(), change.call());
+    expect_eq!(rt, answer.call(), change.call());
     Ok(answer.reply())
 }
 
@@ -83,9 +83,9 @@ fn expect_found(
     reply: Reply,
 ) -> Result<(), Fail> {
     let met = search_here(bucket, key).ok_or("not the bucket")?;
-    expect_eq!(rt; met.call(), Call::Search(*key));
+    expect_eq!(rt, met.call(), Call::Search(*key));
     expect_eq!(rt; met.reply(), reply);
-    expect_eq!(rt; (met.bucket(), met.level(), met.initial()), (0, 0, 1));
+    expect_eq!(rt, (met.bucket(), met.level(), met.initial()), (0, 0, 1));
     Ok(())
 }
 
@@ -98,7 +98,7 @@ fn serve_changes(rt: &impl Abort, bucket: &mut PagedBucket) -> Result<(), Fail> 
     let delete = Change::Delete(&key);
     expect_reply(rt, bucket, delete, Reply::Absent)?;
     expect_reply(rt, bucket, replace, Reply::Absent)?;
-    expect_eq!(rt; bucket.len(), 0);
+    expect_eq!(rt, bucket.len(), 0);
     expect_reply(rt, bucket, insert, Reply::Inserted)?;
     expect_reply(rt, bucket, again, Reply::Exists)?;
     expect_found(rt, bucket, &key, Reply::Found(value))?;
@@ -125,7 +125,7 @@ fn expect_home(rt: &impl Abort, bucket: &PagedBucket) -> Result<(), Fail> {
     let code = fnv1a(b"a");
     let home = home_here(bucket, code).ok_or("not the bucket")?;
     expect_eq!(rt; home.code(), code);
-    expect_eq!(rt; (home.bucket(), home.level(), home.initial()), (0, 0, 1));
+    expect_eq!(rt, (home.bucket(), home.level(), home.initial()), (0, 0, 1));
     Ok(())
 }
 
@@ -138,11 +138,11 @@ fn a_home_names_its_bucket(rt: HostRuntime) -> Result<(), Fail> {
 fn calls_are_changes(rt: HostRuntime) -> Result<(), Fail> {
     let a = pair(b"a", b"1")?;
     let insert = Call::Insert(a.key, a.value);
-    expect!(rt; Change::of_call(&Call::Search(a.key)).is_none());
+    expect!(&rt, Change::of_call(&Call::Search(a.key)).is_none());
     let change = Change::of_call(&insert).ok_or("a search")?;
-    expect_eq!(rt; change.key(), &a.key);
+    expect_eq!(&rt, change.key(), &a.key);
     expect_eq!(rt; change.call(), insert);
-    expect_eq!(rt; ChangeReply::Exists.reply(), Reply::Exists);
-    expect_ne!(rt; ChangeReply::Exists, ChangeReply::Inserted);
+    expect_eq!(&rt, ChangeReply::Exists.reply(), Reply::Exists);
+    expect_ne!(&rt, ChangeReply::Exists, ChangeReply::Inserted);
     Ok(())
 }

@@ -68,12 +68,13 @@ fn listings_name_their_first_fault(rt: HostRuntime) -> Result<(), Fail> {
         bucket: 0,
         place: 1,
     });
-    expect_eq!(rt; fault_of(alloc, 0, &[])?, Some(ListingFault::Shape));
-    expect_eq!(rt;
+    expect_eq!(&rt, fault_of(alloc, 0, &[])?, Some(ListingFault::Shape));
+    expect_eq!(
+        &rt,
         fault_of(alloc, 5, &[b"", b"", b"", b"", b""])?,
         Some(ListingFault::Shape)
     );
-    expect_eq!(rt; fault_of(alloc, 2, &[b"a"])?, Some(ListingFault::Shape));
+    expect_eq!(&rt, fault_of(alloc, 2, &[b"a"])?, Some(ListingFault::Shape));
     expect_eq!(rt; fault_of(alloc, 2, &[b"", b"a"])?, misplaced);
     expect_eq!(rt; fault_of(alloc, 2, &[b"aa", b""])?, twice);
     expect_eq!(rt; fault_of(alloc, 2, &[b"aa", b"a"])?, misplaced);
@@ -83,20 +84,20 @@ fn listings_name_their_first_fault(rt: HostRuntime) -> Result<(), Fail> {
 /// Listings without a record.
 fn expect_empty(rt: &impl Abort, alloc: Global, config: Config) -> Result<(), Fail> {
     let widest = Config::new(256, 14, 100, 256).ok().ok_or("config")?;
-    expect_eq!(rt; Listing::empty(alloc, widest)?.buckets(), 256);
+    expect_eq!(rt, Listing::empty(alloc, widest)?.buckets(), 256);
     let empty = Listing::empty(alloc, config)?;
-    expect_eq!(rt; empty.buckets(), 2);
-    expect_eq!(rt; empty.len(), 0);
+    expect_eq!(rt, empty.buckets(), 2);
+    expect_eq!(rt, empty.len(), 0);
     Ok(())
 }
 
 fn expect_three_records(rt: &impl Abort, config: Config, listing: &Listing) -> Result<(), Fail> {
     let due = pair(b"a", b"1")?;
     expect_eq!(rt; listing.config(), config);
-    expect_eq!(rt; listing.buckets(), 2);
-    expect_eq!(rt; Some(listing.root()), Root::new(2, 2));
-    expect_eq!(rt; listing.len(), 3);
-    expect_eq!(rt; listing.len_of(0), 2);
+    expect_eq!(rt, listing.buckets(), 2);
+    expect_eq!(rt, Some(listing.root()), Root::new(2, 2));
+    expect_eq!(rt, listing.len(), 3);
+    expect_eq!(rt, listing.len_of(0), 2);
     expect_eq!(rt; listing.pair_at(0, 1), due);
     Ok(())
 }
@@ -149,8 +150,8 @@ pub(super) fn bucket_of<const ROOM: usize>(
 }
 
 fn expect_filled(rt: &impl Abort, alloc: Global, bucket: &PagedBucket) -> Result<(), Fail> {
-    expect_eq!(rt; keys_of(alloc, bucket)?.as_slice(), b"ca".as_slice());
-    expect_eq!(rt; (bucket.number(), bucket.level()), (0, Some(0)));
+    expect_eq!(rt, keys_of(alloc, bucket)?.as_slice(), b"ca".as_slice());
+    expect_eq!(rt, (bucket.number(), bucket.level()), (0, Some(0)));
     Ok(())
 }
 
@@ -160,7 +161,7 @@ fn a_bucket_is_filled_with_a_list(rt: HostRuntime) -> Result<(), Fail> {
     let alloc = rt.alloc();
     let config = Config::new(2, 14, 100, 4).ok().ok_or("config")?;
     let listing = Listing::new(alloc, config, 2, lists_of(alloc, &[b"ca", b"b"])?)?;
-    expect_eq!(rt; listing.pairs_of(0).len(), 2);
+    expect_eq!(&rt, listing.pairs_of(0).len(), 2);
     expect_filled(&rt, alloc, &bucket_of(alloc, &listing, 0)?)
 }
 
@@ -177,7 +178,8 @@ fn long_list(alloc: Global, last: u8) -> Result<Vec<Vec<Pair>>, Fail> {
 }
 
 fn expect_twice(rt: &impl Abort, alloc: Global, config: Config) -> Result<(), Fail> {
-    expect_eq!(rt;
+    expect_eq!(
+        rt,
         Listing::new(alloc, config, 1, long_list(alloc, 0)?).err(),
         Some(ListingFault::Twice {
             bucket: 0,
@@ -188,10 +190,10 @@ fn expect_twice(rt: &impl Abort, alloc: Global, config: Config) -> Result<(), Fa
 }
 
 fn expect_hundred(rt: &impl Abort, alloc: Global, listing: &Listing) -> Result<(), Fail> {
-    expect_eq!(rt; listing.len(), 100);
-    expect_eq!(rt; listing.buckets(), 1);
+    expect_eq!(rt, listing.len(), 100);
+    expect_eq!(rt, listing.buckets(), 1);
     let bucket: PagedBucket = bucket_of(alloc, listing, 0)?;
-    expect_eq!(rt; bucket.len(), 100);
+    expect_eq!(rt, bucket.len(), 100);
     Ok(())
 }
 

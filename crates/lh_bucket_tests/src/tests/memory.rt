@@ -13,10 +13,10 @@ use std::test::Fail;
 
 /// The bucket has the records of these letters in this order, each with a 1 as its value.
 fn expect_records<B: Bucket>(rt: &impl Abort, bucket: &B, letters: &[u8]) -> Result<(), Fail> {
-    expect_eq!(rt; bucket.len(), letters.len());
+    expect_eq!(rt, bucket.len(), letters.len());
     for (place, letter) in letters.iter().enumerate() {
-        expect!(rt; place < bucket.len());
-        expect_eq!(rt; bucket.pair_at(place), pair(&[*letter], b"1")?);
+        expect!(rt, place < bucket.len());
+        expect_eq!(rt, bucket.pair_at(place), pair(&[*letter], b"1")?);
     }
     Ok(())
 }
@@ -34,12 +34,16 @@ fn insert_again<B: Bucket>(
     let call = Call::Insert(record.key, record.value);
     match serve_here(bucket, &call, 0) {
         Ok(answer) => {
-            expect_eq!(rt; answer.ok_or("not the bucket")?.reply(), Reply::Inserted);
+            expect_eq!(rt, answer.ok_or("not the bucket")?.reply(), Reply::Inserted);
         }
         Err(Memory) => {
             expect_records(rt, bucket, letters)?;
-            expect_eq!(rt; reply_of(bucket, Call::Search(record.key))?, Reply::Absent);
-            expect_eq!(rt; reply_of(bucket, call)?, Reply::Inserted);
+            expect_eq!(
+                rt,
+                reply_of(bucket, Call::Search(record.key))?,
+                Reply::Absent
+            );
+            expect_eq!(rt, reply_of(bucket, call)?, Reply::Inserted);
         }
     }
     Ok(())
@@ -60,7 +64,7 @@ fn split_again<B: Bucket>(
         Err(Memory) => {
             expect_records(rt, old, letters)?;
             expect_records(rt, new, b"")?;
-            expect_eq!(rt; (old.level(), new.level()), (Some(0), None));
+            expect_eq!(rt, (old.level(), new.level()), (Some(0), None));
             old.split_into(new)?;
             Ok(())
         }
@@ -78,7 +82,7 @@ fn grow<B: Bucket>(rt: &impl Abort, old: &mut B, new: &mut B) -> Result<(), Fail
     split_again(rt, old, new, letters)?;
     expect_records(rt, old, b"acegi")?;
     expect_records(rt, new, b"bdfhj")?;
-    expect_eq!(rt; (old.level(), new.level()), (Some(1), Some(1)));
+    expect_eq!(rt, (old.level(), new.level()), (Some(1), Some(1)));
     Ok(())
 }
 
@@ -144,9 +148,9 @@ fn refused_growth_of_a_listing_is_told(rt: HostRuntime) -> Result<(), Fail> {
     let (bucket, place) = (1, 1);
     let misplaced = Err(ListingFault::Misplaced { bucket, place });
     let alloc = rt.alloc();
-    expect_eq!(rt; listed_again(alloc, config, &[a, c], &[b]), Ok(3));
+    expect_eq!(&rt, listed_again(alloc, config, &[a, c], &[b]), Ok(3));
     expect_eq!(rt; listed_again(alloc, config, &[a, c, a], &[b]), twice);
     expect_eq!(rt; listed_again(alloc, config, &[a, c], &[b, a]), misplaced);
-    expect_eq!(rt; empty_again(alloc, config)?, (1, 0));
+    expect_eq!(&rt, empty_again(alloc, config)?, (1, 0));
     Ok(())
 }

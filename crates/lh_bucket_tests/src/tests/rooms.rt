@@ -58,7 +58,11 @@ fn replace_all<const ROOM: usize>(
         if !SizedBucket::<ROOM>::fits(&record.key, &record.value) {
             return Err("no room")?;
         }
-        expect_eq!(rt; served(bucket, Change::Replace(&record.key, &record.value))?, ChangeReply::Replaced);
+        expect_eq!(
+            rt,
+            served(bucket, Change::Replace(&record.key, &record.value))?,
+            ChangeReply::Replaced
+        );
     }
     Ok(())
 }
@@ -144,7 +148,11 @@ fn delete<const ROOM: usize>(
 ) -> Result<(), Fail>
     ensures { bucket.new.head ≡ bucket.old.head }
 {
-    expect_eq!(rt; served(bucket, Change::Delete(key))?, ChangeReply::Deleted);
+    expect_eq!(
+        rt,
+        served(bucket, Change::Delete(key))?,
+        ChangeReply::Deleted
+    );
     expect_records(rt, alloc, bucket, due)
 }
 
@@ -240,8 +248,16 @@ fn a_room_of_two_bytes_has_a_byte_for_each(rt: HostRuntime) -> Result<(), Fail> 
 fn change_longest(rt: &impl Abort, alloc: Global, bucket: &mut PagedBucket) -> Result<(), Fail> {
     let longest = pair(&[b'k'; 56], &[b'v'; 112])?;
     let empty = pair(&[b'k'; 56], b"")?;
-    expect_eq!(rt; served(bucket, Change::Insert(&empty.key, &empty.value))?, ChangeReply::Inserted);
-    expect_eq!(rt; served(bucket, Change::Replace(&longest.key, &longest.value))?, ChangeReply::Replaced);
+    expect_eq!(
+        rt,
+        served(bucket, Change::Insert(&empty.key, &empty.value))?,
+        ChangeReply::Inserted
+    );
+    expect_eq!(
+        rt,
+        served(bucket, Change::Replace(&longest.key, &longest.value))?,
+        ChangeReply::Replaced
+    );
     expect_records(rt, alloc, bucket, &[longest])
 }
 
@@ -261,8 +277,12 @@ fn expect_filled(
     bucket: &SizedBucket<2>,
     records: &[Pair],
 ) -> Result<(), Fail> {
-    expect_eq!(rt; (bucket.number(), bucket.initial()), (0, 2));
-    expect_eq!(rt; (bucket.capacity(), bucket.level(), bucket.len()), (14, Some(0), 2));
+    expect_eq!(rt, (bucket.number(), bucket.initial()), (0, 2));
+    expect_eq!(
+        rt,
+        (bucket.capacity(), bucket.level(), bucket.len()),
+        (14, Some(0), 2)
+    );
     expect_records(rt, alloc, bucket, records)
 }
 
@@ -271,7 +291,7 @@ fn a_small_bucket_is_filled_with_a_list(rt: HostRuntime) -> Result<(), Fail> {
     let alloc = rt.alloc();
     let config = Config::new(2, 14, 100, 4).ok().ok_or("config")?;
     let listing = Listing::new(alloc, config, 2, lists_of(alloc, &[b"ca", b"b"])?)?;
-    expect!(rt; !all_fit::<1>(listing.pairs_of(0)));
+    expect!(&rt, !all_fit::<1>(listing.pairs_of(0)));
     expect_filled(
         &rt,
         alloc,

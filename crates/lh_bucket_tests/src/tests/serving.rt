@@ -57,10 +57,10 @@ fn serves_calls<B: Bucket>(rt: &impl Abort, bucket: &mut B) -> Result<(), Fail> 
             (Call::Search(a.key), Reply::Found(a.value)),
         ],
     )?;
-    expect_eq!(rt; bucket.len(), 1);
+    expect_eq!(rt, bucket.len(), 1);
     fill(bucket, b"bcdefg", 0)?;
     expect_all_there(rt, bucket, b"abcdefg")?;
-    expect_eq!(rt; bucket.len(), 7);
+    expect_eq!(rt, bucket.len(), 7);
     expect_replies(
         rt,
         bucket,
@@ -74,7 +74,11 @@ fn serves_calls<B: Bucket>(rt: &impl Abort, bucket: &mut B) -> Result<(), Fail> 
 fn bucket_serves_calls<B: Bucket>(rt: &impl Abort, alloc: Global) -> Result<(), Fail> {
     let mut bucket = B::make(alloc, 1, 2, 0, Some(0))?;
     serves_calls(rt, &mut bucket)?;
-    expect_eq!(rt; (bucket.number(), bucket.initial(), bucket.capacity()), (0, 1, 2));
+    expect_eq!(
+        rt,
+        (bucket.number(), bucket.initial(), bucket.capacity()),
+        (0, 1, 2)
+    );
     Ok(())
 }
 
@@ -89,7 +93,7 @@ fn replaces_values<B: Bucket>(rt: &impl Abort, alloc: Global, bucket: &mut B) ->
     let replace = Call::Replace(b.key, b.value);
     let empty = Value::new(b"")?;
     expect_replies(rt, bucket, &[(replace, Reply::Absent)])?;
-    expect_eq!(rt; bucket.len(), 0);
+    expect_eq!(rt, bucket.len(), 0);
     fill(bucket, b"abc", 0)?;
     expect_replies(
         rt,
@@ -99,7 +103,7 @@ fn replaces_values<B: Bucket>(rt: &impl Abort, alloc: Global, bucket: &mut B) ->
             (Call::Search(b.key), Reply::Found(b.value)),
         ],
     )?;
-    expect_eq!(rt; keys_of(alloc, bucket)?.as_slice(), b"abc".as_slice());
+    expect_eq!(rt, keys_of(alloc, bucket)?.as_slice(), b"abc".as_slice());
     expect_replies(
         rt,
         bucket,
@@ -134,9 +138,13 @@ fn look_here<B: Bucket>(bucket: &B, key: Key) -> Option<Answer>
 fn expect_found<B: Bucket>(rt: &impl Abort, bucket: &B) -> Result<(), Fail> {
     let record = pair(b"b", b"b")?;
     let answer = look_here(bucket, record.key).ok_or("not the bucket")?;
-    expect_eq!(rt; answer.call(), Call::Search(record.key));
-    expect_eq!(rt; answer.reply(), Reply::Found(record.value));
-    expect_eq!(rt; (answer.bucket(), answer.level(), answer.initial()), (0, 0, 1));
+    expect_eq!(rt, answer.call(), Call::Search(record.key));
+    expect_eq!(rt, answer.reply(), Reply::Found(record.value));
+    expect_eq!(
+        rt,
+        (answer.bucket(), answer.level(), answer.initial()),
+        (0, 0, 1)
+    );
     Ok(())
 }
 

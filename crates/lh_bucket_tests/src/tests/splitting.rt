@@ -19,10 +19,10 @@ fn divide_three_keys<B: Bucket>(
 {
     fill(old, b"abc", 0)?;
     old.split_into(new)?;
-    expect_eq!(rt; keys_of(alloc, old)?.as_slice(), b"ac".as_slice());
-    expect_eq!(rt; keys_of(alloc, new)?.as_slice(), b"b".as_slice());
-    expect_eq!(rt; old.level(), Some(1));
-    expect_eq!(rt; new.level(), Some(1));
+    expect_eq!(rt, keys_of(alloc, old)?.as_slice(), b"ac".as_slice());
+    expect_eq!(rt, keys_of(alloc, new)?.as_slice(), b"b".as_slice());
+    expect_eq!(rt, old.level(), Some(1));
+    expect_eq!(rt, new.level(), Some(1));
     Ok(())
 }
 
@@ -92,9 +92,9 @@ fn divide_many_records<B: Bucket>(rt: &impl Abort, old: &mut B, new: &mut B) -> 
         let call = Call::Insert(record.key, record.value);
         serve_here(old, &call, 0)?.ok_or("not the bucket")?;
     }
-    expect_eq!(rt; old.len(), 1000);
+    expect_eq!(rt, old.len(), 1000);
     old.split_into(new)?;
-    expect_eq!(rt; (old.len(), new.len()), (500, 500));
+    expect_eq!(rt, (old.len(), new.len()), (500, 500));
     Ok(())
 }
 

@@ -47,11 +47,14 @@ fn expect_effects(rt: &impl Abort, entries: &[Result<Effect, Refusal>], dues: &[
     for entry in entries {
         match entry {
             Ok(effect) => {
-                expect_eq!(rt; dues.get(count).copied(), Some(*effect));
+                expect_eq!(rt, dues.get(count).copied(), Some(*effect));
                 count = count.saturating_add(1);
             }
             Err(refusal) => {
-                expect!(rt; *refusal == Refusal::Memory || *refusal == Refusal::WrongState);
+                expect!(
+                    rt,
+                    *refusal == Refusal::Memory || *refusal == Refusal::WrongState
+                );
             }
         }
     }
@@ -89,10 +92,10 @@ fn a_run_goes_on<B: Bucket>(rt: &impl Abort, alloc: Global) -> Result<(), Fail> 
         Effect::Point { buckets: 2 },
     ];
     let Ran { entries, world } = run_again::<B>(alloc, small()?, &events)?;
-    expect_eq!(rt; entries.len(), 12);
+    expect_eq!(rt, entries.len(), 12);
     expect_effects(rt, entries.as_slice(), &effects);
-    expect_eq!(rt; world.root().buckets(), 2);
-    expect_eq!(rt; listed_again(&world)?.len(), 1);
+    expect_eq!(rt, world.root().buckets(), 2);
+    expect_eq!(rt, listed_again(&world)?.len(), 1);
     Ok(())
 }
 
@@ -132,7 +135,7 @@ fn step_again<B: Bucket>(
     match world.step(*event) {
         Err(Refusal::Memory) => {
             let after = seen_of(world);
-            expect!(rt; after == before);
+            expect!(rt, after == before);
             world.step(*event)
         }
         entry => entry,
@@ -174,7 +177,7 @@ fn split_goes_on<B: Bucket>(rt: &impl Abort, world: &mut World<B>) -> Result<(),
         records: 8,
     };
     expect_eq!(rt; seen_of(world), due);
-    expect_eq!(rt; listed_again(world)?.len(), 8);
+    expect_eq!(rt, listed_again(world)?.len(), 8);
     Ok(())
 }
 
@@ -229,8 +232,8 @@ fn expect_served<B: Bucket>(
     replies: &[Reply],
 ) -> Result<(), Fail> {
     expect_eq!(rt; ran.replies.as_slice(), replies);
-    expect_eq!(rt; ran.world.root().buckets(), 3);
-    expect_eq!(rt; listed_again(&ran.world)?.len(), 3);
+    expect_eq!(rt, ran.world.root().buckets(), 3);
+    expect_eq!(rt, listed_again(&ran.world)?.len(), 3);
     Ok(())
 }
 

@@ -23,10 +23,10 @@ fn calls(alloc: Global) -> Result<Vec<Call>, Fail> {
 
 /// Both listings have the same lists, in the same order.
 fn are_same(rt: &impl Abort, one: &Listing, other: &Listing) {
-    expect_eq!(rt; one.config(), other.config());
-    expect_eq!(rt; one.buckets(), other.buckets());
+    expect_eq!(rt, one.config(), other.config());
+    expect_eq!(rt, one.buckets(), other.buckets());
     for bucket in 0..one.buckets() {
-        expect_eq!(rt; one.pairs_of(bucket), other.pairs_of(bucket));
+        expect_eq!(rt, one.pairs_of(bucket), other.pairs_of(bucket));
     }
 }
 
@@ -63,7 +63,7 @@ fn goes_on_everywhere(
     due: &[Reply],
     after: &Listing,
 ) -> Result<(), Fail> {
-    expect_eq!(rt; due.len(), calls.len());
+    expect_eq!(rt, due.len(), calls.len());
     for cut in 0..=calls.len() {
         let (first, second) = calls.split_at(cut);
         let before = listing_after(alloc, config, first)?;
@@ -88,8 +88,16 @@ fn listing_after_all(alloc: Global, config: Config) -> Result<Listing, Fail> {
 
 /// The world has so many buckets, and neither its splitter nor its last worker does anything.
 fn expect_at_rest(rt: &impl Abort, world: &World<PagedBucket>, buckets: u32) {
-    expect_eq!(rt; (world.root().buckets(), world.filled()), (buckets, buckets));
-    expect_eq!(rt; (world.splitter(), world.worker(15)), (SplitState::Idle, WorkerState::Idle));
+    expect_eq!(
+        rt,
+        (world.root().buckets(), world.filled()),
+        (buckets, buckets)
+    );
+    expect_eq!(
+        rt,
+        (world.splitter(), world.worker(15)),
+        (SplitState::Idle, WorkerState::Idle)
+    );
 }
 
 #[test]
@@ -107,15 +115,19 @@ fn expect_no_split(rt: &impl Abort, alloc: Global, before: &Listing) -> Result<(
     let calls = [insert(b"a", b"5")?, search(b"a")?];
     let found = Reply::Found(Value::new(b"1")?);
     let ran = serial_from(alloc, before, &calls)?;
-    expect_eq!(rt; ran.replies.as_slice(), [Reply::Exists, found].as_slice());
-    expect_eq!(rt; ran.world.root().buckets(), 2);
+    expect_eq!(
+        rt,
+        ran.replies.as_slice(),
+        [Reply::Exists, found].as_slice()
+    );
+    expect_eq!(rt, ran.world.root().buckets(), 2);
     Ok(())
 }
 
 /// A new key splits a bucket.
 fn expect_split(rt: &impl Abort, alloc: Global, before: &Listing) -> Result<(), Fail> {
     let ran = serial_from(alloc, before, &[insert(b"e", b"5")?])?;
-    expect_eq!(rt; ran.world.root().buckets(), 3);
+    expect_eq!(rt, ran.world.root().buckets(), 3);
     Ok(())
 }
 
@@ -130,7 +142,7 @@ fn records_of_a_listing_count_for_the_load(rt: HostRuntime) -> Result<(), Fail> 
         insert(b"d", b"4")?,
     ];
     let before = listing_after(rt.alloc(), config, &four)?;
-    expect_eq!(rt; before.buckets(), 2);
+    expect_eq!(&rt, before.buckets(), 2);
     expect_no_split(&rt, rt.alloc(), &before)?;
     expect_split(&rt, rt.alloc(), &before)
 }

@@ -161,8 +161,8 @@ fn expect_run(
 ) -> Result<(), Fail> {
     let Ran { entries, world } = run::<Refusing>(alloc, small()?, events)?;
     expect_eq!(rt; entries.as_slice(), due);
-    expect_eq!(rt; world.root().buckets(), 2);
-    expect_eq!(rt; listed(&world)?.len(), 1);
+    expect_eq!(rt, world.root().buckets(), 2);
+    expect_eq!(rt, listed(&world)?.len(), 1);
     Ok(())
 }
 
@@ -178,18 +178,18 @@ fn take_refused_steps(rt: &impl Abort, world: &mut World<Refusing>) -> Result<()
     take_all(world, events.as_slice())?;
     let holding = WorkerState::Holding(call, 0, 0);
     expect_eq!(rt; world.worker(3), holding);
-    expect_eq!(rt; world.step(Event::Act(3)), Err(Refusal::Memory));
+    expect_eq!(rt, world.step(Event::Act(3)), Err(Refusal::Memory));
     expect_eq!(rt; world.worker(3), holding);
-    expect_eq!(rt; records_in(world), 0);
+    expect_eq!(rt, records_in(world), 0);
     let events = [Event::Act(3), Event::Release(3), Event::SplitLock];
     take_all(world, events.as_slice())?;
     let locked = world.splitter();
-    expect_eq!(rt; world.step(Event::SplitMove), Err(Refusal::Memory));
-    expect!(rt; world.splitter() == locked && locked != SplitState::Idle);
-    expect_eq!(rt; (world.filled(), world.root().buckets()), (1, 1));
-    expect_eq!(rt; records_in(world), 1);
+    expect_eq!(rt, world.step(Event::SplitMove), Err(Refusal::Memory));
+    expect!(rt, world.splitter() == locked && locked != SplitState::Idle);
+    expect_eq!(rt, (world.filled(), world.root().buckets()), (1, 1));
+    expect_eq!(rt, records_in(world), 1);
     take_all(world, [Event::SplitMove].as_slice())?;
-    expect_eq!(rt; world.filled(), 2);
+    expect_eq!(rt, world.filled(), 2);
     Ok(())
 }
 
@@ -202,12 +202,16 @@ fn a_refused_step_leaves_the_world_as_it_was(rt: HostRuntime) -> Result<(), Fail
 fn calls_one_after_another_end_without_memory(rt: HostRuntime) -> Result<(), Fail> {
     let key = search(b"a")?;
     let ran = serial::<Refusing>(rt.alloc(), small()?, &[key, key])?;
-    expect_eq!(rt;
+    expect_eq!(
+        &rt,
         ran.replies.as_slice(),
         [Reply::Absent, Reply::Absent].as_slice()
     );
     let calls = [insert(b"a", b"1")?];
-    expect!(rt; serial::<Refusing>(rt.alloc(), small()?, &calls).is_err());
+    expect!(
+        &rt,
+        serial::<Refusing>(rt.alloc(), small()?, &calls).is_err()
+    );
     Ok(())
 }
 
@@ -233,7 +237,7 @@ fn expect_inserted(
 fn go_on(rt: &impl Abort, world: &mut World<Refusing>) -> Result<(), Fail>
     requires { IsAtRest world.old.state }
 {
-    expect!(rt; world.serve(insert(b"a", b"1")?, 0).is_err());
+    expect!(rt, world.serve(insert(b"a", b"1")?, 0).is_err());
     expect_inserted(rt, world, insert(b"a", b"1")?, 0, false, 1)?;
     expect_inserted(rt, world, insert(b"b", b"1")?, 1, true, 1)?;
     expect_inserted(rt, world, insert(b"c", b"1")?, 2, false, 2)
@@ -283,7 +287,7 @@ fn is_listed_whatever_its_workers_do<B: Bucket>(
     for worker in 0..16 {
         is_listed_whatever_a_worker_does(rt, &mut world, worker)?;
     }
-    expect_eq!(rt; listed(&world)?.len(), 16);
+    expect_eq!(rt, listed(&world)?.len(), 16);
     Ok(())
 }
 

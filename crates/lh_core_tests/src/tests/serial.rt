@@ -80,7 +80,11 @@ fn expect_lengths<B: Bucket>(
     config: Config,
     calls: &[Call],
 ) -> Result<(), Fail> {
-    expect_eq!(rt; lengths_of::<B>(alloc, config, calls)?.as_slice(), [2, 2, 1].as_slice());
+    expect_eq!(
+        rt,
+        lengths_of::<B>(alloc, config, calls)?.as_slice(),
+        [2, 2, 1].as_slice()
+    );
     Ok(())
 }
 
@@ -97,7 +101,11 @@ fn a_file_grows_past_the_threshold_and_not_at_it(rt: HostRuntime) -> Result<(), 
     let fuller = Config::new(1, 2, 200, 65536)?;
     expect_lengths::<PlainBucket>(&rt, rt.alloc(), full, &calls)?;
     expect_lengths::<PagedBucket>(&rt, rt.alloc(), full, &calls)?;
-    expect_eq!(rt; replies_of::<PagedBucket>(rt.alloc(), fuller, &calls)?.1, 2);
+    expect_eq!(
+        &rt,
+        replies_of::<PagedBucket>(rt.alloc(), fuller, &calls)?.1,
+        2
+    );
     Ok(())
 }
 
@@ -122,7 +130,8 @@ fn buckets_hold_their_records_in_order(rt: HostRuntime) -> Result<(), Fail> {
     ];
     let config = Config::new(1, 2, 100, 65536)?;
     let SerialRan { replies: _, world } = serial::<PagedBucket>(rt.alloc(), config, &calls)?;
-    expect_eq!(rt;
+    expect_eq!(
+        &rt,
         keys_in(rt.alloc(), &world)?.as_slice(),
         [(0, b'a'), (0, b'c'), (1, b'b')].as_slice()
     );
@@ -150,10 +159,10 @@ fn after_forty<B: Bucket>(alloc: Global, max: u32) -> Result<(usize, u32, u64), 
 #[test]
 fn many_calls_are_served(rt: HostRuntime) -> Result<(), Fail> {
     let alloc = rt.alloc();
-    expect_eq!(rt; after_forty::<PlainBucket>(alloc, 65536)?, (40, 40, 40));
-    expect_eq!(rt; after_forty::<PagedBucket>(alloc, 65536)?, (40, 40, 40));
-    expect_eq!(rt; after_forty::<PlainBucket>(alloc, 2)?, (40, 2, 40));
-    expect_eq!(rt; after_forty::<PagedBucket>(alloc, 2)?, (40, 2, 40));
+    expect_eq!(&rt, after_forty::<PlainBucket>(alloc, 65536)?, (40, 40, 40));
+    expect_eq!(&rt, after_forty::<PagedBucket>(alloc, 65536)?, (40, 40, 40));
+    expect_eq!(&rt, after_forty::<PlainBucket>(alloc, 2)?, (40, 2, 40));
+    expect_eq!(&rt, after_forty::<PagedBucket>(alloc, 2)?, (40, 2, 40));
     Ok(())
 }
 
@@ -170,10 +179,10 @@ fn inserted<B: Bucket>(world: &mut World<B>, number: u8) -> Result<(u64, u32, bo
 fn insert_four(rt: &impl Abort, world: &mut World<PagedBucket>) -> Result<(), Fail>
     requires { IsAtRest world.old.state }
 {
-    expect_eq!(rt; inserted(world, 0)?, (1, 1, false));
-    expect_eq!(rt; inserted(world, 1)?, (2, 2, false));
-    expect_eq!(rt; inserted(world, 2)?, (3, 3, false));
-    expect_eq!(rt; inserted(world, 3)?, (4, 4, false));
+    expect_eq!(rt, inserted(world, 0)?, (1, 1, false));
+    expect_eq!(rt, inserted(world, 1)?, (2, 2, false));
+    expect_eq!(rt, inserted(world, 2)?, (3, 3, false));
+    expect_eq!(rt, inserted(world, 3)?, (4, 4, false));
     Ok(())
 }
 

@@ -32,7 +32,7 @@ fn steps_are<B: Bucket>(
     let mut world = World::<B>::new(alloc, config)?;
     for (number, (event, want)) in steps.iter().enumerate() {
         let entry = world.step(*event);
-        expect_eq!(rt; (number, entry), (number, *want));
+        expect_eq!(rt, (number, entry), (number, *want));
     }
     Ok(())
 }
@@ -82,8 +82,12 @@ fn an_old_root_by_one_split<B: Bucket>(rt: &impl Abort, alloc: Global) -> Result
 
 /// The world has two buckets, and neither its splitter nor its first worker does anything.
 fn expect_split<B: Bucket>(rt: &impl Abort, world: &World<B>) {
-    expect_eq!(rt; (world.root().buckets(), world.filled()), (2, 2));
-    expect_eq!(rt; (world.splitter(), world.worker(0)), (SplitState::Idle, WorkerState::Idle));
+    expect_eq!(rt, (world.root().buckets(), world.filled()), (2, 2));
+    expect_eq!(
+        rt,
+        (world.splitter(), world.worker(0)),
+        (SplitState::Idle, WorkerState::Idle)
+    );
 }
 
 #[test]
@@ -252,7 +256,7 @@ fn insert_beside_a_split<B: Bucket>(rt: &impl Abort, world: &mut World<B>) -> Re
     for event in &events {
         world.step(*event)?;
     }
-    expect_eq!(rt; world.step(Event::Act(14)), Ok(answered));
+    expect_eq!(rt, world.step(Event::Act(14)), Ok(answered));
     Ok(())
 }
 
@@ -278,9 +282,9 @@ fn a_long_run<B: Bucket>(rt: &impl Abort, alloc: Global) -> Result<(), Fail> {
         events.push(Event::SplitDrop)?;
     }
     let Ran { entries, world } = run::<B>(alloc, config, events.as_slice())?;
-    expect_eq!(rt; entries.len(), 6000);
-    expect!(rt; entries.iter().all(|entry| entry.is_ok()));
-    expect_eq!(rt; (world.root().buckets(), world.filled()), (256, 256));
+    expect_eq!(rt, entries.len(), 6000);
+    expect!(rt, entries.iter().all(|entry| entry.is_ok()));
+    expect_eq!(rt, (world.root().buckets(), world.filled()), (256, 256));
     Ok(())
 }
 
@@ -302,13 +306,14 @@ fn step_beside_a_held_bucket<B: Bucket>(rt: &impl Abort, world: &mut World<B>) -
     ] {
         world.step(event)?;
     }
-    expect_eq!(rt;
+    expect_eq!(
+        rt,
         world.step(Event::SplitMove),
         Ok(Effect::Moved { old: 0, new: 2 })
     );
     world.step(Event::SplitRelease)?;
     world.step(Event::SplitPoint)?;
-    expect_eq!(rt; world.step(Event::Act(0)), Ok(answered));
+    expect_eq!(rt, world.step(Event::Act(0)), Ok(answered));
     expect_eq!(rt; inserted(world, 1, b'a')?, answered);
     Ok(())
 }
@@ -329,7 +334,15 @@ fn steps_go_on_beside_a_held_bucket(rt: HostRuntime) -> Result<(), Fail> {
 #[test]
 fn a_file_may_begin_with_three_buckets(rt: HostRuntime) -> Result<(), Fail> {
     let config = Config::new(3, 1, 100, 4)?;
-    expect_eq!(rt; World::<PlainBucket>::new(rt.alloc(), config)?.filled(), 3);
-    expect_eq!(rt; World::<PagedBucket>::new(rt.alloc(), config)?.filled(), 3);
+    expect_eq!(
+        &rt,
+        World::<PlainBucket>::new(rt.alloc(), config)?.filled(),
+        3
+    );
+    expect_eq!(
+        &rt,
+        World::<PagedBucket>::new(rt.alloc(), config)?.filled(),
+        3
+    );
     Ok(())
 }

@@ -389,7 +389,7 @@ fn eight_threads_add_up(rt: HostRuntime) -> Result<(), Fail> {
         numbers: [320; 5],
         guarded: 0,
     };
-    expect_eq!(rt; both(&rt, rt.alloc(), Job::Count)?, [due; 2]);
+    expect_eq!(&rt, both(&rt, rt.alloc(), Job::Count)?, [due; 2]);
     Ok(())
 }
 
@@ -402,7 +402,7 @@ fn eight_threads_merge(rt: HostRuntime) -> Result<(), Fail> {
         numbers: [320; 5],
         guarded: 0,
     };
-    expect_eq!(rt; both(&rt, rt.alloc(), Job::Merge)?, [due; 2]);
+    expect_eq!(&rt, both(&rt, rt.alloc(), Job::Merge)?, [due; 2]);
     Ok(())
 }
 
@@ -410,7 +410,7 @@ fn eight_threads_merge(rt: HostRuntime) -> Result<(), Fail> {
 fn a_lock_guards_a_counter(rt: HostRuntime) -> Result<(), Fail> {
     for done in both(&rt, rt.alloc(), Job::Lock)? {
         expect_eq!(rt; done.guarded, 1600);
-        expect!(rt; done.acts >= 6413);
+        expect!(&rt, done.acts >= 6413);
     }
     Ok(())
 }
@@ -418,7 +418,7 @@ fn a_lock_guards_a_counter(rt: HostRuntime) -> Result<(), Fail> {
 #[test]
 fn each_key_has_one_owner(rt: HostRuntime) -> Result<(), Fail> {
     for done in both(&rt, rt.alloc(), Job::Claim)? {
-        expect_eq!(rt; (done.inserted, done.acts), (207, 3213));
+        expect_eq!(&rt, (done.inserted, done.acts), (207, 3213));
     }
     Ok(())
 }
@@ -436,8 +436,8 @@ fn what_is_taken_is_taken_once(rt: HostRuntime) -> Result<(), Fail> {
 #[test]
 fn writers_leave_one_value(rt: HostRuntime) -> Result<(), Fail> {
     for done in both(&rt, rt.alloc(), Job::Write)? {
-        expect_eq!(rt; (done.inserted, done.acts), (7, 1613));
-        expect!(rt; done.numbers.iter().all(|&number| number < 8));
+        expect_eq!(&rt, (done.inserted, done.acts), (7, 1613));
+        expect!(&rt, done.numbers.iter().all(|&number| number < 8));
     }
     Ok(())
 }
@@ -525,7 +525,7 @@ fn make_all<K: Coded, M: Mode, J: FileBrand, R: Wait + Abort>(
         (Task::Merge(1), Told::Is(true)),
         (Task::Merge(1), Told::Is(false)),
     ] {
-        expect_eq!(rt; made(rt, file, hand, key, task), Ok(due));
+        expect_eq!(rt, made(rt, file, hand, key, task), Ok(due));
     }
 }
 
@@ -544,8 +544,8 @@ fn hand_out<K: Coded, M: Mode, J: FileBrand, R: Wait + Abort>(
         was = number_in(bytes);
         one_more(bytes)
     });
-    expect_eq!(rt; (is_there, was), (Ok(true), 2));
-    expect_eq!(rt; file.take(rt, hand, key), Ok(Some(value_of(3))));
+    expect_eq!(rt, (is_there, was), (Ok(true), 2));
+    expect_eq!(rt, file.take(rt, hand, key), Ok(Some(value_of(3))));
 }
 
 /// What each call tells by a key and by the key with its code.
@@ -571,7 +571,7 @@ fn each_call_tells_what_was_there(rt: HostRuntime) -> Result<(), Fail> {
     let (file, mut hand) = HashFile::create(rt.alloc(), Config::default(), true, NoGate)?;
     make_by_both(&rt, &file, &mut hand)?;
     let (closed, acts) = file.close(&rt, hand)?;
-    expect_eq!(rt; (closed.records(), acts.len()), (0, 34));
+    expect_eq!(&rt, (closed.records(), acts.len()), (0, 34));
     expect_replies(&rt, &acts);
     Ok(())
 }
@@ -598,8 +598,8 @@ fn expect_replies(rt: &impl Abort, acts: &Acts) {
         Reply::Deleted,
     ];
     for (place, reply) in due.iter().enumerate() {
-        expect!(rt; place < acts.len());
-        expect_eq!(rt; acts.at(place).reply, *reply);
+        expect!(rt, place < acts.len());
+        expect_eq!(rt, acts.at(place).reply, *reply);
     }
 }
 
@@ -639,6 +639,6 @@ fn added_nine<R: Wait>(rt: &R, file: &HashFile<NoGate>, hand: &mut Hand) -> Resu
 fn calls_that_add_records_split_buckets(rt: HostRuntime) -> Result<(), Fail> {
     let config = Config::new(1, 1, 100, 65536)?;
     let (file, mut hand) = HashFile::create(rt.alloc(), config, false, NoGate)?;
-    expect_eq!(rt; added_nine(&rt, &file, &mut hand)?, 9);
+    expect_eq!(&rt, added_nine(&rt, &file, &mut hand)?, 9);
     Ok(())
 }

@@ -21,9 +21,9 @@ fn told(file: &Closed) -> (u32, u64, u64, bool) {
 #[test]
 fn a_closed_file_tells_what_it_has(rt: HostRuntime) -> Result<(), Fail> {
     let open = closed(rt.alloc(), 7, 9, &[AE, BD, C, &[]])?;
-    expect_eq!(rt; told(&open), (3, 9, 5, true));
+    expect_eq!(&rt, told(&open), (3, 9, 5, true));
     let whole = closed(rt.alloc(), 6, 9, &[])?;
-    expect_eq!(rt; told(&whole), (3, 9, 0, false));
+    expect_eq!(&rt, told(&whole), (3, 9, 0, false));
     Ok(())
 }
 
@@ -44,14 +44,20 @@ fn has_size(listing: &Listing, buckets: u32, records: u64) -> Result<bool, Fail>
 
 #[test]
 fn a_closed_file_has_a_listing(rt: HostRuntime) -> Result<(), Fail> {
-    expect!(rt; has_size(&listed(rt.alloc(), &[AE, BD, C, &[]])??, 3, 5)?);
-    expect!(rt; has_size(&listed(rt.alloc(), &[AE, BD, C])??, 3, 5)?);
+    expect!(
+        &rt,
+        has_size(&listed(rt.alloc(), &[AE, BD, C, &[]])??, 3, 5)?
+    );
+    expect!(&rt, has_size(&listed(rt.alloc(), &[AE, BD, C])??, 3, 5)?);
     Ok(())
 }
 
 #[test]
 fn a_closed_file_becomes_its_listing(rt: HostRuntime) -> Result<(), Fail> {
-    expect!(rt; has_size(&moved(rt.alloc(), &[AE, BD, C, &[]])??, 3, 5)?);
+    expect!(
+        &rt,
+        has_size(&moved(rt.alloc(), &[AE, BD, C, &[]])??, 3, 5)?
+    );
     let fault = moved(rt.alloc(), &[AE, BD])?.err();
     expect_eq!(rt; fault, Some(ListingFault::Shape));
     Ok(())

@@ -100,9 +100,9 @@ fn expect_settled(
     closed: &Closed,
     acts: &Acts,
 ) -> Result<(), Fail> {
-    expect_eq!(rt; (closed.records(), acts.len()), (208, 208));
+    expect_eq!(rt, (closed.records(), acts.len()), (208, 208));
     let history = settle(alloc, &Listing::empty(alloc, config)?, closed, acts)?;
-    expect_eq!(rt; history.len(), 208);
+    expect_eq!(rt, history.len(), 208);
     Ok(())
 }
 
@@ -111,7 +111,7 @@ fn threads_work_with_hands_of_their_own(rt: HostRuntime) -> Result<(), Fail> {
     let config = Config::new(1, 2, 100, 65536)?;
     let (file, hand) = made(rt.alloc(), config, NoGate)?;
     let hand = added_in_threads(&rt, &file, hand, 8)?;
-    expect_eq!(rt; hand.left(), (1 << 63) - 208);
+    expect_eq!(&rt, hand.left(), (1 << 63) - 208);
     let (closed, acts) = file.close(&rt, hand)?;
     expect_settled(&rt, rt.alloc(), config, &closed, &acts)
 }
@@ -120,16 +120,20 @@ fn threads_work_with_hands_of_their_own(rt: HostRuntime) -> Result<(), Fail> {
 fn split_ten(rt: &impl Abort, file: &HashFile<NoGate>, hand: &mut Hand) -> Result<(), Fail>
     requires { IsOf file.now.state hand.old }
 {
-    expect_eq!(rt; file.split_hands(hand, 0, 20)?.len(), 0);
-    expect_eq!(rt; hand.left(), 10);
+    expect_eq!(rt, file.split_hands(hand, 0, 20)?.len(), 0);
+    expect_eq!(rt, hand.left(), 10);
     let refused = file.split_hands(hand, 3, 4).err();
     expect_eq!(rt; refused, Some(FileFault::Spent { left: 10 }));
     let refused = file.split_hands(hand, u32::MAX, u64::MAX).err();
     expect_eq!(rt; refused, Some(FileFault::Spent { left: 10 }));
-    expect_eq!(rt; hand.left(), 10);
+    expect_eq!(rt, hand.left(), 10);
     let hands = file.split_hands(hand, 2, 5)?;
-    expect_eq!(rt; (hands.len(), hands[0].left(), hands[1].left()), (2, 5, 5));
-    expect_eq!(rt; hand.left(), 0);
+    expect_eq!(
+        rt,
+        (hands.len(), hands[0].left(), hands[1].left()),
+        (2, 5, 5)
+    );
+    expect_eq!(rt, hand.left(), 0);
     Ok(())
 }
 

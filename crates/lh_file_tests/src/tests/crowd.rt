@@ -229,7 +229,7 @@ fn eight_threads_insert_find_and_delete_three_records(rt: HostRuntime) -> Result
     let (records, settled) = crowded(&rt, rt.alloc(), config, Keys::Shared).ok_or(
         "a call went wrong",
     )?;
-    expect!(rt; records <= 3);
+    expect!(&rt, records <= 3);
     expect_eq!(rt; settled, 3000);
     Ok(())
 }

@@ -80,7 +80,7 @@ fn note<R: Wait + Abort>(
         }
         answer => answer?,
     };
-    expect_eq!(rt; hand.left(), left.wrapping_sub(1));
+    expect_eq!(rt, hand.left(), left.wrapping_sub(1));
     Ok(reply)
 }
 
@@ -109,7 +109,7 @@ fn one_hand_at_a_time_has_the_right(rt: HostRuntime) -> Result<(), Fail> {
     let got = Right::Got { old: 0, new: 1 };
     let busy = Right::Busy { seen: 3 };
     expect_eq!(rt; told, [got, busy, busy, got]);
-    expect_eq!(rt; (first.has_right(), second.has_right()), (false, true));
+    expect_eq!(&rt, (first.has_right(), second.has_right()), (false, true));
     Ok(())
 }
 
@@ -125,9 +125,9 @@ fn joined_with_the_right(
     let second = file.split_hand(&mut first, 10)?;
     file.try_split_right(&mut first);
     let mut all = join_again(file, first, second)?;
-    expect!(rt; all.has_right());
+    expect!(rt, all.has_right());
     let load = file.load(&mut all);
-    expect_eq!(rt; (load.inserted, load.deleted), (0, 0));
+    expect_eq!(rt, (load.inserted, load.deleted), (0, 0));
     Ok(all)
 }
 
@@ -136,20 +136,21 @@ fn a_file_is_closed_with_the_right(rt: HostRuntime) -> Result<(), Fail> {
     let (file, first) = file_of(rt.alloc(), 65536)?;
     let all = joined_with_the_right(&rt, &file, first)?;
     let (closed, acts) = file.close(&rt, all)?;
-    expect_eq!(rt;
+    expect_eq!(
+        &rt,
         (closed.buckets(), closed.split_open(), closed.stamps()),
         (1, true, 0)
     );
-    expect_eq!(rt; acts.len(), 0);
+    expect_eq!(&rt, acts.len(), 0);
     Ok(())
 }
 
 #[test]
 fn a_full_file_gives_no_right(rt: HostRuntime) -> Result<(), Fail> {
     let (file, mut hand) = file_of(rt.alloc(), 1)?;
-    expect_eq!(rt; file.try_split_right(&mut hand), Right::Full);
-    expect!(rt; !hand.has_right());
-    expect_eq!(rt; file.buckets(&mut hand), 1);
+    expect_eq!(&rt, file.try_split_right(&mut hand), Right::Full);
+    expect!(&rt, !hand.has_right());
+    expect_eq!(&rt, file.buckets(&mut hand), 1);
     Ok(())
 }
 
@@ -163,10 +164,10 @@ fn split_thrice<R: Wait + Abort>(
     ensures { IsOf file.now.state hand.new }
 {
     for (old, new) in [(0, 1), (0, 2), (1, 3)] {
-        expect_eq!(rt; file.try_split_right(hand), Right::Got { old, new });
-        expect!(rt; hand.has_right());
+        expect_eq!(rt, file.try_split_right(hand), Right::Got { old, new });
+        expect!(rt, hand.has_right());
         file.split(rt, hand)?;
-        expect_eq!(rt; file.buckets(hand), new + 1);
+        expect_eq!(rt, file.buckets(hand), new + 1);
     }
     Ok(())
 }
@@ -175,7 +176,7 @@ fn split_thrice<R: Wait + Abort>(
 fn the_pointer_goes_on(rt: HostRuntime) -> Result<(), Fail> {
     let (file, mut hand) = file_of(rt.alloc(), 4)?;
     split_thrice(&rt, &file, &mut hand)?;
-    expect_eq!(rt; file.try_split_right(&mut hand), Right::Full);
+    expect_eq!(&rt, file.try_split_right(&mut hand), Right::Full);
     Ok(())
 }
 
@@ -201,7 +202,7 @@ fn a_hand_gives_no_more_than_it_has(rt: HostRuntime) -> Result<(), Fail> {
     let (file, mut first) = file_of(rt.alloc(), 8)?;
     let (refused, kept, left) = divided(&file, &mut first)?;
     expect_eq!(rt; refused, Some(FileFault::Spent { left: 10 }));
-    expect_eq!(rt; (kept, left), (10, [(1 << 63) - 10, 0, 10]));
+    expect_eq!(&rt, (kept, left), (10, [(1 << 63) - 10, 0, 10]));
     Ok(())
 }
 
@@ -261,8 +262,8 @@ fn a_file_closes_with_buckets_that_its_hand_never_saw(rt: HostRuntime) -> Result
     let (file, mut first) = HashFile::create(rt.alloc(), config, false, NoGate)?;
     lose_five(&rt, &file, &mut first)?;
     let (closed, _) = file.close(&rt, first)?;
-    expect_eq!(rt; (closed.buckets(), closed.records()), (3, 5));
-    expect_eq!(rt; closed.into_listing()?.len(), 5);
+    expect_eq!(&rt, (closed.buckets(), closed.records()), (3, 5));
+    expect_eq!(&rt, closed.into_listing()?.len(), 5);
     Ok(())
 }
 
@@ -279,15 +280,19 @@ fn seven_letters(alloc: Global) -> Result<Listing, Fail> {
 fn expect_opened(rt: &impl Abort, file: &HashFile<NoGate>, hand: &mut Hand)
     requires { IsOf file.now.state hand.old }
 {
-    expect_eq!(rt; file.buckets(hand), 5);
-    expect_eq!(rt; (hand.left(), hand.has_right()), (1 << 63, false));
+    expect_eq!(rt, file.buckets(hand), 5);
+    expect_eq!(rt, (hand.left(), hand.has_right()), (1 << 63, false));
     let load = Load {
         opening: 7,
         inserted: 0,
         deleted: 0,
     };
     expect_eq!(rt; file.load(hand), load);
-    expect_eq!(rt; file.try_split_right(hand), Right::Got { old: 2, new: 5 });
+    expect_eq!(
+        rt,
+        file.try_split_right(hand),
+        Right::Got { old: 2, new: 5 }
+    );
 }
 
 #[test]
@@ -357,11 +362,11 @@ fn joined_after_five<R: Wait + Abort>(
         Reply::Deleted,
     ];
     expect_eq!(rt; replies, due);
-    expect!(rt; !second.has_right());
+    expect!(rt, !second.has_right());
     let mut all = join_again(file, first, second)?;
-    expect_eq!(rt; all.left(), (1 << 63) - 5);
+    expect_eq!(rt, all.left(), (1 << 63) - 5);
     let load = file.load(&mut all);
-    expect_eq!(rt; (load.inserted, load.deleted), (1, 1));
+    expect_eq!(rt, (load.inserted, load.deleted), (1, 1));
     Ok(all)
 }
 
@@ -370,11 +375,12 @@ fn acts_are_counted_and_kept(rt: HostRuntime) -> Result<(), Fail> {
     let (file, first) = file_of(rt.alloc(), 8)?;
     let all = joined_after_five(&rt, &file, first)?;
     let (closed, acts) = file.close(&rt, all)?;
-    expect_eq!(rt;
+    expect_eq!(
+        &rt,
         (closed.buckets(), closed.split_open(), closed.stamps()),
         (1, false, 5)
     );
-    expect!(rt; are_five_acts(&acts)?);
+    expect!(&rt, are_five_acts(&acts)?);
     Ok(())
 }
 
@@ -386,7 +392,7 @@ fn insert_one<R: Wait + Abort>(rt: &R, file: &HashFile<NoGate>, hand: &mut Hand)
     let reply = note(rt, file, hand, &insert(b"a")?)?;
     expect_eq!(rt; reply, Reply::Inserted);
     let load = file.load(hand);
-    expect_eq!(rt; (load.inserted, load.deleted), (1, 0));
+    expect_eq!(rt, (load.inserted, load.deleted), (1, 0));
     Ok(())
 }
 
@@ -395,7 +401,7 @@ fn acts_of_a_file_that_does_not_record_are_counted(rt: HostRuntime) -> Result<()
     let (file, mut hand) = HashFile::new(rt.alloc(), Config::new(1, 14, 100, 8)?)?;
     insert_one(&rt, &file, &mut hand)?;
     let (closed, acts) = file.close(&rt, hand)?;
-    expect_eq!(rt; closed.stamps(), 1);
-    expect_eq!(rt; acts.len(), 0);
+    expect_eq!(&rt, closed.stamps(), 1);
+    expect_eq!(&rt, acts.len(), 0);
     Ok(())
 }

@@ -337,11 +337,12 @@ fn refused_growth_changes_nothing(rt: HostRuntime) -> Result<(), Fail> {
         Ok(used) => used,
         Err(Memory) => used_and_closed(&rt, rt.alloc(), config).ok_or("a call went wrong")??,
     };
-    expect_eq!(rt; closed.records(), 7);
-    expect_eq!(rt; listed_records(&closed), Some(7));
-    expect!(rt; closed.buckets() == 7 || closed.buckets() == 6);
+    expect_eq!(&rt, closed.records(), 7);
+    expect_eq!(&rt, listed_records(&closed), Some(7));
+    expect!(&rt, closed.buckets() == 7 || closed.buckets() == 6);
     expect_eq!(rt; acts.len() as u64, answered);
-    expect_eq!(rt;
+    expect_eq!(
+        &rt,
         settled(rt.alloc(), config, &closed, &acts),
         Some(acts.len())
     );
@@ -408,7 +409,8 @@ fn refused_growth_leaves_no_act(rt: HostRuntime) -> Result<(), Fail> {
     expect_eq!(rt; closed.records(), inserted);
     expect_eq!(rt; closed.stamps(), answered);
     expect_eq!(rt; acts.len() as u64, answered);
-    expect_eq!(rt;
+    expect_eq!(
+        &rt,
         settled(rt.alloc(), config, &closed, &acts),
         Some(acts.len())
     );
@@ -468,8 +470,8 @@ fn expect_both<R: Wait + Abort>(rt: &R, file: &HashFile<NoGate>, hand: &mut Hand
     let answered = Progress::new();
     let first = asked_again(rt, file, &answered, hand, Task::Search(b'a'));
     let second = asked_again(rt, file, &answered, hand, Task::Search(b'b'));
-    expect_eq!(rt; (first, second), (Some(Told::Found), Some(Told::Found)));
-    expect_eq!(rt; size_of(file, hand), 2);
+    expect_eq!(rt, (first, second), (Some(Told::Found), Some(Told::Found)));
+    expect_eq!(rt, size_of(file, hand), 2);
 }
 
 #[test]
@@ -499,7 +501,7 @@ fn refused_growth_loses_no_act_of_threads(rt: HostRuntime) -> Result<(), Fail> {
             check_acts(&rt, rt.alloc(), file, all)?.ok_or("no memory")?
         }
     };
-    expect!(rt; acts == 30 || acts == 29 || acts == 20);
+    expect!(&rt, acts == 30 || acts == 29 || acts == 20);
     Ok(())
 }
 
@@ -511,7 +513,7 @@ fn refused_hands_come_back(rt: HostRuntime) -> Result<(), Fail> {
     let (file, hand) = made_again(rt.alloc(), config)?;
     let hand = added_in_threads(&rt, &file, hand, 2)?;
     let made = (1_u64 << 63).wrapping_sub(hand.left());
-    expect!(rt; made == 51 || made == 52);
+    expect!(&rt, made == 51 || made == 52);
     let mut hand = hand;
     expect_eq!(rt; file.load(&mut hand).inserted, made);
     Ok(())

@@ -114,7 +114,7 @@ fn served<const ROOM: usize, R: Wait>(
 fn records_of_32_bytes_are_served(rt: HostRuntime) -> Result<(), Fail> {
     let (due, buckets, records, settled) = served::<32, _>(&rt, rt.alloc())?;
     expect_eq!(rt; due, [100; 7]);
-    expect!(rt; buckets > 16);
+    expect!(&rt, buckets > 16);
     expect_eq!(rt; records, 0);
     expect_eq!(rt; settled, 700);
     Ok(())
@@ -124,7 +124,7 @@ fn records_of_32_bytes_are_served(rt: HostRuntime) -> Result<(), Fail> {
 fn records_of_two_bytes_are_served(rt: HostRuntime) -> Result<(), Fail> {
     let (due, buckets, records, settled) = served::<2, _>(&rt, rt.alloc())?;
     expect_eq!(rt; due, [100; 7]);
-    expect!(rt; buckets > 16);
+    expect!(&rt, buckets > 16);
     expect_eq!(rt; records, 0);
     expect_eq!(rt; settled, 700);
     Ok(())
@@ -148,9 +148,30 @@ fn listing_of(alloc: Global, lengths: &[(usize, usize)]) -> Result<Listing, Fail
 #[test]
 fn a_record_without_room_is_named(rt: HostRuntime) -> Result<(), Fail> {
     let listing = listing_of(rt.alloc(), &[(16, 16), (32, 0), (1, 32), (56, 112)])?;
-    expect_eq!(rt; Narrow::<32>::fit_listing(&listing).err(), Some(RoomFault { bucket: 0, place: 2 }));
-    expect_eq!(rt; Narrow::<31>::fit_listing(&listing).err(), Some(RoomFault { bucket: 0, place: 0 }));
-    expect_eq!(rt; Narrow::<167>::fit_listing(&listing).err(), Some(RoomFault { bucket: 0, place: 3 }));
-    expect!(rt; HashFile::<NoGate>::fit_listing(&listing).is_ok());
+    expect_eq!(
+        &rt,
+        Narrow::<32>::fit_listing(&listing).err(),
+        Some(RoomFault {
+            bucket: 0,
+            place: 2
+        })
+    );
+    expect_eq!(
+        &rt,
+        Narrow::<31>::fit_listing(&listing).err(),
+        Some(RoomFault {
+            bucket: 0,
+            place: 0
+        })
+    );
+    expect_eq!(
+        &rt,
+        Narrow::<167>::fit_listing(&listing).err(),
+        Some(RoomFault {
+            bucket: 0,
+            place: 3
+        })
+    );
+    expect!(&rt, HashFile::<NoGate>::fit_listing(&listing).is_ok());
     Ok(())
 }

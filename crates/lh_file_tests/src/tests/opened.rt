@@ -64,16 +64,22 @@ fn two_hands_use_an_opened_file(rt: HostRuntime) -> Result<(), Fail> {
     let ended = used(&rt, rt.alloc())?;
     expect_eq!(rt; ended.wrong, None);
     expect_eq!(rt; ended.settled, Ok(2));
-    expect_eq!(rt; ended.closed.records(), 7);
+    expect_eq!(&rt, ended.closed.records(), 7);
     Ok(())
 }
 
 #[test]
 fn an_opened_file_is_listed(rt: HostRuntime) -> Result<(), Fail> {
     let after = used(&rt, rt.alloc())?.closed.listing()?;
-    expect_eq!(rt; after.buckets(), 4);
-    expect!(rt; has_letters(&after, 0, b"ae") && has_letters(&after, 1, b"bf"));
-    expect!(rt; has_letters(&after, 2, b"cg") && has_letters(&after, 3, b"d"));
+    expect_eq!(&rt, after.buckets(), 4);
+    expect!(
+        &rt,
+        has_letters(&after, 0, b"ae") && has_letters(&after, 1, b"bf")
+    );
+    expect!(
+        &rt,
+        has_letters(&after, 2, b"cg") && has_letters(&after, 3, b"d")
+    );
     Ok(())
 }
 
@@ -100,7 +106,7 @@ fn reopened<R: Wait>(rt: &R, alloc: Global, listing: &Listing) -> Result<Listing
 fn a_file_is_opened_with_a_long_chain(rt: HostRuntime) -> Result<(), Fail> {
     let listing = long_chain(rt.alloc(), 500)?;
     let after = reopened(&rt, rt.alloc(), &listing)?;
-    expect_eq!(rt; (after.buckets(), after.len()), (1, 500));
+    expect_eq!(&rt, (after.buckets(), after.len()), (1, 500));
     Ok(())
 }
 
@@ -109,7 +115,8 @@ fn a_file_may_begin_with_256_buckets(rt: HostRuntime) -> Result<(), Fail> {
     let config = Config::new(256, 24, 10, 65536)?;
     let listing = Listing::empty(rt.alloc(), config)?;
     let after = reopened(&rt, rt.alloc(), &listing)?;
-    expect_eq!(rt;
+    expect_eq!(
+        &rt,
         (after.config(), after.buckets(), after.len()),
         (config, 256, 0)
     );
@@ -139,7 +146,8 @@ fn a_file_of_the_greatest_size_is_served(rt: HostRuntime) -> Result<(), Fail> {
     let ended = play_in_turn(&rt, rt.alloc(), &listing, &IN_THE_GREATEST).ok_or("no memory")?;
     expect_eq!(rt; ended.wrong, None);
     expect_eq!(rt; ended.settled, Ok(4));
-    expect_eq!(rt;
+    expect_eq!(
+        &rt,
         (ended.closed.buckets(), ended.closed.records()),
         (65_536, 0)
     );

@@ -61,7 +61,7 @@ fn a_replace_asks_for_no_split(rt: HostRuntime) -> Result<(), Fail> {
     let listing = Listing::empty(rt.alloc(), Config::new(1, 1, 100, 65536)?)?;
     let ended = play_in_turn(&rt, rt.alloc(), &listing, &PAST_THE_LOAD).ok_or("no memory")?;
     expect_eq!(rt; ended.wrong, None);
-    expect_eq!(rt; ended.closed.buckets(), 2);
+    expect_eq!(&rt, ended.closed.buckets(), 2);
     expect_eq!(rt; ended.settled, Ok(5));
     Ok(())
 }
@@ -161,7 +161,7 @@ fn a_hand_gives_no_more_calls_than_it_has(rt: HostRuntime) -> Result<(), Fail> {
     let mut second = file.split_hand(&mut first, 10)?;
     let refused = file.split_hand(&mut second, 11).err();
     expect_eq!(rt; refused, Some(FileFault::Spent { left: 10 }));
-    expect_eq!(rt; second.left(), 10);
+    expect_eq!(&rt, second.left(), 10);
     Ok(())
 }
 

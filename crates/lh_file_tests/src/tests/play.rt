@@ -188,6 +188,6 @@ pub(crate) fn perform<R: Threads + Wait + Sync + Abort>(
         acts: Some(scene.acts),
     };
     expect_eq!(rt; outcome, due);
-    expect!(rt; log.ends_with(scene.points));
+    expect!(rt, log.ends_with(scene.points));
     Ok(())
 }

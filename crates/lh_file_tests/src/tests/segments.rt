@@ -69,7 +69,7 @@ fn seen_twice<'a, R: Wait>(
 fn a_segment_stays_the_same(rt: HostRuntime) -> Result<(), Fail> {
     let config = Config::new(1, 14, 100, 65536)?;
     let (file, mut hand) = made(rt.alloc(), config, NoGate)?;
-    expect!(rt; seen_twice(&rt, &file, &mut hand).is_some());
+    expect!(&rt, seen_twice(&rt, &file, &mut hand).is_some());
     Ok(())
 }
 

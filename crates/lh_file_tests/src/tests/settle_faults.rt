@@ -45,7 +45,7 @@ fn misses(
 fn missing_stamps_are_named(rt: HostRuntime) -> Result<(), Fail> {
     let alloc = rt.alloc();
     for (drawn, list, stamps, missing) in &MISSING {
-        expect!(rt; misses(alloc, 2, *drawn, &[*list], stamps, *missing)?);
+        expect!(&rt, misses(alloc, 2, *drawn, &[*list], stamps, *missing)?);
     }
     Ok(())
 }
@@ -68,7 +68,7 @@ fn the_first_wrong_reply_is_named(rt: HostRuntime) -> Result<(), Fail> {
         given: Reply::Inserted,
         due: Reply::Exists,
     };
-    expect_eq!(rt; missed(rt.alloc())?, Err(wrong));
+    expect_eq!(&rt, missed(rt.alloc())?, Err(wrong));
     Ok(())
 }
 
@@ -92,10 +92,14 @@ fn wrong_at_1(given: Reply, due: Reply) -> Result<usize, SettleFault> {
 fn a_wrong_reply_to_a_replace_is_named(rt: HostRuntime) -> Result<(), Fail> {
     let alloc = rt.alloc();
     let (done, missed) = (Reply::Replaced, Reply::Absent);
-    expect_eq!(rt; replaced(alloc, b'a', done)?, Ok(2));
-    expect_eq!(rt; replaced(alloc, b'b', missed)?, Ok(2));
-    expect_eq!(rt; replaced(alloc, b'a', missed)?, wrong_at_1(missed, done));
-    expect_eq!(rt; replaced(alloc, b'b', done)?, wrong_at_1(done, missed));
+    expect_eq!(&rt, replaced(alloc, b'a', done)?, Ok(2));
+    expect_eq!(&rt, replaced(alloc, b'b', missed)?, Ok(2));
+    expect_eq!(
+        &rt,
+        replaced(alloc, b'a', missed)?,
+        wrong_at_1(missed, done)
+    );
+    expect_eq!(&rt, replaced(alloc, b'b', done)?, wrong_at_1(done, missed));
     Ok(())
 }
 
@@ -126,7 +130,7 @@ const STRAYS: [(&[(u8, u8)], &[u64], u8); 5] = [
 #[test]
 fn the_least_stray_key_is_named(rt: HostRuntime) -> Result<(), Fail> {
     for (list, stamps, letter) in &STRAYS {
-        expect!(rt; strays(rt.alloc(), 2, &[*list], stamps, *letter)?);
+        expect!(&rt, strays(rt.alloc(), 2, &[*list], stamps, *letter)?);
     }
     Ok(())
 }
@@ -141,7 +145,7 @@ const TWICE: [(u64, &[&[(u8, u8)]]); 3] = [
 #[test]
 fn a_key_that_stands_twice_is_stray(rt: HostRuntime) -> Result<(), Fail> {
     for (root, lists) in &TWICE {
-        expect!(rt; strays(rt.alloc(), *root, lists, &[0], b'a')?);
+        expect!(&rt, strays(rt.alloc(), *root, lists, &[0], b'a')?);
     }
     Ok(())
 }
@@ -159,7 +163,7 @@ const EA: &[(u8, u8)] = &[(b'e', b'e'), (b'a', b'a')];
 #[test]
 fn records_may_stand_in_any_order(rt: HostRuntime) -> Result<(), Fail> {
     let history = history_of(rt.alloc(), 6, &[EA, BD, C], &[0, 1, 2, 3, 4])?;
-    expect_eq!(rt; history.len(), 5);
+    expect_eq!(&rt, history.len(), 5);
     Ok(())
 }
 
@@ -175,7 +179,7 @@ const MISPLACED: [(&[&[(u8, u8)]], u32, u8); 4] = [
 #[test]
 fn the_first_misplaced_key_is_named(rt: HostRuntime) -> Result<(), Fail> {
     for (lists, bucket, letter) in &MISPLACED {
-        expect!(rt; strands(rt.alloc(), lists, *bucket, *letter)?);
+        expect!(&rt, strands(rt.alloc(), lists, *bucket, *letter)?);
     }
     Ok(())
 }
@@ -209,9 +213,9 @@ fn the_first_fault_is_named(rt: HostRuntime) -> Result<(), Fail> {
         given: Reply::Exists,
         due: Reply::Inserted,
     };
-    expect!(rt; is_wrong(alloc, 5, 3, SettleFault::SplitUnderWay)?);
-    expect!(rt; is_wrong(alloc, 4, 3, SettleFault::MissingStamp(2))?);
-    expect!(rt; is_wrong(alloc, 4, 2, wrong)?);
+    expect!(&rt, is_wrong(alloc, 5, 3, SettleFault::SplitUnderWay)?);
+    expect!(&rt, is_wrong(alloc, 4, 3, SettleFault::MissingStamp(2))?);
+    expect!(&rt, is_wrong(alloc, 4, 2, wrong)?);
     Ok(())
 }
 
@@ -231,9 +235,12 @@ fn the_first_fault_of_contents_is_named(rt: HostRuntime) -> Result<(), Fail> {
         key: key(b'b')?,
     };
     let content = SettleFault::Content(key(b'a')?);
-    expect!(rt; has_fault(alloc, &[stray], content)?);
-    expect!(rt; has_fault(alloc, &[away], misplaced)?);
-    expect!(rt; misses(alloc, 4, 2, &[A, &[(b'b', b'b')]], &[1, 0], None)?);
+    expect!(&rt, has_fault(alloc, &[stray], content)?);
+    expect!(&rt, has_fault(alloc, &[away], misplaced)?);
+    expect!(
+        &rt,
+        misses(alloc, 4, 2, &[A, &[(b'b', b'b')]], &[1, 0], None)?
+    );
     Ok(())
 }
 
@@ -263,7 +270,7 @@ fn faults_have_texts(rt: HostRuntime) -> Result<(), Fail> {
         (SettleFault::Memory, "no memory"),
     ];
     for (fault, text) in &texts {
-        expect!(rt; has_text(alloc, *fault, text)?);
+        expect!(&rt, has_text(alloc, *fault, text)?);
     }
     Ok(())
 }

@@ -142,9 +142,9 @@ fn is_insert(line: &ActLine, stamp: usize) -> Result<bool, Fail> {
 #[test]
 fn acts_are_settled_in_the_order_of_their_stamps(rt: HostRuntime) -> Result<(), Fail> {
     let history = history_of(rt.alloc(), 6, &[AE, BD, C, &[]], &[3, 0, 4, 2, 1])?;
-    expect_eq!(rt; history.len(), 5);
+    expect_eq!(&rt, history.len(), 5);
     for stamp in 0..history.len() {
-        expect!(rt; is_insert(&history.at(stamp), stamp)?);
+        expect!(&rt, is_insert(&history.at(stamp), stamp)?);
     }
     Ok(())
 }
@@ -152,8 +152,8 @@ fn acts_are_settled_in_the_order_of_their_stamps(rt: HostRuntime) -> Result<(), 
 #[test]
 fn acts_stand_as_they_were_kept(rt: HostRuntime) -> Result<(), Fail> {
     let acts = inserts(rt.alloc(), &[3, 0, 4, 2, 1])?;
-    expect_eq!(rt; acts.len(), 5);
-    expect!(rt; acts.len() > 0 && is_insert(&acts.at(0), 3)?);
+    expect_eq!(&rt, acts.len(), 5);
+    expect!(&rt, acts.len() > 0 && is_insert(&acts.at(0), 3)?);
     Ok(())
 }
 
@@ -188,7 +188,7 @@ const ORDERS: [[u64; 4]; 24] = [
 fn every_order_of_acts_is_settled(rt: HostRuntime) -> Result<(), Fail> {
     for order in &ORDERS {
         let history = history_of(rt.alloc(), 6, &[&[(b'a', b'a')], BD, C], order)?;
-        expect_eq!(rt; history.len(), 4);
+        expect_eq!(&rt, history.len(), 4);
     }
     Ok(())
 }
@@ -233,15 +233,17 @@ fn a_history_begins_with_the_opening(rt: HostRuntime) -> Result<(), Fail> {
         given,
         due,
     };
-    expect_eq!(rt;
+    expect_eq!(
+        &rt,
         mixed_settled(alloc, &[(b'a', b'1')], &[(b'a', b'4')])?,
         Ok(8)
     );
-    expect_eq!(rt;
+    expect_eq!(
+        &rt,
         mixed_settled(alloc, &[(b'a', b'1')], &[(b'a', b'1')])?,
         Err(stray)
     );
-    expect_eq!(rt; mixed_settled(alloc, &[], &[(b'a', b'4')])?, Err(wrong));
+    expect_eq!(&rt, mixed_settled(alloc, &[], &[(b'a', b'4')])?, Err(wrong));
     Ok(())
 }
 
@@ -250,11 +252,13 @@ fn a_history_begins_with_the_opening(rt: HostRuntime) -> Result<(), Fail> {
 fn records_are_compared_with_what_replaces_left(rt: HostRuntime) -> Result<(), Fail> {
     let alloc = rt.alloc();
     let opened: &[(u8, u8)] = &[(b'a', b'1')];
-    expect_eq!(rt;
+    expect_eq!(
+        &rt,
         mixed_settled(alloc, opened, &[(b'a', b'2')])?,
         Err(SettleFault::Content(key(b'a')?))
     );
-    expect_eq!(rt;
+    expect_eq!(
+        &rt,
         mixed_settled(alloc, opened, &[(b'a', b'4'), (b'b', b'5')])?,
         Err(SettleFault::Content(key(b'b')?))
     );

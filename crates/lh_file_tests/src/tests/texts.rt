@@ -28,9 +28,15 @@ fn prints_faults(rt: HostRuntime) -> Result<(), Fail> {
         found_bucket: 3,
         found_level: None,
     };
-    expect!(rt; prints(&rt, &defect, "bucket 3 at level 2 is not there")?);
-    expect!(rt; prints(&rt, &FileFault::Spent { left: 10 }, "10 calls left")?);
-    expect!(rt; prints(&rt, &FileFault::from(Memory), "no memory")?);
+    expect!(
+        &rt,
+        prints(&rt, &defect, "bucket 3 at level 2 is not there")?
+    );
+    expect!(
+        &rt,
+        prints(&rt, &FileFault::Spent { left: 10 }, "10 calls left")?
+    );
+    expect!(&rt, prints(&rt, &FileFault::from(Memory), "no memory")?);
     Ok(())
 }
 
@@ -42,7 +48,7 @@ fn prints_a_hand(rt: HostRuntime) -> Result<(), Fail> {
         Ok(text) => text,
         Err(AllocError) => format!(in rt.alloc(); "{second:?}")?,
     };
-    expect_eq!(rt; text.as_str(), "Hand(10 left)");
+    expect_eq!(&rt, text.as_str(), "Hand(10 left)");
     Ok(())
 }
 
@@ -50,6 +56,6 @@ fn prints_a_hand(rt: HostRuntime) -> Result<(), Fail> {
 fn prints_faults_of_joins(rt: HostRuntime) -> Result<(), Fail> {
     let (file, mut first) = file_of(rt.alloc(), 8)?;
     let second = file.split_hand(&mut first, 10)?;
-    expect!(rt; prints(&rt, &JoinFault { first, second }, "no memory")?);
+    expect!(&rt, prints(&rt, &JoinFault { first, second }, "no memory")?);
     Ok(())
 }

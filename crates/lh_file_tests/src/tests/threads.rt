@@ -234,7 +234,7 @@ pub(crate) fn worked_apart<R: Threads + Wait + Abort + Sync>(
     let Some((all, rising)) = work_in_threads(rt, alloc, &file, first, threads, turns) else {
         return Err(Fail::from("a hand was lost"));
     };
-    expect!(rt; rising);
+    expect!(rt, rising);
     Ok((file, all))
 }
 
@@ -254,24 +254,29 @@ pub(crate) fn check_acts<R: Wait + Abort>(
         Ok(ended) => ended,
         Err(Memory) => return Ok(None),
     };
-    expect_eq!(rt;
+    expect_eq!(
+        rt,
         (load.inserted, load.deleted),
         (
             count_of(&acts, Reply::Inserted),
             count_of(&acts, Reply::Deleted)
         )
     );
-    expect_eq!(rt; closed.records(), load.inserted.wrapping_sub(load.deleted));
-    expect_eq!(rt; (closed.buckets(), closed.split_open()), (size, false));
-    expect_eq!(rt; closed.stamps(), acts.len() as u64);
-    expect!(rt; has_each_stamp(alloc, &acts)?);
+    expect_eq!(
+        rt,
+        closed.records(),
+        load.inserted.wrapping_sub(load.deleted)
+    );
+    expect_eq!(rt, (closed.buckets(), closed.split_open()), (size, false));
+    expect_eq!(rt, closed.stamps(), acts.len() as u64);
+    expect!(rt, has_each_stamp(alloc, &acts)?);
     Ok(Some(acts.len()))
 }
 
 #[test]
 fn threads_lose_no_act(rt: HostRuntime) -> Result<(), Fail> {
     let (file, all) = worked_apart(&rt, rt.alloc(), 8, 250)?;
-    expect_eq!(rt; all.left(), (1 << 63) - 4000);
-    expect_eq!(rt; check_acts(&rt, rt.alloc(), file, all)?, Some(4000));
+    expect_eq!(&rt, all.left(), (1 << 63) - 4000);
+    expect_eq!(&rt, check_acts(&rt, rt.alloc(), file, all)?, Some(4000));
     Ok(())
 }

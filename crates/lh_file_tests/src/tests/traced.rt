@@ -153,8 +153,8 @@ fn calls_of_an_untraced_file_pass_these_points(rt: HostRuntime) -> Result<(), Fa
         log: &log,
     };
     let (file, hand) = made(rt.alloc(), Config::new(1, 2, 100, 65536)?, gate)?;
-    expect_eq!(rt; told(&rt, &file, hand), Some(due()?));
-    expect!(rt; log.is_just(&POINTS));
+    expect_eq!(&rt, told(&rt, &file, hand), Some(due()?));
+    expect!(&rt, log.is_just(&POINTS));
     Ok(())
 }
 
@@ -170,6 +170,6 @@ fn calls_of_a_traced_file_pass_the_same_points(rt: HostRuntime) -> Result<(), Fa
     let listing = Listing::empty(rt.alloc(), Config::new(1, 2, 100, 65536)?)?;
     let opening = Opening::of(rt.alloc(), &listing, true, gate)?;
     assert_eq!(rt; told_of::<Brand, _>(&rt, opening), Some(due));
-    expect!(rt; log.is_just(&POINTS));
+    expect!(&rt, log.is_just(&POINTS));
     Ok(())
 }

@@ -199,7 +199,7 @@ fn an_untraced_file_is_not_gathered(rt: HostRuntime) -> Result<(), Fail> {
     let config = Config::new(1, 2, 100, 65536)?;
     let (file, hand) = HashFile::create(rt.alloc(), config, true, NoGate)?;
     let (closed, _) = file.close(&rt, hand)?;
-    expect!(rt; !closed.gathered());
+    expect!(&rt, !closed.gathered());
     Ok(())
 }
 
@@ -212,6 +212,6 @@ fn an_opening_may_be_left(rt: HostRuntime) -> Result<(), Fail> {
     drop(opening);
     let (file, hand) = HashFile::open_from(alloc, &listing, true, NoGate)?;
     let (closed, _) = file.close(&rt, hand)?;
-    expect_eq!(rt; (closed.buckets(), closed.records()), (1, 0));
+    expect_eq!(&rt, (closed.buckets(), closed.records()), (1, 0));
     Ok(())
 }

@@ -246,7 +246,7 @@ fn eight_threads_leave_one_history_until_enough_met(rt: HostRuntime) -> Result<(
             settled: Some(16_000),
         };
         expect_eq!(rt; ended, due);
-        expect!(rt; ended.records <= 50);
+        expect!(&rt, ended.records <= 50);
         beside = beside.saturating_add(more);
         if beside >= ENOUGH {
             return Ok(());

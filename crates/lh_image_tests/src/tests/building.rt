@@ -203,12 +203,16 @@ pub(crate) fn shown(alloc: Global, listing: &Listing, bucket: u32) -> Result<Vec
 
 /// Two listings are the same.
 pub(crate) fn expect_same(rt: &impl Abort, found: &Listing, wanted: &Listing) {
-    expect_eq!(rt; found.config(), wanted.config());
-    expect!(rt; found.buckets() == wanted.buckets());
+    expect_eq!(rt, found.config(), wanted.config());
+    expect!(rt, found.buckets() == wanted.buckets());
     for bucket in 0..wanted.buckets() {
-        expect!(rt; found.len_of(bucket) == wanted.len_of(bucket));
+        expect!(rt, found.len_of(bucket) == wanted.len_of(bucket));
         for place in 0..wanted.len_of(bucket) {
-            expect_eq!(rt; found.pair_at(bucket, place), wanted.pair_at(bucket, place));
+            expect_eq!(
+                rt,
+                found.pair_at(bucket, place),
+                wanted.pair_at(bucket, place)
+            );
         }
     }
 }

@@ -22,8 +22,8 @@ pub(crate) fn expect_census(rt: &impl Abort, alloc: Global, bytes: &[u8], wanted
         if found == Err(ImageFault::Memory) {
             found = check_image(alloc, &mut reader_of(bytes, most));
         }
-        expect_eq!(rt; (most, found), (most, Ok(wanted)));
-        expect!(rt; reader.longest <= page);
+        expect_eq!(rt, (most, found), (most, Ok(wanted)));
+        expect!(rt, reader.longest <= page);
     }
 }
 

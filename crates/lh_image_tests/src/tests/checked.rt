@@ -28,11 +28,11 @@ fn checked(alloc: Global, bytes: &[u8]) -> Result<CheckedImage<'_>, ImageFault> 
 fn expect_value(rt: &impl Abort, image: &CheckedImage<'_>, key: &Key, value: &[u8]) {
     match image.find(key) {
         Some(found) => expect_eq!(rt; found.bytes(), value),
-        None => expect!(rt; false),
+        None => expect!(rt, false),
     }
     match image.find_bytes(key) {
         Some(found) => expect_eq!(rt; found, value),
-        None => expect!(rt; false),
+        None => expect!(rt, false),
     }
 }
 
@@ -55,18 +55,18 @@ fn expect_looked_up(
     expect_records(rt, image, listing);
     for key in absent {
         let key = Key::new(*key)?;
-        expect_eq!(rt; image.find(&key), None);
-        expect!(rt; image.find_bytes(&key).is_none());
+        expect_eq!(rt, image.find(&key), None);
+        expect!(rt, image.find_bytes(&key).is_none());
     }
     Ok(())
 }
 
 /// The image has just the records of a listing.
 fn expect_records(rt: &impl Abort, image: &CheckedImage<'_>, listing: &Listing) {
-    expect_eq!(rt; image.config(), listing.config());
-    expect!(rt; image.buckets() == listing.buckets());
-    expect!(rt; image.len() == listing.len());
-    expect!(rt; image.is_empty() == (listing.len() == 0));
+    expect_eq!(rt, image.config(), listing.config());
+    expect!(rt, image.buckets() == listing.buckets());
+    expect!(rt, image.len() == listing.len());
+    expect!(rt, image.is_empty() == (listing.len() == 0));
     for bucket in 0..listing.buckets() {
         for place in 0..listing.len_of(bucket) {
             let pair = listing.pair_at(bucket, place);
@@ -82,7 +82,7 @@ fn expect_new(
     absent: &[&[u8]],
 ) -> Result<(), Fail> {
     let mut sink = Sink::new(rt.alloc(), usize::MAX, 0);
-    expect_eq!(rt; write_image(listing, &mut sink), Ok(()));
+    expect_eq!(rt, write_image(listing, &mut sink), Ok(()));
     expect_listing(rt, sink.bytes.as_slice(), listing, absent)
 }
 
@@ -93,7 +93,7 @@ fn expect_old(
     absent: &[&[u8]],
 ) -> Result<(), Fail> {
     let mut sink = Sink::new(rt.alloc(), usize::MAX, 0);
-    expect_eq!(rt; write_image_v1(listing, &mut sink), Ok(()));
+    expect_eq!(rt, write_image_v1(listing, &mut sink), Ok(()));
     expect_listing(rt, sink.bytes.as_slice(), listing, absent)
 }
 
@@ -155,7 +155,7 @@ fn longest_chain_of(
 ) -> Result<Option<ImageFault>, Fail> {
     let listing = listing_of(rt.alloc(), [1, 1, 100, 1], 1, &numbered(rt.alloc(), pages)?)?;
     let mut sink = Sink::new(rt.alloc(), usize::MAX, 0);
-    expect_eq!(rt; write_image_v1(&listing, &mut sink), Ok(()));
+    expect_eq!(rt, write_image_v1(&listing, &mut sink), Ok(()));
     let mut bytes = sink.bytes;
     if twice {
         // The key of the last page becomes that of the first one.
@@ -169,8 +169,12 @@ fn longest_chain_of(
 #[test]
 fn chains_around_64_pages(rt: HostRuntime) -> Result<(), Fail> {
     for pages in 63..66 {
-        expect_eq!(rt; longest_chain_of(&rt, pages, false)?, None);
-        expect_eq!(rt; longest_chain_of(&rt, pages, true)?, Some(ImageFault::Misfit(pages)));
+        expect_eq!(&rt, longest_chain_of(&rt, pages, false)?, None);
+        expect_eq!(
+            &rt,
+            longest_chain_of(&rt, pages, true)?,
+            Some(ImageFault::Misfit(pages))
+        );
     }
     Ok(())
 }
@@ -202,7 +206,7 @@ fn expect_falling(rt: &impl Abort, image: &CheckedImage<'_>) -> Result<(), Fail>
         let found = image.find(&Key::new(&page.to_be_bytes())?);
         expect_eq!(rt; found, Some(Value::empty()));
     }
-    expect_eq!(rt; image.find(&Key::new(b"\0\0\0\x1f")?), None);
+    expect_eq!(rt, image.find(&Key::new(b"\0\0\0\x1f")?), None);
     Ok(())
 }
 
@@ -212,7 +216,7 @@ fn falling_of_2(rt: &(impl Abort + AllocGlobal)) -> Result<(), Fail> {
 }
 
 fn expect_last(rt: &impl Abort, image: &CheckedImage<'_>) -> Result<(), Fail> {
-    expect_eq!(rt; image.find(&Key::new(b"g")?), Some(Value::new(b"7")?));
+    expect_eq!(rt, image.find(&Key::new(b"g")?), Some(Value::new(b"7")?));
     Ok(())
 }
 
@@ -238,7 +242,7 @@ fn expect_refused(
         let mut bytes = image.clone()?;
         set(&mut bytes, *at, *byte);
         let fault = checked(rt.alloc(), &bytes).err();
-        expect_eq!(rt; (*at, fault), (*at, Some(*want)));
+        expect_eq!(rt, (*at, fault), (*at, Some(*want)));
     }
     Ok(())
 }
@@ -301,7 +305,11 @@ fn forged_images_are_refused(rt: HostRuntime) -> Result<(), Fail> {
 fn expect_unmet(rt: &(impl Abort + AllocGlobal), bytes: &[u8]) -> Result<(), Fail> {
     let found = Image::open(bytes)?.find(&Key::new(b"a")?);
     expect_eq!(rt; found, Ok(Some(Value::new(b"1")?)));
-    expect_eq!(rt; checked(rt.alloc(), bytes).err(), Some(ImageFault::Used(0)));
+    expect_eq!(
+        rt,
+        checked(rt.alloc(), bytes).err(),
+        Some(ImageFault::Used(0))
+    );
     Ok(())
 }
 

@@ -18,7 +18,7 @@ pub(crate) fn expect_fault(rt: &impl Abort, alloc: Global, bytes: &[u8], want: I
     for most in [1, 7, 1024, 4095, usize::MAX] {
         let found = read_image(alloc, &mut reader_of(bytes, most)).err();
         let counted = check_image(alloc, &mut reader_of(bytes, most)).err();
-        expect_eq!(rt; (most, found, counted), (most, Some(want), Some(want)));
+        expect_eq!(rt, (most, found, counted), (most, Some(want), Some(want)));
     }
 }
 
@@ -72,7 +72,7 @@ fn expect_beginnings(rt: &impl Abort, alloc: Global, bytes: &[u8]) {
             ImageFault::Short
         };
         let found = fault_of(alloc, &bytes[..count.min(bytes.len())]);
-        expect_eq!(rt; (count, found), (count, Some(want)));
+        expect_eq!(rt, (count, found), (count, Some(want)));
         if [0, 3, 10, 1023, 1024, 4095].contains(&count) {
             expect_fault(rt, alloc, &bytes[..count.min(bytes.len())], want);
         }
@@ -92,7 +92,7 @@ pub(crate) fn expect_trailing(
     let mut reader = reader_of(bytes, most);
     let fault = read_image(alloc, &mut reader).err();
     expect_eq!(rt; fault, Some(ImageFault::Trailing));
-    expect_eq!(rt; reader.bytes.len(), 1);
+    expect_eq!(rt, reader.bytes.len(), 1);
     Ok(())
 }
 
@@ -199,7 +199,7 @@ fn page_faults(rt: HostRuntime) -> Result<(), Fail> {
 }
 
 fn expect_two_pages_faults(rt: &impl Abort, alloc: Global, bytes: &Vec<u8>) -> Result<(), Fail> {
-    expect_eq!(rt; bytes.len(), 3072);
+    expect_eq!(rt, bytes.len(), 3072);
     expect_faults(
         rt,
         alloc,

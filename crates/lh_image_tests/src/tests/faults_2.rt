@@ -88,7 +88,7 @@ fn header_faults(rt: HostRuntime) -> Result<(), Fail> {
     expect_header_faults(&rt, rt.alloc(), &bytes)?;
     // a page may have room for more records than in version 1
     set(&mut bytes, 8, 24);
-    expect_eq!(rt; fault_of(rt.alloc(), &bytes), None);
+    expect_eq!(&rt, fault_of(rt.alloc(), &bytes), None);
     expect_countless(&rt, rt.alloc(), &beginning(rt.alloc(), &bytes, 4096)?)
 }
 

@@ -116,7 +116,7 @@ fn expect_faults(
         for behind in [b"".as_slice(), b"\0", b"search 61\n"] {
             let mut bytes = joined(rt.alloc(), image, behind)?;
             set(&mut bytes, *at, *byte);
-            expect_eq!(rt; (*at, leading_fault(rt, &bytes)), (*at, Some(*want)));
+            expect_eq!(rt, (*at, leading_fault(rt, &bytes)), (*at, Some(*want)));
         }
     }
     Ok(())
@@ -166,7 +166,7 @@ fn expect_cut(rt: &(impl Abort + AllocGlobal), bytes: &[u8], page: usize) {
             ImageFault::Short
         };
         let fault = leading_fault(rt, &bytes[..count.min(bytes.len())]);
-        expect_eq!(rt; (count, fault), (count, Some(want)));
+        expect_eq!(rt, (count, fault), (count, Some(want)));
     }
 }
 

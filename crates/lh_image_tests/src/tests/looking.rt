@@ -27,11 +27,11 @@ fn look(bytes: &[u8], key: &[u8]) -> Result<Result<Option<Value>, ImageFault>, F
 fn expect_value(rt: &impl Abort, image: &Image<'_>, key: &Key, value: &[u8]) {
     match image.find(key) {
         Ok(Some(found)) => expect_eq!(rt; found.bytes(), value),
-        _ => expect!(rt; false),
+        _ => expect!(rt, false),
     }
     match image.find_bytes(key) {
         Ok(Some(found)) => expect_eq!(rt; found, value),
-        _ => expect!(rt; false),
+        _ => expect!(rt, false),
     }
 }
 
@@ -49,18 +49,18 @@ fn expect_listing(
     expect_records(rt, &image, listing);
     for key in absent {
         let key = Key::new(*key)?;
-        expect_eq!(rt; image.find(&key), Ok(None));
-        expect!(rt; matches!(image.find_bytes(&key), Ok(None)));
+        expect_eq!(rt, image.find(&key), Ok(None));
+        expect!(rt, matches!(image.find_bytes(&key), Ok(None)));
     }
     Ok(())
 }
 
 /// The image has just the records of a listing.
 fn expect_records(rt: &impl Abort, image: &Image<'_>, listing: &Listing) {
-    expect_eq!(rt; image.config(), listing.config());
-    expect!(rt; image.buckets() == listing.buckets());
-    expect!(rt; image.len() == listing.len());
-    expect!(rt; image.is_empty() == (listing.len() == 0));
+    expect_eq!(rt, image.config(), listing.config());
+    expect!(rt, image.buckets() == listing.buckets());
+    expect!(rt, image.len() == listing.len());
+    expect!(rt, image.is_empty() == (listing.len() == 0));
     for bucket in 0..listing.buckets() {
         for place in 0..listing.len_of(bucket) {
             let pair = listing.pair_at(bucket, place);
@@ -76,7 +76,7 @@ fn expect_new(
     absent: &[&[u8]],
 ) -> Result<(), Fail> {
     let mut sink = Sink::new(rt.alloc(), usize::MAX, 0);
-    expect_eq!(rt; write_image(listing, &mut sink), Ok(()));
+    expect_eq!(rt, write_image(listing, &mut sink), Ok(()));
     expect_listing(rt, sink.bytes.as_slice(), listing, Version::Two, absent)
 }
 
@@ -87,7 +87,7 @@ fn expect_old(
     absent: &[&[u8]],
 ) -> Result<(), Fail> {
     let mut sink = Sink::new(rt.alloc(), usize::MAX, 0);
-    expect_eq!(rt; write_image_v1(listing, &mut sink), Ok(()));
+    expect_eq!(rt, write_image_v1(listing, &mut sink), Ok(()));
     expect_listing(rt, sink.bytes.as_slice(), listing, Version::One, absent)
 }
 
@@ -215,7 +215,7 @@ fn expect_absent(rt: &impl Abort, bytes: &Vec<u8>, rows: &[(usize, u8, u8)]) -> 
 
 /// The key of one byte has this value of one byte in the bytes as they are.
 fn expect_kept(rt: &impl Abort, bytes: &[u8], key: u8, want: u8) -> Result<(), Fail> {
-    expect_eq!(rt; look(bytes, &[key])?, Ok(Some(Value::new(&[want])?)));
+    expect_eq!(rt, look(bytes, &[key])?, Ok(Some(Value::new(&[want])?)));
     Ok(())
 }
 
@@ -379,7 +379,7 @@ fn expect_cut(rt: &impl Abort, bytes: &[u8], count: usize) {
         ImageFault::Short
     };
     let fault = Image::open(&bytes[..count.min(bytes.len())]).err();
-    expect_eq!(rt; (count, fault), (count, Some(want)));
+    expect_eq!(rt, (count, fault), (count, Some(want)));
 }
 
 /// Every length of the first two pages, and one byte more than all. The other pages aren't looked at.
@@ -387,9 +387,9 @@ fn expect_lengths(rt: &impl Abort, bytes: &mut Vec<u8>, page: usize) -> Result<(
     for count in 0..page.saturating_mul(2) {
         expect_cut(rt, bytes, count);
     }
-    expect!(rt; Image::open(bytes).is_ok());
+    expect!(rt, Image::open(bytes).is_ok());
     bytes.push(0)?;
-    expect_eq!(rt; Image::open(bytes).err(), Some(ImageFault::Trailing));
+    expect_eq!(rt, Image::open(bytes).err(), Some(ImageFault::Trailing));
     Ok(())
 }
 
@@ -407,7 +407,7 @@ fn expect_headers(
 ) -> Result<(), Fail> {
     for (at, byte, want) in rows {
         let fault = Image::open(&forged(bytes, *at, *byte)?).err();
-        expect_eq!(rt; (*at, fault), (*at, Some(*want)));
+        expect_eq!(rt, (*at, fault), (*at, Some(*want)));
     }
     Ok(())
 }

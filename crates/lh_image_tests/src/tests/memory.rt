@@ -65,7 +65,7 @@ fn expect_checked(rt: &impl Abort, alloc: Global, bytes: &[u8], wanted: Option<I
             }
             expect_eq!(rt; told, wanted);
         }
-        Err(_) => expect!(rt; false),
+        Err(_) => expect!(rt, false),
     }
 }
 
@@ -130,10 +130,10 @@ fn refused_growth_stops_no_writing(rt: HostRuntime) {
         is_same: true,
     };
     match read_again(rt.alloc(), &bytes) {
-        Ok(listing) => expect_eq!(rt; write_image_v1(&listing, &mut due), Ok(())),
+        Ok(listing) => expect_eq!(&rt, write_image_v1(&listing, &mut due), Ok(())),
         Err(fault) => panic!(rt; "{fault}"),
     }
-    expect!(rt; due.is_same && due.bytes.is_empty());
+    expect!(&rt, due.is_same && due.bytes.is_empty());
 }
 
 /// The same of version 2.
@@ -146,8 +146,8 @@ fn refused_growth_stops_no_writing_of_version_2(rt: HostRuntime) {
         is_same: true,
     };
     match read_again(rt.alloc(), &bytes) {
-        Ok(listing) => expect_eq!(rt; write_image(&listing, &mut due), Ok(())),
+        Ok(listing) => expect_eq!(&rt, write_image(&listing, &mut due), Ok(())),
         Err(fault) => panic!(rt; "{fault}"),
     }
-    expect!(rt; due.is_same && due.bytes.is_empty());
+    expect!(&rt, due.is_same && due.bytes.is_empty());
 }

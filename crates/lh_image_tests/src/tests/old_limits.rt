@@ -17,9 +17,9 @@ fn expect_refused(
     wanted: WriteImageFault,
 ) -> Result<(), Fail> {
     let mut sink = Sink::new(rt.alloc(), usize::MAX, 0);
-    expect_eq!(rt; write_image_v1(listing, &mut sink), Err(wanted));
+    expect_eq!(rt, write_image_v1(listing, &mut sink), Err(wanted));
     expect_eq!(rt; sink.calls, 0);
-    expect_eq!(rt; write_image(listing, &mut sink), Ok(()));
+    expect_eq!(rt, write_image(listing, &mut sink), Ok(()));
     expect_same(rt, &read_again(rt.alloc(), &sink.bytes)?, listing);
     Ok(())
 }
@@ -106,8 +106,8 @@ fn the_longest_old_record(rt: HostRuntime) -> Result<(), Fail> {
     let alloc = rt.alloc();
     let listing = one_bucket(alloc, &[(30, 40)])?;
     let mut sink = Sink::new(alloc, usize::MAX, 0);
-    expect_eq!(rt; write_image_v1(&listing, &mut sink), Ok(()));
-    expect_eq!(rt; sink.bytes.len(), 2048);
+    expect_eq!(&rt, write_image_v1(&listing, &mut sink), Ok(()));
+    expect_eq!(&rt, sink.bytes.len(), 2048);
     expect_same(&rt, &read_again(alloc, &sink.bytes)?, &listing);
     Ok(())
 }

@@ -19,8 +19,8 @@ fn reads_as(rt: &impl Abort, alloc: Global, bytes: &[u8], wanted: &Listing) -> R
         let mut reader = reader_of(bytes, most);
         let listing = read_image(alloc, &mut reader)?;
         expect_same(rt, &listing, wanted);
-        expect!(rt; reader.bytes.is_empty());
-        expect!(rt; reader.longest <= 1024);
+        expect!(rt, reader.bytes.is_empty());
+        expect!(rt, reader.longest <= 1024);
     }
     Ok(())
 }
@@ -46,14 +46,18 @@ fn expect_shown(
     bucket: u32,
     records: &[u8],
 ) -> Result<(), Fail> {
-    expect!(rt; *shown(alloc, listing, bucket)?.as_slice() == *records);
+    expect!(rt, *shown(alloc, listing, bucket)?.as_slice() == *records);
     Ok(())
 }
 
 fn expect_three_buckets(rt: &impl Abort, alloc: Global, listing: &Listing) -> Result<(), Fail> {
     let config = listing.config();
-    expect_eq!(rt; listing.buckets(), 3);
-    expect_eq!(rt; (config.capacity(), config.load(), config.max()), (2, 100, 65536));
+    expect_eq!(rt, listing.buckets(), 3);
+    expect_eq!(
+        rt,
+        (config.capacity(), config.load(), config.max()),
+        (2, 100, 65536)
+    );
     for (bucket, records) in [(0, "a1e5"), (1, "b2d4"), (2, "c3")] {
         expect_shown(rt, alloc, listing, bucket, records.as_bytes())?;
     }
@@ -144,10 +148,18 @@ fn overflow_pages_in_any_order(rt: HostRuntime) -> Result<(), Fail> {
 }
 
 fn expect_long(rt: &impl Abort, listing: &Listing) -> Result<(), Fail> {
-    expect!(rt; listing.buckets() == 1);
-    expect!(rt; listing.len_of(0) == 300);
-    expect_eq!(rt; listing.pair_at(0, 1).key, Key::new(&300_u32.to_be_bytes())?);
-    expect_eq!(rt; listing.pair_at(0, 299).key, Key::new(&2_u32.to_be_bytes())?);
+    expect!(rt, listing.buckets() == 1);
+    expect!(rt, listing.len_of(0) == 300);
+    expect_eq!(
+        rt,
+        listing.pair_at(0, 1).key,
+        Key::new(&300_u32.to_be_bytes())?
+    );
+    expect_eq!(
+        rt,
+        listing.pair_at(0, 299).key,
+        Key::new(&2_u32.to_be_bytes())?
+    );
     Ok(())
 }
 

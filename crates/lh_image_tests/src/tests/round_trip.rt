@@ -25,7 +25,7 @@ fn written(rt: &impl Abort, alloc: Global, version: u32, listing: &Listing) -> V
     let mut sink = Sink::new(alloc, usize::MAX, 0);
     if send(version, listing, &mut sink).is_err() {
         sink = Sink::new(alloc, usize::MAX, 0);
-        expect_eq!(rt; send(version, listing, &mut sink), Ok(()));
+        expect_eq!(rt, send(version, listing, &mut sink), Ok(()));
     }
     sink.bytes
 }
@@ -35,7 +35,10 @@ fn reads_back(rt: &impl Abort, alloc: Global, listing: &Listing) -> Result<(), F
     for version in 1..=2 {
         let image = written(rt, alloc, version, listing);
         expect_same(rt, &read_again(alloc, &image)?, listing);
-        expect!(rt; version == 1 || image_len(listing) == Ok(image.len() as u64));
+        expect!(
+            rt,
+            version == 1 || image_len(listing) == Ok(image.len() as u64)
+        );
     }
     Ok(())
 }
@@ -61,7 +64,7 @@ fn large_files_read_back(rt: HostRuntime) -> Result<(), Fail> {
         ([3, 14, 90, 24], 24),
     ] {
         let listing = listing_of(alloc, settings, buckets, &records)?;
-        expect_eq!(rt; listing.len(), 300);
+        expect_eq!(&rt, listing.len(), 300);
         reads_back(&rt, alloc, &listing)?;
     }
     Ok(())

@@ -83,9 +83,9 @@ fn is_written_as(
 ) -> Result<(), Fail> {
     for at_once in [usize::MAX, 1, 7, 4096] {
         let mut sink = Sink::new(rt.alloc(), at_once, 0);
-        expect_eq!(rt; write_image(listing, &mut sink), Ok(()));
+        expect_eq!(rt, write_image(listing, &mut sink), Ok(()));
         expect_eq!(rt; sink.bytes.as_slice(), image);
-        expect!(rt; sink.longest <= 4096);
+        expect!(rt, sink.longest <= 4096);
     }
     Ok(())
 }
@@ -102,7 +102,7 @@ fn worked_listings_are_these_bytes(rt: HostRuntime) -> Result<(), Fail> {
 fn overflow_pages_stand_by_bucket_and_place(rt: HostRuntime) -> Result<(), Fail> {
     let listing = six_pages(rt.alloc())?;
     let mut sink = Sink::new(rt.alloc(), usize::MAX, 0);
-    expect_eq!(rt; write_image(&listing, &mut sink), Ok(()));
+    expect_eq!(&rt, write_image(&listing, &mut sink), Ok(()));
     expect_heads_of_six_pages(&rt, &sink.bytes, 4096);
     Ok(())
 }
@@ -121,11 +121,11 @@ fn expect_largest(
     image: &[u8],
     listing: &Listing,
 ) -> Result<(), Fail> {
-    expect_eq!(rt; image.len(), 2 * 4096);
-    expect_eq!(rt; image.get(4096..4098), Some(b"\x01\x18".as_slice()));
-    expect_eq!(rt; image.get(8022..8025), Some(b"\x38\x70k".as_slice()));
-    expect_eq!(rt; image.get(8079..8081), Some(b"kv".as_slice()));
-    expect_eq!(rt; image.get(8191), Some(&b'v'));
+    expect_eq!(rt, image.len(), 2 * 4096);
+    expect_eq!(rt, image.get(4096..4098), Some(b"\x01\x18".as_slice()));
+    expect_eq!(rt, image.get(8022..8025), Some(b"\x38\x70k".as_slice()));
+    expect_eq!(rt, image.get(8079..8081), Some(b"kv".as_slice()));
+    expect_eq!(rt, image.get(8191), Some(&b'v'));
     expect_same(rt, &read_again(alloc, image)?, listing);
     Ok(())
 }
@@ -134,7 +134,7 @@ fn expect_largest(
 fn the_largest_page_is_written(rt: HostRuntime) -> Result<(), Fail> {
     let listing = largest_page(rt.alloc())?;
     let mut sink = Sink::new(rt.alloc(), usize::MAX, 0);
-    expect_eq!(rt; write_image(&listing, &mut sink), Ok(()));
+    expect_eq!(&rt, write_image(&listing, &mut sink), Ok(()));
     expect_largest(&rt, rt.alloc(), &sink.bytes, &listing)
 }
 
@@ -142,15 +142,16 @@ fn expect_failing_calls(rt: &impl Abort, alloc: Global, listing: &Listing) {
     // Six writes of 2,048 bytes, then the flush.
     for failing in 1..8_usize {
         let mut sink = Sink::new(alloc, 2048, failing);
-        expect_eq!(rt;
+        expect_eq!(
+            rt,
             write_image(listing, &mut sink),
             Err(WriteImageFault::WriteFault)
         );
         expect_eq!(rt; sink.calls, failing);
-        expect_eq!(rt; sink.bytes.len(), 2048 * (failing - 1));
+        expect_eq!(rt, sink.bytes.len(), 2048 * (failing - 1));
     }
     let mut sink = Sink::new(alloc, 2048, 8);
-    expect_eq!(rt; write_image(listing, &mut sink), Ok(()));
+    expect_eq!(rt, write_image(listing, &mut sink), Ok(()));
 }
 
 #[test]
@@ -165,8 +166,8 @@ fn reads_as(rt: &impl Abort, alloc: Global, bytes: &[u8], wanted: &Listing) -> R
         let mut reader = reader_of(bytes, most);
         let listing = read_image(alloc, &mut reader)?;
         expect_same(rt, &listing, wanted);
-        expect!(rt; reader.bytes.is_empty());
-        expect!(rt; reader.longest <= 4096);
+        expect!(rt, reader.bytes.is_empty());
+        expect!(rt, reader.longest <= 4096);
     }
     Ok(())
 }
@@ -247,12 +248,13 @@ fn no_image_is_read_further(rt: HostRuntime) -> Result<(), Fail> {
     let mut bytes = three_buckets_image_2(rt.alloc())?;
     set(&mut bytes, 3, b'3');
     let mut reader = reader_of(&bytes, 4096);
-    expect_eq!(rt;
+    expect_eq!(
+        &rt,
         read_image(rt.alloc(), &mut reader).err(),
         Some(ImageFault::Magic)
     );
     expect_eq!(rt; reader.reads, 1);
-    expect_eq!(rt; reader.bytes.len(), 15_360);
+    expect_eq!(&rt, reader.bytes.len(), 15_360);
     Ok(())
 }
 

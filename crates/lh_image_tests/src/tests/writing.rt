@@ -18,9 +18,9 @@ fn is_written_as(
 ) -> Result<(), Fail> {
     for at_once in [usize::MAX, 1, 7, 1024] {
         let mut sink = Sink::new(rt.alloc(), at_once, 0);
-        expect_eq!(rt; write_image_v1(listing, &mut sink), Ok(()));
+        expect_eq!(rt, write_image_v1(listing, &mut sink), Ok(()));
         expect_eq!(rt; sink.bytes.as_slice(), image);
-        expect!(rt; sink.longest <= 1024);
+        expect!(rt, sink.longest <= 1024);
     }
     Ok(())
 }
@@ -45,7 +45,7 @@ fn an_empty_file_is_two_pages(rt: HostRuntime) -> Result<(), Fail> {
 
 /// The image of [`six_pages`] has pages of so many bytes, each with its head.
 pub(crate) fn expect_heads_of_six_pages(rt: &impl Abort, image: &[u8], page: usize) {
-    expect_eq!(rt; image.len(), page.saturating_mul(7));
+    expect_eq!(rt, image.len(), page.saturating_mul(7));
     // kind, used, level, reserved, bucket, next
     let heads = [
         b"\x01\x01\x02\0\0\0\0\0\x04\0\0\0",
@@ -57,7 +57,11 @@ pub(crate) fn expect_heads_of_six_pages(rt: &impl Abort, image: &[u8], page: usi
     ];
     for (place, head) in heads.iter().enumerate() {
         let start = page.saturating_mul(place + 1);
-        expect_eq!(rt; image.get(start..start.saturating_add(12)), Some(head.as_slice()));
+        expect_eq!(
+            rt,
+            image.get(start..start.saturating_add(12)),
+            Some(head.as_slice())
+        );
     }
 }
 
@@ -65,7 +69,7 @@ pub(crate) fn expect_heads_of_six_pages(rt: &impl Abort, image: &[u8], page: usi
 fn overflow_pages_stand_by_bucket_and_place(rt: HostRuntime) -> Result<(), Fail> {
     let listing = six_pages(rt.alloc())?;
     let mut sink = Sink::new(rt.alloc(), usize::MAX, 0);
-    expect_eq!(rt; write_image_v1(&listing, &mut sink), Ok(()));
+    expect_eq!(&rt, write_image_v1(&listing, &mut sink), Ok(()));
     expect_heads_of_six_pages(&rt, &sink.bytes, 1024);
     Ok(())
 }
@@ -74,18 +78,20 @@ fn expect_failing_calls(rt: &impl Abort, alloc: Global, listing: &Listing, image
     // Six writes of 512 bytes, then the flush.
     for failing in 1..8_usize {
         let mut sink = Sink::new(alloc, 512, failing);
-        expect_eq!(rt;
+        expect_eq!(
+            rt,
             write_image_v1(listing, &mut sink),
             Err(WriteImageFault::WriteFault)
         );
         expect_eq!(rt; sink.calls, failing);
-        expect_eq!(rt;
+        expect_eq!(
+            rt,
             image.get(..512 * (failing - 1)),
             Some(sink.bytes.as_slice())
         );
     }
     let mut sink = Sink::new(alloc, 512, 8);
-    expect_eq!(rt; write_image_v1(listing, &mut sink), Ok(()));
+    expect_eq!(rt, write_image_v1(listing, &mut sink), Ok(()));
 }
 
 #[test]
@@ -99,7 +105,8 @@ fn a_write_or_flush_that_fails_is_told(rt: HostRuntime) -> Result<(), Fail> {
 fn a_writer_that_takes_nothing_fails(rt: HostRuntime) -> Result<(), Fail> {
     let listing = two_pages(rt.alloc())?;
     let mut sink = Sink::new(rt.alloc(), 0, 0);
-    expect_eq!(rt;
+    expect_eq!(
+        &rt,
         write_image_v1(&listing, &mut sink),
         Err(WriteImageFault::WriteFault)
     );

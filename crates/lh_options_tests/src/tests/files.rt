@@ -55,6 +55,8 @@ const ROWS: &[Row] = &[
         Some("a.lhf"),
         Some("a.lhf"),
     ),
+    (&["lhash", "get", "a.lhf", "61", "62"], Some("a.lhf"), None),
+    (&["lhash", "get", "-", "61"], None, None),
     (&["lhash", "replay", "-o", "-"], None, None),
     // These are refused.
     (&["lhash", "check", "a.lhf", "b.lhf"], None, None),
@@ -66,6 +68,7 @@ const ROWS: &[Row] = &[
         None,
     ),
     (&["lhash", "build", "a.txt", "--image=+1"], None, None),
+    (&["lhash", "get", "a.lhf"], None, None),
     (&["lhash", "a.txt"], None, None),
     (&["lhash", "check", "a.lhf", "--help"], None, None),
 ];

@@ -42,8 +42,13 @@ fn answer(rt: &(impl Abort + AllocGlobal), words: &[&str]) -> Result<String, All
             let version = text_of(version);
             format!(in alloc; "apply, {version}")
         }
+        Request::Get(keys) => {
+            let keys = keys.as_slice();
+            format!(in alloc; "get {keys:?}")
+        }
         Request::Help(text) => {
-            expect!(rt;
+            expect!(
+                rt,
                 text.as_str().starts_with("Usage: lhash")
                     || text.as_str().contains("\nUsage: lhash")
             );
@@ -443,6 +448,41 @@ fn what_goes_on_from_an_image_takes_no_settings(rt: HostRuntime) -> Result<(), A
 }
 
 #[test]
+fn get_takes_a_file_and_keys(rt: HostRuntime) -> Result<(), AllocError> {
+    gives(
+        &rt,
+        ["lhash", "get", "users.lhf", "616461", "", "x"].as_slice(),
+        "get [\"616461\", \"\", \"x\"]",
+    )?;
+    gives(&rt, ["lhash", "get", "-", "-"].as_slice(), "get [\"-\"]")?;
+    gives(
+        &rt,
+        ["lhash", "get", "--", "a.lhf", "-1"].as_slice(),
+        "get [\"-1\"]",
+    )?;
+    gives(
+        &rt,
+        ["lhash", "get", "users.lhf"].as_slice(),
+        "refused: get takes a FILE and one KEY or more",
+    )?;
+    gives(
+        &rt,
+        ["lhash", "get"].as_slice(),
+        "refused: get takes a FILE and one KEY or more",
+    )?;
+    gives(
+        &rt,
+        ["lhash", "get", "users.lhf", "61", "--max=7"].as_slice(),
+        "refused: unexpected argument '--max' found",
+    )?;
+    gives(
+        &rt,
+        ["lhash", "get", "users.lhf", "61", "-o", "a.txt"].as_slice(),
+        "refused: unexpected argument '-o' found",
+    )
+}
+
+#[test]
 fn serve_takes_the_settings_or_an_image(rt: HostRuntime) -> Result<(), AllocError> {
     gives(
         &rt,
@@ -518,18 +558,20 @@ fn subcommands_and_help(rt: HostRuntime) -> Result<(), AllocError> {
     expect(&rt, ["--help"].as_slice(), "help")?;
     expect(&rt, ["-h"].as_slice(), "help")?;
     let help = answer(&rt, ["lhash", "--help"].as_slice())?;
-    expect_eq!(rt; help.as_str(), "help");
+    expect_eq!(&rt, help.as_str(), "help");
     let help = answer(&rt, ["lhash", "help"].as_slice())?;
-    expect_eq!(rt; help.as_str(), "help");
+    expect_eq!(&rt, help.as_str(), "help");
     let help = answer(&rt, ["lhash", "help", "commands"].as_slice())?;
-    expect_eq!(rt; help.as_str(), "help");
+    expect_eq!(&rt, help.as_str(), "help");
     let none = answer(&rt, ["lhash"].as_slice())?;
-    expect_eq!(rt;
+    expect_eq!(
+        &rt,
         none.as_str(),
         "refused: 'lhash' requires a subcommand but one was not provided; for more information, try '--help'"
     );
     let unknown = answer(&rt, ["lhash", "bogus"].as_slice())?;
-    expect_eq!(rt;
+    expect_eq!(
+        &rt,
         unknown.as_str(),
         "refused: unrecognized subcommand 'bogus'"
     );
@@ -548,7 +590,7 @@ fn told(rt: &impl AllocGlobal, words: &[&str]) -> Result<String, AllocError> {
 fn the_version_has_two_words(rt: HostRuntime) -> Result<(), AllocError> {
     for word in ["--version", "-V"] {
         let text = told(&rt, ["lhash", word].as_slice())?;
-        expect_eq!(rt; text.as_str(), "lhash 0.1.0\n");
+        expect_eq!(&rt, text.as_str(), "lhash 0.2.0\n");
     }
     Ok(())
 }

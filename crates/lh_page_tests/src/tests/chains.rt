@@ -8,15 +8,15 @@ use std::test::Fail;
 /// Pushes a new record, and once more where memory was refused: the chain is as it was then.
 fn add(rt: &impl Abort, chain: &mut Chain, key: &[u8], value: &[u8]) -> Result<(), Fail> {
     let pair = pair_of(key, value)?;
-    expect_eq!(rt; chain.find(&pair.key), None);
+    expect_eq!(rt, chain.find(&pair.key), None);
     let before = chain.len();
     if chain.push(pair).is_err() {
         expect_eq!(rt; chain.len(), before);
-        expect_eq!(rt; chain.find(&pair.key), None);
+        expect_eq!(rt, chain.find(&pair.key), None);
         chain.push(pair)?;
     }
-    expect_eq!(rt; chain.len(), before + 1);
-    expect_eq!(rt; chain.find(&pair.key), Some(before));
+    expect_eq!(rt, chain.len(), before + 1);
+    expect_eq!(rt, chain.find(&pair.key), Some(before));
     Ok(())
 }
 
@@ -26,16 +26,16 @@ fn delete(rt: &impl Abort, chain: &mut Chain, key: &[u8]) -> Result<Pair, Fail> 
         return Err(Fail::from("no record has the key"));
     };
     let removed = chain.remove(place);
-    expect_eq!(rt; chain.find(&key), None);
+    expect_eq!(rt, chain.find(&key), None);
     Ok(removed)
 }
 
 /// The first bytes of the chain's keys are these, in their order.
 fn expect_keys(rt: &impl Abort, chain: &Chain, keys: &[u8]) {
-    expect_eq!(rt; chain.len(), keys.len());
+    expect_eq!(rt, chain.len(), keys.len());
     for (place, key) in keys.iter().enumerate() {
-        expect!(rt; place < chain.len());
-        expect_eq!(rt; chain.pair_at(place).key.bytes().first(), Some(key));
+        expect!(rt, place < chain.len());
+        expect_eq!(rt, chain.pair_at(place).key.bytes().first(), Some(key));
     }
 }
 
@@ -63,13 +63,13 @@ pub fn record_of(letter: u8) -> Result<Pair, Fail> {
 
 /// The chain has the records of these letters in their order.
 pub fn expect_records(rt: &impl Abort, chain: &Chain, letters: &[u8]) -> Result<(), Fail> {
-    expect_eq!(rt; chain.len(), letters.len());
+    expect_eq!(rt, chain.len(), letters.len());
     for (place, letter) in letters.iter().enumerate() {
         let pair = record_of(*letter)?;
-        expect!(rt; place < chain.len());
+        expect!(rt, place < chain.len());
         expect_eq!(rt; chain.pair_at(place), pair);
         expect_eq!(rt; chain.value_at(place), pair.value);
-        expect_eq!(rt; chain.find(&pair.key), Some(place));
+        expect_eq!(rt, chain.find(&pair.key), Some(place));
     }
     Ok(())
 }
@@ -104,22 +104,22 @@ fn expect_moved(
     keys: &[u8],
     pages: usize,
 ) -> Result<(), Fail> {
-    expect_eq!(rt; delete(rt, chain, key)?, pair_of(key, b"1")?);
+    expect_eq!(rt, delete(rt, chain, key)?, pair_of(key, b"1")?);
     expect_keys(rt, chain, keys);
     expect_eq!(rt; chain.pages(), pages);
     Ok(())
 }
 
 fn fill_and_delete(rt: &impl Abort, chain: &mut Chain) -> Result<(), Fail> {
-    expect_eq!(rt; chain.pages(), 1);
+    expect_eq!(rt, chain.pages(), 1);
     for key in [b"a", b"c", b"e", b"g"] {
         add(rt, chain, key, b"1")?;
     }
     expect_keys(rt, chain, b"aceg");
-    expect_eq!(rt; chain.pages(), 2);
+    expect_eq!(rt, chain.pages(), 2);
     expect_moved(rt, chain, b"a", b"gce", 2)?;
     expect_moved(rt, chain, b"e", b"gc", 1)?;
-    expect_eq!(rt; chain.capacity(), 2);
+    expect_eq!(rt, chain.capacity(), 2);
     Ok(())
 }
 
@@ -143,18 +143,19 @@ fn fill_and_replace(rt: &impl Abort, chain: &mut Chain, key: &Key) -> Result<(),
     for letter in b'a'..=b'z' {
         add(rt, chain, &[letter, b'0'], &[letter])?;
     }
-    expect_eq!(rt; chain.pages(), 2);
+    expect_eq!(rt, chain.pages(), 2);
     let Some(place) = chain.find(key) else {
         return Err(Fail::from("no record has the key"));
     };
     expect_eq!(rt; place, 24);
-    expect_eq!(rt;
+    expect_eq!(
+        rt,
         chain.replace_at(place, Value::new(b"new")?),
         Value::new(b"y")?
     );
-    expect_eq!(rt; chain.find(key), Some(24));
-    expect!(rt; 24 < chain.len());
-    expect_eq!(rt; chain.pair_at(24), pair_of(b"y0", b"new")?);
+    expect_eq!(rt, chain.find(key), Some(24));
+    expect!(rt, 24 < chain.len());
+    expect_eq!(rt, chain.pair_at(24), pair_of(b"y0", b"new")?);
     Ok(())
 }
 
@@ -162,8 +163,8 @@ fn divide(rt: &impl Abort, chain: &mut Chain, key: &Key) -> Result<(), Fail> {
     let gone = early_of(rt, chain, b"abcdefghijklmnopqrstuvwxyz")?;
     expect_keys(rt, &gone, b"abcdef");
     expect_keys(rt, chain, b"ghijklmnopqrstuvwxyz");
-    expect_eq!(rt; gone.capacity(), 14);
-    expect_eq!(rt; chain.find(key), Some(18));
+    expect_eq!(rt, gone.capacity(), 14);
+    expect_eq!(rt, chain.find(key), Some(18));
     Ok(())
 }
 
@@ -178,9 +179,9 @@ fn finds_replaces_and_divides(rt: HostRuntime) -> Result<(), Fail> {
 fn add_second(rt: &impl Abort, chain: &mut Chain) -> Result<(), Fail> {
     add(rt, chain, b"b", b"2")?;
     expect_keys(rt, chain, b"ab");
-    expect_eq!(rt; chain.pages(), 2);
-    expect_eq!(rt; chain.find(&Key::new(b"a")?), Some(0));
-    expect_eq!(rt; chain.pair_at(0), pair_of(b"a", b"1")?);
+    expect_eq!(rt, chain.pages(), 2);
+    expect_eq!(rt, chain.find(&Key::new(b"a")?), Some(0));
+    expect_eq!(rt, chain.pair_at(0), pair_of(b"a", b"1")?);
     Ok(())
 }
 
@@ -196,17 +197,24 @@ fn a_chain_is_made_of_records(rt: HostRuntime) -> Result<(), Fail> {
 
 #[test]
 fn counts_the_pages_of_records(rt: HostRuntime) {
-    expect_eq!(rt; pages_needed(0, 2), 1);
-    expect_eq!(rt; pages_needed(2, 2), 1);
-    expect_eq!(rt; pages_needed(3, 2), 2);
-    expect_eq!(rt; pages_needed(usize::MAX, 1), usize::MAX);
+    expect_eq!(&rt, pages_needed(0, 2), 1);
+    expect_eq!(&rt, pages_needed(2, 2), 1);
+    expect_eq!(&rt, pages_needed(3, 2), 2);
+    expect_eq!(&rt, pages_needed(usize::MAX, 1), usize::MAX);
 }
 
 /// The key is found at this place, with this value.
 fn expect_record(rt: &impl Abort, chain: &Chain, key: &Key, value: &Value, place: usize) {
-    expect_eq!(rt; chain.find(key), Some(place));
-    expect!(rt; place < chain.len());
-    expect_eq!(rt; chain.pair_at(place), Pair { key: *key, value: *value });
+    expect_eq!(rt, chain.find(key), Some(place));
+    expect!(rt, place < chain.len());
+    expect_eq!(
+        rt,
+        chain.pair_at(place),
+        Pair {
+            key: *key,
+            value: *value
+        }
+    );
 }
 
 /// A sixth record's value is replaced by longer and shorter ones, and then the first record goes.
@@ -224,7 +232,8 @@ fn cross(rt: &impl Abort, chain: &mut Chain, len: usize) -> Result<(), Fail> {
         expect_record(rt, chain, &key, &value, 5);
         before = value;
     }
-    expect_eq!(rt;
+    expect_eq!(
+        rt,
         delete(rt, chain, record_of(b'a')?.key.bytes())?,
         record_of(b'a')?
     );
@@ -260,7 +269,7 @@ fn add_longest(rt: &impl Abort, chain: &mut Chain) -> Result<(), Fail> {
             key: key_of(*letter, 56)?,
             value: value_of(*letter, *len)?,
         };
-        expect!(rt; place < chain.len());
+        expect!(rt, place < chain.len());
         expect_eq!(rt; chain.pair_at(place), pair);
     }
     Ok(())
@@ -270,13 +279,13 @@ fn add_longest(rt: &impl Abort, chain: &mut Chain) -> Result<(), Fail> {
 fn expect_others_absent(rt: &impl Abort, chain: &Chain) -> Result<(), Fail> {
     let mut bytes = [b'-'; 56];
     bytes[0] = b'a';
-    expect_eq!(rt; chain.find(&Key::new(&bytes)?), Some(0));
+    expect_eq!(rt, chain.find(&Key::new(&bytes)?), Some(0));
     bytes[55] = b'+';
-    expect_eq!(rt; chain.find(&Key::new(&bytes)?), None);
+    expect_eq!(rt, chain.find(&Key::new(&bytes)?), None);
     bytes[55] = b'-';
     bytes[31] = b'+';
-    expect_eq!(rt; chain.find(&Key::new(&bytes)?), None);
-    expect_eq!(rt; chain.find(&key_of(b'a', 55)?), None);
+    expect_eq!(rt, chain.find(&Key::new(&bytes)?), None);
+    expect_eq!(rt, chain.find(&key_of(b'a', 55)?), None);
     Ok(())
 }
 
@@ -291,9 +300,9 @@ fn delete_at_places(rt: &impl Abort, chain: &mut Chain) -> Result<(), Fail> {
     let mut letters = *b"abcdefghijklm";
     add_records(rt, chain, &letters)?;
     for (removed, place) in [0, 11, 3, 4, 7, 1, 5, 0, 4, 2, 0, 1, 0].iter().enumerate() {
-        expect!(rt; removed < 13 && *place < 13);
+        expect!(rt, removed < 13 && *place < 13);
         let pair = record_of(letters[*place])?;
-        expect_eq!(rt; chain.find(&pair.key), Some(*place));
+        expect_eq!(rt, chain.find(&pair.key), Some(*place));
         expect_eq!(rt; delete(rt, chain, pair.key.bytes())?, pair);
         letters[*place] = letters[12 - removed];
         expect_records(rt, chain, &letters[..12 - removed])?;
@@ -302,7 +311,7 @@ fn delete_at_places(rt: &impl Abort, chain: &mut Chain) -> Result<(), Fail> {
 }
 
 fn add_again(rt: &impl Abort, chain: &mut Chain) -> Result<(), Fail> {
-    expect_eq!(rt; chain.len(), 0);
+    expect_eq!(rt, chain.len(), 0);
     add_records(rt, chain, b"nop")?;
     expect_records(rt, chain, b"nop")
 }
@@ -328,7 +337,7 @@ pub fn early_records_of(rt: &impl Abort, chain: &mut Chain, letters: &[u8]) -> R
 fn fill_and_split(rt: &impl Abort, chain: &mut Chain) -> Result<(), Fail> {
     let letters = b"ABCDEFGHIJKLMNOPQRSTUVWXYZabcdefghijklmnopqrstuvwxyz";
     add_records(rt, chain, letters)?;
-    expect_eq!(rt; chain.pages(), 3);
+    expect_eq!(rt, chain.pages(), 3);
     expect_records(rt, chain, letters)?;
     // Those below `g` are more than half.
     let gone = early_records_of(rt, chain, letters)?;
@@ -357,7 +366,7 @@ fn split_all_off(rt: &impl Abort, chain: &mut Chain) -> Result<(), Fail> {
     let gone = early_records_of(rt, chain, &letters)?;
     expect_records(rt, &gone, &letters)?;
     expect_records(rt, chain, b"")?;
-    expect_eq!(rt; (gone.pages(), chain.pages()), (4, 1));
+    expect_eq!(rt, (gone.pages(), chain.pages()), (4, 1));
     add_again(rt, chain)
 }
 
@@ -372,8 +381,8 @@ fn split_none_off(rt: &impl Abort, chain: &mut Chain) -> Result<(), Fail> {
     let gone = early_records_of(rt, chain, &letters)?;
     expect_records(rt, &gone, b"")?;
     expect_records(rt, chain, &letters)?;
-    expect_eq!(rt; (gone.pages(), chain.pages()), (1, 4));
-    expect_eq!(rt; gone.capacity(), 24);
+    expect_eq!(rt, (gone.pages(), chain.pages()), (1, 4));
+    expect_eq!(rt, gone.capacity(), 24);
     add_records(rt, chain, b"aby")
 }
 
@@ -385,10 +394,10 @@ fn a_split_takes_no_record(rt: HostRuntime) -> Result<(), Fail> {
 fn push_many(rt: &impl Abort, chain: &mut Chain) -> Result<(), Fail> {
     for number in 0..5000_u16 {
         let pair = pair_of(&number.wrapping_mul(13).to_be_bytes(), b"1")?;
-        expect_eq!(rt; chain.find(&pair.key), None);
+        expect_eq!(rt, chain.find(&pair.key), None);
         chain.push(pair)?;
     }
-    expect_eq!(rt; (chain.len(), chain.pages()), (5000, 209));
+    expect_eq!(rt, (chain.len(), chain.pages()), (5000, 209));
     Ok(())
 }
 
@@ -399,8 +408,8 @@ fn a_chain_has_many_records(rt: HostRuntime) -> Result<(), Fail> {
     push_many(&rt, &mut chain)?;
     let gone = chain.split_off(&Early)?;
     // The first byte is below `g` for a number below 103 * 256 / 13.
-    expect_eq!(rt; (gone.len(), chain.len()), (2029, 2971));
-    expect_eq!(rt; (gone.pages(), chain.pages()), (85, 124));
+    expect_eq!(&rt, (gone.len(), chain.len()), (2029, 2971));
+    expect_eq!(&rt, (gone.pages(), chain.pages()), (85, 124));
     Ok(())
 }
 
@@ -409,8 +418,8 @@ fn a_chain_has_many_records(rt: HostRuntime) -> Result<(), Fail> {
 fn an_empty_chain_is_made_and_divided(rt: HostRuntime) -> Result<(), Fail> {
     let mut chain = Chain::from_pairs(rt.alloc(), 2, &[])?;
     let gone = chain.split_off(&Early)?;
-    expect_eq!(rt; (gone.len(), chain.len()), (0, 0));
-    expect_eq!(rt; (gone.pages(), chain.pages()), (1, 1));
+    expect_eq!(&rt, (gone.len(), chain.len()), (0, 0));
+    expect_eq!(&rt, (gone.pages(), chain.pages()), (1, 1));
     Ok(())
 }
 
@@ -418,9 +427,9 @@ fn an_empty_chain_is_made_and_divided(rt: HostRuntime) -> Result<(), Fail> {
 fn append_records(rt: &impl Abort, chain: &mut Chain, letters: &[u8]) -> Result<(), Fail> {
     for letter in letters {
         let Pair { key, value } = record_of(*letter)?;
-        expect_eq!(rt; chain.find(&key), None);
+        expect_eq!(rt, chain.find(&key), None);
         if chain.append(&key, &value).is_err() {
-            expect_eq!(rt; chain.find(&key), None);
+            expect_eq!(rt, chain.find(&key), None);
             chain.append(&key, &value)?;
         }
     }
@@ -428,17 +437,17 @@ fn append_records(rt: &impl Abort, chain: &mut Chain, letters: &[u8]) -> Result<
 }
 
 fn discard_at(rt: &impl Abort, chain: &mut Chain, place: usize) {
-    expect!(rt; place < chain.len());
+    expect!(rt, place < chain.len());
     chain.discard(place);
 }
 
 fn set_value_at(rt: &impl Abort, chain: &mut Chain, place: usize, value: &Value) {
-    expect!(rt; place < chain.len());
+    expect!(rt, place < chain.len());
     chain.set_value(place, value);
 }
 
 fn expect_value(rt: &impl Abort, chain: &Chain, place: usize, bytes: &[u8]) {
-    expect!(rt; place < chain.len());
+    expect!(rt, place < chain.len());
     expect_eq!(rt; chain.value_bytes(place), bytes);
 }
 

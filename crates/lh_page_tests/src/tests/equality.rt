@@ -6,11 +6,15 @@ use std::test::Fail;
 
 #[test]
 fn each_part_of_a_fault_and_of_a_head_counts(rt: HostRuntime) {
-    expect_ne!(rt; PageFault::Slot(0), PageFault::Slot(1));
-    expect_ne!(rt; PageFault::Kind, PageFault::Used);
-    expect_ne!(rt; PageFault::Used, PageFault::Slot(0));
-    expect_ne!(rt; KeyLength { length: 0 }, KeyLength { length: 57 });
-    expect_ne!(rt; ValueLength { length: 113 }, ValueLength { length: 114 });
+    expect_ne!(&rt, PageFault::Slot(0), PageFault::Slot(1));
+    expect_ne!(&rt, PageFault::Kind, PageFault::Used);
+    expect_ne!(&rt, PageFault::Used, PageFault::Slot(0));
+    expect_ne!(&rt, KeyLength { length: 0 }, KeyLength { length: 57 });
+    expect_ne!(
+        &rt,
+        ValueLength { length: 113 },
+        ValueLength { length: 114 }
+    );
     let head = PageHead {
         kind: 1,
         used: 2,

@@ -9,10 +9,10 @@ use std::test::Fail;
 
 /// Pushes a record; where that was refused the chain has these records.
 fn push_again(rt: &impl Abort, chain: &mut Chain, pair: Pair, before: &[u8]) -> Result<(), Fail> {
-    expect_eq!(rt; chain.find(&pair.key), None);
+    expect_eq!(rt, chain.find(&pair.key), None);
     if chain.push(pair).is_err() {
         expect_records(rt, chain, before)?;
-        expect_eq!(rt; chain.find(&pair.key), None);
+        expect_eq!(rt, chain.find(&pair.key), None);
         chain.push(pair)?;
     }
     Ok(())
@@ -44,10 +44,10 @@ fn append_again(
     pair: &Pair,
     before: &[u8],
 ) -> Result<(), Fail> {
-    expect_eq!(rt; chain.find(&pair.key), None);
+    expect_eq!(rt, chain.find(&pair.key), None);
     if chain.append(&pair.key, &pair.value).is_err() {
         expect_records(rt, chain, before)?;
-        expect_eq!(rt; chain.find(&pair.key), None);
+        expect_eq!(rt, chain.find(&pair.key), None);
         chain.append(&pair.key, &pair.value)?;
     }
     Ok(())
@@ -80,11 +80,11 @@ fn letters_in_turns() -> [u8; 150] {
 fn split_long(rt: &impl Abort, chain: &mut Chain) -> Result<(), Fail> {
     let letters = letters_in_turns();
     add_records(rt, chain, &letters)?;
-    expect_eq!(rt; chain.pages(), 7);
+    expect_eq!(rt, chain.pages(), 7);
     let mut gone = early_records_of(rt, chain, &letters)?;
     expect_records(rt, &gone, &letters_from(1))?;
     expect_records(rt, chain, &letters_from(128))?;
-    expect_eq!(rt; (gone.pages(), chain.pages()), (4, 4));
+    expect_eq!(rt, (gone.pages(), chain.pages()), (4, 4));
     add_records(rt, &mut gone, b"xyz")?;
     add_records(rt, chain, b"abc")
 }

@@ -53,7 +53,7 @@ fn worked_bytes_2() -> [u8; 4096] {
 fn full_page(rt: &impl Abort) -> Result<Page, Fail> {
     let mut pairs = Pairs::new();
     for record in 0..24 {
-        expect!(rt; pairs.len() < 24);
+        expect!(rt, pairs.len() < 24);
         pairs.push(pair_of(&[record + 1; 56], &[record; 112])?);
     }
     Ok(Page {
@@ -68,11 +68,12 @@ fn full_page(rt: &impl Abort) -> Result<Page, Fail> {
 #[test]
 fn writes_and_reads_the_worked_bytes_of_version_2(rt: HostRuntime) -> Result<(), Fail> {
     let page = worked_page()?;
-    expect_eq!(rt; page2_to_bytes(&page), worked_bytes_2());
-    expect_eq!(rt; page2_from_bytes(&worked_bytes_2(), 2), Ok(page));
+    expect_eq!(&rt, page2_to_bytes(&page), worked_bytes_2());
+    expect_eq!(&rt, page2_from_bytes(&worked_bytes_2(), 2), Ok(page));
     let full = full_page(&rt)?;
     let bytes = page2_to_bytes(&full);
-    expect_eq!(rt;
+    expect_eq!(
+        &rt,
         &bytes[..18],
         [
             2, 24, 16, 0, 0xff, 0xff, 0, 0, 0, 0, 1, 0, 0, 0, 0, 0, 56, 112
@@ -80,9 +81,9 @@ fn writes_and_reads_the_worked_bytes_of_version_2(rt: HostRuntime) -> Result<(),
         .as_slice()
     );
     // Slot 23 is the last 170 bytes: the lengths, 56 bytes of the key, 112 of the value.
-    expect_eq!(rt; &bytes[3926..3929], [56, 112, 24].as_slice());
-    expect_eq!(rt; &bytes[3982..3986], [24, 24, 23, 23].as_slice());
-    expect_eq!(rt; bytes[4095], 23);
+    expect_eq!(&rt, &bytes[3926..3929], [56, 112, 24].as_slice());
+    expect_eq!(&rt, &bytes[3982..3986], [24, 24, 23, 23].as_slice());
+    expect_eq!(&rt, bytes[4095], 23);
     let head = PageHead {
         kind: 2,
         used: 24,
@@ -92,8 +93,8 @@ fn writes_and_reads_the_worked_bytes_of_version_2(rt: HostRuntime) -> Result<(),
         next: 65536,
     };
     expect_eq!(rt; page2_head(&bytes), head);
-    expect_eq!(rt; page2_from_bytes(&bytes, 24), Ok(full));
-    expect_eq!(rt; page2_from_bytes(&bytes, 23), Err(PageFault::Used));
+    expect_eq!(&rt, page2_from_bytes(&bytes, 24), Ok(full));
+    expect_eq!(&rt, page2_from_bytes(&bytes, 23), Err(PageFault::Used));
     Ok(())
 }
 
@@ -115,7 +116,7 @@ fn names_the_first_fault_of_version_2(rt: HostRuntime) {
     ];
     for (place, byte, fault) in rows {
         let mut bytes = worked_bytes_2();
-        expect!(rt; place < 4096);
+        expect!(&rt, place < 4096);
         bytes[place] = byte;
         assert_eq!(rt;
             page2_from_bytes(&bytes, 2),
@@ -128,8 +129,8 @@ fn names_the_first_fault_of_version_2(rt: HostRuntime) {
 #[test]
 fn writes_and_reads_the_worked_bytes(rt: HostRuntime) -> Result<(), Fail> {
     let page = worked_page()?;
-    expect_eq!(rt; page_to_bytes(&page), worked_bytes());
-    expect_eq!(rt; page_from_bytes(&worked_bytes(), 2), Ok(page));
+    expect_eq!(&rt, page_to_bytes(&page), worked_bytes());
+    expect_eq!(&rt, page_from_bytes(&worked_bytes(), 2), Ok(page));
     let overflow = Page {
         kind: PageKind::Overflow,
         level: 16,
@@ -138,7 +139,8 @@ fn writes_and_reads_the_worked_bytes(rt: HostRuntime) -> Result<(), Fail> {
         pairs: Pairs::new(),
     };
     let bytes = page_to_bytes(&overflow);
-    expect_eq!(rt;
+    expect_eq!(
+        &rt,
         &bytes[..12],
         [2, 0, 16, 0, 0xff, 0xff, 0, 0, 0, 0, 1, 0].as_slice()
     );
@@ -151,7 +153,7 @@ fn writes_and_reads_the_worked_bytes(rt: HostRuntime) -> Result<(), Fail> {
         next: 65536,
     };
     expect_eq!(rt; page_head(&bytes), head);
-    expect_eq!(rt; page_from_bytes(&bytes, 1), Ok(overflow));
+    expect_eq!(&rt, page_from_bytes(&bytes, 1), Ok(overflow));
     Ok(())
 }
 
@@ -175,7 +177,7 @@ fn names_the_first_fault(rt: HostRuntime) {
     ];
     for (place, byte, fault) in rows {
         let mut bytes = worked_bytes();
-        expect!(rt; place < 1024);
+        expect!(&rt, place < 1024);
         bytes[place] = byte;
         assert_eq!(rt;
             page_from_bytes(&bytes, 2),
@@ -185,16 +187,16 @@ fn names_the_first_fault(rt: HostRuntime) {
     }
     let mut bytes = worked_bytes();
     bytes[13] = 1;
-    expect!(rt; !page_head(&bytes).clear);
+    expect!(&rt, !page_head(&bytes).clear);
 }
 
 #[test]
 fn keeps_records_in_place(rt: HostRuntime) -> Result<(), Fail> {
     let mut pairs = Pairs::new();
-    expect_eq!(rt; pairs.len(), 0);
+    expect_eq!(&rt, pairs.len(), 0);
     pairs.push(pair_of(b"a", b"1")?);
-    expect_eq!(rt; pairs.len(), 1);
-    expect_eq!(rt; pairs.at(0), pair_of(b"a", b"1")?);
+    expect_eq!(&rt, pairs.len(), 1);
+    expect_eq!(&rt, pairs.at(0), pair_of(b"a", b"1")?);
     expect_ne!(rt; pairs, Pairs::new());
     Ok(())
 }

@@ -80,7 +80,7 @@ fn each_verb_is_a_call(rt: HostRuntime) -> Result<(), Fail> {
     let Ok(calls) = parse::<Call>(rt.alloc(), text) else {
         return Err(Fail::from("no calls"));
     };
-    expect_eq!(rt; calls.as_slice(), expected.as_slice());
+    expect_eq!(&rt, calls.as_slice(), expected.as_slice());
     Ok(())
 }
 
@@ -90,7 +90,7 @@ fn digits_have_either_case(rt: HostRuntime) -> Result<(), Fail> {
         return Err(Fail::from("no calls"));
     };
     let expected = [Call::Insert(Key::new(b"\x0a\xf9")?, Value::new(b"\xcd\xeb\x00")?)];
-    expect_eq!(rt; calls.as_slice(), expected.as_slice());
+    expect_eq!(&rt, calls.as_slice(), expected.as_slice());
     Ok(())
 }
 
@@ -100,7 +100,7 @@ fn a_dash_is_the_empty_value(rt: HostRuntime) -> Result<(), Fail> {
         return Err(Fail::from("no calls"));
     };
     let expected = [Call::Insert(Key::new(b"a")?, Value::new(b"")?)];
-    expect_eq!(rt; calls.as_slice(), expected.as_slice());
+    expect_eq!(&rt, calls.as_slice(), expected.as_slice());
     Ok(())
 }
 

@@ -15,6 +15,6 @@ fn a_refused_script_is_read_again(rt: HostRuntime) -> Result<(), Fail> {
         Err(ParseError::Memory) => parse::<Call>(rt.alloc(), text.as_slice()),
         answer => answer,
     };
-    expect_eq!(rt; calls.map(|calls| calls.len()), Ok(9));
+    expect_eq!(&rt, calls.map(|calls| calls.len()), Ok(9));
     Ok(())
 }

@@ -23,7 +23,7 @@ fn outcome(alloc: Global, text: &[u8]) -> Result<String, AllocError> {
 
 fn expect(rt: &(impl Abort + AllocGlobal), text: &str, expected: &str) -> Result<(), Fail> {
     let told = outcome(rt.alloc(), text.as_bytes())?;
-    expect_eq!(rt; (text, told.as_str()), (text, expected));
+    expect_eq!(rt, (text, told.as_str()), (text, expected));
     Ok(())
 }
 
@@ -51,7 +51,7 @@ fn each_line_is_an_event(rt: HostRuntime) -> Result<(), Fail> {
     let Ok(events) = parse::<Event>(rt.alloc(), text) else {
         return Err(Fail::from("no events"));
     };
-    expect_eq!(rt; events.as_slice(), expected.as_slice());
+    expect_eq!(&rt, events.as_slice(), expected.as_slice());
     Ok(())
 }
 

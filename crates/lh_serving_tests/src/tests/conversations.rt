@@ -69,7 +69,7 @@ fn lines_that_come_byte_by_byte_have_the_same_answers(rt: HostRuntime) -> Result
     for place in 0..LINES.len() {
         hear(&mut talk, &LINES[place..place + 1])?;
     }
-    expect_eq!(rt; talk.waiting(), ANSWERS);
+    expect_eq!(&rt, talk.waiting(), ANSWERS);
     Ok(())
 }
 
@@ -83,11 +83,12 @@ fn a_conversation_splits_where_the_policy_wants_it(rt: HostRuntime) -> Result<()
         &mut talk,
         b"insert 61 31\ninsert 62 31\ninsert 63 31\nbuckets\n",
     )?;
-    expect_eq!(rt;
+    expect_eq!(
+        &rt,
         talk.waiting(),
         b"inserted\ninserted\ninserted\nbuckets 3\n".as_slice()
     );
-    expect!(rt; !talk.has_missed_a_split());
+    expect!(&rt, !talk.has_missed_a_split());
     Ok(())
 }
 
@@ -95,13 +96,13 @@ fn a_conversation_splits_where_the_policy_wants_it(rt: HostRuntime) -> Result<()
 fn a_line_is_answered_with_its_lf(rt: HostRuntime) -> Result<(), Fail> {
     let mut talk = conversation(rt.alloc())?;
     hear(&mut talk, b"insert 61 31")?;
-    expect_eq!(rt; talk.waiting(), b"".as_slice());
+    expect_eq!(&rt, talk.waiting(), b"".as_slice());
     hear(&mut talk, b"\nrecords\nrec")?;
-    expect_eq!(rt; talk.waiting(), b"inserted\nrecords 1\n".as_slice());
+    expect_eq!(&rt, talk.waiting(), b"inserted\nrecords 1\n".as_slice());
     talk.note_told();
-    expect_eq!(rt; talk.waiting(), b"".as_slice());
+    expect_eq!(&rt, talk.waiting(), b"".as_slice());
     hear(&mut talk, b"ords\n")?;
-    expect_eq!(rt; talk.waiting(), b"records 1\n".as_slice());
+    expect_eq!(&rt, talk.waiting(), b"records 1\n".as_slice());
     Ok(())
 }
 
@@ -129,7 +130,7 @@ fn is_answered(rt: &(impl Abort + AllocGlobal), length: usize, answer: &[u8]) ->
 
 #[test]
 fn a_line_has_1024_bytes_at_most(rt: HostRuntime) -> Result<(), Fail> {
-    expect!(rt; LONGEST_LINE == 1_024);
+    expect!(&rt, LONGEST_LINE == 1_024);
     is_answered(&rt, 1_024, b"")?;
     is_answered(&rt, 1_025, b"fault line too long\n")?;
     is_answered(&rt, 9_000, b"fault line too long\n")
@@ -139,20 +140,20 @@ fn a_line_has_1024_bytes_at_most(rt: HostRuntime) -> Result<(), Fail> {
 fn waits(rt: &impl Abort, talk: &Conversation, lines: &[u8], records: Option<u64>) {
     expect_eq!(rt; talk.waiting(), lines);
     match talk.image() {
-        Some(listing) => expect!(rt; records == Some(listing.len())),
-        None => expect!(rt; records.is_none()),
+        Some(listing) => expect!(rt, records == Some(listing.len())),
+        None => expect!(rt, records.is_none()),
     }
 }
 
 #[test]
 fn an_image_waits_behind_the_lines(rt: HostRuntime) -> Result<(), Fail> {
     let mut talk = conversation(rt.alloc())?;
-    expect!(rt; talk.is_quiet());
+    expect!(&rt, talk.is_quiet());
     hear(&mut talk, b"insert 61 31\nimage\n")?;
     waits(&rt, &talk, b"inserted\nimage 8192\n", Some(1));
-    expect!(rt; !talk.is_quiet());
+    expect!(&rt, !talk.is_quiet());
     talk.note_told();
-    expect!(rt; talk.is_quiet());
+    expect!(&rt, talk.is_quiet());
     hear(&mut talk, b"delete 61\nim")?;
     waits(&rt, &talk, b"deleted\n", None);
     hear(&mut talk, b"age\n")?;

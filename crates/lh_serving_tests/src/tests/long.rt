@@ -56,8 +56,8 @@ fn a_conversation_has_many_reads(rt: HostRuntime) -> Result<(), Fail> {
     let mut sends = SendsEmptyLines { left: 120_000 };
     let mut counts = Counts::new();
     let status = answer_serve(rt.alloc(), Config::default(), &mut sends, &mut counts);
-    expect_eq!(rt; status.code(), 0);
-    expect_eq!(rt; (sends.left, counts.bytes), (0, 0));
+    expect_eq!(&rt, status.code(), 0);
+    expect_eq!(&rt, (sends.left, counts.bytes), (0, 0));
     Ok(())
 }
 
@@ -82,8 +82,8 @@ fn answers_are_told_before_too_many_wait(rt: HostRuntime) -> Result<(), Fail> {
     let mut sends = lines.as_slice();
     let mut counts = Counts::new();
     let status = answer_serve(rt.alloc(), Config::default(), &mut sends, &mut counts);
-    expect_eq!(rt; status.code(), 0);
+    expect_eq!(&rt, status.code(), 0);
     expect_eq!(rt; counts.bytes, 462_009);
-    expect!(rt; counts.longest < 65_536 + 231);
+    expect!(&rt, counts.longest < 65_536 + 231);
     Ok(())
 }

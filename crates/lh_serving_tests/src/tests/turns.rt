@@ -85,9 +85,9 @@ fn each_line_is_answered_before_the_next_read(rt: HostRuntime) -> Result<(), Fai
             flushed: &flushed,
         };
         let status = answer_serve(rt.alloc(), Config::default(), &mut sends, &mut hears);
-        expect!(rt; status.code() == if fails { 3 } else { 0 });
-        expect_eq!(rt; hears.bytes.as_slice(), ANSWERS);
-        expect_eq!(rt; sends.noted.as_slice(), FLUSHED.as_slice());
+        expect!(&rt, status.code() == if fails { 3 } else { 0 });
+        expect_eq!(&rt, hears.bytes.as_slice(), ANSWERS);
+        expect_eq!(&rt, sends.noted.as_slice(), FLUSHED.as_slice());
     }
     Ok(())
 }
@@ -116,7 +116,7 @@ fn told(
     } else {
         answer_serve(rt.alloc(), Config::default(), &mut sends, &mut hears)
     };
-    expect_eq!(rt; status.code(), 0);
+    expect_eq!(rt, status.code(), 0);
     expect_eq!(rt; sends.noted.as_slice(), flushed_before);
     Ok(hears.bytes)
 }
@@ -133,8 +133,8 @@ fn an_image_is_told_before_what_comes_behind_it(rt: HostRuntime) -> Result<(), F
     let length = front.len() - 4 + EMPTY_IMAGE + behind.len();
     let told_at_once = told(&rt, all.as_slice(), false, [0, length].as_slice())?;
     expect_eq!(rt; told_at_once.len(), length);
-    expect!(rt; told_at_once.as_slice().starts_with(front.as_slice()));
-    expect!(rt; told_at_once.as_slice().ends_with(behind.as_slice()));
+    expect!(&rt, told_at_once.as_slice().starts_with(front.as_slice()));
+    expect!(&rt, told_at_once.as_slice().ends_with(behind.as_slice()));
     Ok(())
 }
 
@@ -152,7 +152,7 @@ fn goes_on(rt: &(impl AllocGlobal + Abort), line: &[u8], told_first: &[u8]) -> R
     let length = answers.len() + EMPTY_IMAGE;
     let next = told(rt, pieces.as_slice(), true, [0, 0, 0, 0, length].as_slice())?;
     expect_eq!(rt; next.len(), length);
-    expect!(rt; next.as_slice().starts_with(answers.as_slice()));
+    expect!(rt, next.as_slice().starts_with(answers.as_slice()));
     Ok(())
 }
 

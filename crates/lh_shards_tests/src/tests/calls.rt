@@ -47,9 +47,13 @@ pub(crate) fn insert_letters<R: Abort + Wait>(
 {
     for letter in b'a'..b'z' {
         let (key, value) = (Key::new(&[letter])?, Value::new(&[letter, letter])?);
-        expect_eq!(rt; shards.put(rt, hands, &key, &value), Ok(true));
-        expect_eq!(rt; shards.put(rt, hands, &CodedKey::new(key), &value), Ok(false));
-        expect_eq!(rt; shards.get(rt, hands, &key), Ok(Some(value)));
+        expect_eq!(rt, shards.put(rt, hands, &key, &value), Ok(true));
+        expect_eq!(
+            rt,
+            shards.put(rt, hands, &CodedKey::new(key), &value),
+            Ok(false)
+        );
+        expect_eq!(rt, shards.get(rt, hands, &key), Ok(Some(value)));
     }
     Ok(())
 }
@@ -60,15 +64,15 @@ fn make_lean_calls<R: Abort + Wait>(rt: &R, shards: &Shards, hands: &mut Hands) 
 {
     let (key, value) = (CodedKey::new(Key::new(b"b")?), Value::new(b"other")?);
     insert_letters(rt, shards, hands)?;
-    expect_eq!(rt; shards.set(rt, hands, &key, &value), Ok(true));
+    expect_eq!(rt, shards.set(rt, hands, &key, &value), Ok(true));
     let mut read = Value::empty();
     let is_there = shards.read_into(rt, hands, &key, &mut read);
-    expect_eq!(rt; (is_there, read), (Ok(true), value));
+    expect_eq!(rt, (is_there, read), (Ok(true), value));
     let length = shards.with_value(rt, hands, &key, |bytes| bytes.len());
     expect_eq!(rt; length, Ok(Some(5)));
-    expect_eq!(rt; shards.remove(rt, hands, &key), Ok(true));
-    expect_eq!(rt; shards.remove(rt, hands, &key), Ok(false));
-    expect_eq!(rt; shards.get(rt, hands, &key), Ok(None));
+    expect_eq!(rt, shards.remove(rt, hands, &key), Ok(true));
+    expect_eq!(rt, shards.remove(rt, hands, &key), Ok(false));
+    expect_eq!(rt, shards.get(rt, hands, &key), Ok(None));
     Ok(())
 }
 
@@ -96,16 +100,20 @@ fn make_calls_in_one_step<R: Abort + Wait>(
     let (one, two, letters) = (Value::new(b"1")?, Value::new(b"2")?, Value::new(b"bb")?);
     let next_letter = Value::new(b"c")?;
     insert_letters(rt, shards, hands)?;
-    expect_eq!(rt; shards.get_or_put(rt, hands, &key, &one), Ok(Some(letters)));
-    expect_eq!(rt; shards.get_or_put(rt, hands, &new, &one), Ok(None));
-    expect_eq!(rt; shards.merge(rt, hands, &new, &one, next), Ok(false));
-    expect_eq!(rt; shards.update(rt, hands, &key, next), Ok(true));
-    expect_eq!(rt; shards.get(rt, hands, &key), Ok(Some(next_letter)));
+    expect_eq!(
+        rt,
+        shards.get_or_put(rt, hands, &key, &one),
+        Ok(Some(letters))
+    );
+    expect_eq!(rt, shards.get_or_put(rt, hands, &new, &one), Ok(None));
+    expect_eq!(rt, shards.merge(rt, hands, &new, &one, next), Ok(false));
+    expect_eq!(rt, shards.update(rt, hands, &key, next), Ok(true));
+    expect_eq!(rt, shards.get(rt, hands, &key), Ok(Some(next_letter)));
     let told = shards.compare_and_set(rt, hands, &new, &one, &letters);
     expect_eq!(rt; told, Ok(Compared::Differs));
     let told = shards.compare_and_set(rt, hands, &new, &two, &letters);
     expect_eq!(rt; told, Ok(Compared::Replaced));
-    expect_eq!(rt; shards.take(rt, hands, &new), Ok(Some(letters)));
+    expect_eq!(rt, shards.take(rt, hands, &new), Ok(Some(letters)));
     make_records_anew(rt, shards, hands, &new, one, two);
     Ok(())
 }
@@ -121,11 +129,11 @@ fn make_records_anew<R: Abort + Wait>(
 )
     requires { AreOf shards.now hands.old }
 {
-    expect_eq!(rt; shards.upsert(rt, hands, new, &two), Ok(true));
-    expect_eq!(rt; shards.upsert(rt, hands, new, &one), Ok(false));
-    expect_eq!(rt; shards.take(rt, hands, new), Ok(Some(one)));
-    expect_eq!(rt; shards.merge(rt, hands, new, &two, next), Ok(true));
-    expect_eq!(rt; shards.get(rt, hands, new), Ok(Some(two)));
+    expect_eq!(rt, shards.upsert(rt, hands, new, &two), Ok(true));
+    expect_eq!(rt, shards.upsert(rt, hands, new, &one), Ok(false));
+    expect_eq!(rt, shards.take(rt, hands, new), Ok(Some(one)));
+    expect_eq!(rt, shards.merge(rt, hands, new, &two, next), Ok(true));
+    expect_eq!(rt, shards.get(rt, hands, new), Ok(Some(two)));
 }
 
 #[test]
@@ -195,7 +203,7 @@ fn expect_spent<R: Abort + Wait>(rt: &R, shards: &Shards, few: &mut Hands) -> Re
     requires { AreOf shards.now few.old }
 {
     let key = Key::new(b"key")?;
-    expect_eq!(rt; shards.get(rt, few, &key)?, None);
+    expect_eq!(rt, shards.get(rt, few, &key)?, None);
     let home = shards.shard_of(lh_addr::fnv1a(key.bytes()));
     match shards.split_hands(few, 10) {
         Err(fault) => expect_eq!(rt;

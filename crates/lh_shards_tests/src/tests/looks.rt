@@ -29,7 +29,7 @@ fn meet<M: Mode, J: FileBrand, R: Abort>(
 ) -> Result<(), Fail> {
     for pair in pairs {
         expect_eq!(rt; shards.shard_of(fnv1a(pair.key.bytes())), shard);
-        expect_eq!(rt; met.insert(pair.key, pair.value)?, None);
+        expect_eq!(rt, met.insert(pair.key, pair.value)?, None);
     }
     Ok(())
 }
@@ -47,7 +47,7 @@ fn take<M: Mode, J: FileBrand, R: Abort + Wait>(
     ensures { AreOf shards.now hands.new }
 {
     let snapshot = shards.snapshot(rt, hands, shard)?;
-    expect_eq!(rt; snapshot.stamps(), shards.told(hands, shard));
+    expect_eq!(rt, snapshot.stamps(), shards.told(hands, shard));
     let listing = snapshot.into_known_listing();
     for bucket in 0..listing.buckets() {
         meet(rt, shards, shard, listing.pairs_of(bucket), met)?;
@@ -100,7 +100,7 @@ fn look<M: Mode, J: FileBrand, R: Abort + Wait>(
     }
     expect_eq!(rt; taken.len(), records);
     expect_eq!(rt; visited, shards.buckets(hands));
-    expect!(rt; taken == scanned);
+    expect!(rt, taken == scanned);
     Ok(())
 }
 
@@ -127,7 +127,7 @@ fn put_letters<J: FileBrand, R: Abort + Wait>(
 {
     for letter in b'a'..b'z' {
         let (key, value) = (Key::new(&[letter])?, Value::new(&[letter, letter])?);
-        expect!(rt; shards.put(rt, hands, &key, &value)?);
+        expect!(rt, shards.put(rt, hands, &key, &value)?);
     }
     Ok(())
 }

@@ -193,10 +193,10 @@ fn expect_settled(
     config: Config,
     closed: &ClosedShards,
 ) -> Result<(), Fail> {
-    expect_eq!(rt; records_in(closed), 24);
+    expect_eq!(rt, records_in(closed), 24);
     let openings = openings_again(alloc, config, closed)?;
     let histories = settled_again(alloc, &openings, closed)?;
-    expect!(rt; acts_in(&histories) == 24 || acts_in(&histories) == 25);
+    expect!(rt, acts_in(&histories) == 24 || acts_in(&histories) == 25);
     Ok(())
 }
 
@@ -310,8 +310,8 @@ fn fill_and_look<R: Wait + Abort>(
     requires { AreOf shards.now first.old }
 {
     let mut second = divided_again(shards, first)?;
-    expect!(rt; fill_again(rt, shards, first, &mut second));
-    expect_eq!(rt; looked_again(rt, alloc, shards, first)?, (24, 24));
+    expect!(rt, fill_again(rt, shards, first, &mut second));
+    expect_eq!(rt, looked_again(rt, alloc, shards, first)?, (24, 24));
     Ok(())
 }
 

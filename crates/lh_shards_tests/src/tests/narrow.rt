@@ -82,8 +82,8 @@ fn make_rounds<R: Abort + Wait>(rt: &R, shards: &Narrow, hands: &mut Hands) -> R
     ensures { AreOf shards.now hands.new }
 {
     for number in 0..8_u8 {
-        expect_eq!(rt; round(rt, shards, hands, number), 100);
-        expect!(rt; shards.buckets(hands) > 16);
+        expect_eq!(rt, round(rt, shards, hands, number), 100);
+        expect!(rt, shards.buckets(hands) > 16);
     }
     Ok(())
 }
@@ -106,8 +106,8 @@ fn records_of_32_bytes_are_served(rt: HostRuntime) -> Result<(), Fail> {
     let closed = shards.close(&rt, hands)?;
     let openings = empty_listings(rt.alloc(), config()?, closed.count())?;
     let histories = closed.settle(rt.alloc(), &openings)?;
-    expect_eq!(rt; acts_in(&histories), 800);
-    expect_eq!(rt; records_in(&closed), 0);
+    expect_eq!(&rt, acts_in(&histories), 800);
+    expect_eq!(&rt, records_in(&closed), 0);
     Ok(())
 }
 
@@ -152,10 +152,15 @@ fn the_first_record_without_room_is_named(rt: HostRuntime) -> Result<(), Fail> {
         place: 1,
     };
     let due = ShardRoomFault { shard: 1, fault };
-    expect_eq!(rt; Narrow::fit_listings(&listings), Err(due));
-    expect_eq!(rt; Shards::<Untraced, Unbranded>::fit_listings(&listings), Ok(()));
+    expect_eq!(&rt, Narrow::fit_listings(&listings), Err(due));
+    expect_eq!(
+        &rt,
+        Shards::<Untraced, Unbranded>::fit_listings(&listings),
+        Ok(())
+    );
     let text = format!(in rt.alloc(); "{due}")?;
-    expect_eq!(rt;
+    expect_eq!(
+        &rt,
         text.as_str(),
         "shard 1: the record at place 1 of bucket 0 has no room"
     );
@@ -173,9 +178,13 @@ fn look_up<R: Abort + Wait>(rt: &R, shards: &Narrow, hands: &mut Hands) -> Resul
     requires { AreOf shards.now hands.old }
 {
     let value = Value::new(&[b'.'; 31])?;
-    expect_eq!(rt; shards.get(rt, hands, &Key::new(b"a")?)?, Some(value));
-    expect_eq!(rt; shards.get(rt, hands, &Key::new(b"b")?)?, Some(Value::empty()));
-    expect_eq!(rt; shards.get(rt, hands, &Key::new(b"d")?)?, None);
+    expect_eq!(rt, shards.get(rt, hands, &Key::new(b"a")?)?, Some(value));
+    expect_eq!(
+        rt,
+        shards.get(rt, hands, &Key::new(b"b")?)?,
+        Some(Value::empty())
+    );
+    expect_eq!(rt, shards.get(rt, hands, &Key::new(b"d")?)?, None);
     Ok(())
 }
 
@@ -209,6 +218,6 @@ fn opened_count(alloc: Global, listings: &[Listing]) -> Result<u32, Fail> {
 #[test]
 fn traced_shards_have_less_room_too(rt: HostRuntime) -> Result<(), Fail> {
     let listings = short_listings(rt.alloc())?;
-    expect_eq!(rt; opened_count(rt.alloc(), &listings)?, 1);
+    expect_eq!(&rt, opened_count(rt.alloc(), &listings)?, 1);
     Ok(())
 }

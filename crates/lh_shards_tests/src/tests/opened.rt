@@ -36,7 +36,7 @@ fn settled_listings(
     closed: ClosedShards,
 ) -> Result<Vec<Listing>, Fail> {
     settle(alloc, &closed)?;
-    expect_eq!(rt; records_in(&closed), 25);
+    expect_eq!(rt, records_in(&closed), 25);
     Ok(closed.into_listings()?)
 }
 
@@ -52,7 +52,7 @@ fn remove_letter<R: Abort + Wait>(rt: &R, shards: &Shards, hands: &mut Hands) ->
     requires { AreOf shards.now hands.old }
     ensures { AreOf shards.now hands.new }
 {
-    expect_eq!(rt; shards.count(), 8);
+    expect_eq!(rt, shards.count(), 8);
     let load = Load {
         opening: 25,
         inserted: 0,
@@ -60,8 +60,8 @@ fn remove_letter<R: Abort + Wait>(rt: &R, shards: &Shards, hands: &mut Hands) ->
     };
     expect_eq!(rt; shards.load(hands), load);
     let (key, value) = (Key::new(b"q")?, Value::new(b"qq")?);
-    expect_eq!(rt; shards.get(rt, hands, &key)?, Some(value));
-    expect!(rt; shards.remove(rt, hands, &key)?);
+    expect_eq!(rt, shards.get(rt, hands, &key)?, Some(value));
+    expect!(rt, shards.remove(rt, hands, &key)?);
     Ok(())
 }
 
@@ -72,10 +72,10 @@ fn expect_one_less(
     listings: &[Listing],
     closed: &ClosedShards,
 ) -> Result<(), Fail> {
-    expect_eq!(rt; listings.len(), closed.count() as usize);
+    expect_eq!(rt, listings.len(), closed.count() as usize);
     let histories = closed.settle(alloc, listings)?;
-    expect_eq!(rt; histories.len(), 8);
-    expect_eq!(rt; records_in(closed), 24);
+    expect_eq!(rt, histories.len(), 8);
+    expect_eq!(rt, records_in(closed), 24);
     Ok(())
 }
 
@@ -99,7 +99,7 @@ fn numbers_of_listings_are_refused(rt: HostRuntime) -> Result<(), Fail> {
     let config = Config::new(1, 2, 100, 16)?;
     for count in [0, 1_025] {
         let listings = empty_listings(rt.alloc(), config, count)?;
-        expect_eq!(rt; fault_of(rt.alloc(), &listings)?, OpenFault::Count);
+        expect_eq!(&rt, fault_of(rt.alloc(), &listings)?, OpenFault::Count);
     }
     for count in [1, 1_024] {
         let listings = empty_listings(rt.alloc(), config, count)?;
@@ -113,7 +113,8 @@ fn numbers_of_listings_are_refused(rt: HostRuntime) -> Result<(), Fail> {
 fn another_configuration_is_refused(rt: HostRuntime) -> Result<(), Fail> {
     let mut listings = empty_listings(rt.alloc(), Config::new(1, 2, 100, 16)?, 3)?;
     listings.push(Listing::empty(rt.alloc(), Config::new(1, 3, 100, 16)?)?)?;
-    expect_eq!(rt;
+    expect_eq!(
+        &rt,
         fault_of(rt.alloc(), &listings)?,
         OpenFault::Config { shard: 3 }
     );
@@ -161,8 +162,9 @@ pub(crate) fn listings_astray(alloc: Global) -> Result<(Vec<Listing>, usize), Fa
 #[test]
 fn a_record_of_another_shard_is_named(rt: HostRuntime) -> Result<(), Fail> {
     let (listings, place) = listings_astray(rt.alloc())?;
-    expect!(rt; place > 0);
-    expect_eq!(rt;
+    expect!(&rt, place > 0);
+    expect_eq!(
+        &rt,
         fault_of(rt.alloc(), &listings)?,
         OpenFault::Misplaced {
             shard: 0,

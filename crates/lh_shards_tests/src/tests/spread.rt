@@ -66,9 +66,9 @@ fn fullest(rule: Rule, is_counting: bool) -> u32 {
 /// The mixed code fills no bucket much above the mean, as a hash of its own does, and the remainder of the code, which
 /// chooses the bucket too, leaves most buckets of a shard empty and fills the others eight times.
 fn check_spread(rt: &impl Abort, is_counting: bool) -> Result<(), Fail> {
-    expect!(rt; fullest(Rule::Mixed, is_counting) < 150);
-    expect!(rt; fullest(Rule::OwnHash, is_counting) < 150);
-    expect!(rt; fullest(Rule::Remainder, is_counting) > 600);
+    expect!(rt, fullest(Rule::Mixed, is_counting) < 150);
+    expect!(rt, fullest(Rule::OwnHash, is_counting) < 150);
+    expect!(rt, fullest(Rule::Remainder, is_counting) > 600);
     Ok(())
 }
 
@@ -85,7 +85,7 @@ fn pseudo_random_keys_are_spread(rt: HostRuntime) -> Result<(), Fail> {
 /// What MurmurHash3's finalizer makes of 0 and of 1.
 #[test]
 fn codes_are_mixed_as_published(rt: HostRuntime) -> Result<(), Fail> {
-    expect_eq!(rt; mixed(0), 0);
-    expect_eq!(rt; mixed(1), 0xb456_bcfc_34c2_cb2c);
+    expect_eq!(&rt, mixed(0), 0);
+    expect_eq!(&rt, mixed(1), 0xb456_bcfc_34c2_cb2c);
     Ok(())
 }

@@ -204,7 +204,7 @@ fn expect_one_map(
     histories: &[History],
     records: u64,
 ) -> Result<(), Fail> {
-    expect_eq!(rt; acts_in(histories), 8 * 60 * 5);
+    expect_eq!(rt, acts_in(histories), 8 * 60 * 5);
     expect_eq!(rt; records_of_turns(rt, alloc, histories)?, records);
     expect_eq!(rt; records_of_runs(rt, alloc, histories)?, records);
     Ok(())

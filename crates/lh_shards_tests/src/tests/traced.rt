@@ -38,12 +38,16 @@ fn fault_of(alloc: Global, listings: &[Listing]) -> Result<OpenFault, Fail> {
 
 /// No listings are refused, and two of which the second has another configuration.
 fn expect_refused(rt: &impl Abort, alloc: Global, listings: &mut Vec<Listing>) -> Result<(), Fail> {
-    expect_eq!(rt; fault_of(alloc, listings)?, OpenFault::Count);
+    expect_eq!(rt, fault_of(alloc, listings)?, OpenFault::Count);
     for capacity in [2, 3] {
         let config = Config::new(1, capacity, 100, 16)?;
         listings.push(Listing::empty(alloc, config)?)?;
     }
-    expect_eq!(rt; fault_of(alloc, listings)?, OpenFault::Config { shard: 1 });
+    expect_eq!(
+        rt,
+        fault_of(alloc, listings)?,
+        OpenFault::Config { shard: 1 }
+    );
     Ok(())
 }
 
@@ -53,7 +57,8 @@ fn traced_shards_are_refused_as_others_are(rt: HostRuntime) -> Result<(), Fail> 
     let config = Config::new(1, 2, 100, 16)?;
     expect_refused(&rt, alloc, &mut empty_listings(alloc, config, 0)?)?;
     let (listings, place) = listings_astray(alloc)?;
-    expect_eq!(rt;
+    expect_eq!(
+        &rt,
         fault_of(alloc, &listings)?,
         OpenFault::Misplaced {
             shard: 0,
@@ -108,7 +113,7 @@ fn make_calls<J: FileBrand, R: Abort + Wait>(
     for turn in 0..605_u32 {
         let call = call_of(turn)?;
         let answer = serve(rt, shards, hands, call)?;
-        expect_eq!(rt; answer.reply(), reply_of(&mut map, &call)?);
+        expect_eq!(rt, answer.reply(), reply_of(&mut map, &call)?);
     }
     Ok(map.len() as u64)
 }
@@ -139,12 +144,12 @@ fn expect_settled(
     requires { length listings.now ≡ length closed.now }
 {
     for shard in 0..closed.count() {
-        expect!(rt; closed.shard(shard).closed.gathered());
+        expect!(rt, closed.shard(shard).closed.gathered());
     }
     expect_eq!(rt; records_in(closed), records);
     let histories = closed.settle(alloc, listings)?;
-    expect_eq!(rt; histories.len(), 3);
-    expect_eq!(rt; acts_in(&histories), 605);
+    expect_eq!(rt, histories.len(), 3);
+    expect_eq!(rt, acts_in(&histories), 605);
     Ok(())
 }
 
@@ -154,7 +159,7 @@ fn traced_shards_close_with_their_histories(rt: HostRuntime) -> Result<(), Fail>
     let listings = empty_listings(alloc, Config::new(1, 2, 100, 1_024)?, 3)?;
     let openings = Openings::of(alloc, &listings, true)?;
     let (closed, buckets, records) = called::<Brand, _>(&rt, alloc, openings)?;
-    expect!(rt; buckets > 3);
+    expect!(&rt, buckets > 3);
     expect_settled(&rt, alloc, &listings, &closed, records)
 }
 
@@ -386,11 +391,11 @@ fn check_order(rt: &impl Abort, act: &ActLine, number: u8, told: u64) -> Result<
         return Err(Fail::new("another key"));
     };
     if number < *first {
-        expect!(rt; told <= act.stamp);
+        expect!(rt, told <= act.stamp);
         return Ok(true);
     }
     if number >= *last {
-        expect!(rt; act.stamp < told);
+        expect!(rt, act.stamp < told);
         return Ok(true);
     }
     Ok(false)
@@ -433,11 +438,11 @@ fn ordered_in(
     histories: &[History],
     messages: &[OnceLock<u64>],
 ) -> Result<u64, Fail> {
-    expect_eq!(rt; histories.len(), 3);
+    expect_eq!(rt, histories.len(), 3);
     let mut ordered = 0_u64;
     for (shard, history) in histories.iter().enumerate() {
         // 20 messages, before each of which there is an act, and two acts beside each of the 60.
-        expect_eq!(rt; history.len(), 140);
+        expect_eq!(rt, history.len(), 140);
         ordered = ordered.saturating_add(check_orders(rt, history, messages, shard as u8)?);
     }
     Ok(ordered)
@@ -454,7 +459,8 @@ fn expect_ordered(
 {
     let histories = closed.settle(alloc, listings)?;
     // Of 3 * 140 * 20 pairs those have no order that are of two acts and a message beside which they were made.
-    expect_eq!(rt;
+    expect_eq!(
+        rt,
         ordered_in(rt, &histories, messages)?,
         8_400 - 2 * (57 * 3 + 2 + 1)
     );

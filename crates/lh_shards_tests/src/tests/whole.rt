@@ -43,7 +43,7 @@ pub(crate) fn records_in(closed: &ClosedShards) -> u64 {
 fn expect_sums<R: Abort + Wait>(rt: &R, shards: &Shards, hands: &mut Hands) -> Result<(), Fail>
     requires { AreOf shards.now hands.old }
 {
-    expect_eq!(rt; shards.buckets(hands), 8);
+    expect_eq!(rt, shards.buckets(hands), 8);
     let mut load = Load {
         opening: 0,
         inserted: 0,
@@ -51,9 +51,9 @@ fn expect_sums<R: Abort + Wait>(rt: &R, shards: &Shards, hands: &mut Hands) -> R
     };
     expect_eq!(rt; shards.load(hands), load);
     insert_letters(rt, shards, hands)?;
-    expect!(rt; shards.buckets(hands) > 8);
+    expect!(rt, shards.buckets(hands) > 8);
     let key = Key::new(b"c")?;
-    expect!(rt; shards.remove(rt, hands, &key)?);
+    expect!(rt, shards.remove(rt, hands, &key)?);
     load.inserted = 25;
     load.deleted = 1;
     expect_eq!(rt; shards.load(hands), load);
@@ -78,7 +78,7 @@ fn joined_after_letters<R: Abort + Wait>(
     let key = Key::new(b"a")?;
     let mut second = shards.split_hands(&mut first, 1_000)?;
     insert_letters(rt, shards, &mut second)?;
-    expect!(rt; shards.get(rt, &mut first, &key)?.is_some());
+    expect!(rt, shards.get(rt, &mut first, &key)?.is_some());
     match shards.join_hands(first, second) {
         Ok(hands) => Ok(hands),
         Err(_) => Err(Fail::new("not joined")),
@@ -92,11 +92,11 @@ fn expect_whole(
     closed: &ClosedShards,
 ) -> Result<(), Fail> {
     expect_eq!(rt; closed.count(), count);
-    expect_eq!(rt; records_in(closed), 25);
+    expect_eq!(rt, records_in(closed), 25);
     let openings = openings(alloc, closed)?;
     let histories = closed.settle(alloc, &openings)?;
-    expect_eq!(rt; histories.len(), count as usize);
-    expect_eq!(rt; acts_in(&histories), 76);
+    expect_eq!(rt, histories.len(), count as usize);
+    expect_eq!(rt, acts_in(&histories), 76);
     Ok(())
 }
 
@@ -134,7 +134,7 @@ fn put_and_drop<R: Abort + Wait>(
 {
     let value = Value::new(b"value")?;
     let mut second = shards.split_hands(first, 1_000)?;
-    expect!(rt; shards.put(rt, &mut second, key, &value)?);
+    expect!(rt, shards.put(rt, &mut second, key, &value)?);
     Ok(())
 }
 
@@ -166,6 +166,6 @@ fn a_dropped_hand_is_missed_in_its_shard(rt: HostRuntime) -> Result<(), Fail> {
     let (shards, mut first) = shards_of(rt.alloc(), 8)?;
     put_and_drop(&rt, &shards, &mut first, &key)?;
     let shard = shards.shard_of(lh_addr::fnv1a(key.bytes()));
-    expect!(rt; shard > 0);
+    expect!(&rt, shard > 0);
     expect_missing(&rt, rt.alloc(), &shards.close(&rt, first)?, shard)
 }

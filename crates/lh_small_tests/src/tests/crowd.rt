@@ -169,7 +169,7 @@ const DUE: Left = Left {
 fn eight_threads_lose_nothing(rt: HostRuntime) -> Result<(), Fail> {
     let listing = empty(rt.alloc())?;
     let (file, hand) = Plain::open_from(rt.alloc(), &listing, true, NoGate)?;
-    expect_eq!(rt; left_in(&rt, rt.alloc(), &listing, file, hand)?, DUE);
+    expect_eq!(&rt, left_in(&rt, rt.alloc(), &listing, file, hand)?, DUE);
     Ok(())
 }
 

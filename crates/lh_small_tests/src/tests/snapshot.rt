@@ -72,9 +72,13 @@ fn expect_settled(
     closed: &Closed,
     acts: &Acts,
 ) -> Result<(), Fail> {
-    expect_eq!(rt; settle_snapshot(alloc, listing, snapshot, acts)?.len(), 40);
-    expect_eq!(rt; settle(alloc, listing, closed, acts)?.len(), 100);
-    expect_eq!(rt; (snapshot.records(), closed.records()), (40, 20));
+    expect_eq!(
+        rt,
+        settle_snapshot(alloc, listing, snapshot, acts)?.len(),
+        40
+    );
+    expect_eq!(rt, settle(alloc, listing, closed, acts)?.len(), 100);
+    expect_eq!(rt, (snapshot.records(), closed.records()), (40, 20));
     Ok(())
 }
 

@@ -1,8 +1,8 @@
 //! Each call of a session that is alone, on a traced store and on an untraced one.
 use lh_expect::expect_eq;
 use lh_store::{
-    BucketCopy, CallFault, Compared, Config, KeyLength, OpenStore, Session, Store, Value,
-    ValueLength, Work,
+    BucketCopy, CallFault, Compared, Config, ExtendFault, KeyLength, OpenStore, Session, Store,
+    Value, ValueLength, Work,
 };
 use std::test::Fail;
 
@@ -224,8 +224,8 @@ fn due(calls: u64) -> Facts {
 fn each_call_is_answered_on_a_traced_store(rt: HostRuntime) -> Result<(), Fail> {
     let mut store = Store::new(rt.alloc(), Config::default())?;
     let ran = store.run(&rt, 1, &Rows)?;
-    expect_eq!(rt; ran.done.first(), Some(&(None, Some(due(1 << 62)))));
-    expect_eq!(rt; (ran.acts, store.len()), (31, 3));
+    expect_eq!(&rt, ran.done.first(), Some(&(None, Some(due(1 << 62)))));
+    expect_eq!(&rt, (ran.acts, store.len()), (31, 3));
     Ok(())
 }
 
@@ -234,7 +234,7 @@ fn each_call_is_answered_on_an_open_store(rt: HostRuntime) -> Result<(), Fail> {
     let mut table = OpenStore::new(rt.alloc(), Config::default())?;
     let told = Rows.run(0, &mut table.session(&rt)?);
     expect_eq!(rt; told, (None, Some(due(1 << 44))));
-    expect_eq!(rt; table.snapshot(&rt)?.len(), 3);
+    expect_eq!(&rt, table.snapshot(&rt)?.len(), 3);
     Ok(())
 }
 
@@ -300,8 +300,48 @@ impl Work for Lengths {
 fn lengths_are_checked(rt: HostRuntime) -> Result<(), Fail> {
     let mut store = Store::new(rt.alloc(), Config::default())?;
     let ran = store.run(&rt, 1, &Lengths)?;
-    expect_eq!(rt; (ran.acts, ran.done.first()), (3, Some(&true)));
+    expect_eq!(&rt, (ran.acts, ran.done.first()), (3, Some(&true)));
     let mut table = OpenStore::new(rt.alloc(), Config::default())?;
     expect_eq!(rt; checks_lengths(&mut table.session(&rt)?), true);
+    Ok(())
+}
+
+/// Adds no records, then three, two of one key, then four, of which the third has no key.
+struct Adding;
+
+impl Work for Adding {
+    type Done = [Result<usize, ExtendFault>; 3];
+
+    fn run<S: Session>(&self, _thread: usize, table: &mut S) -> Self::Done {
+        [
+            table.extend(&[]),
+            table.extend(&[(b"a", b"1"), (b"b", b"2"), (b"a", b"3")]),
+            table.extend(&[(b"b", b"4"), (b"c", b"5"), (b"", b"6"), (b"d", b"7")]),
+        ]
+    }
+}
+
+/// What that tells: the records in front of one that is refused are there, and none behind it.
+const ADDED: [Result<usize, ExtendFault>; 3] = [
+    Ok(0),
+    Ok(2),
+    Err(ExtendFault {
+        done: 2,
+        added: 1,
+        fault: CallFault::Key(KeyLength { length: 0 }),
+    }),
+];
+
+#[test]
+fn records_are_added_up_to_the_first_that_is_refused(rt: HostRuntime) -> Result<(), Fail> {
+    let mut store = Store::new(rt.alloc(), Config::default())?;
+    let ran = store.run(&rt, 1, &Adding)?;
+    expect_eq!(&rt, ran.done.first(), Some(&ADDED));
+    expect_eq!(&rt, (ran.acts, store.len()), (5, 3));
+    let mut table = OpenStore::new(rt.alloc(), Config::default())?;
+    let mut session = table.session(&rt)?;
+    expect_eq!(&rt, Adding.run(0, &mut session), ADDED);
+    expect_eq!(&rt, (session.told(), session.len()), (5, 3));
+    expect_eq!(&rt, session.get(b"a")?, Some(Value::new(b"1")?));
     Ok(())
 }

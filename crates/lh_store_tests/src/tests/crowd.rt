@@ -70,13 +70,13 @@ impl Work for Total {
 fn what_eight_threads_do_adds_up(rt: HostRuntime) -> Result<(), Fail> {
     let mut store = Store::new(rt.alloc(), Config::default().with_capacity(2)?)?;
     let ran = store.run(&rt, 8, &Counting)?;
-    expect_eq!(rt; (ran.acts, ran.done.len()), (8 * 250, 8));
+    expect_eq!(&rt, (ran.acts, ran.done.len()), (8 * 250, 8));
     for (place, done) in ran.done.iter().enumerate() {
-        expect_eq!(rt; *done, (place, Ok((100, 50))));
+        expect_eq!(&rt, *done, (place, Ok((100, 50))));
     }
-    expect_eq!(rt; store.len(), 8 * 50 + 1);
+    expect_eq!(&rt, store.len(), 8 * 50 + 1);
     let ran = store.run(&rt, 1, &Total)?;
-    expect_eq!(rt; (ran.acts, ran.done.first()), (1, Some(&Ok(Some(800)))));
+    expect_eq!(&rt, (ran.acts, ran.done.first()), (1, Some(&Ok(Some(800)))));
     Ok(())
 }
 
@@ -86,21 +86,21 @@ fn a_store_is_as_it_was_after_no_threads(rt: HostRuntime) -> Result<(), Fail> {
     let mut store = Store::new(rt.alloc(), Config::default())?;
     store.run(&rt, 1, &Counting)?;
     let ran = store.run(&rt, 0, &Counting)?;
-    expect_eq!(rt; (ran.acts, ran.done.len(), store.len()), (0, 0, 51));
+    expect_eq!(&rt, (ran.acts, ran.done.len(), store.len()), (0, 0, 51));
     Ok(())
 }
 
 #[test]
 fn threads_work_on_an_open_store(rt: HostRuntime) -> Result<(), Fail> {
     let mut table = OpenStore::new(rt.alloc(), Config::default())?;
-    expect_eq!(rt; table.run(&rt, 0, &Counting)?.len(), 0);
+    expect_eq!(&rt, table.run(&rt, 0, &Counting)?.len(), 0);
     let done = table.run(&rt, 4, &Counting)?;
-    expect_eq!(rt; done.len(), 4);
+    expect_eq!(&rt, done.len(), 4);
     for (place, done) in done.iter().enumerate() {
-        expect_eq!(rt; *done, (place, Ok((100, 50))));
+        expect_eq!(&rt, *done, (place, Ok((100, 50))));
     }
     let mut session = table.session(&rt)?;
-    expect_eq!(rt; (session.len(), session.told()), (4 * 50 + 1, 4 * 250));
+    expect_eq!(&rt, (session.len(), session.told()), (4 * 50 + 1, 4 * 250));
     Ok(())
 }
 
@@ -122,7 +122,7 @@ fn calls_that_are_left_come_back(rt: HostRuntime) -> Result<(), Fail> {
     let mut table = OpenStore::new(rt.alloc(), Config::default())?;
     for _ in 0..70 {
         let done = table.run(&rt, 2, &One)?;
-        expect!(rt; done.as_slice() == [true, true].as_slice());
+        expect!(&rt, done.as_slice() == [true, true].as_slice());
     }
     Ok(())
 }
@@ -146,7 +146,7 @@ fn sessions_see_one_table(rt: HostRuntime) -> Result<(), Fail> {
     let mut sessions = table.sessions(&rt, 4)?;
     count_by_all(&rt, &mut sessions);
     for session in &mut sessions {
-        expect_eq!(rt; session.len(), 4 * 50 + 1);
+        expect_eq!(&rt, session.len(), 4 * 50 + 1);
     }
     Ok(())
 }

@@ -2,17 +2,21 @@
 //! refused.
 use std::alloc::{AllocError, Allocator, Global};
 use std::cell::RefCell;
-use std::fs::{Files, Metadata, OpenFile, OpenOptions};
+use std::fs::{Files, Metadata, OpenFile, OpenOptions, Permissions};
 use std::io::{self, Error, ErrorKind, Read, Seek, SeekFrom, Write};
 use std::mem;
+use std::path::PathBuf;
 
-/// The path of the file. The new one's ends in `.new`.
+/// The path of the file. The new one's has `.lhash-0` behind it.
 pub(crate) const PATH: &str = "disk/users";
 
 /// What a disk is asked to do.
 #[derive(Clone, Copy, Debug, PartialEq, Eq)]
 pub(crate) enum Turn {
+    Follow,
+    Look,
     Create,
+    Allow,
     Write,
     Sync,
     Rename,
@@ -35,7 +39,7 @@ enum Name {
 fn name_of(path: &str) -> io::Result<Name> {
     match path {
         "disk/users" => Ok(Name::Old),
-        "disk/users.new" => Ok(Name::New),
+        "disk/users.lhash-0" => Ok(Name::New),
         "disk" => Ok(Name::Folder),
         _ => Err(Error::from(ErrorKind::NotFound)),
     }
@@ -74,7 +78,13 @@ impl State {
         Ok(())
     }
 
-    /// Opens a file, which is made, or emptied, where that is asked for.
+    /// Whether there is a file of this path.
+    fn look(&mut self, turn: Turn, path: &str) -> io::Result<bool> {
+        self.take(turn)?;
+        Ok(self.held(name_of(path)?).is_there)
+    }
+
+    /// Opens a file, which is made where that is asked for.
     fn open(&mut self, name: Name, is_new: bool) -> io::Result<()> {
         if name == Name::Folder {
             return self.take(Turn::OpenFolder);
@@ -82,6 +92,9 @@ impl State {
         self.take(if is_new { Turn::Create } else { Turn::Open })?;
         let held = self.held(name);
         if is_new {
+            if held.is_there {
+                return Err(Error::from(ErrorKind::AlreadyExists));
+            }
             held.is_there = true;
             held.bytes.clear();
         }
@@ -188,7 +201,7 @@ impl<'a> Files for OnDisk<'a> {
     fn open_file(&self, how: &OpenOptions, path: &str) -> io::Result<DiskFile<'a>> {
         how.check()?;
         let (disk, name) = (self.0, name_of(path)?);
-        disk.with(|state: &mut State| state.open(name, how.asks_create()))?;
+        disk.with(|state: &mut State| state.open(name, how.asks_create_new()))?;
         Ok(DiskFile { disk, name, at: 0 })
     }
 
@@ -216,8 +229,26 @@ impl<'a> Files for OnDisk<'a> {
         Err(Error::from(UNUSED))
     }
 
-    fn metadata(&self, _path: &str) -> io::Result<Metadata> {
-        Err(Error::from(UNUSED))
+    fn canonicalize<B: Allocator>(&self, alloc: B, path: &str) -> io::Result<PathBuf<B>> {
+        let is_there = self
+            .0
+            .with(|state: &mut State| state.look(Turn::Follow, path))?;
+        if is_there {
+            Ok(PathBuf::from_str(alloc, path)?)
+        } else {
+            Err(Error::from(ErrorKind::NotFound))
+        }
+    }
+
+    fn metadata(&self, path: &str) -> io::Result<Metadata> {
+        let is_there = self
+            .0
+            .with(|state: &mut State| state.look(Turn::Look, path))?;
+        if is_there {
+            Ok(Metadata::of_file(0))
+        } else {
+            Err(Error::from(ErrorKind::NotFound))
+        }
     }
 
     fn symlink_metadata(&self, _path: &str) -> io::Result<Metadata> {
@@ -294,6 +325,10 @@ impl OpenFile for DiskFile<'_> {
             Turn::Sync
         };
         self.disk.with(|state: &mut State| state.take(turn))
+    }
+
+    fn set_permissions(&self, _permissions: Permissions) -> io::Result<()> {
+        self.disk.with(|state: &mut State| state.take(Turn::Allow))
     }
 
     fn sync_data(&self) -> io::Result<()> {

@@ -58,12 +58,12 @@ fn fill(
 ) -> Result<(), FileFault> {
     let mut ran = store.run(rt, 2, &Fives);
     if let Err(fault) = &ran {
-        expect_eq!(rt; (*fault, store.len()), (FileFault::Memory, 0));
+        expect_eq!(rt, (*fault, store.len()), (FileFault::Memory, 0));
         ran = store.run(rt, 2, &Fives);
     }
     let ran = ran?;
-    expect!(rt; ran.done.as_slice() == [true, true].as_slice());
-    expect_eq!(rt; (ran.acts, store.len()), (10, 10));
+    expect!(rt, ran.done.as_slice() == [true, true].as_slice());
+    expect_eq!(rt, (ran.acts, store.len()), (10, 10));
     Ok(())
 }
 
@@ -76,7 +76,7 @@ fn ten(rt: &(impl Abort + AllocGlobal + Threads + Wait + Sync)) -> Result<Store,
 
 #[test]
 fn a_refused_run_leaves_the_records(rt: HostRuntime) -> Result<(), Fail> {
-    expect_eq!(rt; ten(&rt)?.len(), 10);
+    expect_eq!(&rt, ten(&rt)?.len(), 10);
     Ok(())
 }
 
@@ -107,8 +107,54 @@ fn a_refused_opening_or_snapshot_may_be_made_again(rt: HostRuntime) -> Result<()
         Ok(table) => table,
         Err(Memory) => OpenStore::open(alloc, &store)?,
     };
-    expect_eq!(rt; store.len(), 10);
-    expect_eq!(rt; snapshots_of(&rt, &mut table)?, (10, 10));
+    expect_eq!(&rt, store.len(), 10);
+    expect_eq!(&rt, snapshots_of(&rt, &mut table)?, (10, 10));
+    Ok(())
+}
+
+/// Whether the five records of each thread are there.
+struct AreThere;
+
+impl Work for AreThere {
+    type Done = bool;
+
+    fn run<S: Session>(&self, thread: usize, table: &mut S) -> bool {
+        let [.., last] = thread.to_be_bytes();
+        let mut is_well = true;
+        for number in 0..5_u8 {
+            is_well = table.contains(&[last, number]) == Ok(true) && is_well;
+        }
+        is_well
+    }
+}
+
+/// Lets two threads work on a table of so many records, and once more where memory for that was refused, which leaves
+/// the table as it was.
+fn run_again<W: Work<Done = bool> + Sync>(
+    rt: &(impl Abort + Threads + Wait + Sync),
+    table: &mut OpenStore,
+    records: u64,
+    work: &W,
+) -> Result<(), Fail> {
+    let mut ran = table.run(rt, 2, work);
+    if let Err(Memory) = &ran {
+        expect_eq!(rt; table.session(rt)?.len(), records);
+        ran = table.run(rt, 2, work);
+    }
+    expect!(rt, ran?.as_slice() == [true, true].as_slice());
+    Ok(())
+}
+
+#[test]
+fn a_refused_run_of_an_open_store_leaves_the_records(rt: HostRuntime) -> Result<(), Fail> {
+    let config = Config::default().with_capacity(2)?;
+    let mut table = match OpenStore::new(rt.alloc(), config) {
+        Ok(table) => table,
+        Err(Memory) => OpenStore::new(rt.alloc(), config)?,
+    };
+    run_again(&rt, &mut table, 0, &Fives)?;
+    run_again(&rt, &mut table, 10, &AreThere)?;
+    expect_eq!(&rt, snapshots_of(&rt, &mut table)?, (10, 10));
     Ok(())
 }
 
@@ -124,7 +170,7 @@ fn save_again(
     match store.save(&(OnDisk(disk), alloc), PATH) {
         Ok(()) => {}
         Err(SaveFault::Memory) => {
-            expect!(rt; disk.is_old(before)? && !disk.has_new()?);
+            expect!(rt, disk.is_old(before)? && !disk.has_new()?);
             store.save(&(OnDisk(disk), alloc), PATH)?;
         }
         Err(fault) => panic!(rt; "{fault}"),
@@ -151,7 +197,7 @@ fn a_refused_save_or_load_may_be_made_again(rt: HostRuntime) -> Result<(), Fail>
         Err(_) => Disk::new(alloc, ROOM)?,
     };
     save_again(&rt, alloc, &disk, &store, b"before")?;
-    expect_eq!(rt; store.len(), 10);
-    expect_eq!(rt; load_again(&rt, alloc, &disk)?, 10);
+    expect_eq!(&rt, store.len(), 10);
+    expect_eq!(&rt, load_again(&rt, alloc, &disk)?, 10);
     Ok(())
 }

@@ -58,8 +58,10 @@ fn loaded(disk: &Disk, alloc: Global) -> Result<u64, LoadFault> {
     Ok(Store::load(&(OnDisk(disk), alloc), PATH)?.len())
 }
 
-/// A file is made, written, synced and renamed, and then the folder is synced.
-const SAVED: [Turn; 7] = [
+/// Where there is no file yet, one is made, written, synced and renamed, and then the folder is synced.
+const SAVED: [Turn; 9] = [
+    Turn::Follow,
+    Turn::Look,
     Turn::Create,
     Turn::Write,
     Turn::Write,
@@ -72,9 +74,13 @@ const SAVED: [Turn; 7] = [
 /// Looks for turns in their order, and for nothing after them.
 fn expect_turns(rt: &impl Abort, disk: &Disk, due: &[Turn]) -> Result<(), Fail> {
     for place in 0..due.len() {
-        expect_eq!(rt; disk.turn(place.saturating_add(1))?, due.get(place).copied());
+        expect_eq!(
+            rt,
+            disk.turn(place.saturating_add(1))?,
+            due.get(place).copied()
+        );
     }
-    expect_eq!(rt; disk.turn(due.len().saturating_add(1))?, None);
+    expect_eq!(rt, disk.turn(due.len().saturating_add(1))?, None);
     Ok(())
 }
 
@@ -86,9 +92,13 @@ fn a_store_is_saved_and_loaded(rt: HostRuntime) -> Result<(), Fail> {
     store.save(&(OnDisk(&disk), alloc), PATH)?;
     expect_turns(&rt, &disk, &SAVED)?;
     let mut again = Store::load(&(OnDisk(&disk), alloc), PATH)?;
-    expect_eq!(rt; (again.len(), again.listing().buckets()), (200, store.listing().buckets()));
+    expect_eq!(
+        &rt,
+        (again.len(), again.listing().buckets()),
+        (200, store.listing().buckets())
+    );
     let ran = again.run(&rt, 1, &Missing(200))?;
-    expect_eq!(rt; ran.done.first(), Some(&Ok(None)));
+    expect_eq!(&rt, ran.done.first(), Some(&Ok(None)));
     Ok(())
 }
 
@@ -135,8 +145,12 @@ fn save_refused(
     })
 }
 
-/// The fault that is told, and how many records are there then: 3 as before, or the 5 that were saved.
-const REFUSED: [(Turn, u64); 7] = [
+/// The fault that is told, and how many records are there then: 3 as before, or the 5 that were saved. A new file is not
+/// made where the old one's path, its permissions, the making itself, or the giving of permissions is refused.
+const REFUSED: [(Turn, u64); 10] = [
+    (Turn::Create, 3),
+    (Turn::Create, 3),
+    (Turn::Create, 3),
     (Turn::Create, 3),
     (Turn::Write, 3),
     (Turn::Write, 3),
@@ -188,14 +202,34 @@ enum Loading {
 fn what_is_not_loaded_is_told(rt: HostRuntime) -> Result<(), Fail> {
     let alloc = rt.alloc();
     let disk = Disk::new(alloc, 0)?;
-    expect_eq!(rt; loading_of(&disk, alloc), Loading::Open(ErrorKind::NotFound));
+    expect_eq!(
+        &rt,
+        loading_of(&disk, alloc),
+        Loading::Open(ErrorKind::NotFound)
+    );
     disk.put(b"LHF3")?;
-    expect_eq!(rt; loading_of(&disk, alloc), Loading::Image(ImageFault::Magic));
+    expect_eq!(
+        &rt,
+        loading_of(&disk, alloc),
+        Loading::Image(ImageFault::Magic)
+    );
     disk.put(b"LHF2")?;
-    expect_eq!(rt; loading_of(&disk, alloc), Loading::Image(ImageFault::Short));
+    expect_eq!(
+        &rt,
+        loading_of(&disk, alloc),
+        Loading::Image(ImageFault::Short)
+    );
     disk.refuse(1)?;
-    expect_eq!(rt; loading_of(&disk, alloc), Loading::Open(ErrorKind::PermissionDenied));
+    expect_eq!(
+        &rt,
+        loading_of(&disk, alloc),
+        Loading::Open(ErrorKind::PermissionDenied)
+    );
     disk.refuse(2)?;
-    expect_eq!(rt; loading_of(&disk, alloc), Loading::Image(ImageFault::ReadFault));
+    expect_eq!(
+        &rt,
+        loading_of(&disk, alloc),
+        Loading::Image(ImageFault::ReadFault)
+    );
     Ok(())
 }

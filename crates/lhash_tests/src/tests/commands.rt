@@ -159,12 +159,12 @@ fn a_script_has_a_limit(rt: HostRuntime) -> Result<(), Fail> {
     blanks.resize(16_777_217, b' ')?;
     let words = ["lhash", "commands"];
     let (code, written, text) = ran(&rt, words.as_slice(), blanks.as_slice())?;
-    expect_eq!(rt; text.as_str(), "script too long");
+    expect_eq!(&rt, text.as_str(), "script too long");
     expect_eq!(rt; code, 1);
-    expect!(rt; written.is_empty());
+    expect!(&rt, written.is_empty());
     blanks.truncate(16_777_216);
     let (code, written, _) = ran(&rt, words.as_slice(), blanks.as_slice())?;
     expect_eq!(rt; code, 0);
-    expect_eq!(rt; written.as_slice(), b"buckets 1\n".as_slice());
+    expect_eq!(&rt, written.as_slice(), b"buckets 1\n".as_slice());
     Ok(())
 }

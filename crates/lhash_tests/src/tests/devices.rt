@@ -53,9 +53,9 @@ fn read_fails(
         status.code() == 3 && output.is_empty(),
         "read {failing_read}"
     );
-    expect!(rt; source.reads == failing_read);
+    expect!(rt, source.reads == failing_read);
     let text = status.to_string(rt.alloc())?;
-    expect!(rt; text.as_str() == "read failed");
+    expect!(rt, text.as_str() == "read failed");
     Ok(())
 }
 
@@ -75,7 +75,7 @@ fn reads_whole(
     };
     let mut output = Vec::new(rt.alloc());
     let status = run(rt, words, &mut source, &mut output);
-    expect!(rt; status.code() == 0 && *output.as_slice() == *told);
+    expect!(rt, status.code() == 0 && *output.as_slice() == *told);
     Ok(source.reads)
 }
 
@@ -110,9 +110,9 @@ fn write_fails(
         status.code() == 3 && sink.writes == failing_write,
         "write {failing_write}"
     );
-    expect!(rt; whole.starts_with(sink.bytes.as_slice()));
+    expect!(rt, whole.starts_with(sink.bytes.as_slice()));
     let text = status.to_string(rt.alloc())?;
-    expect!(rt; text.as_str() == "write failed");
+    expect!(rt, text.as_str() == "write failed");
     Ok(())
 }
 
@@ -127,7 +127,7 @@ fn takes_whole(
     let mut source = input;
     let mut sink = Sink::new(rt.alloc(), at_once, 0);
     let status = run(rt, words, &mut source, &mut sink);
-    expect!(rt; status.code() == 0 && *sink.bytes.as_slice() == *whole);
+    expect!(rt, status.code() == 0 && *sink.bytes.as_slice() == *whole);
     sink.writes
 }
 
@@ -140,7 +140,7 @@ fn fails_at_each_write(
     writes: usize,
     whole: &[u8],
 ) -> Result<(), Fail> {
-    expect!(rt; takes_whole(rt, words, input, at_once, whole) == writes);
+    expect!(rt, takes_whole(rt, words, input, at_once, whole) == writes);
     for failing_write in 1..=writes {
         write_fails(rt, words, input, at_once, failing_write, whole)?;
     }
@@ -170,7 +170,10 @@ fn each_failed_write_ends_the_run(rt: HostRuntime) -> Result<(), Fail> {
 fn each_failed_write_of_an_image_ends_build(rt: HostRuntime) -> Result<(), Fail> {
     let image = built(&rt, FIVE_WORDS, FIVE)?;
     let script = FIVE.as_bytes();
-    expect!(rt; takes_whole(&rt, FIVE_WORDS, script, 1, &image) == 4_097);
+    expect!(
+        &rt,
+        takes_whole(&rt, FIVE_WORDS, script, 1, &image) == 4_097
+    );
     fails_at_each_write(&rt, FIVE_WORDS, script, 64, 65, &image)?;
     fails_at_each_write(&rt, FIVE_WORDS, script, 4_096, 5, &image)
 }
@@ -196,7 +199,7 @@ fn fails_at_each_turn(
     told: &[u8],
 ) -> Result<(), Fail> {
     for (at_once, reads) in [(7, 589), (1_024, 5)] {
-        expect!(rt; reads_whole(rt, words, image, at_once, told)? == reads);
+        expect!(rt, reads_whole(rt, words, image, at_once, told)? == reads);
         fails_at_each_read(rt, words, image, at_once, told)?;
     }
     fails_at_each_write(rt, words, image, 1, told.len().saturating_add(1), told)
@@ -208,8 +211,23 @@ fn draw_fails_at_each_turn(
 ) -> Result<(), Fail> {
     let draw = ["lhash", "draw"];
     let (_, drawing, _) = ran(rt, &draw, image)?;
-    expect!(rt; drawing.len() > 1_000);
+    expect!(rt, drawing.len() > 1_000);
     fails_at_each_turn(rt, &draw, image, &drawing)
+}
+
+/// Pages are no bound to its reads, so those of 7 bytes at most are 586, of which the last takes one byte, and one that
+/// finds the end.
+fn get_fails_at_each_turn(
+    rt: &(impl Abort + AllocGlobal + Threads + Wait + Sync),
+    image: &[u8],
+) -> Result<(), Fail> {
+    let get = ["lhash", "get", "-", "62", "63"];
+    let lines = b"found 32\nfound 33\n";
+    for (at_once, reads) in [(7, 587), (1_024, 5)] {
+        expect!(rt; reads_whole(rt, &get, image, at_once, lines)? == reads);
+        fails_at_each_read(rt, &get, image, at_once, lines)?;
+    }
+    fails_at_each_write(rt, &get, image, 1, 19, lines)
 }
 
 /// Each failed turn ends each subcommand that reads an image and writes text.
@@ -219,6 +237,7 @@ fn each_fails_at_each_turn(
 ) -> Result<(), Fail> {
     fails_at_each_turn(rt, &["lhash", "check"], image, FIVE_CENSUS.as_bytes())?;
     fails_at_each_turn(rt, &["lhash", "dump"], image, FIVE_RECORDS.as_bytes())?;
+    get_fails_at_each_turn(rt, image)?;
     draw_fails_at_each_turn(rt, image)
 }
 
@@ -233,7 +252,7 @@ fn replay_fails_at_each_turn(
     steps: &[u8],
     picture: &[u8],
 ) -> Result<(), Fail> {
-    expect!(rt; picture.len() > 500);
+    expect!(rt, picture.len() > 500);
     fails_at_each_read(rt, words, steps, 1, picture)?;
     let writes = picture.len().saturating_add(1);
     fails_at_each_write(rt, words, steps, 1, writes, picture)
@@ -254,7 +273,7 @@ fn migrate_fails_at_each_turn(
     old: &[u8],
     new: &[u8],
 ) -> Result<(), Fail> {
-    expect_eq!(rt; new.len(), 16_384);
+    expect_eq!(rt, new.len(), 16_384);
     fails_at_each_read(rt, words, old, 7, new)?;
     fails_at_each_read(rt, words, old, 1_024, new)?;
     fails_at_each_read(rt, words, new, 1_024, new)?;
@@ -289,7 +308,7 @@ fn apply_fails_at_each_turn(
     input: &[u8],
     left: &[u8],
 ) -> Result<(), Fail> {
-    expect_eq!(rt; left.len(), 20_480);
+    expect_eq!(rt, left.len(), 20_480);
     for at_once in [7, 1_024] {
         fails_at_each_read(rt, words, input, at_once, left)?;
     }
@@ -324,7 +343,7 @@ fn ends_behind(
         };
         let mut output = Vec::new(rt.alloc());
         let status = run(rt, words.as_slice(), &mut source, &mut output);
-        expect!(rt; status.code() == code && output.is_empty());
+        expect!(rt, status.code() == code && output.is_empty());
     }
     Ok(())
 }
@@ -364,7 +383,7 @@ fn first_page_fails(
     };
     let mut output = Vec::new(rt.alloc());
     let status = run(rt, &["lhash", "check"], &mut source, &mut output);
-    expect!(rt; status.code() == 1 && output.is_empty());
+    expect!(rt, status.code() == 1 && output.is_empty());
     expect_eq!(rt; status.to_string(rt.alloc())?.as_str(), text);
     Ok(())
 }
@@ -391,7 +410,7 @@ fn a_writer_that_takes_nothing_has_failed(rt: HostRuntime) -> Result<(), Fail> {
     let mut sink = Sink::new(rt.alloc(), 0, 0);
     let words = ["lhash", "commands"];
     let status = run(&rt, words.as_slice(), &mut input, &mut sink);
-    expect_eq!(rt; status.to_string(rt.alloc())?.as_str(), "write failed");
+    expect_eq!(&rt, status.to_string(rt.alloc())?.as_str(), "write failed");
     expect_eq!(rt; sink.writes, 1);
     Ok(())
 }
@@ -406,9 +425,9 @@ fn goes_out_in_chunks(
     let mut source = input;
     let mut sink = Sink::new(rt.alloc(), usize::MAX, 0);
     let status = run(rt, words, &mut source, &mut sink);
-    expect!(rt; status.code() == 0 && sink.writes < 16);
+    expect!(rt, status.code() == 0 && sink.writes < 16);
     let written = sink.bytes.iter().filter(|byte| **byte == b'\n').count();
-    expect!(rt; written == lines);
+    expect!(rt, written == lines);
 }
 
 #[test]
@@ -451,7 +470,7 @@ fn the_last_chunk_is_flushed(rt: HostRuntime) -> Result<(), Fail> {
         let mut input = script.as_bytes();
         let mut output = Unflushed { bytes: 0, whole: 0 };
         let status = run(&rt, &["lhash", "commands"], &mut input, &mut output);
-        expect!(rt; status.code() == 0 && output.bytes == 0);
+        expect!(&rt, status.code() == 0 && output.bytes == 0);
         expect_eq!(rt;
             output.whole,
             7_usize.saturating_mul(searches).saturating_add(10)

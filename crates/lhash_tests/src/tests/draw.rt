@@ -37,8 +37,8 @@ fn empty_file(rt: &(impl AllocGlobal + Threads + Wait + Sync)) -> Result<Vec<u8>
 fn an_empty_file_is_drawn(rt: HostRuntime) -> Result<(), Fail> {
     let image = empty_file(&rt)?;
     let (code, written, text) = ran(&rt, ["lhash", "draw"].as_slice(), image.as_slice())?;
-    expect_eq!(rt; text.as_str(), "");
-    expect_eq!(rt; written.as_slice(), EMPTY_FILE.as_bytes());
+    expect_eq!(&rt, text.as_str(), "");
+    expect_eq!(&rt, written.as_slice(), EMPTY_FILE.as_bytes());
     expect_eq!(rt; code, 0);
     Ok(())
 }
@@ -48,9 +48,9 @@ fn a_cut_off_image_is_not_drawn(rt: HostRuntime) -> Result<(), Fail> {
     let mut image = empty_file(&rt)?;
     image.truncate(3071);
     let (code, written, text) = ran(&rt, ["lhash", "draw"].as_slice(), image.as_slice())?;
-    expect_eq!(rt; text.as_str(), "image I4");
+    expect_eq!(&rt, text.as_str(), "image I4");
     expect_eq!(rt; code, 1);
-    expect!(rt; written.is_empty());
+    expect!(&rt, written.is_empty());
     Ok(())
 }
 
@@ -65,7 +65,7 @@ fn draws(
     let words = ["lhash", "build", "--image=1", "--capacity=1", most];
     let image = built(rt, words.as_slice(), script.as_str())?;
     let (code, written, text) = ran(rt, ["lhash", "draw"].as_slice(), image.as_slice())?;
-    expect_eq!(rt; text.as_str(), "");
+    expect_eq!(rt, text.as_str(), "");
     has_parts(rt, written.as_slice(), parts);
     expect_eq!(rt; code, 0);
     Ok(())

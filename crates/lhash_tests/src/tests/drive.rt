@@ -137,7 +137,7 @@ fn a_faulty_script_runs_nothing(rt: HostRuntime) -> Result<(), Fail> {
 /// A status of this fault has code 5 and this text.
 fn tells(rt: &(impl Abort + AllocGlobal), fault: Unsettled, text: &str) -> Result<(), AllocError> {
     let status = Status::NotSettled(fault);
-    expect_eq!(rt; status.code(), 5);
+    expect_eq!(rt, status.code(), 5);
     expect_eq!(rt; status.to_string(rt.alloc())?.as_str(), text);
     Ok(())
 }
@@ -225,7 +225,7 @@ fn hold_at_once(
     threads: u32,
     buckets: u32,
 ) -> Result<(), Fail> {
-    expect!(rt; threads > 0);
+    expect!(rt, threads > 0);
     let calls = inserts_of(rt.alloc(), letters)?;
     let wanted = u64::from(threads);
     let gate = MeetAll {
@@ -236,8 +236,8 @@ fn hold_at_once(
     let config = Config::new(buckets, 14, 100, 65536)?;
     let driven = drive_with(rt, rt.alloc(), config, calls.as_slice(), threads, &gate);
     expect_eq!(rt; driven, Ok(all_inserted(wanted)));
-    expect!(rt; gate.met.load(Ordering::SeqCst) >= wanted);
-    expect_eq!(rt; gate.late.load(Ordering::SeqCst), 0);
+    expect!(rt, gate.met.load(Ordering::SeqCst) >= wanted);
+    expect_eq!(rt, gate.late.load(Ordering::SeqCst), 0);
     Ok(())
 }
 
@@ -253,7 +253,7 @@ fn calls_that_fill_no_row_of_threads_are_made(rt: HostRuntime) -> Result<(), Fai
     let calls = inserts_of(rt.alloc(), b"abcdefghijklmnopq")?;
     let config = Config::new(1, 2, 100, 65536)?;
     for threads in [2, 3, 5, 16, 18, 64] {
-        expect!(rt; threads > 0);
+        expect!(&rt, threads > 0);
         let driven = drive_with(&rt, rt.alloc(), config, calls.as_slice(), threads, NoGate);
         assert_eq!(rt; driven, Ok(all_inserted(17)), "{threads} threads");
     }
@@ -365,8 +365,8 @@ fn a_snapshot_is_taken_while_calls_are_made(rt: HostRuntime) -> Result<(), Fail>
     let gate = HoldForSnapshot::after(2);
     let driven = drive_with_snapshots(&rt, rt.alloc(), config, calls.as_slice(), 1, 1, &gate);
     expect_eq!(rt; driven, Ok(all_inserted(4)));
-    expect_eq!(rt; gate.taken.load(Ordering::SeqCst), 1);
-    expect_eq!(rt; gate.late.load(Ordering::SeqCst), 0);
+    expect_eq!(&rt, gate.taken.load(Ordering::SeqCst), 1);
+    expect_eq!(&rt, gate.late.load(Ordering::SeqCst), 0);
     Ok(())
 }
 
@@ -430,9 +430,9 @@ fn snapshots_are_spread_over_the_calls(rt: HostRuntime) -> Result<(), Fail> {
     let gate = HoldsApart::new();
     let driven = drive_with_snapshots(&rt, rt.alloc(), config, calls.as_slice(), 1, 2, &gate);
     expect_eq!(rt; driven, Ok(all_inserted(6)));
-    expect_eq!(rt; gate.taken.load(Ordering::SeqCst), 2);
-    expect_eq!(rt; gate.early.load(Ordering::SeqCst), 0);
-    expect_eq!(rt; gate.late.load(Ordering::SeqCst), 0);
+    expect_eq!(&rt, gate.taken.load(Ordering::SeqCst), 2);
+    expect_eq!(&rt, gate.early.load(Ordering::SeqCst), 0);
+    expect_eq!(&rt, gate.late.load(Ordering::SeqCst), 0);
     Ok(())
 }
 
@@ -442,7 +442,7 @@ fn as_many_snapshots_are_taken(rt: HostRuntime) -> Result<(), Fail> {
     let calls = calls_of(rt.alloc(), 102)?;
     let config = Config::new(1, 1, 100, 65536)?;
     for (threads, snapshots) in [(1, 5), (3, 1), (3, 5), (3, 40), (3, 0)] {
-        expect!(rt; threads > 0);
+        expect!(&rt, threads > 0);
         let gate = HoldForSnapshot::after(0);
         let driven = drive_with_snapshots(
             &rt,
@@ -468,7 +468,7 @@ fn as_many_snapshots_are_taken(rt: HostRuntime) -> Result<(), Fail> {
             Ok(totals),
             "{threads} threads, {snapshots} snapshots"
         );
-        expect_eq!(rt; gate.taken.load(Ordering::SeqCst), u64::from(snapshots));
+        expect_eq!(&rt, gate.taken.load(Ordering::SeqCst), u64::from(snapshots));
     }
     Ok(())
 }

@@ -56,7 +56,7 @@ fn shards_have_the_totals_of_one_file(rt: HostRuntime) -> Result<(), Fail> {
     expect_eq!(rt; one, Ok(totals));
     for shards in [1, 2, 8, 64] {
         for threads in [1, 4, 8] {
-            expect!(rt; threads > 0 && shards > 0 && shards <= 64);
+            expect!(&rt, threads > 0 && shards > 0 && shards <= 64);
             let calls = calls.as_slice();
             let driven = drive_shards_with(&rt, rt.alloc(), config, calls, threads, shards);
             assert_eq!(rt; driven, Ok(totals), "{shards} shards, {threads} threads");
@@ -75,7 +75,7 @@ fn calls_that_fill_no_row_of_threads_are_made(rt: HostRuntime) -> Result<(), Fai
     }
     let calls = calls.as_slice();
     for threads in [2, 3, 5, 16, 18, 64] {
-        expect!(rt; threads > 0);
+        expect!(&rt, threads > 0);
         let driven = drive_shards_with(&rt, rt.alloc(), config, calls, threads, 64);
         let totals = Driven {
             calls: 17,
@@ -114,7 +114,7 @@ fn writes_totals(
 ) -> Result<(), Fail> {
     for shards in ["1", "2", "8", "64"] {
         let (status, output) = answered(rt, script, threads, shards)?;
-        expect_eq!(rt; status.code(), 0);
+        expect_eq!(rt, status.code(), 0);
         assert_eq!(rt; output.as_slice(), totals.as_bytes(), "{shards} shards");
     }
     Ok(())
@@ -146,12 +146,13 @@ fn an_empty_script_has_totals(rt: HostRuntime) -> Result<(), Fail> {
 #[test]
 fn a_faulty_script_runs_nothing(rt: HostRuntime) -> Result<(), Fail> {
     let (status, output) = answered(&rt, "insert 61 31\nsearch 6\nfrob\n", "4", "8")?;
-    expect_eq!(rt; status.code(), 1);
-    expect_eq!(rt;
+    expect_eq!(&rt, status.code(), 1);
+    expect_eq!(
+        &rt,
         status.to_string(rt.alloc())?.as_str(),
         "line 2: bad hexadecimal"
     );
-    expect!(rt; output.is_empty());
+    expect!(&rt, output.is_empty());
     Ok(())
 }
 
@@ -172,8 +173,8 @@ fn a_device_may_fail(rt: HostRuntime) -> Result<(), Fail> {
         } else {
             DeviceFault::Write
         };
-        expect!(rt; matches!(status, Status::Device(told) if told == fault));
-        expect!(rt; sink.bytes.is_empty());
+        expect!(&rt, matches!(status, Status::Device(told) if told == fault));
+        expect!(&rt, sink.bytes.is_empty());
     }
     Ok(())
 }

@@ -86,7 +86,7 @@ pub fn built(
     script: &str,
 ) -> Result<Vec<u8>, Fail> {
     let (code, image, text) = ran(rt, words, script.as_bytes())?;
-    expect!(rt; code == 0 && text.is_empty());
+    expect!(rt, code == 0 && text.is_empty());
     Ok(image)
 }
 
@@ -98,8 +98,8 @@ pub fn told(
     output: &[u8],
 ) -> Result<(), Fail> {
     let (code, written, text) = ran(rt, words, input)?;
-    expect!(rt; code == 0 && text.is_empty());
-    expect!(rt; *written.as_slice() == *output);
+    expect!(rt, code == 0 && text.is_empty());
+    expect!(rt, *written.as_slice() == *output);
     Ok(())
 }
 
@@ -248,7 +248,7 @@ fn an_image_of_many_pages_is_read(rt: HostRuntime) -> Result<(), Fail> {
     let words = ["lhash", "build", "--capacity", "1", "--image", "1"];
     let image = built(&rt, words.as_slice(), script.as_str())?;
     let (code, census, _) = ran(&rt, &["lhash", "check"], &image)?;
-    expect!(rt; code == 0 && census.starts_with(b"buckets 65536\n"));
+    expect!(&rt, code == 0 && census.starts_with(b"buckets 65536\n"));
     Ok(())
 }
 
@@ -267,7 +267,7 @@ fn turned_away(
     words: &[&str],
 ) -> Result<(), Fail> {
     let (code, written, _) = ran(rt, words, b"")?;
-    expect!(rt; code == 2 && written.is_empty());
+    expect!(rt, code == 2 && written.is_empty());
     Ok(())
 }
 

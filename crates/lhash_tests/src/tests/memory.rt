@@ -1,14 +1,17 @@
 //! Memory that is refused: run with each request for it refused in turn, one in each run. A run in threads says so, and
-//! made once more it has its totals.
+//! made once more it has its totals; look-ups in an image say so, and made once more they have their lines.
+use crate::tests::images::{FIVE, FIVE_WORDS};
 use lh_addr::Config;
 use lh_bucket::Call;
-use lh_expect::expect_eq;
+use lh_expect::{expect, expect_eq};
 use lh_file::NoGate;
 use lh_page::{Key, Value};
-use lhash::{DriveFault, Driven, drive_shards_with, drive_with_snapshots};
+use lhash::{DriveFault, Driven, drive_shards_with, drive_with_snapshots, run};
 use std::alloc::Global;
 use std::process::Abort;
+use std::sync::Wait;
 use std::test::Fail;
+use std::thread::Threads;
 
 /// An insert of each of twelve letters, and a search for each.
 fn inserts_and_searches(alloc: Global) -> Option<Vec<Call>> {
@@ -73,5 +76,48 @@ fn a_refused_run_with_snapshots_may_be_made_again(rt: HostRuntime) -> Result<(),
         driven = drive_with_snapshots(&rt, rt.alloc(), config, calls.as_slice(), 2, 3, NoGate);
     }
     expect_eq!(rt; driven, Ok(TOTALS));
+    Ok(())
+}
+
+/// The image of five records, or nothing where there was no memory.
+fn built(rt: &(impl AllocGlobal + Threads + Wait + Sync)) -> Vec<u8> {
+    let mut script = FIVE.as_bytes();
+    let mut image = Vec::new(rt.alloc());
+    let status = run(rt, FIVE_WORDS, &mut script, &mut image);
+    if status.code() != 0 {
+        image.clear();
+    }
+    image
+}
+
+/// The image of five records, which is built again where there was no memory for it.
+fn five(rt: &(impl AllocGlobal + Threads + Wait + Sync)) -> Vec<u8> {
+    let mut image = built(rt);
+    if image.is_empty() {
+        image = built(rt);
+    }
+    image
+}
+
+/// The status of look-ups, one of which finds no key, and what was written.
+fn looked_up(rt: &(impl AllocGlobal + Threads + Wait + Sync), image: &[u8]) -> (u8, Vec<u8>) {
+    let mut source = image;
+    let mut output = Vec::new(rt.alloc());
+    let words = ["lhash", "get", "-", "61", "66"];
+    let status = run(rt, words.as_slice(), &mut source, &mut output);
+    (status.code(), output)
+}
+
+/// The writer may be refused memory, too, which is a failed write.
+#[test]
+fn refused_look_ups_may_be_made_again(rt: HostRuntime) -> Result<(), Fail> {
+    let image = five(&rt);
+    let (mut code, mut written) = looked_up(&rt, &image);
+    expect!(&rt, code != 4 || written.is_empty());
+    if code == 3 || code == 4 {
+        (code, written) = looked_up(&rt, &image);
+    }
+    expect_eq!(&rt, code, 6);
+    expect!(&rt, written.as_slice() == b"found 31\nabsent\n".as_slice());
     Ok(())
 }

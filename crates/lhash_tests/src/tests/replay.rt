@@ -179,7 +179,7 @@ fn many_steps_of_all_kinds_are_drawn(rt: HostRuntime) -> Result<(), Fail> {
     let script = many_steps(rt.alloc())?;
     let words = ["lhash", "replay", "--max=2"];
     let (code, written, text) = ran(&rt, words.as_slice(), script.as_bytes())?;
-    expect_eq!(rt; text.as_str(), "");
+    expect_eq!(&rt, text.as_str(), "");
     has_parts(&rt, written.as_slice(), MANY_PARTS.as_slice());
     expect_eq!(rt; code, 0);
     Ok(())

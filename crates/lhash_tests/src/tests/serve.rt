@@ -44,7 +44,7 @@ fn serves(
     due: &[u8],
 ) -> Result<(), Fail> {
     let (code, answers, text) = ran(rt, words, input)?;
-    expect_eq!(rt; text.as_str(), "");
+    expect_eq!(rt, text.as_str(), "");
     expect_eq!(rt; code, 0);
     expect_eq!(rt; answers.as_slice(), due);
     Ok(())
@@ -173,7 +173,7 @@ fn read_fails(
     };
     let mut output = Vec::new(rt.alloc());
     let status = run(rt, SERVE.as_slice(), &mut source, &mut output);
-    expect_eq!(rt; status.code(), 3);
+    expect_eq!(rt, status.code(), 3);
     let came = CALLS.len().saturating_sub(source.bytes.len());
     let (heard, _) = CALLS.as_bytes().split_at(came.min(CALLS.len()));
     let (_, answers, _) = ran(rt, SERVE.as_slice(), heard)?;

@@ -244,6 +244,6 @@ fn an_empty_script_tells_nothing(rt: HostRuntime) -> Result<(), Fail> {
     fails(&rt, words.as_slice(), "frob", 2, "max is less than initial")?;
     let (code, written, _) = ran(&rt, ["lhash", "steps", "--help"].as_slice(), b"frob")?;
     expect_eq!(rt; code, 0);
-    expect!(rt; !written.is_empty());
+    expect!(&rt, !written.is_empty());
     Ok(())
 }

@@ -91,8 +91,8 @@ pub fn writes(
     output: &str,
 ) -> Result<(), Fail> {
     let (code, written, text) = ran(rt, words, input.as_bytes())?;
-    expect_eq!(rt; text.as_str(), "");
-    expect_eq!(rt; written.as_slice(), output.as_bytes());
+    expect_eq!(rt, text.as_str(), "");
+    expect_eq!(rt, written.as_slice(), output.as_bytes());
     expect_eq!(rt; code, 0);
     Ok(())
 }
@@ -107,7 +107,7 @@ pub fn fails(
     let (status, written, text) = ran(rt, words, input.as_bytes())?;
     expect_eq!(rt; text.as_str(), fault);
     expect_eq!(rt; status, code);
-    expect!(rt; written.is_empty());
+    expect!(rt, written.is_empty());
     Ok(())
 }
 

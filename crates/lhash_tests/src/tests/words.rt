@@ -15,7 +15,7 @@ fn words_are_judged_before_the_input(rt: HostRuntime) -> Result<(), Fail> {
     ] {
         let (code, written, _) = ran(&rt, words, b"frob")?;
         expect_eq!(rt; code, 2);
-        expect!(rt; written.is_empty());
+        expect!(&rt, written.is_empty());
     }
     Ok(())
 }
@@ -29,8 +29,8 @@ fn help_goes_to_the_output(rt: HostRuntime) -> Result<(), Fail> {
     ] {
         let (code, written, text) = ran(&rt, words, b"frob")?;
         expect_eq!(rt; code, 0);
-        expect_eq!(rt; text.as_str(), "");
-        expect!(rt; !written.is_empty());
+        expect_eq!(&rt, text.as_str(), "");
+        expect!(&rt, !written.is_empty());
     }
     Ok(())
 }
@@ -49,9 +49,13 @@ fn control_characters_of_words_are_escaped(rt: HostRuntime) -> Result<(), Fail> 
         ["\u{1b}[31mlhash"].as_slice(),
     ] {
         let (_, written, text) = ran(&rt, words, b"")?;
-        expect!(rt; !written.is_empty() || !text.as_str().is_empty());
-        expect!(rt; !text.as_str().chars().any(|letter| letter.is_control()));
-        expect!(rt;
+        expect!(&rt, !written.is_empty() || !text.as_str().is_empty());
+        expect!(
+            &rt,
+            !text.as_str().chars().any(|letter| letter.is_control())
+        );
+        expect!(
+            &rt,
             written
                 .iter()
                 .all(|byte| *byte == b'\n' || *byte >= b' ' && *byte < 127)
@@ -83,5 +87,5 @@ fn a_number_has_no_sign(rt: HostRuntime) -> Result<(), Fail> {
 #[test]
 fn the_version_goes_to_the_output(rt: HostRuntime) -> Result<(), Fail> {
     let words = ["lhash", "--version"];
-    writes(&rt, words.as_slice(), "frob", "lhash 0.1.0\n")
+    writes(&rt, words.as_slice(), "frob", "lhash 0.2.0\n")
 }

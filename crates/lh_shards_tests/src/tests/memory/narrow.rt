@@ -57,6 +57,6 @@ fn fill_again<R: Wait>(rt: &R, shards: &Narrow, hands: &mut Hands) -> bool
 #[test]
 fn memory_refused_to_narrow_shards(rt: HostRuntime) -> Result<(), Fail> {
     let (shards, mut hands) = made_again(rt.alloc(), Config::new(1, 2, 100, 16)?)?;
-    expect!(rt; fill_again(&rt, &shards, &mut hands));
+    expect!(&rt, fill_again(&rt, &shards, &mut hands));
     Ok(())
 }

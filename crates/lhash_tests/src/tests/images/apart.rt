@@ -38,7 +38,7 @@ fn does_the_same(
         ["lhash", "serve", "--image"].as_slice(),
     ] {
         let apart = ran_on(rt, words, image, script.as_bytes())?;
-        expect!(rt; apart == ran(rt, words, both.as_slice())?);
+        expect!(rt, apart == ran(rt, words, both.as_slice())?);
     }
     Ok(())
 }
@@ -64,7 +64,7 @@ fn refused(
     ] {
         let (code, written, text) = ran_on(rt, words, image, CALLS.as_bytes())?;
         expect_eq!(rt; text.as_str(), fault);
-        expect!(rt; code == 1 && written.is_empty());
+        expect!(rt, code == 1 && written.is_empty());
     }
     Ok(())
 }

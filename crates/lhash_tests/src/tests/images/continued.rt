@@ -65,7 +65,7 @@ fn refused_by(
 ) -> Result<(), Fail> {
     let (code, written, text) = ran(rt, words, input)?;
     expect_eq!(rt; text.as_str(), fault);
-    expect!(rt; code == 1 && written.is_empty());
+    expect!(rt, code == 1 && written.is_empty());
     Ok(())
 }
 
@@ -108,7 +108,7 @@ fn left_after(
     second: &[u8],
 ) -> Result<Vec<u8>, Fail> {
     let (code, mut input, _) = ran(rt, words, first)?;
-    expect!(rt; code == 0);
+    expect!(rt, code == 0);
     input.extend_from_slice(second)?;
     applied_first(rt, &input)
 }
@@ -119,7 +119,7 @@ fn applied_first(
     input: &[u8],
 ) -> Result<Vec<u8>, Fail> {
     let (code, left, _) = ran(rt, APPLY_FIRST, input)?;
-    expect!(rt; code == 0);
+    expect!(rt, code == 0);
     Ok(left)
 }
 
@@ -176,7 +176,7 @@ fn applied_as_migrated(
     first: &[u8],
 ) -> Result<(), Fail> {
     let (code, second, _) = ran(rt, &["lhash", "migrate"], first)?;
-    expect!(rt; code == 0 && second.starts_with(b"LHF2"));
+    expect!(rt, code == 0 && second.starts_with(b"LHF2"));
     empty_script_migrates(rt, first, &second)
 }
 
@@ -258,8 +258,8 @@ fn has_no_image_of_version_1(
     input: &[u8],
 ) -> Result<(), Fail> {
     let (code, written, text) = ran(rt, APPLY_FIRST, input)?;
-    expect!(rt; code == 1 && written.is_empty());
-    expect!(rt; text.as_str().starts_with("image V2 at bucket "));
+    expect!(rt, code == 1 && written.is_empty());
+    expect!(rt, text.as_str().starts_with("image V2 at bucket "));
     Ok(())
 }
 
@@ -268,7 +268,7 @@ fn has_one_of_version_2(
     input: &[u8],
 ) -> Result<(), Fail> {
     let (code, left, _) = ran(rt, APPLY, input)?;
-    expect!(rt; code == 0 && left.starts_with(b"LHF2"));
+    expect!(rt, code == 0 && left.starts_with(b"LHF2"));
     Ok(())
 }
 

@@ -21,7 +21,7 @@ fn refused_by(
     fault: &str,
 ) -> Result<(), Fail> {
     let (code, written, text) = ran(rt, &["lhash", subcommand], bytes)?;
-    expect!(rt; code == 1 && written.is_empty());
+    expect!(rt, code == 1 && written.is_empty());
     assert!(rt; text.as_str() == fault, "{text} for {fault}");
     Ok(())
 }
