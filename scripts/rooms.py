@@ -10,6 +10,8 @@ TOP = os.path.dirname(os.path.dirname(os.path.abspath(__file__)))
 NEED = 5 << 29
 # What each check does first, alone, takes as long as so many lines.
 START = 1000
+# What a crate is made of.
+PARTS = ("src", "specs", "proofs")
 
 
 def crates():
@@ -36,7 +38,7 @@ def works(crates):
     """How long each crate takes to check, by the lines of its code, specifications and proofs."""
     found = dict.fromkeys(crates, START)
     for crate in crates:
-        for part in ("src", "specs", "proofs"):
+        for part in PARTS:
             for folder, _, names in os.walk(f"{TOP}/crates/{crate}/{part}"):
                 for name in names:
                     with open(f"{folder}/{name}", "rb") as file:
