@@ -136,7 +136,8 @@ fn bytes_that_are_no_image(rt: HostRuntime) -> Result<(), Fail> {
     ends(&rt, &words, b"", 1, "image I1")?;
     ends(&rt, &words, b"insert 61 31\n", 1, "image I1")?;
     let mut image = built(&rt, FIVE_WORDS, FIVE)?;
-    ends(&rt, &words, &image[..4_095], 1, "image I4")?;
+    let short = image.len().saturating_sub(1);
+    ends(&rt, &words, &image[..short], 1, "image I4")?;
     image.push(0)?;
     ends(&rt, &words, &image, 1, "image I5")
 }
