@@ -1,0 +1,14 @@
+mod BodyRecords
+mod BodyTexts
+mod CdbSteps
+mod CdbTexts
+mod DbLines
+mod Digits
+mod HeaderLines
+mod LineCuts
+mod NumberTexts
+mod Numbers
+mod OneByOne
+mod Printed
+mod RecordLengths
+mod WrittenRecords

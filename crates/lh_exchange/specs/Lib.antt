@@ -1,0 +1,10 @@
+pub mod Cdb
+pub mod DbHeader
+pub mod DbRecords
+pub mod DbTexts
+pub mod ExchangeLaws
+pub mod Exchanged
+pub mod StreamFaultTexts
+pub mod StreamLines
+pub mod StreamParts
+pub mod StreamTexts
