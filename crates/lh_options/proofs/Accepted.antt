@@ -1,6 +1,6 @@
 -- Words in which clap finds no fault name a subcommand, whose rows have the numbers of all its options
 use Rattle.std.proofs.Common.{◌≡◌, ◌∙◌, ◌⊎◌, ◌||◌, ℕ, zero, suc, inl, inr, Bool, true, false, refl, sym, ap, List, []}
-use Rattle.std.proofs.Common.{◌∷◌, Option, Some, None, codes, arith}
+use Rattle.std.proofs.Common.{◌∷◌, Option, Some, None, codes, arith, subst}
 use Rattle.std.specs.Prelude.{◌&&◌, drop, find, not, option_and_then}
 use Rattle.std.specs.List.{list_all}
 use Rattle.std.specs.Str.{bytes_eq}
@@ -13,8 +13,8 @@ use Rattle.clap.specs.Faults.{fault_of, level_fault}
 use Rattle.lh_addr.specs.Limits.{most_initial, most_capacity, least_load, most_load, most_buckets}
 use Rattle.lh_options.specs.Options.{commands_app, most_snapshots, number_in, numeral_value, option_rule, program_app}
 use Rattle.lh_options.specs.Options.{settings_from}
-use Rattle.lh_options.specs.OptionSteps.{HasDriveNumbers, HasImage, HasSettings, IsFileCommand, IsImageCommand}
-use Rattle.lh_options.specs.OptionSteps.{settings_in}
+use Rattle.lh_options.specs.OptionSteps.{HasDriveNumbers, HasImage, HasSettings, IsBuildCommand, IsFileCommand}
+use Rattle.lh_options.specs.OptionSteps.{IsImageCommand, settings_in}
 use Rattle.lh_options.proofs.Levels.{entered-some, find-passes}
 use Rattle.lh_options.proofs.RowLemmas.{Every, FitsHere, HasTarget, IsTarget, find-every, level-every, level-row}
 use Rattle.lh_options.proofs.NumberLemmas.{number-fits}
@@ -111,32 +111,35 @@ replay_built = shape_at 2 (built program_app).subs
 abbrev build_built : Shape
 build_built = shape_at 3 (built program_app).subs
 
+abbrev load_built : Shape
+load_built = shape_at 4 (built program_app).subs
+
 abbrev check_built : Shape
-check_built = shape_at 4 (built program_app).subs
+check_built = shape_at 5 (built program_app).subs
 
 abbrev dump_built : Shape
-dump_built = shape_at 5 (built program_app).subs
+dump_built = shape_at 6 (built program_app).subs
 
 abbrev drive_built : Shape
-drive_built = shape_at 6 (built program_app).subs
+drive_built = shape_at 7 (built program_app).subs
 
 abbrev draw_built : Shape
-draw_built = shape_at 7 (built program_app).subs
+draw_built = shape_at 8 (built program_app).subs
 
 abbrev migrate_built : Shape
-migrate_built = shape_at 8 (built program_app).subs
+migrate_built = shape_at 9 (built program_app).subs
 
 abbrev query_built : Shape
-query_built = shape_at 9 (built program_app).subs
+query_built = shape_at 10 (built program_app).subs
 
 abbrev apply_built : Shape
-apply_built = shape_at 10 (built program_app).subs
+apply_built = shape_at 11 (built program_app).subs
 
 abbrev serve_built : Shape
-serve_built = shape_at 11 (built program_app).subs
+serve_built = shape_at 12 (built program_app).subs
 
 abbrev get_built : Shape
-get_built = shape_at 12 (built program_app).subs
+get_built = shape_at 13 (built program_app).subs
 
 -- a subcommand whose first rules are the four options, and none of whose others has the id of one of them
 abbrev lead : List Rule → List Rule
@@ -176,6 +179,9 @@ replay-options = leading (drop 4 replay_built.rules) refl
 build-options : HasOptions build_built.rules
 build-options = leading (drop 4 build_built.rules) refl
 
+load-options : HasOptions load_built.rules
+load-options = leading (drop 4 load_built.rules) refl
+
 drive-options : HasOptions drive_built.rules
 drive-options = leading (drop 4 drive_built.rules) refl
 
@@ -202,14 +208,16 @@ drive-after words e =
     }
 
 -- the version of the image
-image-after : (words : List Text) → level_fault build_built [] nothing_held words false [] ≡ [] →
-    HasImage (rows_after build_built.rules [] words)
-image-after words e =
+image-after : (s : Shape) → s.rules ≡ build_built.rules → (words : List Text) →
+    level_fault s [] nothing_held words false [] ≡ [] → HasImage (rows_after s.rules [] words)
+image-after s same words e =
     let own : Every (IsTarget (codes "image") (codes "2") 1 2) build_built.rules =
     (unequal, (unequal, (unequal, (unequal, (unequal, (unequal, ((λ _. refl), (unequal, tt)))))))) in
     let has : HasTarget (codes "image") (codes "2") 1 2 build_built.rules =
     inr (inr (inr (inr (inr (inr (inl refl)))))) in
-    let row = level-row (codes "image") (codes "2") 1 2 build_built own has [] words false [] e in
+    let row = level-row (codes "image") (codes "2") 1 2 s
+    (subst (Every (IsTarget (codes "image") (codes "2") 1 2)) (sym same) own)
+    (subst (HasTarget (codes "image") (codes "2") 1 2) (sym same) has) [] words false [] e in
     number-fits (codes "image") (codes "2") 1 2 _ row.0 row.1 row.2
 
 applied-after : (words : List Text) → level_fault apply_built [] nothing_held words false [] ≡ [] →
@@ -234,12 +242,18 @@ is_help t e =
 abbrev pub IsEntered : Text → List Row → Type 0
 IsEntered name rows =
     (IsFileCommand name × HasSettings rows × (name ≡ codes "drive" → HasDriveNumbers rows)
-    × (name ≡ codes "build" → HasImage rows))
+    × (IsBuildCommand name → HasImage rows))
     ⊎ (IsImageCommand name × (settings_in rows ≡ None) × (name ≡ codes "apply" → HasImage rows))
 
 -- of a subcommand of another name nothing is said
 other-name : {P : Type 0} (name given : Text) → bytes_eq name given ≡ false → name ≡ given → P
 other-name name given other is = absurd (unlike name given other is)
+
+-- nor of one that fills no file
+other-builder : {P : Type 0} (name : Text) → bytes_eq name (codes "build") ≡ false →
+    bytes_eq name (codes "load") ≡ false → IsBuildCommand name → P
+other-builder name build load (inl is) = other-name name _ build is
+other-builder name build load (inr is) = other-name name _ load is
 
 -- accepted words name such a subcommand
 pub accepted-rows : (words : List Text) → fault_of program_app words ≡ [] →
@@ -250,7 +264,7 @@ accepted-rows words e = entered-some (built program_app) IsEntered (
         inl refl,
         settings-after commands_built commands-options ws f,
         other-name (codes "commands") _ refl,
-        other-name (codes "commands") _ refl,
+        other-builder (codes "commands") refl refl,
       )),
   (
     (λ t is other ws f.
@@ -258,7 +272,7 @@ accepted-rows words e = entered-some (built program_app) IsEntered (
           inr (inl refl),
           settings-after steps_built steps-options ws f,
           other-name (codes "steps") _ refl,
-          other-name (codes "steps") _ refl,
+          other-builder (codes "steps") refl refl,
         )),
     (
       (λ t is other ws f.
@@ -266,7 +280,7 @@ accepted-rows words e = entered-some (built program_app) IsEntered (
             inr (inr (inr (inr (inl refl)))),
             settings-after replay_built replay-options ws f,
             other-name (codes "replay") _ refl,
-            other-name (codes "replay") _ refl,
+            other-builder (codes "replay") refl refl,
           )),
       (
         (λ t is other ws f.
@@ -274,66 +288,75 @@ accepted-rows words e = entered-some (built program_app) IsEntered (
               inr (inr (inl refl)),
               settings-after build_built build-options ws f,
               other-name (codes "build") _ refl,
-              λ _. image-after ws f,
+              λ _. image-after build_built refl ws f,
             )),
         (
           (λ t is other ws f.
-              inr (inl refl, no-settings check_built refl ws f, other-name (codes "check") _ refl)),
+              inl (
+                inr (inr (inr (inr (inr (inr refl))))),
+                settings-after load_built load-options ws f,
+                other-name (codes "load") _ refl,
+                λ _. image-after load_built refl ws f,
+              )),
           (
             (λ t is other ws f.
-                inr (inr (inl refl), no-settings dump_built refl ws f, other-name (codes "dump") _ refl)),
+                inr (inl refl, no-settings check_built refl ws f, other-name (codes "check") _ refl)),
             (
               (λ t is other ws f.
-                  inl (
-                    inr (inr (inr (inl refl))),
-                    settings-after drive_built drive-options ws f,
-                    (λ _. drive-after ws f),
-                    other-name (codes "drive") _ refl,
-                  )),
+                  inr (inr (inl refl), no-settings dump_built refl ws f, other-name (codes "dump") _ refl)),
               (
                 (λ t is other ws f.
-                    inr (
-                      inr (inr (inl refl)),
-                      no-settings draw_built refl ws f,
-                      other-name (codes "draw") _ refl,
+                    inl (
+                      inr (inr (inr (inl refl))),
+                      settings-after drive_built drive-options ws f,
+                      (λ _. drive-after ws f),
+                      other-builder (codes "drive") refl refl,
                     )),
                 (
                   (λ t is other ws f.
                       inr (
-                        inr (inr (inr (inl refl))),
-                        no-settings migrate_built refl ws f,
-                        other-name (codes "migrate") _ refl,
+                        inr (inr (inl refl)),
+                        no-settings draw_built refl ws f,
+                        other-name (codes "draw") _ refl,
                       )),
                   (
                     (λ t is other ws f.
                         inr (
-                          inr (inr (inr (inr (inl refl)))),
-                          no-settings query_built refl ws f,
-                          other-name (codes "query") _ refl,
+                          inr (inr (inr (inl refl))),
+                          no-settings migrate_built refl ws f,
+                          other-name (codes "migrate") _ refl,
                         )),
                     (
                       (λ t is other ws f.
                           inr (
-                            inr (inr (inr (inr (inr (inl refl))))),
-                            no-settings apply_built refl ws f,
-                            λ _. applied-after ws f,
+                            inr (inr (inr (inr (inl refl)))),
+                            no-settings query_built refl ws f,
+                            other-name (codes "query") _ refl,
                           )),
                       (
                         (λ t is other ws f.
-                            inl (
-                              inr (inr (inr (inr (inr refl)))),
-                              settings-after serve_built serve-options ws f,
-                              other-name (codes "serve") _ refl,
-                              other-name (codes "serve") _ refl,
+                            inr (
+                              inr (inr (inr (inr (inr (inl refl))))),
+                              no-settings apply_built refl ws f,
+                              λ _. applied-after ws f,
                             )),
                         (
                           (λ t is other ws f.
-                              inr (
-                                inr (inr (inr (inr (inr (inr refl))))),
-                                no-settings get_built refl ws f,
-                                other-name (codes "get") _ refl,
+                              inl (
+                                inr (inr (inr (inr (inr (inl refl))))),
+                                settings-after serve_built serve-options ws f,
+                                other-name (codes "serve") _ refl,
+                                other-builder (codes "serve") refl refl,
                               )),
-                          ((λ t is other ws f. absurd (false≢true (sym other ∙ is_help t is))), tt),
+                          (
+                            (λ t is other ws f.
+                                inr (
+                                  inr (inr (inr (inr (inr (inr refl))))),
+                                  no-settings get_built refl ws f,
+                                  other-name (codes "get") _ refl,
+                                )),
+                            ((λ t is other ws f. absurd (false≢true (sym other ∙ is_help t is))), tt),
+                          ),
                         ),
                       ),
                     ),
@@ -362,7 +385,8 @@ file-reads name (inr (inl is)) = ap reads_image is
 file-reads name (inr (inr (inl is))) = ap reads_image is
 file-reads name (inr (inr (inr (inl is)))) = ap reads_image is
 file-reads name (inr (inr (inr (inr (inl is))))) = ap reads_image is
-file-reads name (inr (inr (inr (inr (inr is))))) = ap reads_image is
+file-reads name (inr (inr (inr (inr (inr (inl is)))))) = ap reads_image is
+file-reads name (inr (inr (inr (inr (inr (inr is)))))) = ap reads_image is
 
 image-reads : (name : Text) → IsImageCommand name → reads_image name ≡ true
 image-reads name (inl is) = ap reads_image is
@@ -392,10 +416,15 @@ pub entered-drive : (name : Text) (rows : List Row) → IsEntered name rows → 
 entered-drive name rows (inl h) is = h.2 is
 entered-drive name rows (inr h) is = absurd (apart name (inr (inr (inr (inl is)))) h.0)
 
--- the rows of `build` give the version of the image, one of the two
-pub entered-image : (name : Text) (rows : List Row) → IsEntered name rows → name ≡ codes "build" → HasImage rows
+-- the name of a subcommand that fills a file is that of one with the options of its settings
+build-file : (name : Text) → IsBuildCommand name → IsFileCommand name
+build-file name (inl is) = inr (inr (inl is))
+build-file name (inr is) = inr (inr (inr (inr (inr (inr is)))))
+
+-- the rows of `build` and `load` give the version of the image, one of the two
+pub entered-image : (name : Text) (rows : List Row) → IsEntered name rows → IsBuildCommand name → HasImage rows
 entered-image name rows (inl h) is = h.3 is
-entered-image name rows (inr h) is = absurd (apart name (inr (inr (inl is))) h.0)
+entered-image name rows (inr h) is = absurd (apart name (build-file name is) h.0)
 
 -- the same of `apply`
 pub entered-applied : (name : Text) (rows : List Row) → IsEntered name rows → name ≡ codes "apply" → HasImage rows

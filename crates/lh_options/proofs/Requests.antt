@@ -1,7 +1,8 @@
 -- From what the functions give to what a request says of the words
-use Rattle.std.proofs.Common.{◌≡◌, ◌∙◌, ◌<◌, ◌≤◌, ℕ, inl, inr, refl, sym, ap, subst, List, [], ◌∷◌, length, nat_lt}
-use Rattle.std.proofs.Common.{Option, Some, None, codes, false, true, if◌then◌else◌}
-use Rattle.std.specs.Prelude.{option_map, option_and_then}
+use Rattle.std.proofs.Common.{◌≡◌, ◌∙◌, ◌<◌, ◌≤◌, ◌⊎◌, ℕ, inl, inr, refl, sym, ap, subst, List, [], ◌∷◌, length}
+use Rattle.std.proofs.Common.{Option, Some, None, codes, false, nat_lt, true, if◌then◌else◌}
+use Rattle.std.specs.Prelude.{find, option_and_then, option_map, slice_get, unwrap_or}
+use Rattle.std.specs.Str.{bytes_eq}
 use Rattle.std.specs.Option.{option_map_or}
 use Rattle.std.proofs.lemmas.Bool.{cases_lt, false≢true, ltb-true}
 use Rattle.std.specs.List.{list_all}
@@ -27,11 +28,13 @@ use Rattle.lh_addr.specs.Config.{IsFirstOutOfRange}
 use Rattle.lh_addr.specs.declared.config.Range.{Range}
 use Rattle.lh_addr.specs.declared.config.Range.TheVariants.{Max}
 use Rattle.lh_options.specs.Options.{Accepts, Answers, AreNamed, AsksForHelp, IsRefused, IsServable, all_in_digits}
-use Rattle.lh_options.specs.Options.{asked_by, asked_for, file_named, image_begins, keys_given, number_in}
-use Rattle.lh_options.specs.Options.{numeral_value, program_app, setting_typed_in}
+use Rattle.lh_options.specs.Options.{asked_by, asked_for, chosen_format, file_named, format_named, image_begins}
+use Rattle.lh_options.specs.Options.{names_format, number_in, numeral_value, program_app, setting_typed_in}
 use Rattle.lh_options.specs.Options.{settings_from, settings_given, settings_typed, subcommand_named, text_given}
-use Rattle.lh_options.specs.Options.{typed_in, words_in, write_digits}
-use Rattle.lh_options.specs.OptionSteps.{HasNumber, IsRefusal, IsRefusedText, asked_in, settings_in}
+use Rattle.lh_options.specs.Options.{texts_given, texts_in, typed_in, write_digits, write_format}
+use Rattle.lh_options.specs.OptionSteps.{HasNumber, IsMiswritten, IsRefusal, IsRefusedText, IsWellWritten, asked_in}
+use Rattle.lh_options.specs.OptionSteps.{settings_in}
+use Rattle.lh_options.specs.declared.dump_format.DumpFormat.TheVariants.{Lines}
 use Rattle.lh_options.specs.declared.options.NamedFiles.{NamedFiles}
 use Rattle.lh_options.specs.declared.options.Request.{Request}
 use Rattle.lh_options.specs.declared.options.Request.TheVariants as request
@@ -134,13 +137,28 @@ asked-is words name rows is =
     ap (λ (o : Option (Text × List Row)). option_map_or (λ s. typed_in s.1 (codes "from_image")) o false) is in
     let typed : settings_typed words ≡ setting_typed_in rows =
     ap (λ (o : Option (Text × List Row)). option_map_or (λ s. setting_typed_in s.1) o false) is in
-    let keys : keys_given words ≡ words_in rows (codes "keys") =
-    ap (λ (o : Option (Text × List Row)). option_map_or (λ s. words_in s.1 (codes "keys")) o []) is in
+    let texts : (id : Text) → texts_given words id ≡ texts_in rows id =
+    λ id. ap (λ (o : Option (Text × List Row)). option_map_or (λ s. texts_in s.1 id) o []) is in
     λ i. option_and_then
     (λ n.
     asked_by n (settings-at words name rows is i) (λ o. option_and_then (λ s. number_in s.1 o) (is i)) (begins i)
-    (typed i) (keys i))
+    (typed i) (λ id. texts id i))
     (named i)
+
+-- the format that rows give is the one that the first text of the option names
+pub format-first : (rows : List Row) (name : Text) →
+    chosen_format (texts_in rows name) ≡ unwrap_or (option_and_then format_named (first_of name rows)) Lines
+format-first rows name = go (find (λ r. bytes_eq r.id name) rows)
+  where
+    by-values : (values : List Text) → chosen_format values ≡
+        unwrap_or (option_and_then format_named (slice_get values 0)) Lines
+    by-values [] = refl
+    by-values (v ∷ vs) = refl
+
+    go : (o : Option Row) → chosen_format (unwrap_or (option_map (λ r. r.values) o) []) ≡
+        unwrap_or (option_and_then format_named (option_and_then (λ r. slice_get r.values 0) o)) Lines
+    go None = refl
+    go (Some r) = by-values r.values
 
 -- one of some kinds, where there is none
 none-among : (k : ErrorKind) (kinds : Kinds) → IsAmong k kinds → kinds ≡ [] → ⊥
@@ -162,9 +180,10 @@ refusal-answers words e (request.Steps config) among h = absurd h
 refusal-answers words e (request.Replay config) among h = absurd h
 refusal-answers words e (request.Serve config) among h = absurd h
 refusal-answers words e (request.Build config version) among h = absurd h
+refusal-answers words e (request.Load config version) among h = absurd h
 refusal-answers words e (request.Drive config threads shards snapshots) among h = absurd h
 refusal-answers words e request.Check among h = absurd h
-refusal-answers words e request.Dump among h = absurd h
+refusal-answers words e (request.Dump format) among h = absurd h
 refusal-answers words e request.Draw among h = absurd h
 refusal-answers words e request.Migrate among h = absurd h
 refusal-answers words e request.Query among h = absurd h
@@ -210,28 +229,50 @@ write-is : (words : List Text) (name : Text) (rows : List Row) → subcommand_of
     write_digits words ≡ all_in_digits rows
 write-is words name rows is = ap (λ (o : Option (Text × List Row)). option_map_or (λ s. all_in_digits s.1) o true) is
 
+-- whether the word that they write for a format names one, by the same rows
+format-is : (words : List Text) (name : Text) (rows : List Row) → subcommand_of program_app words ≡ Some (name, rows) →
+    write_format words ≡ names_format rows
+format-is words name rows is = ap (λ (o : Option (Text × List Row)). option_map_or (λ s. names_format s.1) o true) is
+
+-- words whose rows are well written are accepted
+accepts-by : (words : List Text) (name : Text) (rows : List Row) → HasEntered words name rows → IsWellWritten rows →
+    Accepts words
+unfolding Accepts
+accepts-by words name rows entered well = (
+  entered.no_fault,
+  write-is words name rows entered.is ∙ well.0,
+  format-is words name rows entered.is ∙ well.1,
+)
+
+-- of words whose rows are not, a number has a sign, or a word names no format
+miswritten-is : (words : List Text) (name : Text) (rows : List Row) → HasEntered words name rows → IsMiswritten rows →
+    (write_digits words ≡ false) ⊎ (write_format words ≡ false)
+miswritten-is words name rows entered (inl digits) = inl (write-is words name rows entered.is ∙ digits)
+miswritten-is words name rows entered (inr format) = inr (format-is words name rows entered.is ∙ format)
+
+-- and they are not accepted
+refuses-by : (words : List Text) (name : Text) (rows : List Row) → HasEntered words name rows → IsMiswritten rows →
+    Accepts words → ⊥
+unfolding Accepts
+refuses-by words name rows entered bad a =
+    elim (miswritten-is words name rows entered bad) [
+      | inl digits ↦ false≢true (sym digits ∙ a.1)
+      | inr format ↦ false≢true (sym format ∙ a.2)
+    ]
+
 -- what accepted words ask for by the rows of their subcommand answers them
 pub asked-answers : (words : List Text) (name : Text) (rows : List Row) (r : Request) → HasEntered words name rows →
-    all_in_digits rows ≡ true
-    → asked_in name rows ≡ Some r → Answers words r
-unfolding Accepts
-asked-answers words name rows r entered digits h =
-    inl ((entered.no_fault, write-is words name rows entered.is ∙ digits), asked-is words name rows entered.is ∙ h)
+    IsWellWritten rows → asked_in name rows ≡ Some r → Answers words r
+asked-answers words name rows r entered well h =
+    inl (accepts-by words name rows entered well, asked-is words name rows entered.is ∙ h)
 
--- a number with a sign turns the words away
-pub signed-answers : (words : List Text) (name : Text) (rows : List Row) (r : Request) → HasEntered words name rows →
-    all_in_digits rows ≡ false
-    → IsRefusedText r → Answers words r
-unfolding Accepts IsRefused
-signed-answers words name rows (request.Refused text) entered digits h =
-    let signed = write-is words name rows entered.is ∙ digits in
-    inr (λ a. false≢true (sym signed ∙ a.1), (inr (entered.no_fault, signed), h))
-signed-answers words name rows _ entered digits h = absurd h
-
--- a request that refuses words runs nothing
-pub signed-servable : (r : Request) → IsRefusedText r → IsServable r
-signed-servable (request.Drive config threads shards snapshots) h = absurd h
-signed-servable _ h = tt
+-- a number with a sign, or a word that names no format, turns the words away
+pub miswritten-answers : (words : List Text) (name : Text) (rows : List Row) (r : Request) →
+    HasEntered words name rows → IsMiswritten rows → IsRefusedText r → Answers words r
+unfolding IsRefused
+miswritten-answers words name rows (request.Refused text) entered bad h =
+    inr (refuses-by words name rows entered bad, (inr (entered.no_fault, miswritten-is words name rows entered bad), h))
+miswritten-answers words name rows _ entered bad h = absurd h
 
 -- where clap turns the words away no file is named
 pub unnamed-files : (words : List Text) (e : Error) (files : NamedFiles) → HasKind (fault_of program_app words) e →
@@ -244,30 +285,26 @@ unnamed-files words e files (inr among) h = record {
   none = λ _. (h.1, h.2);
 }
 
--- nor where a number has a sign
-pub signed-files : (words : List Text) (name : Text) (rows : List Row) (files : NamedFiles) →
-    HasEntered words name rows → all_in_digits rows ≡ false → (files.input ≡ None) × (files.output ≡ None) →
+-- nor where a number has a sign, or a word names no format
+pub miswritten-files : (words : List Text) (name : Text) (rows : List Row) (files : NamedFiles) →
+    HasEntered words name rows → IsMiswritten rows → (files.input ≡ None) × (files.output ≡ None) →
     AreNamed words files
-unfolding Accepts
-signed-files words name rows files entered digits none =
-    let signed = write-is words name rows entered.is ∙ digits in
-    record {
-      input = λ a. absurd (false≢true (sym signed ∙ a.1));
-      output = λ a. absurd (false≢true (sym signed ∙ a.1));
-      none = λ _. none;
-    }
+miswritten-files words name rows files entered bad none = record {
+  input = λ a. absurd (refuses-by words name rows entered bad a);
+  output = λ a. absurd (refuses-by words name rows entered bad a);
+  none = λ _. none;
+}
 
 -- accepted words name the files that the rows of their subcommand do
 pub named-files : (words : List Text) (name : Text) (rows : List Row) (files : NamedFiles) →
-    HasEntered words name rows → all_in_digits rows ≡ true →
+    HasEntered words name rows → IsWellWritten rows →
     option_map string_bytes files.input ≡ file_named (first_of (codes "file") rows) →
     option_map string_bytes files.output ≡ file_named (first_of (codes "output") rows) → AreNamed words files
-unfolding Accepts
-named-files words name rows files entered digits input output =
+named-files words name rows files entered well input output =
     let given : (id : Text) → text_given words id ≡ first_of id rows =
     λ id. ap (λ (o : Option (Text × List Row)). option_and_then (λ s. first_of id s.1) o) entered.is in
     record {
       input = λ _. input ∙ sym (ap file_named (given (codes "file")));
       output = λ _. output ∙ sym (ap file_named (given (codes "output")));
-      none = λ no. absurd (no (entered.no_fault, write-is words name rows entered.is ∙ digits));
+      none = λ no. absurd (no (accepts-by words name rows entered well));
     }

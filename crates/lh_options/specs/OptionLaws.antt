@@ -2,9 +2,11 @@
 use Rattle.std.specs.Prelude.{◌≡◌, ℕ, Bool, true, false, List, [], ◌∷◌, Option, Some, codes, option_map}
 use Rattle.clap.specs.Walk.{Text}
 use Rattle.lh_addr.specs.Settings.{Settings}
+use Rattle.lh_options.specs.declared.dump_format.DumpFormat.{DumpFormat}
 use Rattle.lh_options.specs.declared.options.ImageVersion.{ImageVersion}
-use Rattle.lh_options.specs.Options.{Accepts, Asks, file_named, image_begins, keys_given, number_given}
-use Rattle.lh_options.specs.Options.{settings_given, settings_typed, text_given, version_numbered}
+use Rattle.lh_options.specs.declared.options.Request.TheVariants as request
+use Rattle.lh_options.specs.Options.{Accepts, Asks, asked_for, file_named, format_given, image_begins, keys_given}
+use Rattle.lh_options.specs.Options.{number_given, settings_given, settings_typed, text_given, version_numbered}
 
 abbrev pub no_options : List Text
 no_options = codes "lhash" ∷ codes "commands" ∷ []
@@ -75,6 +77,16 @@ first_image_given = codes "lhash" ∷ codes "build" ∷ codes "--image=1" ∷ []
 abbrev pub third_image : List Text
 third_image = codes "lhash" ∷ codes "build" ∷ codes "--image" ∷ codes "3" ∷ []
 
+abbrev pub load_alone : List Text
+load_alone = codes "lhash" ∷ codes "load" ∷ []
+
+abbrev pub load_given : List Text
+load_given = codes "lhash" ∷ codes "load" ∷ codes "--capacity=2" ∷ codes "--max" ∷ codes "9" ∷ codes "--image" ∷
+    codes "1" ∷ []
+
+abbrev pub load_max_below_initial : List Text
+load_max_below_initial = codes "lhash" ∷ codes "load" ∷ codes "--initial=8" ∷ codes "--max=7" ∷ []
+
 abbrev pub migrate_alone : List Text
 migrate_alone = codes "lhash" ∷ codes "migrate" ∷ []
 
@@ -104,6 +116,18 @@ check_alone = codes "lhash" ∷ codes "check" ∷ []
 
 abbrev pub dump_alone : List Text
 dump_alone = codes "lhash" ∷ codes "dump" ∷ []
+
+abbrev pub dump_as_cdb : List Text
+dump_as_cdb = codes "lhash" ∷ codes "dump" ∷ codes "--format" ∷ codes "cdb" ∷ []
+
+abbrev pub dump_as_db : List Text
+dump_as_db = codes "lhash" ∷ codes "dump" ∷ codes "--format=db" ∷ []
+
+abbrev pub dump_as_csv : List Text
+dump_as_csv = codes "lhash" ∷ codes "dump" ∷ codes "--format" ∷ codes "csv" ∷ []
+
+abbrev pub check_with_format : List Text
+check_with_format = codes "lhash" ∷ codes "check" ∷ codes "--format" ∷ codes "cdb" ∷ []
 
 abbrev pub draw_alone : List Text
 draw_alone = codes "lhash" ∷ codes "draw" ∷ []
@@ -153,6 +177,9 @@ stream_given = codes "lhash" ∷ codes "check" ∷ codes "-" ∷ []
 abbrev pub files_given : List Text
 files_given = codes "lhash" ∷ codes "apply" ∷ codes "old.lhf" ∷ codes "-o" ∷ codes "new.lhf" ∷ []
 
+abbrev pub load_files_given : List Text
+load_files_given = codes "lhash" ∷ codes "load" ∷ codes "in.cdb" ∷ codes "-o" ∷ codes "out.lhf" ∷ []
+
 abbrev pub output_given : List Text
 output_given = codes "lhash" ∷ codes "build" ∷ codes "--output=new.lhf" ∷ []
 
@@ -197,6 +224,20 @@ abbrev pub GivesBuild : List Text → Settings → ImageVersion → Type 0
 GivesBuild words s version =
     Asks words (codes "build") × (settings_given words ≡ Some s)
     × (option_map version_numbered (number_given words (codes "image")) ≡ Some version)
+
+-- the words are accepted, name `load`, and give these settings and this version of the image
+abbrev pub GivesLoad : List Text → Settings → ImageVersion → Type 0
+GivesLoad words s version =
+    Asks words (codes "load") × (settings_given words ≡ Some s)
+    × (option_map version_numbered (number_given words (codes "image")) ≡ Some version)
+
+-- the words are accepted, name `dump`, and give this format
+abbrev pub GivesDump : List Text → DumpFormat → Type 0
+GivesDump words format = Asks words (codes "dump") × (format_given words ≡ format)
+
+-- the words are accepted, and refused for a greatest number of buckets that is less than the initial one
+abbrev pub RefusesMax : List Text → Type 0
+RefusesMax words = Accepts words × (asked_for words ≡ Some request.MaxBelowInitial)
 
 -- the words are accepted, name `apply`, and give this version of the image
 abbrev pub GivesApply : List Text → ImageVersion → Type 0

@@ -11,8 +11,8 @@ use Rattle.clap.specs.declared.error.kind.ErrorKind.TheVariants as kind
 use Rattle.lh_addr.specs.Limits.{most_initial, most_capacity, least_load, most_load, most_buckets}
 use Rattle.lh_addr.specs.Settings.{Settings}
 use Rattle.lh_options.specs.Escapes.{has_no_control}
-use Rattle.lh_options.specs.Options.{IsShown, asked_by, drive_asked, most_snapshots, number_in, serve_asked}
-use Rattle.lh_options.specs.Options.{setting_typed_in, settings_from, typed_in, words_in}
+use Rattle.lh_options.specs.Options.{IsShown, all_in_digits, asked_by, drive_asked, most_snapshots, names_format}
+use Rattle.lh_options.specs.Options.{number_in, serve_asked, setting_typed_in, settings_from, texts_in, typed_in}
 use Rattle.lh_options.specs.declared.options.Request.{Request}
 use Rattle.lh_options.specs.declared.options.Request.TheVariants as request
 
@@ -51,11 +51,15 @@ settings_in rows = settings_from
     (number_in rows (codes "initial")) (number_in rows (codes "capacity"))
     (number_in rows (codes "load")) (number_in rows (codes "max"))
 
+-- the name of a subcommand that fills a file and writes it as an image
+abbrev pub IsBuildCommand : Text → Type 0
+IsBuildCommand name = (name ≡ codes "build") ⊎ (name ≡ codes "load")
+
 -- the name of a subcommand with the options of a file's settings
 abbrev pub IsFileCommand : Text → Type 0
 IsFileCommand name =
     (name ≡ codes "commands") ⊎ ((name ≡ codes "steps") ⊎ ((name ≡ codes "build") ⊎ (
-    (name ≡ codes "drive") ⊎ ((name ≡ codes "replay") ⊎ (name ≡ codes "serve")))))
+    (name ≡ codes "drive") ⊎ ((name ≡ codes "replay") ⊎ ((name ≡ codes "serve") ⊎ (name ≡ codes "load"))))))
 
 -- the name of a subcommand that reads an image, without the options of a file's settings
 abbrev pub IsImageCommand : Text → Type 0
@@ -67,7 +71,7 @@ IsImageCommand name =
 abbrev pub asked_in : Text → List Row → Option Request
 asked_in name rows =
     asked_by name (settings_in rows) (number_in rows) (typed_in rows (codes "from_image")) (setting_typed_in rows)
-    (words_in rows (codes "keys"))
+    (texts_in rows)
 
 -- what `drive` asks for by its rows, with settings in order
 abbrev pub drive_asked_in : List Row → Settings → Option Request
@@ -76,6 +80,14 @@ drive_asked_in rows s = drive_asked (number_in rows) s
 -- what `serve` asks for by its rows
 abbrev pub serve_asked_in : List Row → Option Request
 serve_asked_in rows = serve_asked (settings_in rows) (typed_in rows (codes "from_image")) (setting_typed_in rows)
+
+-- each number is written in digits alone, and the word for a format names one
+abbrev pub IsWellWritten : List Row → Type 0
+IsWellWritten rows = (all_in_digits rows ≡ true) × (names_format rows ≡ true)
+
+-- a number has a sign, or the word for a format names none
+abbrev pub IsMiswritten : List Row → Type 0
+IsMiswritten rows = (all_in_digits rows ≡ false) ⊎ (names_format rows ≡ false)
 
 -- what a request says of the kind of clap's error
 abbrev pub IsRefusal : ErrorKind → Request → Type 0

@@ -1,7 +1,8 @@
 -- The command line: the program's command, the numbers that the words give its options,
 -- and what a request says of the words
 use Rattle.std.specs.Prelude.{◌≡◌, ◌⊎◌, ◌<◌, ◌≤◌, ℕ, List, [], ◌∷◌, Option, Some, None, codes, pos, false, true, nat_lt}
-use Rattle.std.specs.Prelude.{Bool, ◌&&◌, ◌||◌, ◌==◌, find, option_map, option_and_then, unwrap_or, if◌then◌else◌}
+use Rattle.std.specs.Prelude.{Bool, ◌&&◌, ◌||◌, ◌==◌, find, is_some, option_map, option_and_then, unwrap_or}
+use Rattle.std.specs.Prelude.{if◌then◌else◌}
 use Rattle.std.specs.Char.{is_ascii_digit}
 use Rattle.std.specs.List.{list_all}
 use Rattle.std.specs.Option.{option_map_or}
@@ -22,6 +23,8 @@ use Rattle.clap.specs.declared.error.kind.ErrorKind.TheVariants as kind
 use Rattle.lh_addr.specs.Limits.{most_initial, most_capacity, least_load, most_load, most_buckets}
 use Rattle.lh_addr.specs.Settings.{Settings}
 use Rattle.lh_options.specs.Escapes.{has_no_control}
+use Rattle.lh_options.specs.declared.dump_format.DumpFormat.{DumpFormat}
+use Rattle.lh_options.specs.declared.dump_format.DumpFormat.TheVariants.{Cdb, Db, Lines}
 use Rattle.lh_options.specs.declared.options.ImageVersion.{ImageVersion}
 use Rattle.lh_options.specs.declared.options.ImageVersion.TheVariants.{First, Second}
 use Rattle.lh_options.specs.declared.options.NamedFiles.{NamedFiles}
@@ -84,15 +87,32 @@ replay_app = with_output (with_file (with_settings (new_app (codes "replay"))))
 abbrev pub with_image : App → App
 with_image app = with_rule app (option_rule (codes "image") (codes "2") 1 2)
 
+-- a subcommand that fills a file and writes it as an image
+abbrev pub building_app : Text → App
+building_app name = with_image (with_output (with_file (with_settings (new_app name))))
+
+-- the one that fills it by a script
 abbrev pub build_app : App
-build_app = with_image (with_output (with_file (with_settings (new_app (codes "build")))))
+build_app = building_app (codes "build")
+
+-- and the one that fills it with the records of another store
+abbrev pub load_app : App
+load_app = building_app (codes "load")
 
 -- the subcommands that read an image have no settings
 abbrev pub check_app : App
 check_app = with_file (new_app (codes "check"))
 
+-- the option that names the format of the records
+abbrev pub format_rule : Rule
+format_rule = record (new_rule (codes "format")) {
+  long = Some (codes "format");
+  value_names = 1;
+  defaults = codes "lines" ∷ [];
+}
+
 abbrev pub dump_app : App
-dump_app = with_file (new_app (codes "dump"))
+dump_app = with_rule (with_file (new_app (codes "dump"))) format_rule
 
 abbrev pub draw_app : App
 draw_app = with_output (with_file (new_app (codes "draw")))
@@ -167,7 +187,8 @@ abbrev pub program_app : App
 program_app =
     with_subcommand (with_subcommand
     (with_subcommand (with_subcommand (with_subcommand (with_subcommand (with_subcommand (with_subcommand (
-    with_subcommand scripts_app check_app.top) dump_app.top) drive_app.top) draw_app.top) migrate_app.top)
+    with_subcommand (with_subcommand scripts_app
+    load_app.top) check_app.top) dump_app.top) drive_app.top) draw_app.top) migrate_app.top)
     query_app.top)
     apply_app.top) serve_app.top) get_app.top
 
@@ -199,6 +220,23 @@ all_in_digits rows =
     in_digits rows (codes "max") && (in_digits rows (codes "threads") && (in_digits rows (codes "shards") && (
     in_digits rows (codes "snapshots") && in_digits rows (codes "image")))))))
 
+-- the format of records that a word names, where it names one
+abbrev pub format_named : Text → Option DumpFormat
+format_named word =
+    if bytes_eq word (codes "lines") then Some Lines
+    else if bytes_eq word (codes "cdb") then Some Cdb
+    else if bytes_eq word (codes "db") then Some Db
+    else None
+
+-- whether the word that rows give for a format, where they give one, names one
+abbrev pub names_format : List Row → Bool
+names_format rows = option_map_or (λ word. is_some (format_named word)) (first_of (codes "format") rows) true
+
+-- the format that the first of some words names, and lines where it names none
+abbrev pub chosen_format : List Text → DumpFormat
+chosen_format [] = Lines
+chosen_format (word ∷ rest) = unwrap_or (format_named word) Lines
+
 -- whether a value comes from the words, and not from a default
 abbrev pub is_from_words : Option ValueSource → Bool
 is_from_words (Some CommandLine) = true
@@ -218,9 +256,13 @@ setting_typed_in rows =
 abbrev pub write_digits : List Text → Bool
 write_digits words = option_map_or (λ s. all_in_digits s.1) (subcommand_of program_app words) true
 
--- clap finds no fault in the words, and each number is written in digits alone
+-- whether the word that the words give for a format, where they give one, names one
+abbrev pub write_format : List Text → Bool
+write_format words = option_map_or (λ s. names_format s.1) (subcommand_of program_app words) true
+
+-- clap finds no fault in the words, each number is written in digits alone, and the word for a format names one
 unfoldable pub Accepts : List Text → Type 0
-Accepts words = (fault_of program_app words ≡ []) × (write_digits words ≡ true)
+Accepts words = (fault_of program_app words ≡ []) × (write_digits words ≡ true) × (write_format words ≡ true)
 
 -- the subcommand that the words name
 unfoldable pub subcommand_named : List Text → Option Text
@@ -240,13 +282,21 @@ settings_given words = settings_from
 abbrev pub text_given : List Text → Text → Option Text
 text_given words name = option_and_then (λ s. first_of name s.1) (subcommand_of program_app words)
 
--- the words that rows give an operand which takes several
-abbrev pub words_in : List Row → Text → List Text
-words_in rows name = unwrap_or (all_of name rows) []
+-- the texts that rows give an option or an operand, in their order
+abbrev pub texts_in : List Row → Text → List Text
+texts_in rows name = unwrap_or (all_of name rows) []
+
+-- the texts that the words give an option or an operand
+abbrev pub texts_given : List Text → Text → List Text
+texts_given words name = option_map_or (λ s. texts_in s.1 name) (subcommand_of program_app words) []
 
 -- the words of the keys that the words give `get`
 abbrev pub keys_given : List Text → List Text
-keys_given words = option_map_or (λ s. words_in s.1 (codes "keys")) (subcommand_of program_app words) []
+keys_given words = texts_given words (codes "keys")
+
+-- the format that the words give `dump`
+abbrev pub format_given : List Text → DumpFormat
+format_given words = chosen_format (texts_given words (codes "format"))
 
 -- the file that a text names: `-` is a stream of the process, and names none
 abbrev pub file_named : Option Text → Option Text
@@ -285,11 +335,11 @@ unfoldable pub AsksForHelp : List Text → Type 0
 AsksForHelp words = (k : ErrorKind) × IsAmong k (fault_of program_app words) × IsShown k
 
 -- clap finds a fault in the words, other than a call for help or for the version; or it finds none, and a number has a
--- sign
+-- sign, or the word for a format names none
 unfoldable pub IsRefused : List Text → Type 0
 IsRefused words =
     ((k : ErrorKind) × IsAmong k (fault_of program_app words) × (IsShown k → ⊥))
-    ⊎ ((fault_of program_app words ≡ []) × (write_digits words ≡ false))
+    ⊎ ((fault_of program_app words ≡ []) × ((write_digits words ≡ false) ⊎ (write_format words ≡ false)))
 
 -- what is asked for with settings, which are refused where `--max` is less than `--initial`
 abbrev pub in_order : Option Settings → (Settings → Option Request) → Option Request
@@ -332,22 +382,27 @@ serve_asked settings image typed =
     else in_order settings (λ s. Some (request.Serve s))
 
 -- what a subcommand asks for, with the settings and the numbers of other options that the words give, whether they say
--- that the input begins with an image, whether they give one of the settings, and which words of keys they give
-unfoldable pub asked_by : Text → Option Settings → (Text → Option ℕ) → Bool → Bool → List Text → Option Request
-asked_by name settings numbers image typed keys =
+-- that the input begins with an image, whether they give one of the settings, and which texts they give other options
+-- and operands
+unfoldable pub asked_by : Text → Option Settings → (Text → Option ℕ) → Bool → Bool → (Text → List Text) →
+    Option Request
+asked_by name settings numbers image typed texts =
     if bytes_eq name (codes "commands") then in_order settings (λ s. Some (request.Commands s))
     else if bytes_eq name (codes "steps") then in_order settings (λ s. Some (request.Steps s))
     else if bytes_eq name (codes "replay") then in_order settings (λ s. Some (request.Replay s))
     else if bytes_eq name (codes "build")
     then in_order settings (λ s. option_map (λ n. request.Build s (version_numbered n)) (numbers (codes "image")))
+    else if bytes_eq name (codes "load")
+    then in_order settings (λ s. option_map (λ n. request.Load s (version_numbered n)) (numbers (codes "image")))
     else if bytes_eq name (codes "drive") then in_order settings (drive_asked numbers)
     else if bytes_eq name (codes "check") then asked_without_settings settings request.Check
-    else if bytes_eq name (codes "dump") then asked_without_settings settings request.Dump
+    else if bytes_eq name (codes "dump")
+    then asked_without_settings settings (request.Dump (chosen_format (texts (codes "format"))))
     else if bytes_eq name (codes "draw") then asked_without_settings settings request.Draw
     else if bytes_eq name (codes "migrate") then asked_without_settings settings request.Migrate
     else if bytes_eq name (codes "query") then asked_without_settings settings request.Query
     else if bytes_eq name (codes "apply") then apply_asked settings (numbers (codes "image"))
-    else if bytes_eq name (codes "get") then asked_without_settings settings (request.Get keys)
+    else if bytes_eq name (codes "get") then asked_without_settings settings (request.Get (texts (codes "keys")))
     else if bytes_eq name (codes "serve") then serve_asked settings image typed
     else None
 
@@ -357,7 +412,7 @@ asked_for words =
     option_and_then
     (λ name.
     asked_by name (settings_given words) (number_given words) (image_begins words) (settings_typed words)
-    (keys_given words))
+    (texts_given words))
     (subcommand_named words)
 
 -- why words that are not accepted are turned away: they ask for a text that is shown, or are refused, for a reason in

@@ -11,6 +11,9 @@ pub struct Help {
 /// The operand of a subcommand that reads a script.
 const SCRIPT: &str = "Script to read in place of standard input, which is -";
 
+/// The operand of the subcommand that reads the records of another store.
+const RECORDS: &str = "Records to read in place of standard input, which is -";
+
 /// The operand of a subcommand that reads an image.
 const IMAGE: &str = "Image to read in place of standard input, which is -";
 
@@ -67,6 +70,24 @@ pub const BUILD: Help = Help {
     example: "Example: lhash build --capacity 2 script.txt -o file.lhf",
 };
 
+pub const LOAD: Help = Help {
+    about: "Read records from another store's dump, cdb or db, and write them as an image",
+    file: RECORDS,
+    example: "A dump of cdb, in which lengths lead each key and its value, and which an empty line ends:
+  +3,4:ada->0172
+
+A dump of db, as db_dump and mdb_dump write it, here with keys and values in hexadecimal:
+  VERSION=3
+  format=bytevalue
+  type=hash
+  HEADER=END
+   616461
+   30313732
+  DATA=END
+
+Example: lhash load users.dump -o users.lhf",
+};
+
 pub const MIGRATE: Help = Help {
     about: "Read an image of either version, and write the same file as an image of version 2",
     file: IMAGE,
@@ -82,7 +103,7 @@ pub const CHECK: Help = Help {
 pub const DUMP: Help = Help {
     about: "Read an image, and write its records",
     file: IMAGE,
-    example: "Example: lhash dump file.lhf",
+    example: "Example: lhash dump users.lhf --format cdb | cdb -c users.cdb",
 };
 
 pub const DRAW: Help = Help {

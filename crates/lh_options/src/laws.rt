@@ -5,8 +5,10 @@ ghost use Rattle.lh_options.specs.OptionLaws.{
   GivesBuild,
   GivesCommands,
   GivesDrive,
+  GivesDump,
   GivesFiles,
   GivesGet,
+  GivesLoad,
   GivesReplay,
   GivesServe,
   GivesServeImage,
@@ -15,6 +17,7 @@ ghost use Rattle.lh_options.specs.OptionLaws.{
   apply_with_setting,
   build_given,
   check_alone,
+  check_with_format,
   check_with_option,
   check_with_output,
   commands_with_image,
@@ -22,6 +25,9 @@ ghost use Rattle.lh_options.specs.OptionLaws.{
   drive_given,
   draw_alone,
   dump_alone,
+  dump_as_cdb,
+  dump_as_csv,
+  dump_as_db,
   file_given,
   files_given,
   first_image_applied,
@@ -36,6 +42,10 @@ ghost use Rattle.lh_options.specs.OptionLaws.{
   initial_twice,
   image_with_plus,
   initial_zero,
+  load_alone,
+  load_files_given,
+  load_given,
+  load_max_below_initial,
   max_below_initial,
   max_beside_image,
   max_given,
@@ -49,6 +59,7 @@ ghost use Rattle.lh_options.specs.OptionLaws.{
   query_alone,
   replay_given,
   Refuses,
+  RefusesMax,
   serve_given,
   shards_given,
   shards_over_limit,
@@ -67,13 +78,15 @@ ghost use Rattle.lh_options.specs.OptionLaws.{
   unknown_option,
 };
 ghost use Rattle.lh_options.specs.Options.{Asks, AsksForHelp};
+ghost use Rattle.lh_options.specs.declared.dump_format.DumpFormat.TheVariants.{Cdb, Db, Lines};
 ghost use Rattle.lh_options.specs.declared.options.ImageVersion.TheVariants.{First, Second};
 
 /// The words give the options the numbers that stand in them, and an option that is left out its
 /// default. A number out of its range or with a sign, an option given twice and an unknown one are refused, and so is
-/// each setting of a subcommand that reads an image. `serve` says whether its input begins with an image, and whether a
-/// setting stands beside that. `get` has a file and the words of keys, of which there is one at least. A file is named
-/// by an operand or by `-o`; `-` names none, and there is no second one.
+/// each setting of a subcommand that reads an image. `load` has the options of `build`. `dump` has one format of three,
+/// which is lines where it is left out. `serve` says whether its input begins with an image, and whether a setting
+/// stands beside that. `get` has a file and the words of keys, of which there is one at least. A file is named by an
+/// operand or by `-o`; `-` names none, and there is no second one.
 pub fn words_give_options()
     ensures left_out { GivesCommands no_options (record { initial = 1; capacity = 14; load = 100; max = 65536 }) }
     ensures given { GivesCommands max_given (record { initial = 3; capacity = 14; load = 100; max = 7 }) }
@@ -83,6 +96,9 @@ pub fn words_give_options()
     ensures build { GivesBuild build_given (record { initial = 1; capacity = 14; load = 100; max = 1 }) Second }
     ensures first { GivesBuild first_image_given
         (record { initial = 1; capacity = 14; load = 100; max = 65536 }) First }
+    ensures load { GivesLoad load_alone (record { initial = 1; capacity = 14; load = 100; max = 65536 }) Second }
+    ensures load_settings { GivesLoad load_given (record { initial = 1; capacity = 2; load = 100; max = 9 }) First }
+    ensures load_below { RefusesMax load_max_below_initial }
     ensures migrate { Asks migrate_alone (codes "migrate") }
     ensures drive { GivesDrive drive_given (record { initial = 3; capacity = 14; load = 100; max = 65536 }) 64 1 0 }
     ensures drive_left_out { GivesDrive drive_alone
@@ -94,7 +110,11 @@ pub fn words_give_options()
     ensures of_shards { GivesDrive snapshots_of_two_shards
         (record { initial = 1; capacity = 14; load = 100; max = 65536 }) 4 2 1 }
     ensures check { Asks check_alone (codes "check") }
-    ensures dump { Asks dump_alone (codes "dump") }
+    ensures dump { GivesDump dump_alone Lines }
+    ensures dump_cdb { GivesDump dump_as_cdb Cdb }
+    ensures dump_db { GivesDump dump_as_db Db }
+    ensures no_csv { Refuses dump_as_csv }
+    ensures no_format { Refuses check_with_format }
     ensures draw { Asks draw_alone (codes "draw") }
     ensures query { Asks query_alone (codes "query") }
     ensures apply { GivesApply apply_alone Second }
@@ -127,6 +147,7 @@ pub fn words_give_options()
     ensures file { GivesFiles file_given (Some (codes "users.lhf")) None }
     ensures stream { GivesFiles stream_given None None }
     ensures files { GivesFiles files_given (Some (codes "old.lhf")) (Some (codes "new.lhf")) }
+    ensures load_files { GivesFiles load_files_given (Some (codes "in.cdb")) (Some (codes "out.lhf")) }
     ensures output { GivesFiles output_given None (Some (codes "new.lhf")) }
     ensures image_file { GivesFiles image_file_served (Some (codes "users.lhf")) None }
     ensures image_and_file { GivesServeImage image_file_served false }

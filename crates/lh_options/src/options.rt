@@ -8,18 +8,21 @@ ghost use Rattle.lh_addr.specs.Settings.{IsInRange};
 ghost use Rattle.clap.specs.Words.{first_of, found_of, kind_of, new_app, rows_of, rule_of};
 ghost use Rattle.lh_options.specs.Escapes.{has_no_control};
 ghost use Rattle.lh_options.specs.Options.{AreNamed, Answers, IsMaxBelowInitial, IsServable, all_in_digits, in_digits, number_in};
-ghost use Rattle.lh_options.specs.Options.{apply_app, build_app, drive_app, file_named, file_rule, flag_rule, get_app};
-ghost use Rattle.lh_options.specs.Options.{keys_rule, needed_file_rule, option_rule, output_rule, program_app};
-ghost use Rattle.lh_options.specs.Options.{root_app, scripts_app, serve_app, setting_typed_in, typed_in};
-ghost use Rattle.lh_options.specs.Options.{version_numbered, with_file, with_output, with_settings, words_in};
-ghost use Rattle.lh_options.specs.OptionSteps.{HasNumber, HasSettings, HasDriveNumbers, HasImage, IsFileCommand};
-ghost use Rattle.lh_options.specs.OptionSteps.{IsImageCommand, IsRefusal, IsRefusedText, Reads, asked_in};
-ghost use Rattle.lh_options.specs.OptionSteps.{drive_asked_in, serve_asked_in, settings_in};
+ghost use Rattle.lh_options.specs.Options.{apply_app, building_app, chosen_format, drive_app, dump_app, file_named};
+ghost use Rattle.lh_options.specs.Options.{file_rule, flag_rule, format_rule, get_app, keys_rule};
+ghost use Rattle.lh_options.specs.Options.{names_format, needed_file_rule, option_rule, output_rule, program_app};
+ghost use Rattle.lh_options.specs.Options.{root_app, scripts_app, serve_app, setting_typed_in, texts_in, typed_in};
+ghost use Rattle.lh_options.specs.Options.{version_numbered, with_file, with_output, with_settings};
+ghost use Rattle.lh_options.specs.OptionSteps.{HasNumber, HasSettings, HasDriveNumbers, HasImage, IsBuildCommand};
+ghost use Rattle.lh_options.specs.OptionSteps.{IsFileCommand, IsImageCommand, IsMiswritten, IsRefusal};
+ghost use Rattle.lh_options.specs.OptionSteps.{IsRefusedText, IsWellWritten, Reads, asked_in, drive_asked_in};
+ghost use Rattle.lh_options.specs.OptionSteps.{serve_asked_in, settings_in};
 
+use crate::dump_format::DumpFormat;
 use crate::escapes::escaped;
 use crate::help::{
-    APPLY, BUILD, CHECK, COMMANDS, DRAW, DRIVE, DUMP, GET, Help, MIGRATE, QUERY, REPLAY, SERVE,
-    STEPS,
+    APPLY, BUILD, CHECK, COMMANDS, DRAW, DRIVE, DUMP, GET, Help, LOAD, MIGRATE, QUERY, REPLAY,
+    SERVE, STEPS,
 };
 use crate::key_words::KeyWords;
 use clap::error::ErrorKind;
@@ -94,10 +97,12 @@ pub enum Request {
     Replay(Config),
     /// The subcommand `build`, with the configuration and the version of the image that its options give.
     Build(Config, ImageVersion),
+    /// The subcommand `load`, with the configuration and the version of the image that its options give.
+    Load(Config, ImageVersion),
     /// The subcommand `check`.
     Check,
-    /// The subcommand `dump`.
-    Dump,
+    /// The subcommand `dump`, with the format that its option names.
+    Dump(DumpFormat),
     /// The subcommand `draw`.
     Draw,
     /// The subcommand `migrate`.
@@ -316,11 +321,30 @@ fn image_option<'a>(alloc: Global) -> Arg<'a>
     )
 }
 
-/// The subcommand that writes an image: a file's options, and one for the version of the image.
-fn build_command<'a>(alloc: Global) -> Result<Command<'a>, AllocError>
-    ensures { IfOk result (Reads build_app) }
+/// A subcommand that fills a file and writes it as an image: a file's options, and one for the version of the image.
+fn building_command<'a>(alloc: Global, name: &'a str, help: Help) -> Result<Command<'a>, AllocError>
+    ensures { IfOk result (Reads (building_app name.now)) }
 {
-    writing_command(alloc, "build", BUILD)?.arg(image_option(alloc))
+    writing_command(alloc, name, help)?.arg(image_option(alloc))
+}
+
+/// The option that names the format of the records.
+fn format_option<'a>(alloc: Global) -> Arg<'a>
+    ensures local { result.global ≡ false }
+    ensures rule { rule_of result ≡ format_rule }
+{
+    Arg::new(alloc, "format")
+        .long("format")
+        .help("Form of the records: lines, cdb or db")
+        .value_name("FORMAT")
+        .default_value("lines")
+}
+
+/// The subcommand that writes the records of an image: an option for their format.
+fn dump_command<'a>(alloc: Global) -> Result<Command<'a>, AllocError>
+    ensures { IfOk result (Reads dump_app) }
+{
+    image_command(alloc, "dump", DUMP)?.arg(format_option(alloc))
 }
 
 /// The subcommand that reads an image and writes the one that a script leaves: an option for its version.
@@ -370,15 +394,16 @@ fn with_scripts<'a>(alloc: Global) -> Result<Command<'a>, AllocError>
         .subcommand(file_command(alloc, "commands", COMMANDS)?)?
         .subcommand(file_command(alloc, "steps", STEPS)?)?
         .subcommand(writing_command(alloc, "replay", REPLAY)?)?
-        .subcommand(build_command(alloc)?)
+        .subcommand(building_command(alloc, "build", BUILD)?)
 }
 
 fn program<'a>(alloc: Global) -> Result<Command<'a>, AllocError>
     ensures { IfOk result (Reads program_app) }
 {
     with_scripts(alloc)?
+        .subcommand(building_command(alloc, "load", LOAD)?)?
         .subcommand(image_command(alloc, "check", CHECK)?)?
-        .subcommand(image_command(alloc, "dump", DUMP)?)?
+        .subcommand(dump_command(alloc)?)?
         .subcommand(drive_command(alloc)?)?
         .subcommand(changing_command(alloc, "draw", DRAW)?)?
         .subcommand(changing_command(alloc, "migrate", MIGRATE)?)?
@@ -430,11 +455,48 @@ fn are_in_digits(matches: &ArgMatches<'_>) -> bool
         && is_in_digits(matches, "image")
 }
 
-/// What is asked for by words that give a number with a sign: they are refused.
-fn signed(alloc: Global) -> Result<Request, AllocError>
+/// The format of the records that the word of the option names; clap takes any word there, and one that names no format
+/// is refused.
+fn format_in(matches: &ArgMatches<'_>) -> DumpFormat
+    ensures { result ≡ chosen_format (texts_in (rows_of (found_of matches.now)) (codes "format")) }
+{
+    match matches.get_str("format") {
+        Some(word) => DumpFormat::named(word).unwrap_or(DumpFormat::Lines),
+        None => DumpFormat::Lines,
+    }
+}
+
+/// Whether the word of the option, where it has one, names a format.
+fn is_format_named(matches: &ArgMatches<'_>) -> bool
+    ensures { result ≡ names_format (rows_of (found_of matches.now)) }
+{
+    match matches.get_str("format") {
+        Some(word) => DumpFormat::named(word).is_some(),
+        None => true,
+    }
+}
+
+/// Why words in which clap finds no fault are refused, where they are.
+fn objection_to(matches: &ArgMatches<'_>) -> Option<&'static str>
+    ensures some { IfSome result (λ reason.
+        (has_no_control reason.now ≡ true) × IsMiswritten (rows_of (found_of matches.now))) }
+    ensures none { IfNone result (IsWellWritten (rows_of (found_of matches.now))) }
+{
+    if !are_in_digits(matches) {
+        Some("numbers have no sign")
+    } else if !is_format_named(matches) {
+        Some("--format is lines, cdb or db")
+    } else {
+        None
+    }
+}
+
+/// What is asked for by words that are refused for a reason of this program's own.
+fn refused(alloc: Global, reason: &str) -> Result<Request, AllocError>
+    requires { has_no_control reason.now ≡ true }
     ensures { IfOk result IsRefusedText }
 {
-    Ok(Request::Refused(String::from_str(alloc, "numbers have no sign")?))
+    Ok(Request::Refused(String::from_str(alloc, reason)?))
 }
 
 /// The configuration that the options give, or `None` where `--max` is less than `--initial`.
@@ -513,7 +575,7 @@ fn file_asked(name: &str, matches: &ArgMatches<'_>) -> Request
     requires named { IsFileCommand name.now }
     requires settings { HasSettings (rows_of (found_of matches.now)) }
     requires drive { name.now ≡ codes "drive" → HasDriveNumbers (rows_of (found_of matches.now)) }
-    requires image { name.now ≡ codes "build" → HasImage (rows_of (found_of matches.now)) }
+    requires image { IsBuildCommand name.now → HasImage (rows_of (found_of matches.now)) }
     requires serve { name.now ≡ codes "serve" → typed_in (rows_of (found_of matches.now)) (codes "from_image") ≡ false }
     ensures value { asked_in name.now (rows_of (found_of matches.now)) ≡ Some result }
     ensures servable { IsServable result }
@@ -525,6 +587,7 @@ fn file_asked(name: &str, matches: &ArgMatches<'_>) -> Request
         "commands" => Request::Commands(config),
         "steps" => Request::Steps(config),
         "build" => Request::Build(config, version_in(matches)),
+        "load" => Request::Load(config, version_in(matches)),
         "drive" => drive_asked(config, matches),
         "replay" => Request::Replay(config),
         "serve" => Request::Serve(config),
@@ -549,7 +612,7 @@ fn serve_asked(matches: &ArgMatches<'_>) -> Request
 
 /// The words of the keys that `get` has.
 fn keys_in(alloc: Global, matches: &ArgMatches<'_>) -> Result<KeyWords, AllocError>
-    ensures { IfOk result (λ keys. keys ≡ words_in (rows_of (found_of matches.now)) (codes "keys")) }
+    ensures { IfOk result (λ keys. keys ≡ texts_in (rows_of (found_of matches.now)) (codes "keys")) }
 {
     match matches.get_strs("keys") {
         Some(words) => KeyWords::of(alloc, words),
@@ -562,7 +625,7 @@ fn asked(alloc: Global, name: &str, matches: &ArgMatches<'_>) -> Result<Request,
     requires named { IsFileCommand name.now ⊎ IsImageCommand name.now }
     requires settings { IsFileCommand name.now → HasSettings (rows_of (found_of matches.now)) }
     requires drive { name.now ≡ codes "drive" → HasDriveNumbers (rows_of (found_of matches.now)) }
-    requires image { name.now ≡ codes "build" → HasImage (rows_of (found_of matches.now)) }
+    requires image { IsBuildCommand name.now → HasImage (rows_of (found_of matches.now)) }
     requires applied { name.now ≡ codes "apply" → HasImage (rows_of (found_of matches.now)) }
     requires none { IsImageCommand name.now → settings_in (rows_of (found_of matches.now)) ≡ None }
     ensures value { IfOk result (λ request. asked_in name.now (rows_of (found_of matches.now)) ≡ Some request) }
@@ -570,7 +633,7 @@ fn asked(alloc: Global, name: &str, matches: &ArgMatches<'_>) -> Result<Request,
 {
     match name {
         "check" => Ok(Request::Check),
-        "dump" => Ok(Request::Dump),
+        "dump" => Ok(Request::Dump(format_in(matches))),
         "draw" => Ok(Request::Draw),
         "migrate" => Ok(Request::Migrate),
         "query" => Ok(Request::Query),
@@ -682,7 +745,7 @@ pub fn files_of<'a>(alloc: Global, words: &'a [&'a str]) -> Result<NamedFiles, A
         Err(error) => unnamed(&error),
         Ok(matches) => match matches.subcommand() {
             Some((_, matches)) => {
-                if !are_in_digits(matches) {
+                if objection_to(matches).is_some() {
                     return Ok(NamedFiles::none());
                 }
                 Ok(NamedFiles {
@@ -703,11 +766,9 @@ pub fn request_of<'a>(alloc: Global, words: &'a [&'a str]) -> Result<Request, Al
     match program(alloc)?.try_get_matches_from(words) {
         Err(error) => refusal(alloc, &error),
         Ok(matches) => match matches.subcommand() {
-            Some((name, matches)) => {
-                if !are_in_digits(matches) {
-                    return signed(alloc);
-                }
-                asked(alloc, name, matches)
+            Some((name, matches)) => match objection_to(matches) {
+                Some(reason) => refused(alloc, reason),
+                None => asked(alloc, name, matches),
             },
             None => unreachable!(),
         },

@@ -29,7 +29,7 @@ use Rattle.lh_subcommands.specs.Run.{ReadsScript}
 use Rattle.lh_script.specs.Scripts.{script}
 use Rattle.lh_script.specs.declared.fault.ScriptFault.{ScriptFault}
 use Rattle.lh_subcommands.specs.declared.status.DeviceFault.TheVariants.{Read, Write}
-use Rattle.lh_subcommands.specs.declared.status.InputFault.TheVariants.{Script, Image, Unwritten}
+use Rattle.lh_subcommands.specs.declared.status.InputFault.TheVariants.{Script, Image, Load, Unwritten}
 use Rattle.lh_subcommands.specs.declared.status.Status.{Status}
 use Rattle.lh_subcommands.specs.declared.status.Status.TheVariants.{Done, Input, Words, Device, KeyAbsent, Memory}
 use Rattle.lh_subcommands.specs.declared.status.Status.TheVariants.{NotSettled}
@@ -68,6 +68,7 @@ unmade LeadsTo version Done given a h = absurd h
 unmade LeadsTo version (Input (Script fault)) given a h = (h, Keeps-refl a)
 unmade LeadsTo version (Input (Image fault)) given a h = absurd h
 unmade LeadsTo version (Input (Unwritten fault)) given a h = absurd h
+unmade LeadsTo version (Input (Load fault)) given a h = absurd h
 unmade LeadsTo version (Words text) given a h = absurd h
 unmade LeadsTo version (Device Read) given a h = Keeps-refl a
 unmade LeadsTo version (Device Write) given a h = absurd h

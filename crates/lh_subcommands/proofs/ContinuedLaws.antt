@@ -26,7 +26,7 @@ use Rattle.lh_subcommands.specs.Devices.{TakesBeginning}
 use Rattle.lh_subcommands.specs.Images.{EndsInImage, migrate_due, text_or_fault}
 use Rattle.lh_subcommands.specs.Run.{Ends}
 use Rattle.lh_subcommands.specs.declared.status.DeviceFault.TheVariants.{Read, Write}
-use Rattle.lh_subcommands.specs.declared.status.InputFault.TheVariants.{Script, Image, Unwritten}
+use Rattle.lh_subcommands.specs.declared.status.InputFault.TheVariants.{Script, Image, Load, Unwritten}
 use Rattle.lh_subcommands.specs.declared.status.Status.{Status}
 use Rattle.lh_subcommands.specs.declared.status.Status.TheVariants.{Done, Input, Words, Device, KeyAbsent, Memory}
 use Rattle.lh_subcommands.specs.declared.status.Status.TheVariants.{NotSettled}
@@ -95,6 +95,7 @@ without_calls census image l h due (Input (Unwritten fault)) given before now no
     let same = refused.led.unchanged (same_calls given calls none is) in
     absurd (never_refused census image l h fault
     (subst (λ (x : Lists). IsWriteRefusal Two x fault) same refused.refused))
+without_calls census image l h due (Input (Load fault)) given before now none ends = absurd ends
 without_calls census image l h due (Words text) given before now none ends = absurd ends
 without_calls census image l h due (Device Read) given before now none ends = ends
 without_calls census image l h due (Device Write) given before now none (calls, output, is, made, took) =

@@ -20,7 +20,7 @@ use Rattle.lh_subcommands.specs.declared.continued.Continued.{Continued}
 use Rattle.lh_subcommands.specs.Images.{refused_as}
 use Rattle.lh_subcommands.specs.Run.{Ends, ReadsScript}
 use Rattle.lh_subcommands.specs.declared.status.DeviceFault.TheVariants.{Read, Write}
-use Rattle.lh_subcommands.specs.declared.status.InputFault.TheVariants.{Script, Image, Unwritten}
+use Rattle.lh_subcommands.specs.declared.status.InputFault.TheVariants.{Script, Image, Load, Unwritten}
 use Rattle.lh_subcommands.specs.declared.status.Status.{Status}
 use Rattle.lh_subcommands.specs.declared.status.Status.TheVariants.{Done, Input, Words, Device, KeyAbsent, Memory}
 use Rattle.lh_subcommands.specs.declared.status.Status.TheVariants.{NotSettled}
@@ -46,6 +46,7 @@ no_script Done l file given is h = absurd h
 no_script (Input (Script fault)) l file given is h = (l, is, h)
 no_script (Input (Image fault)) l file given is h = absurd h
 no_script (Input (Unwritten fault)) l file given is h = absurd h
+no_script (Input (Load fault)) l file given is h = absurd h
 no_script (Words text) l file given is h = absurd h
 no_script (Device Read) l file given is h = tt
 no_script (Device Write) l file given is h = absurd h

@@ -23,7 +23,7 @@ use Rattle.lh_script.specs.Steps.{step}
 use Rattle.lh_script.specs.declared.fault.ScriptFault.{ScriptFault}
 use Rattle.lh_subcommands.specs.declared.status.DeviceFault.TheVariants.{Read, Write}
 use Rattle.lh_subcommands.specs.declared.status.InputFault.{InputFault}
-use Rattle.lh_subcommands.specs.declared.status.InputFault.TheVariants.{Script, Image, Unwritten}
+use Rattle.lh_subcommands.specs.declared.status.InputFault.TheVariants.{Script, Image, Load, Unwritten}
 use Rattle.lh_subcommands.specs.declared.status.Status.{Status}
 use Rattle.lh_subcommands.specs.declared.status.Status.TheVariants.{Done, Input, Words, Device, KeyAbsent, Memory}
 use Rattle.lh_subcommands.specs.declared.status.Status.TheVariants.{NotSettled}
@@ -37,6 +37,7 @@ unread Done given output a h = absurd h
 unread (Input (Script fault)) given output a h = (ap (due output) h, Keeps-refl a)
 unread (Input (Image fault)) given output a h = absurd h
 unread (Input (Unwritten fault)) given output a h = absurd h
+unread (Input (Load fault)) given output a h = absurd h
 unread (Words text) given output a h = absurd h
 unread (Device Read) given output a h = Keeps-refl a
 unread (Device Write) given output a h = absurd h
@@ -72,6 +73,7 @@ untold IsOutput Done given a h = absurd h
 untold IsOutput (Input (Script fault)) given a h = (h, Keeps-refl a)
 untold IsOutput (Input (Image fault)) given a h = absurd h
 untold IsOutput (Input (Unwritten fault)) given a h = absurd h
+untold IsOutput (Input (Load fault)) given a h = absurd h
 untold IsOutput (Words text) given a h = absurd h
 untold IsOutput (Device Read) given a h = Keeps-refl a
 untold IsOutput (Device Write) given a h = absurd h

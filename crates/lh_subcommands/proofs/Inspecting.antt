@@ -22,6 +22,8 @@ use Rattle.lh_image.specs.Writing.{IsNotOld, IsWritten}
 use Rattle.lh_subcommands.specs.Devices.{TakesBeginning}
 use Rattle.lh_draw.specs.Drawing.{drawing_of}
 use Rattle.lh_subcommands.specs.ImageTexts.{check_text, dump_text}
+use Rattle.lh_exchange.specs.declared.format.StreamFormat.{StreamFormat}
+use Rattle.lh_subcommands.specs.Exporting.{export_due, exported_text}
 use Rattle.lh_subcommands.specs.Images.{check_due, draw_due, dump_due, migrate_due, refused_as, text_or_fault}
 use Rattle.lh_subcommands.specs.Images.{unwritten_as}
 use Rattle.lh_subcommands.specs.Run.{Ends}
@@ -109,6 +111,39 @@ pub dump_begun : (listing : Lists) (left before now : Option (List ℕ)) → Sho
 dump_begun listing None before now shows h = tt
 dump_begun listing (Some input) before now shows h =
     (dump_text listing, records_due listing shows.0 input shows.1 shows.2, h)
+
+-- and so is the stream of its records
+stream_due : (format : StreamFormat) (listing l : Lists) (input : List ℕ) → reading_of input ≡ Ok l → listing ≡ l →
+    export_due format input ≡ Ok (exported_text format listing)
+unfolding export_due
+stream_due format listing l input e is =
+    ap (text_or_fault (exported_text format)) e ∙ ap (λ (x : Lists). Ok (exported_text format x)) (sym is)
+
+-- a run that was to export records and read no image ends without a write
+pub unexported : (format : StreamFormat) (fault : ImageFault) (status : Status) (left a : Option (List ℕ)) →
+    status ≡ refused_as fault → IfSome left (λ input. IsDueFault fault (reading_of input)) →
+    IfSome left (λ input. Ends status (export_due format input) a a)
+unfolding export_due
+unexported format fault status None a is h = tt
+unexported format fault status (Some input) a is h =
+    subst (λ (s : Status). Ends s (export_due format input) a a) (sym is)
+    (unread (exported_text format) fault (reading_of input) a h)
+
+-- a run that wrote the stream is done
+pub exported : (format : StreamFormat) (listing : Lists) (left before now : Option (List ℕ)) →
+    Shows left (λ l. listing ≡ l) → Appends before now (exported_text format listing) →
+    IfSome left (λ input. Ends Done (export_due format input) before now)
+exported format listing None before now shows h = tt
+exported format listing (Some input) before now shows h =
+    (exported_text format listing, stream_due format listing shows.0 input shows.1 shows.2, h)
+
+-- a run that wrote a beginning of the stream ends by a failed write
+pub export_begun : (format : StreamFormat) (listing : Lists) (left before now : Option (List ℕ)) →
+    Shows left (λ l. listing ≡ l) → TakesBeginning before now (exported_text format listing) →
+    IfSome left (λ input. Ends (Device Write) (export_due format input) before now)
+export_begun format listing None before now shows h = tt
+export_begun format listing (Some input) before now shows h =
+    (exported_text format listing, stream_due format listing shows.0 input shows.1 shows.2, h)
 
 -- and so is its drawing
 drawing_due : (listing l : Lists) (input : List ℕ) → reading_of input ≡ Ok l → listing ≡ l →

@@ -3,9 +3,11 @@ pub mod ContinuedLaws
 pub mod Continuing
 pub mod Devices
 pub mod Ending
+pub mod Exporting
 pub mod Getting
 pub mod Inspecting
 pub mod LineLengths
+pub mod Loading
 pub mod RecordLines
 pub mod ReplyLines
 pub mod SameReplies

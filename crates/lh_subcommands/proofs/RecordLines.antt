@@ -5,7 +5,7 @@ use Rattle.std.specs.Prelude.{slice_get}
 use Rattle.std.specs.List.{range_with_len}
 use Rattle.std.proofs.lemmas.List.{take_all}
 use Rattle.std.proofs.lemmas.List.FromFn.{length-range_with_len, get_or-range_with_len}
-use Rattle.std.proofs.lemmas.Option.{slice_get_within, get_or_from_slice_get}
+use Rattle.std.proofs.lemmas.Option.{slice_get_within, get_or_from_slice_get, slice_get-get_or}
 use Rattle.lh_page.specs.declared.pair.Pair.{Pair}
 use Rattle.lh_bucket.specs.Listing.{Lists, list_at, size}
 use Rattle.lh_subcommands.specs.Devices.{Sends, TakesBeginning}
@@ -38,23 +38,43 @@ sent-all f sent xs i some h =
     ∙ append_assoc sent (flat_map f (take i xs) ++ f (get_or xs i some)) (flat_map f (drop (suc i) xs))
     ∙ ap (λ more. sent ++ more) (sym (pieces-split f xs i some h))
 
+-- the text of an element follows those before it
+pub piece_follows : {X : Type 0} (f : X → List ℕ) (before now : Option (List ℕ)) (waiting sent : List ℕ) (xs : List X)
+    (i : ℕ) (x : X) →
+    slice_get xs i ≡ Some x → Sends before now waiting ((sent ++ flat_map f (take i xs)) ++ f x) →
+    Sends before now waiting (sent ++ flat_map f (take (i + 1) xs))
+piece_follows {X} f before now waiting sent xs i x at h =
+    let same : get_or xs i x ≡ x = get_or_from_slice_get xs i x x at in
+    let next : suc i ≡ i + 1 = omega arith in
+    subst (Sends before now waiting)
+    (ap (λ (y : X). (sent ++ flat_map f (take i xs)) ++ f y) (sym same)
+    ∙ sent-more f sent xs i x (slice_get_within xs i x at)
+    ∙ ap (λ (n : ℕ). sent ++ flat_map f (take n xs)) next) h
+
+-- a beginning of the texts up to an element is one of all of them
+pub piece_begins : {X : Type 0} (f : X → List ℕ) (before now : Option (List ℕ)) (sent : List ℕ) (xs : List X) (i : ℕ)
+    (x : X) →
+    slice_get xs i ≡ Some x → TakesBeginning before now ((sent ++ flat_map f (take i xs)) ++ f x) →
+    TakesBeginning before now (sent ++ flat_map f xs)
+piece_begins {X} f before now sent xs i x at h =
+    let same : get_or xs i x ≡ x = get_or_from_slice_get xs i x x at in
+    subst (TakesBeginning before now)
+    (ap (λ (y : X). ((sent ++ flat_map f (take i xs)) ++ f y) ++ flat_map f (drop (suc i) xs)) (sym same)
+    ∙ sent-all f sent xs i x (slice_get_within xs i x at))
+    (begins_longer before now _ (flat_map f (drop (suc i) xs)) h)
+
 -- the lines of the first records of a bucket
 abbrev pub lines_before : ℕ → List Pair → ℕ → List ℕ
 lines_before bucket pairs place = bucket_text bucket (take place pairs)
 
--- the lines of a record follow those before it
+-- the line of a record follows those before it
 pub record_follows : (before now : Option (List ℕ)) (waiting sent : List ℕ) (bucket : ℕ) (pairs : List Pair) (i : ℕ)
     (pair : Pair) →
     slice_get pairs i ≡ Some pair →
     Sends before now waiting ((sent ++ lines_before bucket pairs i) ++ line (record_text bucket pair)) →
     Sends before now waiting (sent ++ lines_before bucket pairs (i + 1))
 record_follows before now waiting sent bucket pairs i pair at h =
-    let same : get_or pairs i pair ≡ pair = get_or_from_slice_get pairs i pair pair at in
-    let next : suc i ≡ i + 1 = omega arith in
-    subst (Sends before now waiting)
-    (ap (λ (p : Pair). (sent ++ lines_before bucket pairs i) ++ line (record_text bucket p)) (sym same)
-    ∙ sent-more (λ p. line (record_text bucket p)) sent pairs i pair (slice_get_within pairs i pair at)
-    ∙ ap (λ (n : ℕ). sent ++ lines_before bucket pairs n) next) h
+    piece_follows (λ p. line (record_text bucket p)) before now waiting sent pairs i pair at h
 
 -- a beginning of a bucket's lines up to a record is one of all lines of the bucket
 pub record_begins : (before now : Option (List ℕ)) (sent : List ℕ) (bucket : ℕ) (pairs : List Pair) (i : ℕ)
@@ -63,53 +83,61 @@ pub record_begins : (before now : Option (List ℕ)) (sent : List ℕ) (bucket :
     TakesBeginning before now ((sent ++ lines_before bucket pairs i) ++ line (record_text bucket pair)) →
     TakesBeginning before now (sent ++ bucket_text bucket pairs)
 record_begins before now sent bucket pairs i pair at h =
-    let same : get_or pairs i pair ≡ pair = get_or_from_slice_get pairs i pair pair at in
-    subst (TakesBeginning before now)
-    (ap
-    (λ (p : Pair).
-    ((sent ++ lines_before bucket pairs i) ++ line (record_text bucket p))
-    ++ bucket_text bucket (drop (suc i) pairs)) (sym same)
-    ∙ sent-all (λ p. line (record_text bucket p)) sent pairs i pair (slice_get_within pairs i pair at))
-    (begins_longer before now _ (bucket_text bucket (drop (suc i) pairs)) h)
+    piece_begins (λ p. line (record_text bucket p)) before now sent pairs i pair at h
+
+-- the texts of the first buckets
+abbrev pub texts_before : (ℕ → List ℕ) → Lists → ℕ → List ℕ
+texts_before f l n = flat_map f (take n (range_with_len 0 (size l)))
+
+bucket_is : (l : Lists) (i : ℕ) → i < size l → slice_get (range_with_len 0 (size l)) i ≡ Some i
+bucket_is l i h =
+    let row = range_with_len 0 (size l) in
+    let within : i < length row = omega (arith, h, length-range_with_len 0 (size l)) in
+    let at = get_or-range_with_len 0 (size l) i 0 h in
+    let same : get_or row i 0 ≡ i = omega (arith, at) in
+    slice_get-get_or row i 0 within ∙ ap Some same
+
+-- the text of a bucket follows those before it
+pub text_follows : (f : ℕ → List ℕ) (before now : Option (List ℕ)) (waiting sent : List ℕ) (l : Lists) (i : ℕ) →
+    i < size l → Sends before now waiting ((sent ++ texts_before f l i) ++ f i) →
+    Sends before now waiting (sent ++ texts_before f l (i + 1))
+text_follows f before now waiting sent l i lt h =
+    piece_follows f before now waiting sent (range_with_len 0 (size l)) i i (bucket_is l i lt) h
+
+-- a beginning of the texts up to a bucket is one of those of all
+pub text_begins : (f : ℕ → List ℕ) (before now : Option (List ℕ)) (sent : List ℕ) (l : Lists) (i : ℕ) →
+    i < size l → TakesBeginning before now ((sent ++ texts_before f l i) ++ f i) →
+    TakesBeginning before now (sent ++ flat_map f (range_with_len 0 (size l)))
+text_begins f before now sent l i lt h =
+    piece_begins f before now sent (range_with_len 0 (size l)) i i (bucket_is l i lt) h
+
+-- the texts of so many buckets are those of all
+pub all_texts : (f : ℕ → List ℕ) (l : Lists) (i : ℕ) → size l ≤ i →
+    texts_before f l i ≡ flat_map f (range_with_len 0 (size l))
+all_texts f l i many =
+    let row = range_with_len 0 (size l) in
+    let past : length row ≤ i = omega (arith, many, length-range_with_len 0 (size l)) in
+    ap (flat_map f) (take_all i row past)
 
 -- the lines of the first buckets
 abbrev pub buckets_before : Lists → ℕ → List ℕ
-buckets_before l n = flat_map (λ i. bucket_text i (list_at l.lists i)) (take n (range_with_len 0 (size l)))
-
-bucket_is : (l : Lists) (i : ℕ) → i < size l → get_or (range_with_len 0 (size l)) i 0 ≡ i
-bucket_is l i h = let e = get_or-range_with_len 0 (size l) i 0 h in omega (arith, e)
+buckets_before l n = texts_before (λ i. bucket_text i (list_at l.lists i)) l n
 
 -- the lines of a bucket follow those before it
 pub bucket_follows : (before now : Option (List ℕ)) (waiting : List ℕ) (l : Lists) (i : ℕ) → i < size l →
     Sends before now waiting (buckets_before l i ++ bucket_text i (list_at l.lists i)) →
     Sends before now waiting (buckets_before l (i + 1))
 bucket_follows before now waiting l i lt h =
-    let f : ℕ → List ℕ = λ i. bucket_text i (list_at l.lists i) in
-    let within : i < length (range_with_len 0 (size l)) = omega (arith, lt, length-range_with_len 0 (size l)) in
-    let next : suc i ≡ i + 1 = omega arith in
-    subst (Sends before now waiting)
-    (ap (λ (j : ℕ). buckets_before l i ++ f j) (sym (bucket_is l i lt))
-    ∙ sym (pieces-more f (range_with_len 0 (size l)) i 0 within)
-    ∙ ap (buckets_before l) next) h
+    text_follows (λ i. bucket_text i (list_at l.lists i)) before now waiting [] l i lt h
 
 -- a beginning of the lines up to a bucket is one of all that `dump` writes
 pub bucket_begins : (before now : Option (List ℕ)) (l : Lists) (i : ℕ) → i < size l →
     TakesBeginning before now (buckets_before l i ++ bucket_text i (list_at l.lists i)) →
     TakesBeginning before now (dump_text l)
 unfolding dump_text
-bucket_begins before now l i lt h =
-    let f : ℕ → List ℕ = λ i. bucket_text i (list_at l.lists i) in
-    let row = range_with_len 0 (size l) in
-    let within : i < length row = omega (arith, lt, length-range_with_len 0 (size l)) in
-    subst (TakesBeginning before now)
-    (ap (λ (j : ℕ). (buckets_before l i ++ f j) ++ flat_map f (drop (suc i) row)) (sym (bucket_is l i lt))
-    ∙ sym (pieces-split f row i 0 within))
-    (begins_longer before now _ (flat_map f (drop (suc i) row)) h)
+bucket_begins before now l i lt h = text_begins (λ i. bucket_text i (list_at l.lists i)) before now [] l i lt h
 
 -- the lines of all buckets are what `dump` writes
 pub all_buckets : (l : Lists) (i : ℕ) → size l ≤ i → buckets_before l i ≡ dump_text l
 unfolding dump_text
-all_buckets l i many =
-    let row = range_with_len 0 (size l) in
-    let past : length row ≤ i = omega (arith, many, length-range_with_len 0 (size l)) in
-    ap (flat_map (λ i. bucket_text i (list_at l.lists i))) (take_all i row past)
+all_buckets l i many = all_texts (λ i. bucket_text i (list_at l.lists i)) l i many

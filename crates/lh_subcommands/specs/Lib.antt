@@ -1,9 +1,11 @@
 pub mod Continued
 pub mod ContinuedLaws
 pub mod Devices
+pub mod Exporting
 pub mod Get
 pub mod ImageTexts
 pub mod Images
+pub mod Loading
 pub mod LongestLine
 pub mod Run
 pub mod Serve

@@ -1,12 +1,16 @@
 -- How a run ended: its exit status, and its text on standard error
 use Rattle.std.specs.Prelude.{ℕ, List, [], ◌++◌, codes}
+use Rattle.std.specs.Fmt.{decimal}
 use Rattle.std.specs.String.{string_bytes}
+use Rattle.lh_exchange.specs.StreamFaultTexts.{exchange_fault_text}
 use Rattle.lh_image.specs.Texts.{image_fault_text, write_image_fault_text}
 use Rattle.lh_script.specs.FaultTexts.{script_fault_text}
 use Rattle.lh_subcommands.specs.declared.status.DeviceFault.{DeviceFault}
 use Rattle.lh_subcommands.specs.declared.status.DeviceFault.TheVariants.{Read, Write}
 use Rattle.lh_subcommands.specs.declared.status.InputFault.{InputFault}
-use Rattle.lh_subcommands.specs.declared.status.InputFault.TheVariants.{Script, Image, Unwritten}
+use Rattle.lh_subcommands.specs.declared.load.RecordsFault.{RecordsFault}
+use Rattle.lh_subcommands.specs.declared.load.RecordsFault.TheVariants.{KeyTwice, Stream}
+use Rattle.lh_subcommands.specs.declared.status.InputFault.TheVariants.{Script, Image, Load, Unwritten}
 use Rattle.lh_subcommands.specs.declared.status.Status.{Status}
 use Rattle.lh_subcommands.specs.declared.status.Status.TheVariants.{Done, Input, Words, Device, KeyAbsent, Memory}
 use Rattle.lh_subcommands.specs.declared.status.Status.TheVariants.{NotSettled}
@@ -22,10 +26,15 @@ status_code Memory = 4
 status_code (NotSettled fault) = 5
 status_code KeyAbsent = 6
 
+abbrev pub records_fault_text : RecordsFault → List ℕ
+records_fault_text (Stream fault) = exchange_fault_text fault
+records_fault_text (KeyTwice n) = codes "record " ++ (decimal n ++ codes ": its key came before")
+
 abbrev pub input_fault_text : InputFault → List ℕ
 input_fault_text (Script fault) = script_fault_text fault
 input_fault_text (Image fault) = image_fault_text fault
 input_fault_text (Unwritten fault) = write_image_fault_text fault
+input_fault_text (Load fault) = records_fault_text fault
 
 abbrev pub device_text : DeviceFault → List ℕ
 device_text Read = codes "read failed"

@@ -21,7 +21,7 @@ use std::fmt::Display;
 use std::io::Write;
 
 /// How many bytes are written at once.
-const CHUNK: usize = 65_536;
+pub(crate) const CHUNK: usize = 65_536;
 
 /// No line is longer ([a law](crate::laws::lines_have_room)): key and value take two digits a byte, and all else takes
 /// less than 256 bytes. A step of a picture has none of them, and takes less than 550. What stands above a picture's

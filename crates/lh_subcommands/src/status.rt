@@ -2,6 +2,7 @@
 ghost use Rattle.std.specs.Prelude.{◌≡◌, Some};
 ghost use Rattle.lh_subcommands.specs.Status.{status_code, status_text};
 
+use crate::load::RecordsFault;
 use crate::unsettled::Unsettled;
 use lh_image::{ImageFault, WriteImageFault};
 use lh_script::ScriptFault;
@@ -16,6 +17,8 @@ pub enum InputFault {
     Image(ImageFault),
     /// The file that the script leads to has no image in the version that is asked for.
     Unwritten(WriteImageFault),
+    /// The records of another store are not loaded.
+    Load(RecordsFault),
 }
 
 /// Which device failed.
@@ -74,6 +77,7 @@ impl fmt::Display for InputFault {
             InputFault::Script(fault) => write!(f, "{fault}"),
             InputFault::Image(fault) => write!(f, "{fault}"),
             InputFault::Unwritten(fault) => write!(f, "{fault}"),
+            InputFault::Load(fault) => write!(f, "{fault}"),
         }
     }
 }

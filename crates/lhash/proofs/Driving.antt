@@ -31,7 +31,7 @@ use Rattle.lhash.specs.declared.drive.DriveFault.TheVariants.{Settle, Call, Thre
 use Rattle.lhash.specs.declared.driven.Driven.{Driven}
 use Rattle.lhash.specs.Workers.{HasTakenOne}
 use Rattle.lh_subcommands.specs.declared.status.DeviceFault.TheVariants.{Read, Write}
-use Rattle.lh_subcommands.specs.declared.status.InputFault.TheVariants.{Script, Image, Unwritten}
+use Rattle.lh_subcommands.specs.declared.status.InputFault.TheVariants.{Script, Image, Load, Unwritten}
 use Rattle.lh_subcommands.specs.declared.status.Status.{Status}
 use Rattle.lh_subcommands.specs.declared.status.Status.TheVariants.{Done, Input, Words, Device, KeyAbsent, NotSettled}
 use Rattle.lh_subcommands.specs.declared.status.Status.TheVariants.{Memory as NoMemory}
@@ -49,6 +49,7 @@ module _ (Totals : List CallOf → List ℕ → Type 0) (Fault : DriveFault → 
   unread (Input (Script fault)) input a h = (h, Keeps-refl a)
   unread (Input (Image fault)) input a h = absurd h
   unread (Input (Unwritten fault)) input a h = absurd h
+  unread (Input (Load fault)) input a h = absurd h
   unread (Words text) input a h = absurd h
   unread (Device Read) input a h = Keeps-refl a
   unread (Device Write) input a h = absurd h

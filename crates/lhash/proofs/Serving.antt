@@ -9,9 +9,10 @@ use Rattle.lh_bucket.specs.Listing.{Lists}
 use Rattle.lh_image.specs.declared.fault.ImageFault.{ImageFault}
 use Rattle.lh_image.specs.declared.version.Version.{Version}
 use Rattle.lh_image.specs.Reading.{following, leading, reading_of}
-use Rattle.lh_options.specs.Options.{Asks, Text, asked_by, asked_for, image_begins, keys_given, number_given}
-use Rattle.lh_options.specs.Options.{settings_given, settings_typed, subcommand_named, version_numbered}
-use Rattle.lh_options.specs.AskingLaws.{apply, asked_named, build, commands, drive, get, refused_alone}
+use Rattle.lh_options.specs.Options.{Asks, Text, asked_by, asked_for, format_given, image_begins, keys_given}
+use Rattle.lh_options.specs.Options.{number_given, settings_given, settings_typed, subcommand_named, texts_given}
+use Rattle.lh_options.specs.Options.{version_numbered}
+use Rattle.lh_options.specs.AskingLaws.{apply, asked_named, build, commands, drive, get, load, refused_alone}
 use Rattle.lh_options.specs.AskingLaws.{refuses_setting, replay, serves_file, serves_image, steps, unapplied, undriven}
 use Rattle.lh_options.specs.declared.options.Request.{Request}
 use Rattle.lh_options.specs.declared.options.Request.TheVariants as request
@@ -19,15 +20,16 @@ use Rattle.lh_script.specs.declared.fault.ScriptFault.{ScriptFault}
 use Rattle.lhash.specs.Driving.{EndsThreaded}
 use Rattle.lh_subcommands.specs.Continued.{EndsApplying, EndsLeaving, query_due, script_behind}
 use Rattle.lh_subcommands.specs.Get.{EndsFound, EndsGetting, EndsGettingOf, IsRefusedFor, found_of, keys_of}
-use Rattle.lh_subcommands.specs.Images.{EndsBuilding, check_due, draw_due, dump_due, migrate_due}
+use Rattle.lh_subcommands.specs.Images.{EndsBuilding, check_due, draw_due, migrate_due}
+use Rattle.lh_subcommands.specs.Loading.{EndsLoading}
 use Rattle.lh_subcommands.specs.Run.{EndsReplay, EndsSteps}
 use Rattle.lh_serving.specs.Answers.{FileSeen, first_file}
 use Rattle.lh_subcommands.specs.Serve.{EndsGoingOn, EndsServing, EndsServingFrom}
 use Rattle.lhash.specs.Serving.{Ending, EndsCommands, EndsDrivingIn, EndsTold, IsRun, IsWordsOf}
-use Rattle.lhash.specs.Serving.{RefusesBelow, RefusesBeside, RefusesSnapshots, IsPerformed, ServesApply, ServesBuild}
-use Rattle.lhash.specs.Serving.{ServesClient, ServesDrive, ServesFile, ServesFrom, ServesGet}
-use Rattle.lhash.specs.Serving.{ServesImage}
-use Rattle.lhash.specs.Serving.{below_initial, beside_image, snapshots_of_shards, wanted_version}
+use Rattle.lhash.specs.Serving.{RefusesBelow, RefusesBeside, RefusesSnapshots, IsPerformed, ServesApply, ServesClient}
+use Rattle.lhash.specs.Serving.{ServesDrive, ServesDump, ServesFile, ServesFilled, ServesFrom, ServesGet}
+use Rattle.lhash.specs.Serving.{ServesImage, below_initial, beside_image, dumped_due, snapshots_of_shards}
+use Rattle.lhash.specs.Serving.{wanted_version}
 use Rattle.lh_subcommands.specs.declared.status.Status.{Status}
 use Rattle.lh_subcommands.specs.declared.status.Status.TheVariants.{Memory}
 
@@ -54,25 +56,25 @@ below_asked words None named none settings given below r is =
     ap
     (option_and_then
     (λ n. asked_by n (settings_given words) (number_given words) (image_begins words) (settings_typed words)
-    (keys_given words)))
+    (texts_given words)))
     named in
     absurd cc
 below_asked words (Some name) named none settings given below r is =
     let one : asked_for words ≡
     asked_by name (settings_given words) (number_given words) (image_begins words) (settings_typed words)
-    (keys_given words) =
+    (texts_given words) =
     ap
     (option_and_then
     (λ n. asked_by n (settings_given words) (number_given words) (image_begins words) (settings_typed words)
-    (keys_given words)))
+    (texts_given words)))
     named in
     let by : asked_by name (settings_given words) (number_given words) (image_begins words) (settings_typed words)
-    (keys_given words) ≡
-    asked_by name (Some settings) (number_given words) (image_begins words) (settings_typed words) (keys_given words) =
+    (texts_given words) ≡
+    asked_by name (Some settings) (number_given words) (image_begins words) (settings_typed words) (texts_given words) =
     ap (λ s. asked_by name s (number_given words) (image_begins words) (settings_typed words)
-    (keys_given words)) given in
+    (texts_given words)) given in
     refused_alone name (number_given words) (image_begins words) (settings_typed words)
-    (keys_given words) settings r below
+    (texts_given words) settings r below
     (λ n. none (named ∙ ap (λ x. Some x) n)) (sym (one ∙ by) ∙ is)
 
 -- a run for words that ask for one thing served it, or ran out of memory
@@ -82,7 +84,7 @@ served : (words : List Text) (status : Status) (left rest before now : Option (L
     ((input : List ℕ) → Keeps before now → EndsWith input Memory before now) →
     Asks words name →
     asked_by name (settings_given words) (number_given words) (image_begins words) (settings_typed words)
-    (keys_given words) ≡ Some r →
+    (texts_given words) ≡ Some r →
     IsRun words status left rest before now → IfSome left (λ input. EndsWith input status before now)
 served words status left rest before now name r EndsWith ends allows asks is (inl run) =
     let same : Some run.0 ≡ Some r = sym (asked_named words name run.0 asks run.1) ∙ is in
@@ -97,7 +99,7 @@ serves_commands words status left rest before now settings asks given within run
     served words status left rest before now (codes "commands") (request.Commands settings) (EndsCommands settings)
     (λ h. h) (λ input keeps. keeps) asks
     (commands (codes "commands") _ _ (image_begins words) (settings_typed words)
-    (keys_given words) settings refl given within) run
+    (texts_given words) settings refl given within) run
 
 -- the same of `steps`
 pub serves_steps : ServesFile (codes "steps") EndsSteps
@@ -106,7 +108,7 @@ serves_steps words status left rest before now settings asks given within run =
     served words status left rest before now (codes "steps") (request.Steps settings) (EndsSteps settings)
     (λ h. h) (λ input keeps. keeps) asks
     (steps (codes "steps") _ _ (image_begins words) (settings_typed words)
-    (keys_given words) settings refl given within) run
+    (texts_given words) settings refl given within) run
 
 -- the same of `replay`
 pub serves_replay : ServesFile (codes "replay") EndsReplay
@@ -115,7 +117,7 @@ serves_replay words status left rest before now settings asks given within run =
     served words status left rest before now (codes "replay") (request.Replay settings) (EndsReplay settings)
     (λ h. h) (λ input keeps. keeps) asks
     (replay (codes "replay") _ _ (image_begins words) (settings_typed words)
-    (keys_given words) settings refl given within) run
+    (texts_given words) settings refl given within) run
 
 -- a conversation that did not begin, with nothing read and nothing written
 unserved : (start : FileSeen) (status : Status) (left rest before now : Option (List ℕ)) → status ≡ Memory →
@@ -164,13 +166,24 @@ refuses_beside words status left rest before now asks begins given (inr run) =
     (subst (IsWordsOf beside_image) (sym run.0) tt, run.1, run.2)
 
 -- a run for words that ask for `build`, and give settings in order and the number of a version, ends by them
-pub serves_build : ServesBuild
+pub serves_build : ServesFilled (codes "build") EndsBuilding
 unfolding EndsBuilding
 serves_build words status left rest before now settings n asks given image within run =
     served words status left rest before now (codes "build") (request.Build settings (version_numbered n))
     (EndsBuilding (wanted_version (version_numbered n)) settings)
     (λ h. h) (λ input keeps. keeps) asks
-    (build (codes "build") _ _ (image_begins words) (settings_typed words) (keys_given words) settings
+    (build (codes "build") _ _ (image_begins words) (settings_typed words) (texts_given words) settings
+    (version_numbered n) refl given
+    (ap (option_map version_numbered) image) within) run
+
+-- the same of `load`
+pub serves_load : ServesFilled (codes "load") EndsLoading
+unfolding EndsLoading
+serves_load words status left rest before now settings n asks given image within run =
+    served words status left rest before now (codes "load") (request.Load settings (version_numbered n))
+    (EndsLoading (wanted_version (version_numbered n)) settings)
+    (λ h. h) (λ input keeps. keeps) asks
+    (load (codes "load") _ _ (image_begins words) (settings_typed words) (texts_given words) settings
     (version_numbered n) refl given
     (ap (option_map version_numbered) image) within) run
 
@@ -195,13 +208,13 @@ driven words status left rest before now settings h k (Some n) counted asks give
     (EndsDrivingIn (h == 1) settings h k)
     (λ h. h) (λ input keeps. driven_nothing (h == 1) settings h k input before now keeps) asks
     (drive (codes "drive") _ _ (image_begins words) (settings_typed words)
-    (keys_given words) settings n h k refl given counted parts taken
+    (texts_given words) settings n h k refl given counted parts taken
     within
     ∙ ap (λ b. Some (cond b (request.Drive settings n h k) request.SnapshotsOfShards)) allowed) run
 driven words status left rest before now settings h k None counted asks given parts taken allowed within (inl run) =
     let none : asked_by (codes "drive") (settings_given words) (number_given words) (image_begins words)
-    (settings_typed words) (keys_given words) ≡ None =
-    undriven (codes "drive") _ _ (image_begins words) (settings_typed words) (keys_given words) settings refl given
+    (settings_typed words) (texts_given words) ≡ None =
+    undriven (codes "drive") _ _ (image_begins words) (settings_typed words) (texts_given words) settings refl given
     (inl counted) within in
     let some = asked_named words (codes "drive") run.0 asks run.1 in
     let apart : Some run.0 ≡ None = sym some ∙ none in
@@ -222,7 +235,7 @@ refuses_snapshots words status left rest before now settings n h k asks given co
     (inl run) =
     let is =
     drive (codes "drive") _ _ (image_begins words) (settings_typed words)
-    (keys_given words) settings n h k refl given counted parts
+    (texts_given words) settings n h k refl given counted parts
     taken within
     ∙ ap (λ b. Some (cond b (request.Drive settings n h k) request.SnapshotsOfShards)) apart in
     let same : Some run.0 ≡ Some request.SnapshotsOfShards =
@@ -239,22 +252,22 @@ serves_alone : (words : List Text) (status : Status) (left rest before now : Opt
     (settings : Option Settings) → settings_given words ≡ settings →
     (IsPerformed r status left rest before now → IfSome left (λ input. EndsWith input status before now)) →
     ((input : List ℕ) → Keeps before now → EndsWith input Memory before now) → Asks words name →
-    ((numbers : Text → Option ℕ) (image typed : Bool) (keys : List Text) →
-    asked_by name None numbers image typed keys ≡ Some r) →
-    ((s : Settings) (numbers : Text → Option ℕ) (image typed : Bool) (keys : List Text) →
-    asked_by name (Some s) numbers image typed keys ≡ None) →
+    asked_by name None (number_given words) (image_begins words) (settings_typed words) (texts_given words) ≡ Some r →
+    ((s : Settings) →
+    asked_by name (Some s) (number_given words) (image_begins words) (settings_typed words) (texts_given words)
+    ≡ None) →
     IsRun words status left rest before now → IfSome left (λ input. EndsWith input status before now)
 serves_alone words status left rest before now name r EndsWith None given ends allows asks alone none run =
     served words status left rest before now name r EndsWith ends allows asks
-    (ap (λ s. asked_by name s (number_given words) (image_begins words) (settings_typed words) (keys_given words)) given
-    ∙ alone (number_given words) (image_begins words) (settings_typed words) (keys_given words)) run
+    (ap (λ s. asked_by name s (number_given words) (image_begins words) (settings_typed words) (texts_given words))
+    given ∙ alone) run
 serves_alone words status left rest before now name r EndsWith (Some s) given ends allows asks alone none (inl run) =
     let some = asked_named words name run.0 asks run.1 in
     let same : asked_by name (settings_given words) (number_given words) (image_begins words) (settings_typed words)
-    (keys_given words) ≡
+    (texts_given words) ≡
     None =
-    ap (λ x. asked_by name x (number_given words) (image_begins words) (settings_typed words) (keys_given words)) given
-    ∙ none s (number_given words) (image_begins words) (settings_typed words) (keys_given words) in
+    ap (λ x. asked_by name x (number_given words) (image_begins words) (settings_typed words) (texts_given words)) given
+    ∙ none s in
     absurd cc
 serves_alone words status left rest before now name r EndsWith (Some s) given ends allows asks alone none (inr run) =
     unwritten EndsWith status left before now allows run.0 run.2
@@ -265,23 +278,24 @@ unfolding asked_by
 serves_check words status left rest before now asks run =
     serves_alone words status left rest before now (codes "check") request.Check (EndsTold check_due)
     (settings_given words) refl
-    (λ h. h) (λ input keeps. keeps) asks (λ numbers image typed keys. refl) (λ s numbers image typed keys. refl) run
+    (λ h. h) (λ input keeps. keeps) asks refl (λ s. refl) run
 
--- the same of `dump`
-pub serves_dump : ServesImage (codes "dump") (EndsTold dump_due)
+-- a run for words that ask for `dump` ends as `dump` does, in the format that they give
+pub serves_dump : ServesDump
 unfolding asked_by
 serves_dump words status left rest before now asks run =
-    serves_alone words status left rest before now (codes "dump") request.Dump (EndsTold dump_due)
+    serves_alone words status left rest before now (codes "dump") (request.Dump (format_given words))
+    (EndsTold (dumped_due (format_given words)))
     (settings_given words) refl
-    (λ h. h) (λ input keeps. keeps) asks (λ numbers image typed keys. refl) (λ s numbers image typed keys. refl) run
+    (λ h. h) (λ input keeps. keeps) asks refl (λ s. refl) run
 
--- the same of `draw`
+-- the same of `draw`, as of `check`
 pub serves_draw : ServesImage (codes "draw") (EndsTold draw_due)
 unfolding asked_by
 serves_draw words status left rest before now asks run =
     serves_alone words status left rest before now (codes "draw") request.Draw (EndsTold draw_due)
     (settings_given words) refl
-    (λ h. h) (λ input keeps. keeps) asks (λ numbers image typed keys. refl) (λ s numbers image typed keys. refl) run
+    (λ h. h) (λ input keeps. keeps) asks refl (λ s. refl) run
 
 -- the same of `migrate`
 pub serves_migrate : ServesImage (codes "migrate") (EndsTold migrate_due)
@@ -289,7 +303,7 @@ unfolding asked_by
 serves_migrate words status left rest before now asks run =
     serves_alone words status left rest before now (codes "migrate") request.Migrate (EndsTold migrate_due)
     (settings_given words) refl
-    (λ h. h) (λ input keeps. keeps) asks (λ numbers image typed keys. refl) (λ s numbers image typed keys. refl) run
+    (λ h. h) (λ input keeps. keeps) asks refl (λ s. refl) run
 
 -- the same of `query`
 pub serves_query : ServesImage (codes "query") (EndsTold query_due)
@@ -297,7 +311,7 @@ unfolding asked_by
 serves_query words status left rest before now asks run =
     serves_alone words status left rest before now (codes "query") request.Query (EndsTold query_due)
     (settings_given words) refl
-    (λ h. h) (λ input keeps. keeps) asks (λ numbers image typed keys. refl) (λ s numbers image typed keys. refl) run
+    (λ h. h) (λ input keeps. keeps) asks refl (λ s. refl) run
 
 -- no key was looked up, for want of memory
 ungot : (given : Result (List (List ℕ)) _) (status : Status) (left rest before now : Option (List ℕ)) →
@@ -321,17 +335,17 @@ got : (words : List Text) (status : Status) (left rest before now : Option (List
 unfolding asked_by
 got words status left rest before now None given asks (inl run) =
     let is = get (codes "get") (settings_given words) (number_given words) (image_begins words) (settings_typed words)
-    (keys_given words) refl given in
+    (texts_given words) refl given in
     let same : Some run.0 ≡ Some (request.Get (keys_given words)) =
     sym (asked_named words (codes "get") run.0 asks run.1) ∙ is in
     let one : run.0 ≡ request.Get (keys_given words) = cc in
     subst (λ (x : Request). IsPerformed x status left rest before now) one run.2
 got words status left rest before now (Some s) given asks (inl run) =
     let none : asked_by (codes "get") (settings_given words) (number_given words) (image_begins words)
-    (settings_typed words) (keys_given words) ≡ None =
+    (settings_typed words) (texts_given words) ≡ None =
     ap
     (λ x.
-    asked_by (codes "get") x (number_given words) (image_begins words) (settings_typed words) (keys_given words))
+    asked_by (codes "get") x (number_given words) (image_begins words) (settings_typed words) (texts_given words))
     given in
     let some = asked_named words (codes "get") run.0 asks run.1 in
     let apart : Some run.0 ≡ None = sym some ∙ none in
@@ -357,10 +371,10 @@ unfolding EndsApplying
 applies_nothing version input before now keeps =
     leaves_nothing version (reading_of (leading input)) (script_behind input) before now keeps
 
-unasked : (s : Settings) (numbers : Text → Option ℕ) (image typed : Bool) (keys : List Text) →
-    asked_by (codes "apply") (Some s) numbers image typed keys ≡ None
+unasked : (s : Settings) (numbers : Text → Option ℕ) (image typed : Bool) (texts : Text → List Text) →
+    asked_by (codes "apply") (Some s) numbers image typed texts ≡ None
 unfolding asked_by
-unasked s numbers image typed keys = unapplied s (numbers (codes "image"))
+unasked s numbers image typed texts = unapplied s (numbers (codes "image"))
 
 -- words that ask for the image which a script leaves give no settings, or ask for nothing
 applied : (words : List Text) (status : Status) (left rest before now : Option (List ℕ)) (n : ℕ)
@@ -372,15 +386,15 @@ applied words status left rest before now n None given asks image run =
     served words status left rest before now (codes "apply") (request.Apply (version_numbered n))
     (EndsApplying (wanted_version (version_numbered n)))
     (λ h. h) (λ input keeps. applies_nothing (wanted_version (version_numbered n)) input before now keeps) asks
-    (apply (codes "apply") _ _ (image_begins words) (settings_typed words) (keys_given words)
+    (apply (codes "apply") _ _ (image_begins words) (settings_typed words) (texts_given words)
     (version_numbered n) refl given
     (ap (option_map version_numbered) image)) run
 applied words status left rest before now n (Some s) given asks image (inl run) =
     let none : asked_by (codes "apply") (settings_given words) (number_given words) (image_begins words)
-    (settings_typed words) (keys_given words) ≡ None =
+    (settings_typed words) (texts_given words) ≡ None =
     ap (λ x. asked_by (codes "apply") x (number_given words) (image_begins words) (settings_typed words)
-    (keys_given words)) given
-    ∙ unasked s (number_given words) (image_begins words) (settings_typed words) (keys_given words) in
+    (texts_given words)) given
+    ∙ unasked s (number_given words) (image_begins words) (settings_typed words) (texts_given words) in
     let some = asked_named words (codes "apply") run.0 asks run.1 in
     let apart : Some run.0 ≡ None = sym some ∙ none in
     absurd cc

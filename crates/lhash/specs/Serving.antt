@@ -9,21 +9,26 @@ use Rattle.lh_image.specs.declared.version.Version.TheVariants.{One, Two}
 use Rattle.lhash.specs.Driving.{EndsDriving}
 use Rattle.lhash.specs.DrivingShards.{EndsDrivingShards}
 use Rattle.lh_subcommands.specs.Continued.{EndsApplying, EndsApplyingTo, query_due, query_due_of}
+use Rattle.lh_exchange.specs.declared.format.StreamFormat.TheVariants as stream
+use Rattle.lh_subcommands.specs.Exporting.{export_due}
 use Rattle.lh_subcommands.specs.Get.{EndsGetting}
 use Rattle.lh_subcommands.specs.Images.{EndsBuilding, check_due, draw_due, dump_due, migrate_due}
+use Rattle.lh_subcommands.specs.Loading.{EndsLoading}
 use Rattle.lh_addr.specs.Settings.{Settings}
 use Rattle.lh_options.specs.Escapes.{has_no_control}
-use Rattle.lh_options.specs.Options.{Accepts, Answers, Asks, AsksForHelp, IsRefused, Text, image_begins, keys_given}
-use Rattle.lh_options.specs.Options.{number_given, settings_given, settings_typed, version_numbered}
+use Rattle.lh_options.specs.Options.{Accepts, Answers, Asks, AsksForHelp, IsRefused, Text, format_given, image_begins}
+use Rattle.lh_options.specs.Options.{keys_given, number_given, settings_given, settings_typed, version_numbered}
 use Rattle.lh_subcommands.specs.Run.{Ends, EndsReplay, EndsSteps, commands_due}
 use Rattle.lh_serving.specs.Answers.{first_file}
 use Rattle.lh_subcommands.specs.Serve.{EndsServing, EndsServingFrom, EndsServingOf}
+use Rattle.lh_options.specs.declared.dump_format.DumpFormat.{DumpFormat}
+use Rattle.lh_options.specs.declared.dump_format.DumpFormat.TheVariants.{Cdb, Db, Lines}
 use Rattle.lh_options.specs.declared.options.ImageVersion.{ImageVersion}
 use Rattle.lh_options.specs.declared.options.ImageVersion.TheVariants.{First, Second}
 use Rattle.lh_options.specs.declared.options.Request.{Request}
 use Rattle.lh_options.specs.declared.options.Request.TheVariants.{Commands, Steps, Replay, Build, Check, Draw, Dump}
-use Rattle.lh_options.specs.declared.options.Request.TheVariants.{Drive, Get, Migrate, Query, Apply, Serve, ServeImage}
-use Rattle.lh_options.specs.declared.options.Request.TheVariants.{Help}
+use Rattle.lh_options.specs.declared.options.Request.TheVariants.{Drive, Get, Load, Migrate, Query, Apply, Serve}
+use Rattle.lh_options.specs.declared.options.Request.TheVariants.{ServeImage, Help}
 use Rattle.lh_options.specs.declared.options.Request.TheVariants.{Refused, MaxBelowInitial, SettingsBesideImage}
 use Rattle.lh_options.specs.declared.options.Request.TheVariants.{SnapshotsOfShards}
 use Rattle.lh_subcommands.specs.declared.status.DeviceFault.TheVariants.{Write}
@@ -75,6 +80,12 @@ abbrev pub wanted_version : ImageVersion → Version
 wanted_version First = One
 wanted_version Second = Two
 
+-- what `dump` is to write for an input, in a format
+abbrev pub dumped_due : DumpFormat → List ℕ → Result (List ℕ) InputFault
+dumped_due Lines input = dump_due input
+dumped_due Cdb input = export_due stream.Cdb input
+dumped_due Db input = export_due stream.Db input
+
 -- what a request led to, with what the reader had left and has, and what the writer held and holds
 abbrev pub IsPerformed : Request → Status → Option (List ℕ) → Option (List ℕ) → Option (List ℕ) → Option (List ℕ) →
     Type 0
@@ -85,8 +96,11 @@ IsPerformed (Replay config) status left rest before now =
     IfSome left (λ input. EndsReplay config input status before now)
 IsPerformed (Build config image) status left rest before now =
     IfSome left (λ input. EndsBuilding (wanted_version image) config input status before now)
+IsPerformed (Load config image) status left rest before now =
+    IfSome left (λ input. EndsLoading (wanted_version image) config input status before now)
 IsPerformed Check status left rest before now = IfSome left (λ input. Ends status (check_due input) before now)
-IsPerformed Dump status left rest before now = IfSome left (λ input. Ends status (dump_due input) before now)
+IsPerformed (Dump format) status left rest before now =
+    IfSome left (λ input. Ends status (dumped_due format input) before now)
 IsPerformed Draw status left rest before now = IfSome left (λ input. Ends status (draw_due input) before now)
 IsPerformed Migrate status left rest before now = IfSome left (λ input. Ends status (migrate_due input) before now)
 IsPerformed Query status left rest before now = IfSome left (λ input. Ends status (query_due input) before now)
@@ -136,6 +150,7 @@ IsWhetherApart words apart = (request : Request) × Answers words request × (ap
 -- whether a request has an image written
 abbrev pub is_image_written : Request → Bool
 is_image_written (Build config image) = true
+is_image_written (Load config image) = true
 is_image_written Migrate = true
 is_image_written (Apply image) = true
 is_image_written _ = false
@@ -218,13 +233,14 @@ ServesFrom =
     Asks words (codes "serve") → image_begins words ≡ true → settings_typed words ≡ false →
     IsRun words status left rest before now → IfSome left (λ input. EndsServingFrom input status rest before now)
 
--- a run for words that ask for `build`, and give settings in order and the number of a version, ends by them
-abbrev pub ServesBuild : Type 0
-ServesBuild =
+-- a run for words that ask for this subcommand, which fills a file and has its image written, and give settings in
+-- order and the number of a version, ends by them
+abbrev pub ServesFilled : Text → (Version → Settings → Ending) → Type 0
+ServesFilled name EndsWith =
     (words : List Text) (status : Status) (left rest before now : Option (List ℕ)) (settings : Settings) (n : ℕ) →
-    Asks words (codes "build") → settings_given words ≡ Some settings → number_given words (codes "image") ≡ Some n →
+    Asks words name → settings_given words ≡ Some settings → number_given words (codes "image") ≡ Some n →
     settings.initial ≤ settings.max → IsRun words status left rest before now →
-    IfSome left (λ input. EndsBuilding (wanted_version (version_numbered n)) settings input status before now)
+    IfSome left (λ input. EndsWith (wanted_version (version_numbered n)) settings input status before now)
 
 -- a run for words that ask for `drive`, and give settings in order and the numbers of shards and of snapshots, where it
 -- is one shard or no snapshot, ends by them
@@ -243,6 +259,13 @@ abbrev pub ServesImage : Text → Ending → Type 0
 ServesImage name EndsWith =
     (words : List Text) (status : Status) (left rest before now : Option (List ℕ)) →
     Asks words name → IsRun words status left rest before now → IfSome left (λ input. EndsWith input status before now)
+
+-- a run for words that ask for `dump` ends by the format that they give
+abbrev pub ServesDump : Type 0
+ServesDump =
+    (words : List Text) (status : Status) (left rest before now : Option (List ℕ)) →
+    Asks words (codes "dump") → IsRun words status left rest before now →
+    IfSome left (λ input. Ends status (dumped_due (format_given words) input) before now)
 
 -- a run for words that ask for `apply`, and give the number of a version, ends so
 abbrev pub ServesApply : Type 0

@@ -2,11 +2,12 @@
 //! a function that does nothing.
 ghost use Rattle.std.specs.Prelude.{codes};
 ghost use Rattle.lh_subcommands.specs.Continued.{query_due};
-ghost use Rattle.lh_subcommands.specs.Images.{check_due, draw_due, dump_due, migrate_due};
+ghost use Rattle.lh_subcommands.specs.Images.{EndsBuilding, check_due, draw_due, migrate_due};
+ghost use Rattle.lh_subcommands.specs.Loading.{EndsLoading};
 ghost use Rattle.lh_subcommands.specs.Run.{EndsReplay, EndsSteps};
 ghost use Rattle.lhash.specs.Serving.{EndsCommands, EndsTold, RefusesBelow, RefusesBeside, RefusesSnapshots};
-ghost use Rattle.lhash.specs.Serving.{ServesApply, ServesBuild, ServesClient, ServesDrive, ServesFile, ServesFrom};
-ghost use Rattle.lhash.specs.Serving.{ServesGet, ServesImage, TurnsAway};
+ghost use Rattle.lhash.specs.Serving.{ServesApply, ServesClient, ServesDrive, ServesDump, ServesFile, ServesFilled};
+ghost use Rattle.lhash.specs.Serving.{ServesFrom, ServesGet, ServesImage, TurnsAway};
 
 /// Words that ask for `commands` have the replies of one plain map to the script's calls written, and the number of
 /// buckets that the split policy gives; or the run ends at the script's first fault, with nothing written.
@@ -27,7 +28,14 @@ pub fn replay_is_served()
 /// Words that ask for `build` have the image written, in the version that they give, of the file that the script's
 /// calls lead to; or the reason why it has none.
 pub fn build_is_served()
-    ensures { ServesBuild }
+    ensures { ServesFilled (codes "build") EndsBuilding }
+{}
+
+/// Words that ask for `load` have the image written, in the version that they give, of a file that has just the records
+/// of the input's stream, each with a key of its own; or the reason why it has none. Or the run ends at the stream's
+/// first fault, or else at the first record whose key came before, with nothing written.
+pub fn load_is_served()
+    ensures { ServesFilled (codes "load") EndsLoading }
 {}
 
 /// Words that ask for `drive` have the totals written of a settled, legal history; and, where they give a number of
@@ -42,9 +50,10 @@ pub fn check_is_served()
     ensures { ServesImage (codes "check") (EndsTold check_due) }
 {}
 
-/// Words that ask for `dump` have the records written of the listing that the input is an image of.
+/// Words that ask for `dump` have the records written of the listing that the input is an image of, in the format that
+/// they give.
 pub fn dump_is_served()
-    ensures { ServesImage (codes "dump") (EndsTold dump_due) }
+    ensures { ServesDump }
 {}
 
 /// Words that ask for `draw` have the drawing written of the listing that the input is an image of.

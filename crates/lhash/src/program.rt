@@ -2,19 +2,20 @@
 ghost use Rattle.std.specs.Prelude.{◌≡◌, ◌≤◌, ◌==◌, Bool, IfOk, IfSome, map};
 ghost use Rattle.lh_shards.specs.Hands.{IsCount};
 ghost use Rattle.lh_options.specs.Options.{IsServable};
+ghost use Rattle.lh_subcommands.specs.Run.{Ends};
 ghost use Rattle.lhash.specs.Serving.{EndsDrivingIn, IsHelped, IsPerformed, IsPerformedOn, IsRun, IsRunOn};
-ghost use Rattle.lhash.specs.Serving.{IsWhetherApart, IsWhetherImageAsked, IsWordsOf, wanted_version};
+ghost use Rattle.lhash.specs.Serving.{IsWhetherApart, IsWhetherImageAsked, IsWordsOf, dumped_due, wanted_version};
 
 use crate::drive::answer_drive;
 use crate::drive_shards::answer_drive_shards;
 use lh_addr::Config;
 use lh_image::Version;
-use lh_options::{ImageVersion, Request, request_of};
+use lh_options::{DumpFormat, ImageVersion, Request, request_of};
 use lh_subcommands::{
-    DeviceFault, Status, answer_apply, answer_apply_to, answer_build, answer_check,
-    answer_commands, answer_draw, answer_dump, answer_get, answer_migrate, answer_query,
-    answer_query_of, answer_replay, answer_serve, answer_serve_from, answer_serve_of, answer_steps,
-    write_all,
+    DeviceFault, Status, StreamFormat, answer_apply, answer_apply_to, answer_build, answer_check,
+    answer_commands, answer_draw, answer_dump, answer_export, answer_get, answer_load,
+    answer_migrate, answer_query, answer_query_of, answer_replay, answer_serve, answer_serve_from,
+    answer_serve_of, answer_steps, write_all,
 };
 use std::alloc::{AllocError, Global};
 use std::io::{Read, Write};
@@ -74,6 +75,23 @@ fn drive<A: Threads + Wait + Sync, R: Read, W: Write>(
     }
 }
 
+/// Writes the records of an image in a format.
+fn dump<R: Read, W: Write>(
+    alloc: Global,
+    format: DumpFormat,
+    reader: &mut R,
+    writer: &mut W,
+) -> Status
+    ensures { IfSome (R.remaining reader.old) (λ input.
+        Ends result (dumped_due format input) (W.contents writer.old) (W.contents writer.new)) }
+{
+    match format {
+        DumpFormat::Lines => answer_dump(alloc, reader, writer),
+        DumpFormat::Cdb => answer_export(alloc, StreamFormat::Cdb, reader, writer),
+        DumpFormat::Db => answer_export(alloc, StreamFormat::Db, reader, writer),
+    }
+}
+
 /// Does what is asked for.
 fn serve<A: Threads + Wait + Sync, R: Read, W: Write>(
     rt: &A,
@@ -93,8 +111,11 @@ fn serve<A: Threads + Wait + Sync, R: Read, W: Write>(
         Request::Build(config, version) => {
             answer_build(alloc, config, version_of(version), reader, writer)
         },
+        Request::Load(config, version) => {
+            answer_load(alloc, config, version_of(version), reader, writer)
+        },
         Request::Check => answer_check(alloc, reader, writer),
-        Request::Dump => answer_dump(alloc, reader, writer),
+        Request::Dump(format) => dump(alloc, format, reader, writer),
         Request::Draw => answer_draw(alloc, reader, writer),
         Request::Migrate => answer_migrate(alloc, reader, writer),
         Request::Query => answer_query(alloc, reader, writer),
@@ -167,6 +188,7 @@ pub fn asks_for_image<'a>(alloc: Global, words: &'a [&'a str]) -> Result<bool, A
 {
     match request_of(alloc, words)? {
         Request::Build(..) => Ok(true),
+        Request::Load(..) => Ok(true),
         Request::Migrate => Ok(true),
         Request::Apply(_) => Ok(true),
         _ => Ok(false),

@@ -46,6 +46,7 @@ enum Side {
 fn side_of(status: &Status, is_apart: bool, has_failed: bool) -> Option<Side> {
     match status {
         Status::Input(InputFault::Image(_)) => Some(Side::Input),
+        Status::Input(InputFault::Load(_)) => Some(Side::Input),
         Status::Input(InputFault::Script(_)) if !is_apart => Some(Side::Input),
         Status::Input(InputFault::Unwritten(_)) => Some(Side::Output),
         Status::Device(DeviceFault::Read) if has_failed => Some(Side::Input),

@@ -6,6 +6,7 @@ mod drive;
 mod drive_shards;
 mod get;
 mod images;
+mod load;
 mod memory;
 mod replay;
 mod serve;

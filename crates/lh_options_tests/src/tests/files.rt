@@ -36,6 +36,17 @@ const ROWS: &[Row] = &[
     ),
     (&["lhash", "build", "-o", "b.lhf"], None, Some("b.lhf")),
     (
+        &["lhash", "load", "in.cdb", "-o", "out.lhf"],
+        Some("in.cdb"),
+        Some("out.lhf"),
+    ),
+    (&["lhash", "load", "-", "-o", "-"], None, None),
+    (
+        &["lhash", "dump", "--format", "cdb", "a.lhf"],
+        Some("a.lhf"),
+        None,
+    ),
+    (
         &["lhash", "build", "-ob.lhf", "a.txt"],
         Some("a.txt"),
         Some("b.lhf"),
@@ -68,6 +79,7 @@ const ROWS: &[Row] = &[
         None,
     ),
     (&["lhash", "build", "a.txt", "--image=+1"], None, None),
+    (&["lhash", "dump", "--format", "csv", "a.lhf"], None, None),
     (&["lhash", "get", "a.lhf"], None, None),
     (&["lhash", "a.txt"], None, None),
     (&["lhash", "check", "a.lhf", "--help"], None, None),

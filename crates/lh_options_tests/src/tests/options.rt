@@ -1,7 +1,7 @@
 //! Requests of words that are written out.
 use lh_addr::Config;
 use lh_expect::{expect, expect_eq};
-use lh_options::{ImageVersion, Request, request_of};
+use lh_options::{DumpFormat, ImageVersion, Request, request_of};
 use std::alloc::AllocError;
 use std::process::Abort;
 
@@ -17,6 +17,11 @@ fn answer(rt: &(impl Abort + AllocGlobal), words: &[&str]) -> Result<String, All
             let settings = settings(rt, &config)?;
             let version = text_of(version);
             format!(in alloc; "{settings}, {version}")
+        }
+        Request::Load(config, version) => {
+            let settings = settings(rt, &config)?;
+            let version = text_of(version);
+            format!(in alloc; "load {settings}, {version}")
         }
         Request::Serve(config) => {
             let settings = settings(rt, &config)?;
@@ -34,7 +39,10 @@ fn answer(rt: &(impl Abort + AllocGlobal), words: &[&str]) -> Result<String, All
             )
         }
         Request::Check => String::from_str(alloc, "check"),
-        Request::Dump => String::from_str(alloc, "dump"),
+        Request::Dump(format) => {
+            let format = name_of(format);
+            format!(in alloc; "dump, {format}")
+        }
         Request::Draw => String::from_str(alloc, "draw"),
         Request::Migrate => String::from_str(alloc, "migrate"),
         Request::Query => String::from_str(alloc, "query"),
@@ -66,6 +74,14 @@ fn text_of(version: ImageVersion) -> &'static str {
     match version {
         ImageVersion::First => "version 1",
         ImageVersion::Second => "version 2",
+    }
+}
+
+fn name_of(format: DumpFormat) -> &'static str {
+    match format {
+        DumpFormat::Lines => "lines",
+        DumpFormat::Cdb => "cdb",
+        DumpFormat::Db => "db",
     }
 }
 
@@ -412,6 +428,97 @@ fn an_image_is_of_version_1_or_2(rt: HostRuntime) -> Result<(), AllocError> {
 }
 
 #[test]
+fn load_takes_the_options_of_build(rt: HostRuntime) -> Result<(), AllocError> {
+    gives(
+        &rt,
+        ["lhash", "load"].as_slice(),
+        "load 1 14 100 65536, version 2",
+    )?;
+    gives(
+        &rt,
+        [
+            "lhash",
+            "load",
+            "--initial=3",
+            "--capacity",
+            "2",
+            "--load=80",
+            "--max",
+            "9",
+            "--image=1",
+            "in.cdb",
+            "-o",
+            "out.lhf",
+        ]
+        .as_slice(),
+        "load 3 2 80 9, version 1",
+    )?;
+    gives(
+        &rt,
+        ["lhash", "load", "--initial=8", "--max=7"].as_slice(),
+        "max is below initial",
+    )?;
+    gives(
+        &rt,
+        ["lhash", "load", "--image=3"].as_slice(),
+        "refused: invalid value '3' for '--image <image>': 3 is not in 1..=2",
+    )?;
+    gives(
+        &rt,
+        ["lhash", "load", "--capacity=+2"].as_slice(),
+        "refused: numbers have no sign",
+    )?;
+    gives(
+        &rt,
+        ["lhash", "load", "--format=cdb"].as_slice(),
+        "refused: unexpected argument '--format' found",
+    )?;
+    gives(
+        &rt,
+        ["lhash", "load", "a.cdb", "b.cdb"].as_slice(),
+        "refused: unexpected argument 'b.cdb' found",
+    )
+}
+
+#[test]
+fn dump_has_a_format_of_three(rt: HostRuntime) -> Result<(), AllocError> {
+    gives(&rt, ["lhash", "dump"].as_slice(), "dump, lines")?;
+    gives(
+        &rt,
+        ["lhash", "dump", "--format=lines", "a.lhf"].as_slice(),
+        "dump, lines",
+    )?;
+    gives(
+        &rt,
+        ["lhash", "dump", "a.lhf", "--format", "cdb"].as_slice(),
+        "dump, cdb",
+    )?;
+    gives(&rt, ["lhash", "dump", "--format=db"].as_slice(), "dump, db")?;
+    for word in ["csv", "CDB", "cdb ", "l", "line", ""] {
+        gives(
+            &rt,
+            ["lhash", "dump", "--format", word].as_slice(),
+            "refused: --format is lines, cdb or db",
+        )?;
+    }
+    gives(
+        &rt,
+        ["lhash", "dump", "--format"].as_slice(),
+        "refused: a value is required for '--format <FORMAT>' but none was supplied",
+    )?;
+    gives(
+        &rt,
+        ["lhash", "dump", "--format=db", "--format=db"].as_slice(),
+        "refused: the argument '--format <FORMAT>' cannot be used multiple times",
+    )?;
+    gives(
+        &rt,
+        ["lhash", "check", "--format", "cdb"].as_slice(),
+        "refused: unexpected argument '--format' found",
+    )
+}
+
+#[test]
 fn what_goes_on_from_an_image_takes_no_settings(rt: HostRuntime) -> Result<(), AllocError> {
     gives(&rt, ["lhash", "query"].as_slice(), "query")?;
     gives(
@@ -607,4 +714,25 @@ fn a_reason_is_told_whole(rt: HostRuntime) -> Result<(), AllocError> {
         ["--help=x"].as_slice(),
         "refused: unexpected value 'x' for '--help' found; no more were expected",
     )
+}
+
+/// An example of each form of a dump, and the three formats.
+#[test]
+fn help_shows_the_forms_of_records(rt: HostRuntime) -> Result<(), AllocError> {
+    let load = told(&rt, ["lhash", "load", "--help"].as_slice())?;
+    for part in [
+        "\n  +3,4:ada->0172\n\n",
+        "\n  HEADER=END\n   616461\n   30313732\n  DATA=END\n\n",
+        "\nExample: lhash load users.dump -o users.lhf\n",
+    ] {
+        expect!(&rt, load.as_str().contains(part));
+    }
+    let dump = told(&rt, ["lhash", "dump", "--help"].as_slice())?;
+    for part in [
+        "  --format <FORMAT>  Form of the records: lines, cdb or db [default: lines]\n",
+        "\nExample: lhash dump users.lhf --format cdb | cdb -c users.cdb\n",
+    ] {
+        expect!(&rt, dump.as_str().contains(part));
+    }
+    Ok(())
 }

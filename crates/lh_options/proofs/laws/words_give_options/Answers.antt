@@ -18,89 +18,120 @@ use Rattle.lh_options.specs.OptionLaws.{query_alone, replay_given, shards_given,
 use Rattle.lh_options.specs.OptionLaws.{shards_zero, snapshots_given, snapshots_of_two_shards, snapshots_over_limit}
 use Rattle.lh_options.specs.OptionLaws.{snapshots_with_minus, steps_given, third_image, threads_over_limit}
 use Rattle.lh_options.specs.OptionLaws.{threads_zero, unknown_option, serve_given}
+use Rattle.lh_options.specs.OptionLaws.{GivesDump, GivesLoad, RefusesMax, check_with_format, dump_as_cdb, dump_as_csv}
+use Rattle.lh_options.specs.OptionLaws.{dump_as_db, load_alone, load_files_given, load_given, load_max_below_initial}
+use Rattle.lh_options.specs.declared.dump_format.DumpFormat.TheVariants.{Cdb, Db, Lines}
 use Rattle.lh_options.specs.declared.options.ImageVersion.TheVariants.{First, Second}
-use Rattle.lh_options.specs.Options.{Accepts, Asks, AsksForHelp, settings_given, subcommand_named}
+use Rattle.lh_options.specs.Options.{Accepts, Asks, AsksForHelp, asked_by, settings_given, subcommand_named}
 use Rattle.lh_options.proofs.laws.words_give_options.Goals as goal
 
 left_out : GivesCommands no_options (record { initial = 1; capacity = 14; load = 100; max = 65536 })
 unfolding clap_on_literals Accepts settings_given subcommand_named
-left_out = (((refl, refl), refl), refl)
+left_out = (((refl, refl, refl), refl), refl)
 
 given : GivesCommands max_given (record { initial = 3; capacity = 14; load = 100; max = 7 })
 unfolding clap_on_literals Accepts settings_given subcommand_named
-given = (((refl, refl), refl), refl)
+given = (((refl, refl, refl), refl), refl)
 
 below : GivesCommands max_below_initial (record { initial = 8; capacity = 14; load = 100; max = 7 })
 unfolding clap_on_literals Accepts settings_given subcommand_named
-below = (((refl, refl), refl), refl)
+below = (((refl, refl, refl), refl), refl)
 
 steps : GivesSteps steps_given (record { initial = 1; capacity = 2; load = 200; max = 65536 })
 unfolding clap_on_literals Accepts settings_given subcommand_named
-steps = (((refl, refl), refl), refl)
+steps = (((refl, refl, refl), refl), refl)
 
 replay : GivesReplay replay_given (record { initial = 9; capacity = 14; load = 100; max = 9 })
 unfolding clap_on_literals Accepts settings_given subcommand_named
-replay = (((refl, refl), refl), refl)
+replay = (((refl, refl, refl), refl), refl)
 
 build : GivesBuild build_given (record { initial = 1; capacity = 14; load = 100; max = 1 }) Second
 unfolding clap_on_literals Accepts settings_given subcommand_named
-build = (((refl, refl), refl), refl, refl)
+build = (((refl, refl, refl), refl), refl, refl)
 
 first : GivesBuild first_image_given (record { initial = 1; capacity = 14; load = 100; max = 65536 }) First
 unfolding clap_on_literals Accepts settings_given subcommand_named
-first = (((refl, refl), refl), refl, refl)
+first = (((refl, refl, refl), refl), refl, refl)
+
+load : GivesLoad load_alone (record { initial = 1; capacity = 14; load = 100; max = 65536 }) Second
+unfolding clap_on_literals Accepts settings_given subcommand_named
+load = (((refl, refl, refl), refl), refl, refl)
+
+load_settings : GivesLoad load_given (record { initial = 1; capacity = 2; load = 100; max = 9 }) First
+unfolding clap_on_literals Accepts settings_given subcommand_named
+load_settings = (((refl, refl, refl), refl), refl, refl)
+
+load_below : RefusesMax load_max_below_initial
+unfolding clap_on_literals Accepts asked_by settings_given subcommand_named
+load_below = ((refl, refl, refl), refl)
 
 migrate : Asks migrate_alone (codes "migrate")
 unfolding clap_on_literals Accepts subcommand_named
-migrate = ((refl, refl), refl)
+migrate = ((refl, refl, refl), refl)
 
 drive : GivesDrive drive_given (record { initial = 3; capacity = 14; load = 100; max = 65536 }) 64 1 0
 unfolding clap_on_literals Accepts settings_given subcommand_named
-drive = (((refl, refl), refl), refl, refl, refl, refl)
+drive = (((refl, refl, refl), refl), refl, refl, refl, refl)
 
 drive_left_out : GivesDrive drive_alone (record { initial = 1; capacity = 14; load = 100; max = 65536 }) 4 1 0
 unfolding clap_on_literals Accepts settings_given subcommand_named
-drive_left_out = (((refl, refl), refl), refl, refl, refl, refl)
+drive_left_out = (((refl, refl, refl), refl), refl, refl, refl, refl)
 
 shards : GivesDrive shards_given (record { initial = 1; capacity = 14; load = 100; max = 65536 }) 2 64 0
 unfolding clap_on_literals Accepts settings_given subcommand_named
-shards = (((refl, refl), refl), refl, refl, refl, refl)
+shards = (((refl, refl, refl), refl), refl, refl, refl, refl)
 
 snapshots : GivesDrive snapshots_given (record { initial = 1; capacity = 14; load = 100; max = 65536 }) 4 1 1000
 unfolding clap_on_literals Accepts settings_given subcommand_named
-snapshots = (((refl, refl), refl), refl, refl, refl, refl)
+snapshots = (((refl, refl, refl), refl), refl, refl, refl, refl)
 
 of_shards : GivesDrive snapshots_of_two_shards (record { initial = 1; capacity = 14; load = 100; max = 65536 }) 4 2 1
 unfolding clap_on_literals Accepts settings_given subcommand_named
-of_shards = (((refl, refl), refl), refl, refl, refl, refl)
+of_shards = (((refl, refl, refl), refl), refl, refl, refl, refl)
 
 check : Asks check_alone (codes "check")
 unfolding clap_on_literals Accepts subcommand_named
-check = ((refl, refl), refl)
+check = ((refl, refl, refl), refl)
 
-dump : Asks dump_alone (codes "dump")
+dump : GivesDump dump_alone Lines
 unfolding clap_on_literals Accepts subcommand_named
-dump = ((refl, refl), refl)
+dump = (((refl, refl, refl), refl), refl)
+
+dump_cdb : GivesDump dump_as_cdb Cdb
+unfolding clap_on_literals Accepts subcommand_named
+dump_cdb = (((refl, refl, refl), refl), refl)
+
+dump_db : GivesDump dump_as_db Db
+unfolding clap_on_literals Accepts subcommand_named
+dump_db = (((refl, refl, refl), refl), refl)
+
+no_csv : Refuses dump_as_csv
+unfolding clap_on_literals Accepts
+no_csv = λ e. false≢true e.2
+
+no_format : Refuses check_with_format
+unfolding clap_on_literals Accepts
+no_format = λ e. false≢true (ap is_empty e.0)
 
 draw : Asks draw_alone (codes "draw")
 unfolding clap_on_literals Accepts subcommand_named
-draw = ((refl, refl), refl)
+draw = ((refl, refl, refl), refl)
 
 query : Asks query_alone (codes "query")
 unfolding clap_on_literals Accepts subcommand_named
-query = ((refl, refl), refl)
+query = ((refl, refl, refl), refl)
 
 apply : GivesApply apply_alone Second
 unfolding clap_on_literals Accepts subcommand_named
-apply = (((refl, refl), refl), refl)
+apply = (((refl, refl, refl), refl), refl)
 
 first_applied : GivesApply first_image_applied First
 unfolding clap_on_literals Accepts subcommand_named
-first_applied = (((refl, refl), refl), refl)
+first_applied = (((refl, refl, refl), refl), refl)
 
 get : GivesGet get_given (Some (codes "users.lhf")) (codes "616461" ∷ codes "626f62" ∷ [])
 unfolding clap_on_literals Accepts subcommand_named
-get = (((refl, refl), refl), refl, refl)
+get = (((refl, refl, refl), refl), refl, refl)
 
 without_key : Refuses get_without_key
 unfolding clap_on_literals Accepts
@@ -112,15 +143,15 @@ get_without_settings = λ e. false≢true (ap is_empty e.0)
 
 serve : GivesServe serve_given (record { initial = 2; capacity = 1; load = 100; max = 65536 })
 unfolding clap_on_literals Accepts settings_given subcommand_named
-serve = (((refl, refl), refl), refl, refl)
+serve = (((refl, refl, refl), refl), refl, refl)
 
 serve_image : GivesServeImage image_served false
 unfolding clap_on_literals Accepts subcommand_named
-serve_image = (((refl, refl), refl), refl, refl)
+serve_image = (((refl, refl, refl), refl), refl, refl)
 
 beside_image : GivesServeImage max_beside_image true
 unfolding clap_on_literals Accepts subcommand_named
-beside_image = (((refl, refl), refl), refl, refl)
+beside_image = (((refl, refl, refl), refl), refl, refl)
 
 without_settings : Refuses apply_with_setting
 unfolding clap_on_literals Accepts
@@ -200,27 +231,31 @@ unknown = λ e. false≢true (ap is_empty e.0)
 
 file : GivesFiles file_given (Some (codes "users.lhf")) None
 unfolding clap_on_literals Accepts
-file = ((refl, refl), refl, refl)
+file = ((refl, refl, refl), refl, refl)
 
 stream : GivesFiles stream_given None None
 unfolding clap_on_literals Accepts
-stream = ((refl, refl), refl, refl)
+stream = ((refl, refl, refl), refl, refl)
 
 files : GivesFiles files_given (Some (codes "old.lhf")) (Some (codes "new.lhf"))
 unfolding clap_on_literals Accepts
-files = ((refl, refl), refl, refl)
+files = ((refl, refl, refl), refl, refl)
+
+load_files : GivesFiles load_files_given (Some (codes "in.cdb")) (Some (codes "out.lhf"))
+unfolding clap_on_literals Accepts
+load_files = ((refl, refl, refl), refl, refl)
 
 output : GivesFiles output_given None (Some (codes "new.lhf"))
 unfolding clap_on_literals Accepts
-output = ((refl, refl), refl, refl)
+output = ((refl, refl, refl), refl, refl)
 
 image_file : GivesFiles image_file_served (Some (codes "users.lhf")) None
 unfolding clap_on_literals Accepts
-image_file = ((refl, refl), refl, refl)
+image_file = ((refl, refl, refl), refl, refl)
 
 image_and_file : GivesServeImage image_file_served false
 unfolding clap_on_literals Accepts subcommand_named
-image_and_file = (((refl, refl), refl), refl, refl)
+image_and_file = (((refl, refl, refl), refl), refl, refl)
 
 second_file : Refuses two_files
 unfolding clap_on_literals Accepts
@@ -247,6 +282,9 @@ returns c = record {
   replay = replay;
   build = build;
   first = first;
+  load = load;
+  load_settings = load_settings;
+  load_below = load_below;
   migrate = migrate;
   drive = drive;
   drive_left_out = drive_left_out;
@@ -255,6 +293,10 @@ returns c = record {
   of_shards = of_shards;
   check = check;
   dump = dump;
+  dump_cdb = dump_cdb;
+  dump_db = dump_db;
+  no_csv = no_csv;
+  no_format = no_format;
   draw = draw;
   query = query;
   apply = apply;
@@ -287,6 +329,7 @@ returns c = record {
   file = file;
   stream = stream;
   files = files;
+  load_files = load_files;
   output = output;
   image_file = image_file;
   image_and_file = image_and_file;

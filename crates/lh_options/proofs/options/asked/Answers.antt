@@ -7,7 +7,9 @@ pub returns-in-check-clause-value : goal.returns-in-check-clause-value
 returns-in-check-clause-value c = check _ _ _ _ _ _ c.in-check.is (c.requires.none (inl c.in-check.is))
 
 pub returns-in-dump-clause-value : goal.returns-in-dump-clause-value
-returns-in-dump-clause-value c = dump _ _ _ _ _ _ c.in-dump.is (c.requires.none (inr (inl c.in-dump.is)))
+returns-in-dump-clause-value c =
+    dump _ _ _ _ _ _ c.in-dump.is (c.requires.none (inr (inl c.in-dump.is)))
+    ∙ ap (λ format. Some (request.Dump format)) (sym c.format_in.ensures)
 
 pub returns-in-draw-clause-value : goal.returns-in-draw-clause-value
 returns-in-draw-clause-value c = draw _ _ _ _ _ _ c.in-draw.is (c.requires.none (inr (inr (inl c.in-draw.is))))

@@ -2,7 +2,7 @@ use Rattle.std.proofs.Common.{◌≡◌, ◌∙◌, ℕ, Bool, List, Option, Non
 use Rattle.std.proofs.lemmas.Bool.{lt-ltb}
 use Rattle.clap.specs.Walk.{Text}
 use Rattle.lh_addr.specs.Settings.{Settings}
-use Rattle.lh_options.specs.AskingLaws.{build, commands, drive_by, out_of_order, replay, serve, serve_by, steps}
+use Rattle.lh_options.specs.AskingLaws.{build, commands, drive_by, load, out_of_order, replay, serve, serve_by, steps}
 use Rattle.lh_options.specs.OptionSteps.{IsFileCommand}
 use Rattle.lh_options.specs.Options.{IsMaxBelowInitial, asked_by, serve_asked}
 use Rattle.lh_options.specs.declared.options.Request.TheVariants as request
@@ -18,20 +18,22 @@ serve-refuses (Some s) image typed none below =
 
 -- so does each subcommand with the options of a file's settings
 file-refuses : (name : Text) (settings : Option Settings) (numbers : Text → Option ℕ) (image typed : Bool)
-    (keys : List Text) →
+    (texts : Text → List Text) →
     IsFileCommand name → (name ≡ codes "serve" → image ≡ false) → IsMaxBelowInitial settings →
-    asked_by name settings numbers image typed keys ≡ Some request.MaxBelowInitial
-file-refuses name settings numbers image typed keys (inl n) none below = out_of_order _ _ _ _ _ _ (inl n) below
-file-refuses name settings numbers image typed keys (inr (inl n)) none below = out_of_order _ _ _ _ _ _
+    asked_by name settings numbers image typed texts ≡ Some request.MaxBelowInitial
+file-refuses name settings numbers image typed texts (inl n) none below = out_of_order _ _ _ _ _ _ (inl n) below
+file-refuses name settings numbers image typed texts (inr (inl n)) none below = out_of_order _ _ _ _ _ _
     (inr (inl n)) below
-file-refuses name settings numbers image typed keys (inr (inr (inl n))) none below =
+file-refuses name settings numbers image typed texts (inr (inr (inl n))) none below =
     out_of_order _ _ _ _ _ _ (inr (inr (inl n))) below
-file-refuses name settings numbers image typed keys (inr (inr (inr (inl n)))) none below =
+file-refuses name settings numbers image typed texts (inr (inr (inr (inl n)))) none below =
     out_of_order _ _ _ _ _ _ (inr (inr (inr (inl n)))) below
-file-refuses name settings numbers image typed keys (inr (inr (inr (inr (inl n))))) none below =
-    out_of_order _ _ _ _ _ _ (inr (inr (inr (inr n)))) below
-file-refuses name settings numbers image typed keys (inr (inr (inr (inr (inr n))))) none below =
-    serve_by name settings numbers image typed keys n ∙ serve-refuses settings image typed (none n) below
+file-refuses name settings numbers image typed texts (inr (inr (inr (inr (inl n))))) none below =
+    out_of_order _ _ _ _ _ _ (inr (inr (inr (inr (inl n))))) below
+file-refuses name settings numbers image typed texts (inr (inr (inr (inr (inr (inl n)))))) none below =
+    serve_by name settings numbers image typed texts n ∙ serve-refuses settings image typed (none n) below
+file-refuses name settings numbers image typed texts (inr (inr (inr (inr (inr (inr n)))))) none below =
+    out_of_order _ _ _ _ _ _ (inr (inr (inr (inr (inr n))))) below
 
 pub returns-in_default-clause-value : goal.returns-in_default-clause-value
 returns-in_default-clause-value c =
@@ -48,6 +50,11 @@ returns-in-steps-clause-value c =
 pub returns-in-build-clause-value : goal.returns-in-build-clause-value
 returns-in-build-clause-value c =
     build _ _ _ _ _ _ _ _ c.in-build.is c.in-Some.ensures.some c.version_in.ensures c.in-Some.ensures.in_range.max.0
+
+pub returns-in-load-clause-value : goal.returns-in-load-clause-value
+returns-in-load-clause-value c =
+    load _ _ _ _ _ _ _ _ c.in-load.is c.in-Some.ensures.some c.version_in-in-load.ensures
+    c.in-Some.ensures.in_range.max.0
 
 pub returns-in-drive-clause-value : goal.returns-in-drive-clause-value
 returns-in-drive-clause-value c =

@@ -1,19 +1,11 @@
-use Rattle.std.proofs.Common.{◌≡◌, ◌∙◌, Bool, true, false, not, map, refl, sym, rules}
+use Rattle.std.proofs.Common.{map}
 use Rattle.std.proofs.lemmas.Result.{IfOk-weaker}
 use Rattle.clap.specs.Words.{found_of, rows_of}
 use Rattle.lh_options.proofs.Accepted.{entered-applied, entered-drive, entered-image, entered-named, entered-none}
 use Rattle.lh_options.proofs.Accepted.{entered-settings}
-use Rattle.lh_options.proofs.Requests.{asked-answers, entered-from, failed-from, refusal-answers, refusal-servable}
-use Rattle.lh_options.proofs.Requests.{signed-answers, signed-servable}
+use Rattle.lh_options.proofs.Requests.{asked-answers, entered-from, failed-from, miswritten-answers, refusal-answers}
+use Rattle.lh_options.proofs.Requests.{refusal-servable}
 use Rattle.lh_options.proofs.options.request_of.Goals as goal
-
-is-false : (b : Bool) → not b ≡ true → b ≡ false
-is-false true e = sym e
-is-false false e = refl
-
-is-true : (b : Bool) → not b ≡ false → b ≡ true
-is-true true e = refl
-is-true false e = sym e
 
 pub asked-requires-clause-named : goal.asked-requires-clause-named
 asked-requires-clause-named c =
@@ -72,29 +64,24 @@ returns-in-Err-clause-answers c =
 pub returns-in-Err-clause-servable : goal.returns-in-Err-clause-servable
 returns-in-Err-clause-servable c = IfOk-weaker c.refusal.result _ _ (refusal-servable _) c.refusal.ensures
 
-pub returns-then-not-are_in_digits-clause-answers : goal.returns-then-not-are_in_digits-clause-answers
-returns-then-not-are_in_digits-clause-answers c =
+pub returns-in-Some-objection_to-clause-answers : goal.returns-in-Some-objection_to-clause-answers
+returns-in-Some-objection_to-clause-answers c =
     let words = map (λ s. s.now) c.args.words.now in
     let name = c.in-Some.name.now in
     let rows = rows_of (found_of c.in-Some.matches.now) in
     let entered = entered-from _ c.in-Ok.matches words name rows
     c.in_ok-program.ensures.0 c.in-Ok.ensures.kinds c.in-Ok.ensures.matches c.in-Some.ensures.name
     c.in-Some.ensures.rows in
-    let digits : c.are_in_digits.result ≡ false = search (rules, is-false) in
-    IfOk-weaker c.signed.result _ _
-    (λ r h. signed-answers words name rows r entered (sym c.are_in_digits.ensures ∙ digits) h) c.signed.ensures
+    IfOk-weaker c.refused.result _ _
+    (λ r h. miswritten-answers words name rows r entered c.in-Some-objection_to.ensures.some.1 h) c.refused.ensures
 
-pub returns-else-not-are_in_digits-clause-answers : goal.returns-else-not-are_in_digits-clause-answers
-returns-else-not-are_in_digits-clause-answers c =
+pub returns-in-Some-clause-answers : goal.returns-in-Some-clause-answers
+returns-in-Some-clause-answers c =
     let words = map (λ s. s.now) c.args.words.now in
     let name = c.in-Some.name.now in
     let rows = rows_of (found_of c.in-Some.matches.now) in
     let entered = entered-from _ c.in-Ok.matches words name rows
     c.in_ok-program.ensures.0 c.in-Ok.ensures.kinds c.in-Ok.ensures.matches c.in-Some.ensures.name
     c.in-Some.ensures.rows in
-    let digits : c.are_in_digits.result ≡ true = search (rules, is-true) in
     IfOk-weaker c.asked.result _ _
-    (λ r h. asked-answers words name rows r entered (sym c.are_in_digits.ensures ∙ digits) h) c.asked.ensures.value
-
-pub returns-then-not-are_in_digits-clause-servable : goal.returns-then-not-are_in_digits-clause-servable
-returns-then-not-are_in_digits-clause-servable c = IfOk-weaker c.signed.result _ _ signed-servable c.signed.ensures
+    (λ r h. asked-answers words name rows r entered c.in-None-objection_to.ensures.none h) c.asked.ensures.value

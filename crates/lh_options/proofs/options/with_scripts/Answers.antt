@@ -12,4 +12,4 @@ returns c =
     let third =
     subcommand-reads _ _ _ _ replay_app c.in_ok-subcommand-3.ensures second c.in_ok-writing_command.ensures in
     IfOk-weaker c.subcommand-4.result _ _
-    (λ m h. subcommand-reads _ _ m _ build_app h third c.in_ok-build_command.ensures) c.subcommand-4.ensures
+    (λ m h. subcommand-reads _ _ m _ build_app h third c.in_ok-building_command.ensures) c.subcommand-4.ensures

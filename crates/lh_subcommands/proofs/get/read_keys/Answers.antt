@@ -3,7 +3,6 @@ use Rattle.std.specs.Prelude.{Err, Ok}
 use Rattle.std.specs.String.{string_bytes}
 use Rattle.lh_script.specs.Operands.{key}
 use Rattle.lh_subcommands.specs.Get.{word_key, key_or, keys_of, placed_from}
-use Rattle.lh_subcommands.specs.declared.get.NoKey.{NoKey}
 use Rattle.lh_subcommands.proofs.Getting.{AreMade, made-all, made-error, made-more, placed-at, placed-end}
 use Rattle.lh_subcommands.proofs.get.read_keys.Goals as goal
 

@@ -10,6 +10,9 @@ returns-in-Commands g c = served_as c.in-Commands.is _ _ _ _ _ c.answer_commands
 pub returns-in-Build : goal.returns-in-Build
 returns-in-Build g c = served_as c.in-Build.is _ _ _ _ _ (rw c.version_of.ensures at c.answer_build.ensures)
 
+pub returns-in-Load : goal.returns-in-Load
+returns-in-Load g c = served_as c.in-Load.is _ _ _ _ _ (rw c.version_of-in-Load.ensures at c.answer_load.ensures)
+
 pub returns-in-Check : goal.returns-in-Check
 returns-in-Check g c = served_as c.in-Check.is _ _ _ _ _ c.answer_check.ensures
 
@@ -32,7 +35,7 @@ returns-in-Help g c = served_as c.in-Help.is _ _ _ _ _ (
 )
 
 pub returns-in-Dump : goal.returns-in-Dump
-returns-in-Dump g c = served_as c.in-Dump.is _ _ _ _ _ search
+returns-in-Dump g c = served_as c.in-Dump.is _ _ _ _ _ c.dump.ensures
 
 pub returns-in-MaxBelowInitial : goal.returns-in-MaxBelowInitial
 returns-in-MaxBelowInitial g c = served_as c.in-MaxBelowInitial.is _ _ _ _ _ (search Keeps-refl)
