@@ -1,2 +1,3 @@
 pub mod Sessions
 pub mod Histories
+pub mod Rooms

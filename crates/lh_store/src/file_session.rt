@@ -6,12 +6,14 @@ ghost use Rattle.lh_store.specs.Histories.{IsOneHistory};
 ghost use Rattle.lh_store.specs.Sessions.{no_state};
 
 use crate::fault::CallFault;
+use crate::room::{check_room, fitting};
 use crate::session::Session;
 use crate::store::Store;
 use crate::threads::ThreadSession;
 use lh_file::laws::hands_keep_their_shares;
 use lh_file::{
-    BucketCopy, Compared, FileBrand, FileFault, Hand, HashFile, Memory, Mode, NoGate, Scan,
+    BucketCopy, Compared, FileBrand, FileFault, Hand, Memory, Mode, NoGate, Scan, SizedFile,
+    WIDEST_ROOM,
 };
 use lh_page::{Key, Value};
 use std::alloc::Global;
@@ -43,17 +45,22 @@ impl SessionName for Unnamed {
     ghost state = { no_state };
 }
 
-/// A session of one file: the file, a hand of it, and the runtime.
+/// A session of a file whose records have room for every key and every value.
+pub type FileSession<'a, R, M, J, B> = SizedSession<'a, R, M, J, B, WIDEST_ROOM>;
+
+/// A session of one file: the file, a hand of it, and the runtime. Each record has `ROOM` bytes for its key and its value
+/// together.
 #[derive(Drop)]
-pub struct FileSession<'a, R: Wait, M: Mode, J: FileBrand, B: SessionName> {
+pub struct SizedSession<'a, R: Wait, M: Mode, J: FileBrand, B: SessionName, const ROOM: usize> {
     rt: &'a R,
     alloc: Global,
-    file: &'a HashFile<NoGate, M, J>,
+    file: &'a SizedFile<NoGate, M, J, ROOM>,
     hand: Hand,
     name: PhantomData<B>,
 }
 
-impl<'a, R: Wait, M: Mode, J: FileBrand, B: SessionName> Model for FileSession<'a, R, M, J, B> {
+impl<'a, R: Wait, M: Mode, J: FileBrand, B: SessionName, const ROOM: usize> Model
+    for SizedSession<'a, R, M, J, B, ROOM> {
     ghost use Rattle.lh_store.specs.Sessions.{SessionState, IsSession};
 
     ghost Value = { SessionState };
@@ -63,20 +70,27 @@ impl<'a, R: Wait, M: Mode, J: FileBrand, B: SessionName> Model for FileSession<'
     ghost invariant = { λ own. IsSession M.traced B.is_named B.state own.file.now.state own.hand };
 }
 
-impl<'a, R: Wait, M: Mode, J: FileBrand, B: SessionName> FileSession<'a, R, M, J, B> {
+impl<'a, R: Wait, M: Mode, J: FileBrand, B: SessionName, const ROOM: usize> SizedSession<
+    'a,
+    R,
+    M,
+    J,
+    B,
+    ROOM,
+> {
     ghost use Rattle.lh_store.specs.Sessions.{IsSession};
 
     /// A session with this hand.
     pub(crate) fn new(
         rt: &'a R,
         alloc: Global,
-        file: &'a HashFile<NoGate, M, J>,
+        file: &'a SizedFile<NoGate, M, J, ROOM>,
         hand: Hand,
-    ) -> FileSession<'a, R, M, J, B>
+    ) -> SizedSession<'a, R, M, J, B, ROOM>
         requires { IsSession M.traced B.is_named B.state file.now.state hand }
         ensures { result ≡ record { file = file.now.state; hand = hand } }
     {
-        FileSession {
+        SizedSession {
             rt,
             alloc,
             file,
@@ -85,22 +99,17 @@ impl<'a, R: Wait, M: Mode, J: FileBrand, B: SessionName> FileSession<'a, R, M, J
         }
     }
 
-    /// A session for each of these hands.
-    pub(crate) fn of_hands(
-        rt: &'a R,
-        alloc: Global,
-        file: &'a HashFile<NoGate, M, J>,
-        hands: Vec<Hand>,
-    ) -> Result<Vec<FileSession<'a, R, M, J, B>>, Memory>
-        requires { All (IsSession M.traced B.is_named B.state file.now.state) hands.items }
+    /// A session of the same file for each of these hands.
+    pub(crate) fn beside(&self, hands: Vec<Hand>) -> Result<Vec<Self>, Memory>
+        requires { All (IsSession M.traced B.is_named B.state self.now.file) hands.items }
         ensures { IfOk result (λ sessions. length sessions.items ≡ length hands.items) }
     {
-        let mut sessions = Vec::with_capacity(alloc, hands.len())?;
+        let mut sessions = Vec::with_capacity(self.alloc, hands.len())?;
         for hand in hands {
-            sessions.push_reserved(FileSession {
-                rt,
-                alloc,
-                file,
+            sessions.push_reserved(SizedSession {
+                rt: self.rt,
+                alloc: self.alloc,
+                file: self.file,
                 hand,
                 name: PhantomData,
             });
@@ -144,7 +153,8 @@ impl<'a, R: Wait, M: Mode, J: FileBrand, B: SessionName> FileSession<'a, R, M, J
     }
 }
 
-impl<'a, R: Wait, M: Mode, J: FileBrand, B: SessionName> Session for FileSession<'a, R, M, J, B> {
+impl<'a, R: Wait, M: Mode, J: FileBrand, B: SessionName, const ROOM: usize> Session
+    for SizedSession<'a, R, M, J, B, ROOM> {
     ghost use Rattle.lh_file.specs.Calls.Served.{KnowsMore};
     ghost use Rattle.lh_store.specs.Histories.{IsLeftByAll};
     ghost use Rattle.lh_store.specs.Sessions.{IsMade, IsMet};
@@ -154,6 +164,8 @@ impl<'a, R: Wait, M: Mode, J: FileBrand, B: SessionName> Session for FileSession
     ghost met = { λ old call reply was new. IsMet M.traced old.hand call reply was new.hand };
 
     ghost idle = { λ old new. KnowsMore old.hand new.hand };
+
+    ghost room = { ROOM };
 
     ghost leaves = { λ own listing. IsLeftByAll M.traced own.file.listing listing };
 
@@ -172,12 +184,12 @@ impl<'a, R: Wait, M: Mode, J: FileBrand, B: SessionName> Session for FileSession
     }
 
     fn put(&mut self, key: &[u8], value: &[u8]) -> Result<bool, CallFault> {
-        let (key, value) = (Key::new(key)?, Value::new(value)?);
+        let (key, value) = fitting::<ROOM>(key, value)?;
         Ok(self.file.put(self.rt, &mut self.hand, &key, &value)?)
     }
 
     fn set(&mut self, key: &[u8], value: &[u8]) -> Result<bool, CallFault> {
-        let (key, value) = (Key::new(key)?, Value::new(value)?);
+        let (key, value) = fitting::<ROOM>(key, value)?;
         Ok(self.file.set(self.rt, &mut self.hand, &key, &value)?)
     }
 
@@ -187,12 +199,12 @@ impl<'a, R: Wait, M: Mode, J: FileBrand, B: SessionName> Session for FileSession
     }
 
     fn upsert(&mut self, key: &[u8], value: &[u8]) -> Result<bool, CallFault> {
-        let (key, value) = (Key::new(key)?, Value::new(value)?);
+        let (key, value) = fitting::<ROOM>(key, value)?;
         Ok(self.file.upsert(self.rt, &mut self.hand, &key, &value)?)
     }
 
     fn get_or_put(&mut self, key: &[u8], value: &[u8]) -> Result<Option<Value>, CallFault> {
-        let (key, value) = (Key::new(key)?, Value::new(value)?);
+        let (key, value) = fitting::<ROOM>(key, value)?;
         Ok(self.file.get_or_put(self.rt, &mut self.hand, &key, &value)?)
     }
 
@@ -201,22 +213,26 @@ impl<'a, R: Wait, M: Mode, J: FileBrand, B: SessionName> Session for FileSession
         Ok(self.file.take(self.rt, &mut self.hand, &key)?)
     }
 
-    fn update<F: FnOnce(&[u8]) -> Value + Drop>(
+    fn update_within<F: FnOnce(&[u8]) -> Value + Drop>(
         &mut self,
         key: &[u8],
+        most: usize,
         change: F,
     ) -> Result<bool, CallFault> {
         let key = Key::new(key)?;
+        check_room::<ROOM>(key.bytes().len() + most)?;
         Ok(self.file.update(self.rt, &mut self.hand, &key, change)?)
     }
 
-    fn merge<F: FnOnce(&[u8]) -> Value + Drop>(
+    fn merge_within<F: FnOnce(&[u8]) -> Value + Drop>(
         &mut self,
         key: &[u8],
         first: &[u8],
+        most: usize,
         next: F,
     ) -> Result<bool, CallFault> {
         let (key, first) = (Key::new(key)?, Value::new(first)?);
+        check_room::<ROOM>(key.bytes().len() + first.bytes().len().max(most))?;
         Ok(
             self.file
                 .merge(self.rt, &mut self.hand, &key, &first, next)?,
@@ -231,6 +247,7 @@ impl<'a, R: Wait, M: Mode, J: FileBrand, B: SessionName> Session for FileSession
     ) -> Result<Compared, CallFault> {
         let key = Key::new(key)?;
         let (expected, value) = (Value::new(expected)?, Value::new(value)?);
+        check_room::<ROOM>(key.bytes().len() + value.bytes().len())?;
         Ok(
             self.file
                 .compare_and_set(self.rt, &mut self.hand, &key, &expected, &value)?,
@@ -269,8 +286,8 @@ impl<'a, R: Wait, M: Mode, J: FileBrand, B: SessionName> Session for FileSession
     }
 }
 
-impl<'a, R: Wait, M: Mode, J: FileBrand, B: SessionName> ThreadSession
-    for FileSession<'a, R, M, J, B> {
+impl<'a, R: Wait, M: Mode, J: FileBrand, B: SessionName, const ROOM: usize> ThreadSession
+    for SizedSession<'a, R, M, J, B, ROOM> {
     ghost named = { B.is_named };
 
     fn alloc(&self) -> Global {
@@ -280,7 +297,7 @@ impl<'a, R: Wait, M: Mode, J: FileBrand, B: SessionName> ThreadSession
     fn divide(&mut self, threads: u32) -> Result<Vec<Self>, Memory> {
         let share = self.hand.left() / (u64::from(threads) + 1);
         match self.file.split_hands(&mut self.hand, threads, share) {
-            Ok(hands) => FileSession::of_hands(self.rt, self.alloc, self.file, hands),
+            Ok(hands) => self.beside(hands),
             Err(_) => Err(Memory),
         }
     }

@@ -1,79 +1,36 @@
-//! A file of small records, whose type says how much room each has: sessions by number, and words by name.
+//! A table of small records, whose type says how much room each has.
 #![tactic(auto)]
 
-ghost use Rattle.lh_file.specs.FileState.{IsOf};
+ghost use Rattle.std.specs.Prelude.{◌≤◌, length};
 
-use lh_addr::Config;
-use lh_file::{Hand, NoGate, SizedFile, Unbranded, Untraced};
-use lh_page::{Key, Value};
-use std::str;
-use std::sync::Wait;
-
-const WORDS: [(&str, &str); 2] = [("colour", "red"), ("colour of the door", "green")];
+use lh_store::{CallFault, Config, Session, SizedOpenStore, Value};
 
 /// Each record has 16 bytes for its key and its value together.
-type Small = SizedFile<NoGate, Untraced, Unbranded, 16>;
+type Small = SizedOpenStore<16>;
 
-/// Keeps when a session was seen last. Key and value have 8 bytes each, so they fit.
-fn note_session<R: Wait>(
-    rt: &R,
-    file: &Small,
-    hand: &mut Hand,
-    session: u64,
-    seen: u64,
-) -> anyhow::Result<()>
-    requires { IsOf file.now.state hand.old }
-    ensures { IsOf file.now.state hand.new }
+/// A counter that is one further.
+fn one_more(bytes: &[u8]) -> Value
+    ensures { length result ≤ 4 }
 {
-    let key = Key::new(&session.to_le_bytes())?;
-    let value = Value::new(&seen.to_le_bytes())?;
-    file.upsert(rt, hand, &key, &value)?;
-    Ok(())
-}
-
-/// Keeps a word under a name that somebody chose, where there is room for both: whether there was.
-fn note_word<R: Wait>(
-    rt: &R,
-    file: &Small,
-    hand: &mut Hand,
-    name: &str,
-    word: &str,
-) -> anyhow::Result<bool>
-    requires { IsOf file.now.state hand.old }
-    ensures { IsOf file.now.state hand.new }
-{
-    let (key, value) = (Key::new(name.as_bytes())?, Value::new(word.as_bytes())?);
-    if !Small::fits(&key, &value) {
-        return Ok(false);
-    }
-    file.upsert(rt, hand, &key, &value)?;
-    Ok(true)
-}
-
-/// Keeps words, and tells which had no room.
-fn note_words<R: Print + Wait>(rt: &R, file: &Small, hand: &mut Hand) -> anyhow::Result<()>
-    requires { IsOf file.now.state hand.old }
-    ensures { IsOf file.now.state hand.new }
-{
-    for (name, word) in WORDS {
-        if note_word(rt, file, hand, name, word)? {
-            println!(rt; "{name} is kept")?;
-        } else {
-            println!(rt; "{name} has no room")?;
-        }
-    }
-    Ok(())
+    let count = <[u8; 4]>::try_from(bytes).map_or(0, u32::from_be_bytes);
+    Value::new(&count.wrapping_add(1).to_be_bytes()).unwrap_or(Value::empty())
 }
 
 fn main(rt: HostRuntime) -> anyhow::Result<()> {
-    let (file, mut hand) = Small::new(rt.alloc(), Config::default())?;
-    note_session(&rt, &file, &mut hand, 7, 1_796_000_000)?;
-    let is_there = file.with_value(&rt, &mut hand, &Key::new(&7_u64.to_le_bytes())?, |_| ())?;
-    println!(rt; "session 7 is there: {}", is_there.is_some())?;
-
-    note_words(&rt, &file, &mut hand)?;
-    if let Some(word) = file.get(&rt, &mut hand, &Key::new(b"colour")?)? {
-        println!(rt; "colour: {}", str::from_utf8(word.bytes())?)?;
+    let mut table = Small::new(rt.alloc(), Config::default())?;
+    let mut small = table.session(&rt)?;
+    small.put(&7_u64.to_le_bytes(), &1_796_000_000_u64.to_le_bytes())?;
+    for word in ["red", "ultramarine"] {
+        match small.upsert(b"colour", word.as_bytes()) {
+            Ok(is_new) => println!(rt; "{word} is kept, in a new record: {is_new}")?,
+            Err(CallFault::Room { bytes, room }) => println!(rt;
+                "{word}: {bytes} bytes, not {room}"
+            )?,
+            Err(fault) => return Err(fault.into()),
+        }
     }
+    // A new value has 4 bytes at most, as the contract of `one_more` says.
+    small.merge_within(b"visits", &1_u32.to_be_bytes(), 4, one_more)?;
+    println!(rt; "{} records", small.len())?;
     Ok(())
 }

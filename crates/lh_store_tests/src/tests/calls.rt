@@ -1,4 +1,6 @@
 //! Each call of a session that is alone, on a traced store and on an untraced one.
+ghost use Rattle.std.specs.Prelude.{◌≤◌, length};
+
 use lh_expect::expect_eq;
 use lh_store::{
     BucketCopy, CallFault, Compared, Config, ExtendFault, KeyLength, OpenStore, Session, Store,
@@ -8,7 +10,7 @@ use std::test::Fail;
 
 /// A call of a session, by a key and with a value that are given beside it.
 #[derive(Clone, Copy)]
-enum Ask {
+pub(crate) enum Ask {
     Get,
     WithValue,
     Contains,
@@ -22,13 +24,16 @@ enum Ask {
     Update,
     /// The same, or the value as the first.
     Merge,
+    /// Both by a closure that is said to make one byte.
+    UpdateWithin,
+    MergeWithin,
     /// Expects the value, and puts its next byte in its place.
     CompareAndSet,
 }
 
 /// What a call tells.
 #[derive(Clone, Copy, Debug, PartialEq, Eq)]
-enum Told {
+pub(crate) enum Told {
     Yes,
     No,
     /// There is no value.
@@ -42,6 +47,8 @@ enum Told {
     Key(usize),
     /// A fault of the value, whose length this is.
     Length(usize),
+    /// There are so many bytes, and room for so many.
+    Room(usize, usize),
     Fault,
 }
 
@@ -78,6 +85,7 @@ impl From<CallFault> for Told {
         match fault {
             CallFault::Key(KeyLength { length }) => Told::Key(length),
             CallFault::Value(ValueLength { length }) => Told::Length(length),
+            CallFault::Room { bytes, room } => Told::Room(bytes, room),
             CallFault::File(_) => Told::Fault,
         }
     }
@@ -89,7 +97,9 @@ fn first_of(bytes: &[u8]) -> u8 {
 }
 
 /// A value of one byte, the next after the first of these.
-fn next_of(bytes: &[u8]) -> Value {
+fn next_of(bytes: &[u8]) -> Value
+    ensures { length result ≤ 1 }
+{
     Value::new(&[first_of(bytes).wrapping_add(1)]).unwrap_or(Value::empty())
 }
 
@@ -111,6 +121,8 @@ fn made<S: Session>(table: &mut S, ask: Ask, key: &[u8], value: &[u8]) -> Result
         Ask::Merge => table
             .merge(key, value, |bytes: &[u8]| next_of(bytes))?
             .into(),
+        Ask::UpdateWithin => table.update_within(key, 1, next_of)?.into(),
+        Ask::MergeWithin => table.merge_within(key, value, 1, next_of)?.into(),
         Ask::CompareAndSet => {
             let next = next_of(value);
             table.compare_and_set(key, value, next.bytes())?.into()
@@ -119,15 +131,15 @@ fn made<S: Session>(table: &mut S, ask: Ask, key: &[u8], value: &[u8]) -> Result
 }
 
 /// What a call tells.
-fn tell<S: Session>(table: &mut S, ask: Ask, key: &[u8], value: &[u8]) -> Told {
+pub(crate) fn tell<S: Session>(table: &mut S, ask: Ask, key: &[u8], value: &[u8]) -> Told {
     made(table, ask, key, value).unwrap_or_else(|fault| Told::from(fault))
 }
 
 /// A call, its key, its value, and what it tells.
-type Row = (Ask, u8, u8, Told);
+pub(crate) type Row = (Ask, u8, u8, Told);
 
 /// Each call where its key is there, and where it isn't.
-const ROWS: [Row; 31] = [
+const ROWS: [Row; 35] = [
     (Ask::Get, b'a', b'-', Told::None),
     (Ask::WithValue, b'a', b'-', Told::None),
     (Ask::Contains, b'a', b'-', Told::No),
@@ -159,11 +171,15 @@ const ROWS: [Row; 31] = [
     (Ask::Merge, b'c', b'3', Told::Yes),
     (Ask::Get, b'c', b'-', Told::Value(b'3')),
     (Ask::Put, b'd', b'4', Told::Yes),
+    (Ask::UpdateWithin, b'd', b'-', Told::Yes),
+    (Ask::MergeWithin, b'd', b'9', Told::No),
+    (Ask::UpdateWithin, b'e', b'-', Told::No),
+    (Ask::Get, b'd', b'-', Told::Value(b'6')),
 ];
 
 /// The place of the first row whose call tells something else, and what it tells.
-fn first_wrong<S: Session>(table: &mut S) -> Option<(usize, Told)> {
-    for (place, (ask, key, value, due)) in ROWS.iter().enumerate() {
+pub(crate) fn first_wrong<S: Session>(table: &mut S, rows: &[Row]) -> Option<(usize, Told)> {
+    for (place, (ask, key, value, due)) in rows.iter().enumerate() {
         let told = tell(table, *ask, &[*key], &[*value]);
         if told != *due {
             return Some((place, told));
@@ -174,17 +190,17 @@ fn first_wrong<S: Session>(table: &mut S) -> Option<(usize, Told)> {
 
 /// What a session tells of its table, and of itself.
 #[derive(Clone, Copy, Debug, PartialEq, Eq)]
-struct Facts {
-    len: u64,
-    told: u64,
-    left: u64,
+pub(crate) struct Facts {
+    pub(crate) len: u64,
+    pub(crate) told: u64,
+    pub(crate) left: u64,
     /// How many records a snapshot has,
-    listed: u64,
+    pub(crate) listed: u64,
     /// and how many a closure is given.
-    given: u64,
+    pub(crate) given: u64,
 }
 
-fn facts_of<S: Session>(table: &mut S) -> Result<Facts, CallFault> {
+pub(crate) fn facts_of<S: Session>(table: &mut S) -> Result<Facts, CallFault> {
     let mut given = 0_u64;
     table.for_each(|copy: BucketCopy| given = given.saturating_add(copy.pairs.len() as u64))?;
     let listed = table.snapshot()?.len();
@@ -204,7 +220,7 @@ impl Work for Rows {
     type Done = (Option<(usize, Told)>, Option<Facts>);
 
     fn run<S: Session>(&self, _thread: usize, table: &mut S) -> Self::Done {
-        (first_wrong(table), facts_of(table).ok())
+        (first_wrong(table, &ROWS), facts_of(table).ok())
     }
 }
 
@@ -212,8 +228,8 @@ impl Work for Rows {
 fn due(calls: u64) -> Facts {
     Facts {
         len: 3,
-        told: 31,
-        left: calls.saturating_sub(31),
+        told: 35,
+        left: calls.saturating_sub(35),
         listed: 3,
         given: 3,
     }
@@ -225,7 +241,7 @@ fn each_call_is_answered_on_a_traced_store(rt: HostRuntime) -> Result<(), Fail> 
     let mut store = Store::new(rt.alloc(), Config::default())?;
     let ran = store.run(&rt, 1, &Rows)?;
     expect_eq!(&rt, ran.done.first(), Some(&(None, Some(due(1 << 62)))));
-    expect_eq!(&rt, (ran.acts, store.len()), (31, 3));
+    expect_eq!(&rt, (ran.acts, store.len()), (35, 3));
     Ok(())
 }
 
@@ -238,7 +254,7 @@ fn each_call_is_answered_on_an_open_store(rt: HostRuntime) -> Result<(), Fail> {
     Ok(())
 }
 
-const ALL: [Ask; 12] = [
+const ALL: [Ask; 14] = [
     Ask::Get,
     Ask::WithValue,
     Ask::Contains,
@@ -250,21 +266,30 @@ const ALL: [Ask; 12] = [
     Ask::Take,
     Ask::Update,
     Ask::Merge,
+    Ask::UpdateWithin,
+    Ask::MergeWithin,
     Ask::CompareAndSet,
 ];
 
 /// The calls that are given a value.
-const WITH_A_VALUE: [Ask; 6] = [
+const WITH_A_VALUE: [Ask; 7] = [
     Ask::Put,
     Ask::Set,
     Ask::Upsert,
     Ask::GetOrPut,
     Ask::Merge,
+    Ask::MergeWithin,
     Ask::CompareAndSet,
 ];
 
 /// Whether each of these calls tells this.
-fn all_tell<S: Session>(table: &mut S, asks: &[Ask], key: &[u8], value: &[u8], due: Told) -> bool {
+pub(crate) fn all_tell<S: Session>(
+    table: &mut S,
+    asks: &[Ask],
+    key: &[u8],
+    value: &[u8],
+    due: Told,
+) -> bool {
     for ask in asks {
         if tell(table, *ask, key, value) != due {
             return false;

@@ -1,4 +1,6 @@
 //! Threads that share a store.
+ghost use Rattle.std.specs.Prelude.{◌≤◌, length};
+
 use super::disk::{Disk, OnDisk, PATH};
 use lh_expect::{expect, expect_eq};
 use lh_store::{CallFault, Config, OpenStore, Session, Store, Value, Work};
@@ -8,7 +10,7 @@ use std::test::Fail;
 use std::thread::{self, Threads};
 
 /// The number of four bytes.
-fn number_in(bytes: &[u8]) -> u32 {
+pub(crate) fn number_in(bytes: &[u8]) -> u32 {
     match bytes {
         [a, b, c, d] => u32::from_be_bytes([*a, *b, *c, *d]),
         _ => 0,
@@ -16,7 +18,9 @@ fn number_in(bytes: &[u8]) -> u32 {
 }
 
 /// The number after that of four bytes.
-fn one_more(bytes: &[u8]) -> Value {
+fn one_more(bytes: &[u8]) -> Value
+    ensures { length result ≤ 4 }
+{
     let next = number_in(bytes).wrapping_add(1);
     Value::new(&next.to_be_bytes()).unwrap_or(Value::empty())
 }
@@ -35,7 +39,7 @@ fn count<S: Session>(table: &mut S, thread: u8) -> Result<(u32, u32), CallFault>
         let key = [thread, turn];
         let is_new = table.put(&key, b"1")?;
         new = new.saturating_add(u32::from(is_new));
-        table.merge(b"all", &1_u32.to_be_bytes(), |bytes: &[u8]| one_more(bytes))?;
+        table.merge_within(b"all", &1_u32.to_be_bytes(), 4, one_more)?;
         if turn % 2 == 0 {
             let was_there = table.remove(&key)?;
             removed = removed.saturating_add(u32::from(was_there));
@@ -128,7 +132,7 @@ fn calls_that_are_left_come_back(rt: HostRuntime) -> Result<(), Fail> {
 }
 
 /// Counts with each session, two at a time.
-fn count_by_all<S: Session + Send>(rt: &(impl Threads + Sync), sessions: &mut [S]) {
+pub(crate) fn count_by_all<S: Session + Send>(rt: &(impl Threads + Sync), sessions: &mut [S]) {
     thread::for_each_mut(
         rt,
         sessions,

@@ -2,6 +2,7 @@ use Rattle.std.proofs.Common.{◌≡◌, ◌+◌, ◌∙◌, ℕ, suc, List, Bor
 use Rattle.std.proofs.lemmas.List.{get_or_default}
 use Rattle.lh_bucket.specs.declared.call.Call.TheVariants.{Insert}
 use Rattle.lh_file.specs.Calls.Lean.{put_reply}
+use Rattle.lh_store.specs.Rooms.{TellsRoom, bytes_of_record}
 use Rattle.lh_store.specs.Sessions.{HasPut}
 use Rattle.lh_store.proofs.session.Session.extend.Goals as goal
 
@@ -10,6 +11,13 @@ returns-in-Err-clause-some g c = (c.loop-key.self, c.loop-key.invariant.puts, c.
 
 pub returns-in-Err-clause-done : goal.returns-in-Err-clause-done
 returns-in-Err-clause-done g c = omega (arith, c.loop-key.invariant.place, c.loop-key-test.true)
+
+pub returns-in-Err-clause-no_room : goal.returns-in-Err-clause-no_room
+returns-in-Err-clause-no_room g c d =
+    subst
+    (λ (pair : Bor (List ℕ) × Bor (List ℕ)). TellsRoom g.Self.Session.room (bytes_of_record pair) c.in-Err.fault)
+    (get_or_default c.args.records.now c.loop-key.key-index _ d c.loop-key-test.true
+    ∙ ap (λ n. slice_index_or c.args.records.now n d) (sym c.loop-key.invariant.place)) c.in-Err.ensures.no_room
 
 pub loop-key-preserved : goal.loop-key-preserved
 loop-key-preserved g c =

@@ -1,19 +1,16 @@
 use Rattle.lh_store.proofs.Keeping.{idle_itself, at_once_keeps}
-use Rattle.lh_store.proofs.file_session.FileSessionSession.merge.Goals as goal
+use Rattle.lh_store.proofs.file_session.SizedSessionSession.upsert.Goals as goal
 
 pub returns-in_err-key-clause-err : goal.returns-in_err-key-clause-err
 returns-in_err-key-clause-err g c = idle_itself _ _
 
-pub returns-in_err-first-clause-err : goal.returns-in_err-first-clause-err
-returns-in_err-first-clause-err g c = idle_itself _ _
-
 pub invariant_of-self-2 : goal.invariant_of-self-2
-invariant_of-self-2 g c = at_once_keeps _ _ _ _ _ _ _ _ _ c.self.invariant c.merge.ensures
+invariant_of-self-2 g c = at_once_keeps _ _ _ _ _ _ _ _ _ c.self.invariant c.upsert.ensures
 
 pub returns-clause-made : goal.returns-clause-made
 returns-clause-made g c =
-    let e = c.in_ok-merge.ensures in
-    rw (← c.self.view_is, ← c.in_ok-key.ensures.ok, ← c.in_ok-first.ensures.ok)
+    let e = c.in_ok-upsert.ensures in
+    rw (← c.self.view_is, ← c.in_ok-key.ensures.key, ← c.in_ok-key.ensures.value)
     (record {
       was = e.was;
       call = e.call;
