@@ -12,6 +12,8 @@ use std::sync::Wait;
 use std::test::Fail;
 use std::thread::Threads;
 
+mod small;
+
 /// Room for an image of ten records, so that the disk asks for no memory.
 const ROOM: usize = 65_536;
 
