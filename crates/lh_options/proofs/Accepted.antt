@@ -1,7 +1,7 @@
 -- Words in which clap finds no fault name a subcommand, whose rows have the numbers of all its options
 use Rattle.std.proofs.Common.{◌≡◌, ◌∙◌, ◌⊎◌, ◌||◌, ℕ, zero, suc, inl, inr, Bool, true, false, refl, sym, ap, List, []}
-use Rattle.std.proofs.Common.{◌∷◌, Option, Some, None, codes, arith, subst}
-use Rattle.std.specs.Prelude.{◌&&◌, drop, find, not, option_and_then}
+use Rattle.std.proofs.Common.{◌∷◌, ◌++◌, Option, Some, None, codes, arith, subst}
+use Rattle.std.specs.Prelude.{◌&&◌, drop, find, not, option_and_then, take}
 use Rattle.std.specs.List.{list_all}
 use Rattle.std.specs.Str.{bytes_eq}
 use Rattle.std.proofs.lemmas.Bool.{false≢true}
@@ -13,8 +13,8 @@ use Rattle.clap.specs.Faults.{fault_of, level_fault}
 use Rattle.lh_addr.specs.Limits.{most_initial, most_capacity, least_load, most_load, most_buckets}
 use Rattle.lh_options.specs.Options.{commands_app, most_snapshots, number_in, numeral_value, option_rule, program_app}
 use Rattle.lh_options.specs.Options.{settings_from}
-use Rattle.lh_options.specs.OptionSteps.{HasDriveNumbers, HasImage, HasSettings, IsBuildCommand, IsFileCommand}
-use Rattle.lh_options.specs.OptionSteps.{IsImageCommand, settings_in}
+use Rattle.lh_options.specs.OptionSteps.{HasDriveNumbers, HasImage, HasNumber, HasSettings, IsBuildCommand}
+use Rattle.lh_options.specs.OptionSteps.{IsFileCommand, IsImageCommand, settings_in}
 use Rattle.lh_options.proofs.Levels.{entered-some, find-passes}
 use Rattle.lh_options.proofs.RowLemmas.{Every, FitsHere, HasTarget, IsTarget, find-every, level-every, level-row}
 use Rattle.lh_options.proofs.NumberLemmas.{number-fits}
@@ -51,17 +51,33 @@ settings-after s h words e =
 unequal : {P : Type 0} → false ≡ true → P
 unequal h = absurd (false≢true h)
 
+-- a rule that hasn't this id is not the option's
+another : (name default : Text) (least most : ℕ) (a : Rule) → not (bytes_eq a.id name) ≡ true →
+    IsTarget name default least most a
+another name default least most a e = λ same. absurd (go (bytes_eq a.id name) same e)
+  where
+    go : (b : Bool) → b ≡ true → not b ≡ true → ⊥
+    go true same e = false≢true e
+    go false same e = false≢true same
+
 -- the rules of which none has this id are none of the option's
 others : (name default : Text) (least most : ℕ) (rules : List Rule) →
     list_all (λ a. not (bytes_eq a.id name)) rules ≡ true → Every (IsTarget name default least most) rules
 others name default least most [] e = tt
 others name default least most (a ∷ rest) e =
     let parts = both (not (bytes_eq a.id name)) _ e in
-    ((λ same. absurd (go (bytes_eq a.id name) same parts.0)), others name default least most rest parts.1)
-  where
-    go : (b : Bool) → b ≡ true → not b ≡ true → ⊥
-    go true same e = false≢true e
-    go false same e = false≢true same
+    (another name default least most a parts.0, others name default least most rest parts.1)
+
+-- an option among rules of which none has its id is there, and alone
+among : (name default : Text) (least most : ℕ) (before after : List Rule) →
+    list_all (λ a. not (bytes_eq a.id name)) (before ++ after) ≡ true →
+    Every (IsTarget name default least most) (before ++ filled (option_rule name default least most) ∷ after)
+    × HasTarget name default least most (before ++ filled (option_rule name default least most) ∷ after)
+among name default least most [] after e = (((λ _. refl), others name default least most after e), inl refl)
+among name default least most (a ∷ rest) after e =
+    let parts = both (not (bytes_eq a.id name)) _ e in
+    let below = among name default least most rest after parts.1 in
+    ((another name default least most a parts.0, below.0), inr below.1)
 
 -- an option that is none of the rules has no row, and so no number
 no-number : (name : Text) (s : Shape) → Every (IsTarget name (codes "1") 1 0) s.rules → (words : List Text) →
@@ -188,46 +204,25 @@ drive-options = leading (drop 4 drive_built.rules) refl
 serve-options : HasOptions serve_built.rules
 serve-options = leading (drop 4 serve_built.rules) refl
 
+-- an option that stands behind k rules of a subcommand, of which none has its id, has a number in its range
+number-after : (name default : Text) (least most k : ℕ) (s : Shape) →
+    s.rules ≡ take k s.rules ++ filled (option_rule name default least most) ∷ drop (suc k) s.rules →
+    list_all (λ a. not (bytes_eq a.id name)) (take k s.rules ++ drop (suc k) s.rules) ≡ true → (words : List Text) →
+    level_fault s [] nothing_held words false [] ≡ [] → HasNumber (rows_after s.rules [] words) name least most
+number-after name default least most k s is alone words e =
+    let stands = among name default least most (take k s.rules) (drop (suc k) s.rules) alone in
+    let row = level-row name default least most s (subst (Every (IsTarget name default least most)) (sym is) stands.0)
+    (subst (HasTarget name default least most) (sym is) stands.1) [] words false [] e in
+    number-fits name default least most _ row.0 row.1 row.2
+
 -- the numbers of threads, of shards and of snapshots
 drive-after : (words : List Text) → level_fault drive_built [] nothing_held words false [] ≡ [] →
     HasDriveNumbers (rows_after drive_built.rules [] words)
-drive-after words e =
-    let threads = level-row (codes "threads") (codes "4") 1 64 drive_built
-    (unequal, (unequal, (unequal, (unequal, (unequal, ((λ _. refl), (unequal, (unequal, (unequal, tt)))))))))
-    (inr (inr (inr (inr (inr (inl refl)))))) [] words false [] e in
-    let shards = level-row (codes "shards") (codes "1") 1 64 drive_built
-    (unequal, (unequal, (unequal, (unequal, (unequal, (unequal, ((λ _. refl), (unequal, (unequal, tt)))))))))
-    (inr (inr (inr (inr (inr (inr (inl refl))))))) [] words false [] e in
-    let snapshots = level-row (codes "snapshots") (codes "0") 0 most_snapshots drive_built
-    (unequal, (unequal, (unequal, (unequal, (unequal, (unequal, (unequal, ((λ _. refl), (unequal, tt)))))))))
-    (inr (inr (inr (inr (inr (inr (inr (inl refl)))))))) [] words false [] e in
-    record {
-      threads = number-fits (codes "threads") (codes "4") 1 64 _ threads.0 threads.1 threads.2;
-      shards = number-fits (codes "shards") (codes "1") 1 64 _ shards.0 shards.1 shards.2;
-      snapshots = number-fits (codes "snapshots") (codes "0") 0 most_snapshots _ snapshots.0 snapshots.1 snapshots.2;
-    }
-
--- the version of the image
-image-after : (s : Shape) → s.rules ≡ build_built.rules → (words : List Text) →
-    level_fault s [] nothing_held words false [] ≡ [] → HasImage (rows_after s.rules [] words)
-image-after s same words e =
-    let own : Every (IsTarget (codes "image") (codes "2") 1 2) build_built.rules =
-    (unequal, (unequal, (unequal, (unequal, (unequal, (unequal, ((λ _. refl), (unequal, tt)))))))) in
-    let has : HasTarget (codes "image") (codes "2") 1 2 build_built.rules =
-    inr (inr (inr (inr (inr (inr (inl refl)))))) in
-    let row = level-row (codes "image") (codes "2") 1 2 s
-    (subst (Every (IsTarget (codes "image") (codes "2") 1 2)) (sym same) own)
-    (subst (HasTarget (codes "image") (codes "2") 1 2) (sym same) has) [] words false [] e in
-    number-fits (codes "image") (codes "2") 1 2 _ row.0 row.1 row.2
-
-applied-after : (words : List Text) → level_fault apply_built [] nothing_held words false [] ≡ [] →
-    HasImage (rows_after apply_built.rules [] words)
-applied-after words e =
-    let own : Every (IsTarget (codes "image") (codes "2") 1 2) apply_built.rules =
-    (unequal, (unequal, ((λ _. refl), (unequal, tt)))) in
-    let has : HasTarget (codes "image") (codes "2") 1 2 apply_built.rules = inr (inr (inl refl)) in
-    let row = level-row (codes "image") (codes "2") 1 2 apply_built own has [] words false [] e in
-    number-fits (codes "image") (codes "2") 1 2 _ row.0 row.1 row.2
+drive-after words e = record {
+  threads = number-after (codes "threads") (codes "4") 1 64 5 drive_built refl refl words e;
+  shards = number-after (codes "shards") (codes "1") 1 64 6 drive_built refl refl words e;
+  snapshots = number-after (codes "snapshots") (codes "0") 0 most_snapshots 7 drive_built refl refl words e;
+}
 
 is_help : (t : Text) → (bytes_eq (codes "help") t || false) ≡ true → bytes_eq t (codes "help") ≡ true
 is_help t e =
@@ -288,7 +283,7 @@ accepted-rows words e = entered-some (built program_app) IsEntered (
               inr (inr (inl refl)),
               settings-after build_built build-options ws f,
               other-name (codes "build") _ refl,
-              λ _. image-after build_built refl ws f,
+              λ _. number-after (codes "image") (codes "2") 1 2 6 build_built refl refl ws f,
             )),
         (
           (λ t is other ws f.
@@ -296,7 +291,7 @@ accepted-rows words e = entered-some (built program_app) IsEntered (
                 inr (inr (inr (inr (inr (inr refl))))),
                 settings-after load_built load-options ws f,
                 other-name (codes "load") _ refl,
-                λ _. image-after load_built refl ws f,
+                λ _. number-after (codes "image") (codes "2") 1 2 6 load_built refl refl ws f,
               )),
           (
             (λ t is other ws f.
@@ -338,7 +333,7 @@ accepted-rows words e = entered-some (built program_app) IsEntered (
                             inr (
                               inr (inr (inr (inr (inr (inl refl))))),
                               no-settings apply_built refl ws f,
-                              λ _. applied-after ws f,
+                              λ _. number-after (codes "image") (codes "2") 1 2 2 apply_built refl refl ws f,
                             )),
                         (
                           (λ t is other ws f.

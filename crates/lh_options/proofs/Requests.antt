@@ -7,14 +7,13 @@ use Rattle.std.specs.Option.{option_map_or}
 use Rattle.std.proofs.lemmas.Bool.{cases_lt, false≢true, ltb-true}
 use Rattle.std.specs.List.{list_all}
 use Rattle.std.specs.Char.{digit_value}
-use Rattle.std.specs.String.{string_bytes}
 use Rattle.clap.proofs.WalkLemmas.{both}
 use Rattle.std.specs.Str.Parse.{AllDigits, IsNumeral, digits_value, without_leading_plus}
 use Rattle.clap.specs.ValueTests.{is_numeral}
 use Rattle.clap.specs.Kinds.{HasKind, IsAmong, Kinds}
 use Rattle.clap.specs.Values.{kind_of}
-use Rattle.clap.specs.Walk.{Row, Text, first_of}
-use Rattle.clap.specs.Matches.{subcommand_name_of}
+use Rattle.clap.specs.Walk.{Row, Text, first_of, rows_of}
+use Rattle.clap.specs.Matches.{found_of, subcommand_name_of}
 use Rattle.clap.specs.Simple.{App, HasMatchesOf, subcommand_of, subcommand_rows_of}
 use Rattle.clap.specs.Faults.{fault_of, is_simple_and_free}
 use Rattle.clap.specs.declared.error.Error.{Error}
@@ -27,15 +26,14 @@ use Rattle.lh_addr.specs.Settings.{Settings}
 use Rattle.lh_addr.specs.Config.{IsFirstOutOfRange}
 use Rattle.lh_addr.specs.declared.config.Range.{Range}
 use Rattle.lh_addr.specs.declared.config.Range.TheVariants.{Max}
-use Rattle.lh_options.specs.Options.{Accepts, Answers, AreNamed, AsksForHelp, IsRefused, IsServable, all_in_digits}
-use Rattle.lh_options.specs.Options.{asked_by, asked_for, chosen_format, file_named, format_named, image_begins}
-use Rattle.lh_options.specs.Options.{names_format, number_in, numeral_value, program_app, setting_typed_in}
-use Rattle.lh_options.specs.Options.{settings_from, settings_given, settings_typed, subcommand_named, text_given}
+use Rattle.lh_options.specs.Options.{Accepts, Answers, AsksForHelp, IsRefused, IsServable}
+use Rattle.lh_options.specs.Options.{all_in_digits, asked_by, asked_for, chosen_format, format_named}
+use Rattle.lh_options.specs.Options.{image_begins, names_format, number_in, numeral_value, program_app}
+use Rattle.lh_options.specs.Options.{setting_typed_in, settings_from, settings_given, settings_typed, subcommand_named}
 use Rattle.lh_options.specs.Options.{texts_given, texts_in, typed_in, write_digits, write_format}
-use Rattle.lh_options.specs.OptionSteps.{HasNumber, IsMiswritten, IsRefusal, IsRefusedText, IsWellWritten, asked_in}
-use Rattle.lh_options.specs.OptionSteps.{settings_in}
+use Rattle.lh_options.specs.OptionSteps.{HasNumber, IsAccepted, IsMiswritten, IsRefusal, IsRefusedText}
+use Rattle.lh_options.specs.OptionSteps.{IsWellWritten, asked_in, settings_in}
 use Rattle.lh_options.specs.declared.dump_format.DumpFormat.TheVariants.{Lines}
-use Rattle.lh_options.specs.declared.options.NamedFiles.{NamedFiles}
 use Rattle.lh_options.specs.declared.options.Request.{Request}
 use Rattle.lh_options.specs.declared.options.Request.TheVariants as request
 use Rattle.lh_options.proofs.Accepted.{IsEntered, accepted-rows}
@@ -251,7 +249,7 @@ miswritten-is words name rows entered (inl digits) = inl (write-is words name ro
 miswritten-is words name rows entered (inr format) = inr (format-is words name rows entered.is ∙ format)
 
 -- and they are not accepted
-refuses-by : (words : List Text) (name : Text) (rows : List Row) → HasEntered words name rows → IsMiswritten rows →
+pub refuses-by : (words : List Text) (name : Text) (rows : List Row) → HasEntered words name rows → IsMiswritten rows →
     Accepts words → ⊥
 unfolding Accepts
 refuses-by words name rows entered bad a =
@@ -274,37 +272,16 @@ miswritten-answers words name rows (request.Refused text) entered bad h =
     inr (refuses-by words name rows entered bad, (inr (entered.no_fault, miswritten-is words name rows entered bad), h))
 miswritten-answers words name rows _ entered bad h = absurd h
 
--- where clap turns the words away no file is named
-pub unnamed-files : (words : List Text) (e : Error) (files : NamedFiles) → HasKind (fault_of program_app words) e →
-    (kind_of e ≡ kind.OutOfMemory → ⊥) × (files.input ≡ None) × (files.output ≡ None) → AreNamed words files
+-- where clap turns the words away no subcommand is accepted
+pub unaccepted-words : (words : List Text) (e : Error) (found : Option ArgMatches) →
+    HasKind (fault_of program_app words) e → (kind_of e ≡ kind.OutOfMemory → ⊥) × (found ≡ None) →
+    IsAccepted words found
 unfolding Accepts
-unnamed-files words e files (inl memory) h = absurd (h.0 memory)
-unnamed-files words e files (inr among) h = record {
-  input = λ a. absurd (none-among (kind_of e) _ among a.0);
-  output = λ a. absurd (none-among (kind_of e) _ among a.0);
-  none = λ _. (h.1, h.2);
-}
+unaccepted-words words e found (inl memory) h = absurd (h.0 memory)
+unaccepted-words words e found (inr among) h =
+    subst (IsAccepted words) (sym h.1) (λ a. none-among (kind_of e) _ among a.0)
 
--- nor where a number has a sign, or a word names no format
-pub miswritten-files : (words : List Text) (name : Text) (rows : List Row) (files : NamedFiles) →
-    HasEntered words name rows → IsMiswritten rows → (files.input ≡ None) × (files.output ≡ None) →
-    AreNamed words files
-miswritten-files words name rows files entered bad none = record {
-  input = λ a. absurd (refuses-by words name rows entered bad a);
-  output = λ a. absurd (refuses-by words name rows entered bad a);
-  none = λ _. none;
-}
-
--- accepted words name the files that the rows of their subcommand do
-pub named-files : (words : List Text) (name : Text) (rows : List Row) (files : NamedFiles) →
-    HasEntered words name rows → IsWellWritten rows →
-    option_map string_bytes files.input ≡ file_named (first_of (codes "file") rows) →
-    option_map string_bytes files.output ≡ file_named (first_of (codes "output") rows) → AreNamed words files
-named-files words name rows files entered well input output =
-    let given : (id : Text) → text_given words id ≡ first_of id rows =
-    λ id. ap (λ (o : Option (Text × List Row)). option_and_then (λ s. first_of id s.1) o) entered.is in
-    record {
-      input = λ _. input ∙ sym (ap file_named (given (codes "file")));
-      output = λ _. output ∙ sym (ap file_named (given (codes "output")));
-      none = λ no. absurd (no (accepts-by words name rows entered well));
-    }
+-- the subcommand of words that are well written is
+pub accepted-words : (words : List Text) (name : Text) (m : ArgMatches) →
+    HasEntered words name (rows_of (found_of m)) → IsWellWritten (rows_of (found_of m)) → IsAccepted words (Some m)
+accepted-words words name m entered well = (accepts-by words name _ entered well, (name, entered.is))

@@ -6,7 +6,8 @@ use Rattle.lh_options.specs.declared.dump_format.DumpFormat.{DumpFormat}
 use Rattle.lh_options.specs.declared.options.ImageVersion.{ImageVersion}
 use Rattle.lh_options.specs.declared.options.Request.TheVariants as request
 use Rattle.lh_options.specs.Options.{Accepts, Asks, asked_for, file_named, format_given, image_begins, keys_given}
-use Rattle.lh_options.specs.Options.{number_given, settings_given, settings_typed, text_given, version_numbered}
+use Rattle.lh_options.specs.Options.{number_given, settings_given, settings_typed, text_asked, text_given}
+use Rattle.lh_options.specs.Options.{version_numbered}
 
 abbrev pub no_options : List Text
 no_options = codes "lhash" ∷ codes "commands" ∷ []
@@ -191,6 +192,55 @@ two_files = codes "lhash" ∷ codes "check" ∷ codes "a.lhf" ∷ codes "b.lhf" 
 
 abbrev pub check_with_output : List Text
 check_with_output = codes "lhash" ∷ codes "check" ∷ codes "-o" ∷ codes "a.txt" ∷ []
+
+abbrev pub commands_of_text : List Text
+commands_of_text = codes "lhash" ∷ codes "commands" ∷ codes "--text" ∷ codes "script.txt" ∷ []
+
+abbrev pub steps_of_text : List Text
+steps_of_text = codes "lhash" ∷ codes "steps" ∷ codes "--text" ∷ []
+
+abbrev pub drive_of_text : List Text
+drive_of_text = codes "lhash" ∷ codes "drive" ∷ codes "--threads=2" ∷ codes "--text" ∷ []
+
+abbrev pub build_of_text : List Text
+build_of_text = codes "lhash" ∷ codes "build" ∷ codes "--text" ∷ codes "-o" ∷ codes "new.lhf" ∷ []
+
+abbrev pub query_of_text : List Text
+query_of_text = codes "lhash" ∷ codes "query" ∷ codes "users.lhf" ∷ codes "--text" ∷ []
+
+abbrev pub apply_of_text : List Text
+apply_of_text = codes "lhash" ∷ codes "apply" ∷ codes "--image=1" ∷ codes "--text" ∷ []
+
+abbrev pub serve_of_text : List Text
+serve_of_text = codes "lhash" ∷ codes "serve" ∷ codes "--text" ∷ codes "--image" ∷ []
+
+abbrev pub dump_of_text : List Text
+dump_of_text = codes "lhash" ∷ codes "dump" ∷ codes "--text" ∷ []
+
+abbrev pub get_of_text : List Text
+get_of_text = codes "lhash" ∷ codes "get" ∷ codes "users.lhf" ∷ codes "ada" ∷ codes "--text" ∷ codes "bob" ∷ []
+
+abbrev pub text_as_a_key : List Text
+text_as_a_key = codes "lhash" ∷ codes "get" ∷ codes "users.lhf" ∷ codes "--" ∷ codes "--text" ∷ []
+
+abbrev pub replay_of_text : List Text
+replay_of_text = codes "lhash" ∷ codes "replay" ∷ codes "--text" ∷ []
+
+abbrev pub load_of_text : List Text
+load_of_text = codes "lhash" ∷ codes "load" ∷ codes "--text" ∷ []
+
+abbrev pub check_of_text : List Text
+check_of_text = codes "lhash" ∷ codes "check" ∷ codes "--text" ∷ []
+
+abbrev pub text_twice : List Text
+text_twice = codes "lhash" ∷ codes "commands" ∷ codes "--text" ∷ codes "--text" ∷ []
+
+abbrev pub text_with_value : List Text
+text_with_value = codes "lhash" ∷ codes "commands" ∷ codes "--text=yes" ∷ []
+
+-- the words are accepted, and this is whether they ask for keys and values as text
+abbrev pub GivesText : List Text → Bool → Type 0
+GivesText words text = Accepts words × (text_asked words ≡ text)
 
 -- the words are accepted, and name these files, to be read and to be written
 abbrev pub GivesFiles : List Text → Option Text → Option Text → Type 0

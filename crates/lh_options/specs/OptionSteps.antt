@@ -1,18 +1,20 @@
 -- What the functions on the way from the words to a request say of commands, rows and errors
-use Rattle.std.specs.Prelude.{◌≡◌, ◌≤◌, ◌⊎◌, ℕ, List, Option, Some, codes, true, false}
+use Rattle.std.specs.Prelude.{◌≡◌, ◌≤◌, ◌⊎◌, ℕ, List, Option, None, Some, codes, true, false}
 use Rattle.std.specs.Str.Parse.{digits_value, without_leading_plus}
 use Rattle.std.specs.String.{string_bytes}
 use Rattle.clap.specs.ValueTests.{is_numeral}
-use Rattle.clap.specs.Words.{App, Row, Text, app_of, one_of}
+use Rattle.clap.specs.Words.{App, Row, Text, app_of, found_of, one_of, rows_of, subcommand_of}
 use Rattle.clap.specs.declared.builder.command.Command.{Command}
 use Rattle.clap.specs.declared.builder.command.Command.TheViews.{out-Command}
 use Rattle.clap.specs.declared.error.kind.ErrorKind.{ErrorKind}
 use Rattle.clap.specs.declared.error.kind.ErrorKind.TheVariants as kind
+use Rattle.clap.specs.declared.parser.matches.ArgMatches.{ArgMatches}
 use Rattle.lh_addr.specs.Limits.{most_initial, most_capacity, least_load, most_load, most_buckets}
 use Rattle.lh_addr.specs.Settings.{Settings}
 use Rattle.lh_options.specs.Escapes.{has_no_control}
-use Rattle.lh_options.specs.Options.{IsShown, all_in_digits, asked_by, drive_asked, most_snapshots, names_format}
-use Rattle.lh_options.specs.Options.{number_in, serve_asked, setting_typed_in, settings_from, texts_in, typed_in}
+use Rattle.lh_options.specs.Options.{Accepts, IsShown, all_in_digits, asked_by, drive_asked, most_snapshots}
+use Rattle.lh_options.specs.Options.{names_format, number_in, program_app, serve_asked, setting_typed_in, settings_from}
+use Rattle.lh_options.specs.Options.{texts_in, typed_in}
 use Rattle.lh_options.specs.declared.options.Request.{Request}
 use Rattle.lh_options.specs.declared.options.Request.TheVariants as request
 
@@ -88,6 +90,15 @@ IsWellWritten rows = (all_in_digits rows ≡ true) × (names_format rows ≡ tru
 -- a number has a sign, or the word for a format names none
 abbrev pub IsMiswritten : List Row → Type 0
 IsMiswritten rows = (all_in_digits rows ≡ false) ⊎ (names_format rows ≡ false)
+
+-- the words name a subcommand, with these rows
+abbrev pub HasRows : List Text → List Row → Type 0
+HasRows words rows = (name : Text) × (subcommand_of program_app words ≡ Some (name, rows))
+
+-- what is found is the subcommand of accepted words, by its rows; in other words none is
+abbrev pub IsAccepted : List Text → Option ArgMatches → Type 0
+IsAccepted words (Some m) = Accepts words × HasRows words (rows_of (found_of m))
+IsAccepted words None = ¬ Accepts words
 
 -- what a request says of the kind of clap's error
 abbrev pub IsRefusal : ErrorKind → Request → Type 0

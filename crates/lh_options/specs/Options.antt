@@ -73,11 +73,23 @@ output_rule = record (new_rule (codes "output")) {
 abbrev pub with_output : App → App
 with_output app = with_rule app output_rule
 
+-- the flag that says that keys and values are text
+abbrev pub text_rule : Rule
+text_rule = flag_rule (codes "text") (codes "text")
+
+-- a command with that flag, which stands behind its other options
+abbrev pub with_text : App → App
+with_text app = with_rule app text_rule
+
+-- a subcommand that reads a script, in which keys and values may be text
+abbrev pub script_app : Text → App
+script_app name = with_text (with_file (with_settings (new_app name)))
+
 abbrev pub commands_app : App
-commands_app = with_file (with_settings (new_app (codes "commands")))
+commands_app = script_app (codes "commands")
 
 abbrev pub steps_app : App
-steps_app = with_file (with_settings (new_app (codes "steps")))
+steps_app = script_app (codes "steps")
 
 -- the subcommands that draw a picture of a script, or write an image
 abbrev pub replay_app : App
@@ -93,9 +105,9 @@ building_app name = with_image (with_output (with_file (with_settings (new_app n
 
 -- the one that fills it by a script
 abbrev pub build_app : App
-build_app = building_app (codes "build")
+build_app = with_text (building_app (codes "build"))
 
--- and the one that fills it with the records of another store
+-- and the one that fills it with the records of another store, whose dump has a form of its own
 abbrev pub load_app : App
 load_app = building_app (codes "load")
 
@@ -112,7 +124,7 @@ format_rule = record (new_rule (codes "format")) {
 }
 
 abbrev pub dump_app : App
-dump_app = with_rule (with_file (new_app (codes "dump"))) format_rule
+dump_app = with_text (with_rule (with_file (new_app (codes "dump"))) format_rule)
 
 abbrev pub draw_app : App
 draw_app = with_output (with_file (new_app (codes "draw")))
@@ -121,11 +133,11 @@ abbrev pub migrate_app : App
 migrate_app = with_output (with_file (new_app (codes "migrate")))
 
 abbrev pub query_app : App
-query_app = with_file (new_app (codes "query"))
+query_app = with_text (with_file (new_app (codes "query")))
 
 -- but the version of an image, where they write one that a script leaves
 abbrev pub apply_app : App
-apply_app = with_image (with_output (with_file (new_app (codes "apply"))))
+apply_app = with_text (with_image (with_output (with_file (new_app (codes "apply")))))
 
 -- the operand that names a file to read, where one is to be named
 abbrev pub needed_file_rule : Rule
@@ -137,12 +149,15 @@ keys_rule = record (new_rule (codes "keys")) { action = Some Append; value_names
 
 -- the subcommand that looks keys up in an image
 abbrev pub get_app : App
-get_app = with_rule (with_rule (new_app (codes "get")) needed_file_rule) keys_rule
+get_app = with_text (with_rule (with_rule (new_app (codes "get")) needed_file_rule) keys_rule)
 
--- the subcommand that answers a client; the flag `--image` has an id of its own
+-- the flag that says that the input begins with an image; its id is not its name
+abbrev pub image_flag_rule : Rule
+image_flag_rule = flag_rule (codes "from_image") (codes "image")
+
+-- the subcommand that answers a client
 abbrev pub serve_app : App
-serve_app =
-    with_rule (with_file (with_settings (new_app (codes "serve")))) (flag_rule (codes "from_image") (codes "image"))
+serve_app = with_text (with_rule (with_file (with_settings (new_app (codes "serve")))) image_flag_rule)
 
 -- a command with an option for a number of threads
 abbrev pub with_threads : App → App
@@ -162,7 +177,8 @@ with_snapshots app = with_rule app (option_rule (codes "snapshots") (codes "0") 
 
 -- the subcommand that runs a script in threads
 abbrev pub drive_app : App
-drive_app = with_snapshots (with_shards (with_threads (with_file (with_settings (new_app (codes "drive"))))))
+drive_app =
+    with_text (with_snapshots (with_shards (with_threads (with_file (with_settings (new_app (codes "drive")))))))
 
 -- a command that asks for a subcommand
 abbrev pub with_subcommand_required : App → App
@@ -308,6 +324,15 @@ pub record AreNamed (words : List Text) (files : NamedFiles) : Type 0 where
   pub input : Accepts words → option_map string_bytes files.input ≡ file_named (text_given words (codes "file"))
   pub output : Accepts words → option_map string_bytes files.output ≡ file_named (text_given words (codes "output"))
   pub none : ¬ Accepts words → (files.input ≡ None) × (files.output ≡ None)
+
+-- whether the words give the flag that says that keys and values are text
+abbrev pub text_asked : List Text → Bool
+text_asked words = option_map_or (λ s. typed_in s.1 (codes "text")) (subcommand_of program_app words) false
+
+-- whether accepted words give it; other words don't
+pub record IsWhetherText (words : List Text) (text : Bool) : Type 0 where
+  pub accepted : Accepts words → text ≡ text_asked words
+  pub none : ¬ Accepts words → text ≡ false
 
 -- whether the words give the flag that says that the input begins with an image
 abbrev pub image_begins : List Text → Bool

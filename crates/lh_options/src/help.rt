@@ -33,6 +33,10 @@ pub const COMMANDS: Help = Help {
   replace 616461 -        replaced
   delete 616461           deleted
 
+With --text keys and values are text: printable ASCII as it is; a blank, a backslash and any other
+byte as \\xx, in hexadecimal; - is the empty value, and \\2d a single -:
+  insert ada 0172         inserted
+
 Example: lhash commands --capacity 2 script.txt",
 };
 
@@ -128,6 +132,8 @@ pub const GET: Help = Help {
 Where a key is absent, all lines are written, and the exit status is 6. No page is looked at
 that no key leads to; 'lhash check' looks at all.
 
+With --text, as 'lhash commands --help' says: lhash get --text users.lhf ada bob
+
 Example: lhash get users.lhf 616461 626f62",
 };
 
@@ -149,6 +155,9 @@ pub const SERVE: Help = Help {
   buckets                 buckets 1
   image                   image 8192, and behind that line so many bytes
   frob                    fault unknown word
+
+With --text, as 'lhash commands --help' says:
+  search ada              found 0172
 
 Example: lhash serve < requests.txt",
 };

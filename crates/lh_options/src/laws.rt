@@ -13,26 +13,34 @@ ghost use Rattle.lh_options.specs.OptionLaws.{
   GivesServe,
   GivesServeImage,
   GivesSteps,
+  GivesText,
   apply_alone,
+  apply_of_text,
   apply_with_setting,
   build_given,
+  build_of_text,
   check_alone,
+  check_of_text,
   check_with_format,
   check_with_option,
   check_with_output,
+  commands_of_text,
   commands_with_image,
   drive_alone,
   drive_given,
+  drive_of_text,
   draw_alone,
   dump_alone,
   dump_as_cdb,
   dump_as_csv,
   dump_as_db,
+  dump_of_text,
   file_given,
   files_given,
   first_image_applied,
   first_image_given,
   get_given,
+  get_of_text,
   get_with_setting,
   get_without_key,
   help_asked,
@@ -46,6 +54,7 @@ ghost use Rattle.lh_options.specs.OptionLaws.{
   load_files_given,
   load_given,
   load_max_below_initial,
+  load_of_text,
   max_below_initial,
   max_beside_image,
   max_given,
@@ -57,10 +66,13 @@ ghost use Rattle.lh_options.specs.OptionLaws.{
   output_given,
   program_version_asked,
   query_alone,
+  query_of_text,
   replay_given,
+  replay_of_text,
   Refuses,
   RefusesMax,
   serve_given,
+  serve_of_text,
   shards_given,
   shards_over_limit,
   shards_with_plus,
@@ -70,7 +82,11 @@ ghost use Rattle.lh_options.specs.OptionLaws.{
   snapshots_over_limit,
   snapshots_with_minus,
   steps_given,
+  steps_of_text,
   stream_given,
+  text_as_a_key,
+  text_twice,
+  text_with_value,
   third_image,
   threads_over_limit,
   threads_zero,
@@ -86,7 +102,8 @@ ghost use Rattle.lh_options.specs.declared.options.ImageVersion.TheVariants.{Fir
 /// each setting of a subcommand that reads an image. `load` has the options of `build`. `dump` has one format of three,
 /// which is lines where it is left out. `serve` says whether its input begins with an image, and whether a setting
 /// stands beside that. `get` has a file and the words of keys, of which there is one at least. A file is named by an
-/// operand or by `-o`; `-` names none, and there is no second one.
+/// operand or by `-o`; `-` names none, and there is no second one. Nine subcommands have `--text`, once and without a
+/// value.
 pub fn words_give_options()
     ensures left_out { GivesCommands no_options (record { initial = 1; capacity = 14; load = 100; max = 65536 }) }
     ensures given { GivesCommands max_given (record { initial = 3; capacity = 14; load = 100; max = 7 }) }
@@ -153,6 +170,22 @@ pub fn words_give_options()
     ensures image_and_file { GivesServeImage image_file_served false }
     ensures second_file { Refuses two_files }
     ensures no_output { Refuses check_with_output }
+    ensures commands_text { GivesText commands_of_text true }
+    ensures steps_text { GivesText steps_of_text true }
+    ensures drive_text { GivesText drive_of_text true }
+    ensures build_text { GivesText build_of_text true }
+    ensures query_text { GivesText query_of_text true }
+    ensures apply_text { GivesText apply_of_text true }
+    ensures serve_text { GivesText serve_of_text true }
+    ensures dump_text { GivesText dump_of_text true }
+    ensures get_text { GivesText get_of_text true }
+    ensures text_left_out { GivesText no_options false }
+    ensures text_is_a_key { GivesText text_as_a_key false }
+    ensures no_text_of_replay { Refuses replay_of_text }
+    ensures no_text_of_load { Refuses load_of_text }
+    ensures no_text_of_check { Refuses check_of_text }
+    ensures no_second_text { Refuses text_twice }
+    ensures no_value_of_text { Refuses text_with_value }
     ensures help { AsksForHelp help_asked }
     ensures version { AsksForHelp program_version_asked }
 {}

@@ -7,14 +7,16 @@ ghost use Rattle.clap.specs.declared.error.kind.ErrorKind.TheVariants as kind;
 ghost use Rattle.lh_addr.specs.Settings.{IsInRange};
 ghost use Rattle.clap.specs.Words.{first_of, found_of, kind_of, new_app, rows_of, rule_of};
 ghost use Rattle.lh_options.specs.Escapes.{has_no_control};
-ghost use Rattle.lh_options.specs.Options.{AreNamed, Answers, IsMaxBelowInitial, IsServable, all_in_digits, in_digits, number_in};
-ghost use Rattle.lh_options.specs.Options.{apply_app, building_app, chosen_format, drive_app, dump_app, file_named};
-ghost use Rattle.lh_options.specs.Options.{file_rule, flag_rule, format_rule, get_app, keys_rule};
-ghost use Rattle.lh_options.specs.Options.{names_format, needed_file_rule, option_rule, output_rule, program_app};
-ghost use Rattle.lh_options.specs.Options.{root_app, scripts_app, serve_app, setting_typed_in, texts_in, typed_in};
-ghost use Rattle.lh_options.specs.Options.{version_numbered, with_file, with_output, with_settings};
-ghost use Rattle.lh_options.specs.OptionSteps.{HasNumber, HasSettings, HasDriveNumbers, HasImage, IsBuildCommand};
-ghost use Rattle.lh_options.specs.OptionSteps.{IsFileCommand, IsImageCommand, IsMiswritten, IsRefusal};
+ghost use Rattle.lh_options.specs.Options.{AreNamed, Answers, IsMaxBelowInitial, IsServable, IsWhetherText};
+ghost use Rattle.lh_options.specs.Options.{all_in_digits, in_digits, number_in};
+ghost use Rattle.lh_options.specs.Options.{apply_app, build_app, building_app, chosen_format, drive_app, dump_app};
+ghost use Rattle.lh_options.specs.Options.{file_named, file_rule, flag_rule, format_rule, get_app, image_flag_rule};
+ghost use Rattle.lh_options.specs.Options.{keys_rule, names_format, needed_file_rule, option_rule, output_rule};
+ghost use Rattle.lh_options.specs.Options.{program_app, query_app, root_app, script_app, scripts_app, serve_app};
+ghost use Rattle.lh_options.specs.Options.{setting_typed_in, text_rule, texts_in, typed_in, version_numbered};
+ghost use Rattle.lh_options.specs.Options.{with_file, with_output, with_settings};
+ghost use Rattle.lh_options.specs.OptionSteps.{HasNumber, HasSettings, HasDriveNumbers, HasImage, IsAccepted};
+ghost use Rattle.lh_options.specs.OptionSteps.{IsBuildCommand, IsFileCommand, IsImageCommand, IsMiswritten, IsRefusal};
 ghost use Rattle.lh_options.specs.OptionSteps.{IsRefusedText, IsWellWritten, Reads, asked_in, drive_asked_in};
 ghost use Rattle.lh_options.specs.OptionSteps.{serve_asked_in, settings_in};
 
@@ -177,7 +179,31 @@ fn output_option<'a>(alloc: Global) -> Arg<'a>
         .value_name("FILE")
 }
 
-/// A subcommand with the options of a file's configuration, which reads a script.
+/// A flag, which has no value.
+fn flag<'a>(alloc: Global, id: &'a str, long: &'a str, help: &'a str) -> Arg<'a>
+    ensures local { result.global ≡ false }
+    ensures rule { rule_of result ≡ flag_rule id.now long.now }
+{
+    Arg::new(alloc, id)
+        .long(long)
+        .help(help)
+        .action(ArgAction::SetTrue)
+}
+
+/// The flag that says that keys and values are text.
+fn text_flag<'a>(alloc: Global) -> Arg<'a>
+    ensures local { result.global ≡ false }
+    ensures rule { rule_of result ≡ text_rule }
+{
+    flag(
+        alloc,
+        "text",
+        "text",
+        "Keys and values as text, not in hexadecimal",
+    )
+}
+
+/// A subcommand with the options of a file's configuration.
 fn file_command<'a>(alloc: Global, name: &'a str, help: Help) -> Result<Command<'a>, AllocError>
     ensures { IfOk result (Reads (with_file (with_settings (new_app name.now)))) }
 {
@@ -219,7 +245,14 @@ fn file_command<'a>(alloc: Global, name: &'a str, help: Help) -> Result<Command<
         .arg(file_operand(alloc, help.file))
 }
 
-/// A subcommand with the options of a file's configuration, which reads a script, and writes a picture or an image.
+/// A subcommand with the options of a file's configuration, which reads a script, in which keys and values may be text.
+fn script_command<'a>(alloc: Global, name: &'a str, help: Help) -> Result<Command<'a>, AllocError>
+    ensures { IfOk result (Reads (script_app name.now)) }
+{
+    file_command(alloc, name, help)?.arg(text_flag(alloc))
+}
+
+/// A subcommand with the options of a file's configuration, which writes a picture or an image.
 fn writing_command<'a>(alloc: Global, name: &'a str, help: Help) -> Result<Command<'a>, AllocError>
     ensures { IfOk result (Reads (with_output (with_file (with_settings (new_app name.now))))) }
 {
@@ -250,7 +283,7 @@ fn keys_operand<'a>(alloc: Global) -> Arg<'a>
     ensures rule { rule_of result ≡ keys_rule }
 {
     Arg::new(alloc, "keys")
-        .help("Keys to look up, in hexadecimal, two digits a byte")
+        .help("Keys to look up, in hexadecimal, two digits a byte, or as text with --text")
         .value_name("KEY")
         .action(ArgAction::Append)
         .required(true)
@@ -264,7 +297,8 @@ fn get_command<'a>(alloc: Global, help: Help) -> Result<Command<'a>, AllocError>
         .about(help.about)
         .after_help(help.example)
         .arg(needed_file_operand(alloc, help.file))?
-        .arg(keys_operand(alloc))
+        .arg(keys_operand(alloc))?
+        .arg(text_flag(alloc))
 }
 
 /// A subcommand that reads an image, and writes a picture or an image.
@@ -303,7 +337,8 @@ fn drive_command<'a>(alloc: Global) -> Result<Command<'a>, AllocError>
             "0",
             0,
             MAX_SNAPSHOTS,
-        ))
+        ))?
+        .arg(text_flag(alloc))
 }
 
 /// An option with the version of an image.
@@ -328,6 +363,13 @@ fn building_command<'a>(alloc: Global, name: &'a str, help: Help) -> Result<Comm
     writing_command(alloc, name, help)?.arg(image_option(alloc))
 }
 
+/// The one that fills it by a script.
+fn build_command<'a>(alloc: Global) -> Result<Command<'a>, AllocError>
+    ensures { IfOk result (Reads build_app) }
+{
+    building_command(alloc, "build", BUILD)?.arg(text_flag(alloc))
+}
+
 /// The option that names the format of the records.
 fn format_option<'a>(alloc: Global) -> Arg<'a>
     ensures local { result.global ≡ false }
@@ -344,33 +386,48 @@ fn format_option<'a>(alloc: Global) -> Arg<'a>
 fn dump_command<'a>(alloc: Global) -> Result<Command<'a>, AllocError>
     ensures { IfOk result (Reads dump_app) }
 {
-    image_command(alloc, "dump", DUMP)?.arg(format_option(alloc))
+    image_command(alloc, "dump", DUMP)?
+        .arg(format_option(alloc))?
+        .arg(text_flag(alloc))
+}
+
+/// The subcommand that reads an image and a script behind it.
+fn query_command<'a>(alloc: Global) -> Result<Command<'a>, AllocError>
+    ensures { IfOk result (Reads query_app) }
+{
+    image_command(alloc, "query", QUERY)?.arg(text_flag(alloc))
 }
 
 /// The subcommand that reads an image and writes the one that a script leaves: an option for its version.
 fn apply_command<'a>(alloc: Global) -> Result<Command<'a>, AllocError>
     ensures { IfOk result (Reads apply_app) }
 {
-    changing_command(alloc, "apply", APPLY)?.arg(image_option(alloc))
+    changing_command(alloc, "apply", APPLY)?
+        .arg(image_option(alloc))?
+        .arg(text_flag(alloc))
 }
 
 /// The flag that says that the input begins with an image. Its id is not its name, since what stands under the id
 /// `image` is a number, and is to be in digits.
 fn image_flag<'a>(alloc: Global) -> Arg<'a>
     ensures local { result.global ≡ false }
-    ensures rule { rule_of result ≡ flag_rule (codes "from_image") (codes "image") }
+    ensures rule { rule_of result ≡ image_flag_rule }
 {
-    Arg::new(alloc, "from_image")
-        .long("image")
-        .help("The input begins with an image, and the file goes on from it")
-        .action(ArgAction::SetTrue)
+    flag(
+        alloc,
+        "from_image",
+        "image",
+        "The input begins with an image, and the file goes on from it",
+    )
 }
 
 /// The subcommand that answers a client: a file's options, and a flag for an input that begins with an image.
 fn serve_command<'a>(alloc: Global) -> Result<Command<'a>, AllocError>
     ensures { IfOk result (Reads serve_app) }
 {
-    file_command(alloc, "serve", SERVE)?.arg(image_flag(alloc))
+    file_command(alloc, "serve", SERVE)?
+        .arg(image_flag(alloc))?
+        .arg(text_flag(alloc))
 }
 
 /// The program's name and version, without a subcommand yet.
@@ -391,10 +448,10 @@ fn with_scripts<'a>(alloc: Global) -> Result<Command<'a>, AllocError>
     ensures { IfOk result (Reads scripts_app) }
 {
     root(alloc)
-        .subcommand(file_command(alloc, "commands", COMMANDS)?)?
-        .subcommand(file_command(alloc, "steps", STEPS)?)?
+        .subcommand(script_command(alloc, "commands", COMMANDS)?)?
+        .subcommand(script_command(alloc, "steps", STEPS)?)?
         .subcommand(writing_command(alloc, "replay", REPLAY)?)?
-        .subcommand(building_command(alloc, "build", BUILD)?)
+        .subcommand(build_command(alloc)?)
 }
 
 fn program<'a>(alloc: Global) -> Result<Command<'a>, AllocError>
@@ -407,7 +464,7 @@ fn program<'a>(alloc: Global) -> Result<Command<'a>, AllocError>
         .subcommand(drive_command(alloc)?)?
         .subcommand(changing_command(alloc, "draw", DRAW)?)?
         .subcommand(changing_command(alloc, "migrate", MIGRATE)?)?
-        .subcommand(image_command(alloc, "query", QUERY)?)?
+        .subcommand(query_command(alloc)?)?
         .subcommand(apply_command(alloc)?)?
         .subcommand(serve_command(alloc)?)?
         .subcommand(get_command(alloc, GET)?)
@@ -726,35 +783,53 @@ fn file_in(
     }
 }
 
-/// No file, where words are not accepted for an error of clap's, unless memory ran out.
-fn unnamed(error: &Error) -> Result<NamedFiles, AllocError>
-    ensures { IfOk result (λ files.
-        (kind_of error.now ≡ kind.OutOfMemory → ⊥) × (files.input ≡ None) × (files.output ≡ None)) }
+/// No subcommand, where words are not accepted for an error of clap's, unless memory ran out.
+fn unaccepted<'a>(error: &Error) -> Result<Option<ArgMatches<'a>>, AllocError>
+    ensures { IfOk result (λ found. (kind_of error.now ≡ kind.OutOfMemory → ⊥) × (found ≡ None)) }
 {
     if matches!(error.kind(), ErrorKind::OutOfMemory) {
         return Err(AllocError);
     }
-    Ok(NamedFiles::none())
+    Ok(None)
+}
+
+/// The subcommand of accepted words, by what clap has matched: none, where the words are not accepted.
+fn accepted<'a>(alloc: Global, words: &'a [&'a str]) -> Result<Option<ArgMatches<'a>>, AllocError>
+    ensures { IfOk result (IsAccepted (map (λ s. s.now) words.now)) }
+{
+    match program(alloc)?.try_get_matches_from(words) {
+        Err(error) => unaccepted(&error),
+        Ok(mut matches) => match matches.remove_subcommand() {
+            Some((_, matches)) => match objection_to(&matches) {
+                Some(_) => Ok(None),
+                None => Ok(Some(matches)),
+            },
+            None => unreachable!(),
+        },
+    }
 }
 
 /// The files that the words name, of which the first is the program's name: none, where they are not accepted.
 pub fn files_of<'a>(alloc: Global, words: &'a [&'a str]) -> Result<NamedFiles, AllocError>
     ensures { IfOk result (AreNamed (map (λ s. s.now) words.now)) }
 {
-    match program(alloc)?.try_get_matches_from(words) {
-        Err(error) => unnamed(&error),
-        Ok(matches) => match matches.subcommand() {
-            Some((_, matches)) => {
-                if objection_to(matches).is_some() {
-                    return Ok(NamedFiles::none());
-                }
-                Ok(NamedFiles {
-                    input: file_in(alloc, matches, "file")?,
-                    output: file_in(alloc, matches, "output")?,
-                })
-            },
-            None => unreachable!(),
-        },
+    match accepted(alloc, words)? {
+        Some(matches) => Ok(NamedFiles {
+            input: file_in(alloc, &matches, "file")?,
+            output: file_in(alloc, &matches, "output")?,
+        }),
+        None => Ok(NamedFiles::none()),
+    }
+}
+
+/// Whether the words, of which the first is the program's name, ask for keys and values as text: false, where they are
+/// not accepted.
+pub fn asks_for_text<'a>(alloc: Global, words: &'a [&'a str]) -> Result<bool, AllocError>
+    ensures { IfOk result (IsWhetherText (map (λ s. s.now) words.now)) }
+{
+    match accepted(alloc, words)? {
+        Some(matches) => Ok(is_typed(&matches, "text")),
+        None => Ok(false),
     }
 }
 

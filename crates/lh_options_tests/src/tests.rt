@@ -1,3 +1,4 @@
 //! Words from end to end.
 mod files;
 mod options;
+mod text;

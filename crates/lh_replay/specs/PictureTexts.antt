@@ -8,6 +8,7 @@ use Rattle.lh_core.specs.declared.event.Event.{Event}
 use Rattle.lh_core.specs.declared.event.Event.TheVariants as event
 use Rattle.lh_core.specs.Log.{Entry, if_accepted}
 use Rattle.lh_script.specs.StepTexts.{effect_text, refusal_text}
+use Rattle.lh_script.specs.declared.notation.Notation.TheVariants.{Hexadecimal}
 use Rattle.lh_replay.specs.declared.elements.PictureCaption.{PictureCaption}
 use Rattle.lh_replay.specs.declared.elements.Heading.{Heading}
 use Rattle.lh_replay.specs.declared.elements.Step.{Step}
@@ -55,7 +56,7 @@ event_word event.SplitDrop = codes "split-drop"
 -- what was told of an event: as `steps` writes it, but of a value that was found nothing
 abbrev pub told_text : Entry → List ℕ
 told_text (Ok (effect.Answered (reply.Found value))) = codes "found"
-told_text (Ok effect) = effect_text effect
+told_text (Ok effect) = effect_text Hexadecimal effect
 told_text (Err refusal) = refusal_text refusal
 
 -- an event and what was told of it, a refusal in a colour of its own

@@ -4,7 +4,7 @@ ghost use Rattle.lh_replay.specs.PictureTexts.{event_word, told_text, label_text
 
 use lh_bucket::{Call, Reply};
 use lh_core::{Effect, Event, Refusal};
-use lh_script::{EffectText, RefusalText};
+use lh_script::{EffectText, Notation, RefusalText};
 use std::fmt;
 
 /// An event in one word: a call by its verb.
@@ -49,7 +49,17 @@ impl fmt::Display for Told {
     fn fmt<W: fmt::Write>(&self, f: &mut fmt::Formatter<W>) -> fmt::Result {
         match self.entry {
             Ok(Effect::Answered(Reply::Found(_))) => write!(f, "found"),
-            Ok(effect) => write!(f, "{}", EffectText(&effect)),
+            Ok(effect) => {
+                let notation = Notation::Hexadecimal;
+                write!(
+                    f,
+                    "{}",
+                    EffectText {
+                        notation,
+                        effect: &effect
+                    }
+                )
+            },
             Err(refusal) => write!(f, "{}", RefusalText(&refusal)),
         }
     }

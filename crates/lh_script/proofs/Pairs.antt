@@ -10,7 +10,7 @@ use Rattle.std.proofs.lemmas.Bool.Decides.{nat_tests}
 use Rattle.std.proofs.lemmas.Grind.{common_steps}
 use Rattle.std.proofs.lemmas.List.FromFn.{get_or-map-range_with_len}
 use Rattle.std.proofs.lemmas.Nat.{or_lt, le_or_l, le_or_r}
-use Rattle.lh_script.specs.Hexadecimal.{digit, pairs, with_byte, byte_string}
+use Rattle.lh_script.specs.Hexadecimal.{digit, pairs, with_byte, hexadecimal_bytes}
 use Rattle.lh_script.specs.declared.hexadecimal.TheConstants.{DIGIT_VALUES}
 
 abbrev pub is_digit : ℕ → Bool
@@ -220,10 +220,10 @@ by_half false h n (Some m) P e lt = let bad : Some m ≡ None = e in absurd cc
 
 -- longer words don't fit
 pub room_short : (xs room : List ℕ) (o : Option ℕ) → o ≡ option_map length (pairs xs) → length room < length xs / 2 →
-    IfSome o (λ m. m ≤ length room → byte_string xs ≡ Some (take m room))
+    IfSome o (λ m. m ≤ length room → hexadecimal_bytes xs ≡ Some (take m room))
 room_short xs room o e lt =
     by_half ((length xs % 2 == 0) && list_all (λ c. is_some (digit c)) xs) (length xs / 2) (length room) o
-    (λ m. byte_string xs ≡ Some (take m room)) (e ∙ length_of_pairs xs) lt
+    (λ m. hexadecimal_bytes xs ≡ Some (take m room)) (e ∙ length_of_pairs xs) lt
 
 -- an odd number of bytes is no pairs of digits
 pub odd_none : (xs : List ℕ) → length xs % 2 ≡ 1 → option_map length (pairs xs) ≡ None

@@ -2,8 +2,8 @@
 use Rattle.std.specs.Prelude.{ℕ, List, ◌++◌, codes}
 use Rattle.std.specs.Fmt.{decimal}
 use Rattle.lh_script.specs.declared.fault.LineFault.{LineFault}
-use Rattle.lh_script.specs.declared.fault.LineFault.TheVariants.{UnknownWord, WordCount, BadHexadecimal, KeyLength}
-use Rattle.lh_script.specs.declared.fault.LineFault.TheVariants.{ValueLength, WorkerNumber}
+use Rattle.lh_script.specs.declared.fault.LineFault.TheVariants.{UnknownWord, WordCount, BadHexadecimal, BadText}
+use Rattle.lh_script.specs.declared.fault.LineFault.TheVariants.{KeyLength, ValueLength, WorkerNumber}
 use Rattle.lh_script.specs.declared.fault.ScriptFault.{ScriptFault}
 use Rattle.lh_script.specs.declared.fault.ScriptFault.TheVariants.{TooLong, AtLine}
 
@@ -12,6 +12,7 @@ abbrev pub line_fault_text : LineFault → List ℕ
 line_fault_text UnknownWord = codes "unknown word"
 line_fault_text WordCount = codes "wrong number of words"
 line_fault_text BadHexadecimal = codes "bad hexadecimal"
+line_fault_text BadText = codes "bad text"
 line_fault_text (KeyLength n) = codes "key length " ++ decimal n
 line_fault_text (ValueLength n) = codes "value length " ++ decimal n
 line_fault_text WorkerNumber = codes "bad worker number"

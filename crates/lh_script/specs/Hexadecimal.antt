@@ -27,5 +27,5 @@ is_dash (c ∷ []) = c == 45
 is_dash (c ∷ d ∷ cs) = false
 
 -- the bytes that a word stands for
-abbrev pub byte_string : List ℕ → Option (List ℕ)
-byte_string word = if is_dash word then Some [] else pairs word
+abbrev pub hexadecimal_bytes : List ℕ → Option (List ℕ)
+hexadecimal_bytes word = if is_dash word then Some [] else pairs word

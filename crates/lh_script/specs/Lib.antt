@@ -3,7 +3,10 @@ pub mod Commands
 pub mod FaultTexts
 pub mod Hexadecimal
 pub mod Lines
+pub mod NotationLaws
+pub mod Notations
 pub mod Operands
+pub mod PlainTexts
 pub mod Requests
 pub mod Scripts
 pub mod StepTexts

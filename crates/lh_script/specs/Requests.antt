@@ -6,6 +6,7 @@ use Rattle.lh_script.specs.Operands.{◌>>=◌}
 use Rattle.lh_script.specs.Scripts.{Reading, unless_skipped}
 use Rattle.lh_script.specs.declared.fault.LineFault.{LineFault}
 use Rattle.lh_script.specs.declared.fault.LineFault.TheVariants.{WordCount}
+use Rattle.lh_script.specs.declared.notation.Notation.{Notation}
 use Rattle.lh_script.specs.declared.requests.ClientRequest.{ClientRequest}
 use Rattle.lh_script.specs.declared.requests.ClientRequest.TheVariants as ask
 
@@ -15,13 +16,13 @@ if_alone request [] = Ok request
 if_alone request (word ∷ rest) = Err WordCount
 
 -- a request by the first word of its line and the words behind it
-unfoldable pub request_of : List ℕ → List (List ℕ) → Result ClientRequest LineFault
-request_of word rest =
+unfoldable pub request_of : Notation → List ℕ → List (List ℕ) → Result ClientRequest LineFault
+request_of notation word rest =
     if is_word word (codes "buckets") then if_alone ask.Buckets rest
     else (if is_word word (codes "records") then if_alone ask.Records rest
     else (if is_word word (codes "image") then if_alone ask.Image rest
-    else (call_alone word rest >>= λ call. Ok (ask.Call call))))
+    else (call_alone notation word rest >>= λ call. Ok (ask.Call call))))
 
 -- a line that isn't skipped is a request
-unfoldable pub request : Reading ClientRequest
-request words = unless_skipped request_of words
+unfoldable pub request : Notation → Reading ClientRequest
+request notation words = unless_skipped (request_of notation) words

@@ -9,6 +9,7 @@ use Rattle.lh_core.specs.declared.event.Event.{Event}
 use Rattle.lh_core.specs.declared.event.Event.TheVariants as event
 use Rattle.lh_script.specs.declared.fault.LineFault.{LineFault}
 use Rattle.lh_script.specs.declared.fault.LineFault.TheVariants.{UnknownWord, WordCount, WorkerNumber}
+use Rattle.lh_script.specs.declared.notation.Notation.{Notation}
 
 -- whether a byte is a decimal digit: 0 to 9 have the codes from 48
 abbrev pub is_decimal : ℕ → Bool
@@ -26,10 +27,10 @@ worker (c ∷ d ∷ []) = if is_decimal c && is_decimal d then up_to_15 (10 * (c
 worker (c ∷ d ∷ e ∷ cs) = Err WorkerNumber
 
 -- the words behind `call`, the number of a worker and a call: fewer than two are too few before the verb is looked at
-abbrev pub of_call : List (List ℕ) → Result Event LineFault
-of_call [] = Err WordCount
-of_call (w ∷ []) = Err WordCount
-of_call (w ∷ verb ∷ rest) = call (worker w) verb rest >>= λ p. Ok (event.Call p.0 p.1)
+abbrev pub of_call : Notation → List (List ℕ) → Result Event LineFault
+of_call notation [] = Err WordCount
+of_call notation (w ∷ []) = Err WordCount
+of_call notation (w ∷ verb ∷ rest) = call notation (worker w) verb rest >>= λ p. Ok (event.Call p.0 p.1)
 
 -- words that are to be one, the number of a worker
 unfoldable pub worker_alone : List (List ℕ) → Result ℕ LineFault
@@ -46,9 +47,9 @@ of_splitter split [] = Ok split
 of_splitter split (word ∷ rest) = Err WordCount
 
 -- an event by the first word of its line and the words behind it
-unfoldable pub event_of : List ℕ → List (List ℕ) → Result Event LineFault
-event_of word rest =
-    if is_word word (codes "call") then of_call rest
+unfoldable pub event_of : Notation → List ℕ → List (List ℕ) → Result Event LineFault
+event_of notation word rest =
+    if is_word word (codes "call") then of_call notation rest
     else (if is_word word (codes "read") then of_worker (λ n. event.Read n) rest
     else (if is_word word (codes "lock") then of_worker (λ n. event.Lock n) rest
     else (if is_word word (codes "rehash") then of_worker (λ n. event.Rehash n) rest
@@ -63,5 +64,5 @@ event_of word rest =
     else Err UnknownWord)))))))))))
 
 -- a line that isn't skipped is an event
-unfoldable pub step : Reading Event
-step words = unless_skipped event_of words
+unfoldable pub step : Notation → Reading Event
+step notation words = unless_skipped (event_of notation) words

@@ -13,6 +13,9 @@ pub enum LineFault {
     WordCount,
     /// A byte string has an odd number of digits, or a byte that is no digit.
     BadHexadecimal,
+    /// A byte string has a byte that no text is written with, or a backslash without the digits of a byte that is
+    /// written by them.
+    BadText,
     /// A key of this many bytes, which is 0 or more than a key has.
     KeyLength(usize),
     /// A value of this many bytes, which is more than a value has.
@@ -47,6 +50,7 @@ impl fmt::Display for LineFault {
             LineFault::UnknownWord => write!(f, "unknown word"),
             LineFault::WordCount => write!(f, "wrong number of words"),
             LineFault::BadHexadecimal => write!(f, "bad hexadecimal"),
+            LineFault::BadText => write!(f, "bad text"),
             LineFault::KeyLength(length) => write!(f, "key length {length}"),
             LineFault::ValueLength(length) => write!(f, "value length {length}"),
             LineFault::WorkerNumber => write!(f, "bad worker number"),

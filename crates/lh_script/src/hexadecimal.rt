@@ -2,7 +2,7 @@
 ghost use Rattle.std.specs.Prelude.{◌≡◌, ◌+◌, ◌*◌, ◌<◌, ◌≤◌, ◌∷◌, IfSome, MatchBool, is_some, length, take};
 ghost use Rattle.std.specs.Option.{option_map, unwrap_or};
 ghost use Rattle.std.specs.List.{list_all};
-ghost use Rattle.lh_script.specs.Hexadecimal.{digit, pairs, is_dash, byte_string};
+ghost use Rattle.lh_script.specs.Hexadecimal.{digit, pairs, is_dash, hexadecimal_bytes};
 
 /// The value of each digit by its code, and 16 for a byte that is no digit.
 static DIGIT_VALUES: [u8; 256] = [
@@ -41,7 +41,7 @@ fn are_digits(word: &[u8]) -> bool
     word.iter().all(|byte| is_digit(*byte))
 }
 
-fn is_dash_word(word: &[u8]) -> bool
+pub fn is_dash_word(word: &[u8]) -> bool
     ensures { result ≡ is_dash word.now }
 {
     word.len() == 1 && word[0] == b'-'
@@ -92,8 +92,8 @@ fn decode_pairs(word: &[u8], out: &mut [u8]) -> bool
 /// The number of bytes that a word stands for. Where `room` is long enough, they are written to its front.
 #[tactic(auto, using(crate::proofs::Pairs::room_short, crate::proofs::Pairs::odd_none))]
 pub fn decode(word: &[u8], room: &mut [u8]) -> Option<usize>
-    ensures length { result ≡ option_map length (byte_string word.now) }
-    ensures bytes { IfSome result (λ n. n ≤ length room.old → byte_string word.now ≡ Some (take n room.new)) }
+    ensures length { result ≡ option_map length (hexadecimal_bytes word.now) }
+    ensures bytes { IfSome result (λ n. n ≤ length room.old → hexadecimal_bytes word.now ≡ Some (take n room.new)) }
 {
     if is_dash_word(word) {
         return Some(0);

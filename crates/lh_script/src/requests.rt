@@ -8,6 +8,7 @@ ghost use Rattle.lh_script.specs.Texts.{line};
 use crate::calls::read_call;
 use crate::fault::LineFault;
 use crate::lines::{first_word, is_name, statement_words, without_cr};
+use crate::notation::Notation;
 use lh_bucket::Call;
 use memchr::memchr;
 
@@ -37,8 +38,8 @@ fn only(asked: ClientRequest, text: &[u8]) -> Result<ClientRequest, LineFault>
 
 /// The request of a line, by its first word and what stands behind it.
 #[tactic(auto, unfolding(crate::specs::Requests::request_of))]
-fn request_of_line(word: &[u8], rest: &[u8]) -> Result<ClientRequest, LineFault>
-    ensures { result ≡ request_of word.now (words rest.now) }
+fn request_of_line(notation: Notation, word: &[u8], rest: &[u8]) -> Result<ClientRequest, LineFault>
+    ensures { result ≡ request_of notation word.now (words rest.now) }
 {
     if is_name(word, b"buckets".as_slice()) {
         only(ClientRequest::Buckets, rest)
@@ -47,20 +48,20 @@ fn request_of_line(word: &[u8], rest: &[u8]) -> Result<ClientRequest, LineFault>
     } else if is_name(word, b"image".as_slice()) {
         only(ClientRequest::Image, rest)
     } else {
-        let ((), call) = read_call(Ok(()), word, rest)?;
+        let ((), call) = read_call(notation, Ok(()), word, rest)?;
         Ok(ClientRequest::Call(call))
     }
 }
 
 /// What a line without its LF asks for, if anything. One CR at its end is dropped.
 #[tactic(auto, unfolding(crate::specs::Requests::request))]
-pub fn read_request(line: &[u8]) -> Result<Option<ClientRequest>, LineFault>
-    ensures { result ≡ request (words (without_last_cr line.now)) }
+pub fn read_request(notation: Notation, line: &[u8]) -> Result<Option<ClientRequest>, LineFault>
+    ensures { result ≡ request notation (words (without_last_cr line.now)) }
 {
     let Some((word, rest)) = statement_words(without_cr(line)) else {
         return Ok(None);
     };
-    Ok(Some(request_of_line(word, rest)?))
+    Ok(Some(request_of_line(notation, word, rest)?))
 }
 
 /// The first line of some bytes, without its LF, and what stands behind it; or none where no LF is there.

@@ -3,21 +3,23 @@ ghost use Rattle.std.specs.Prelude.{◌≡◌, ◌<◌, ◌++◌, List, ℕ, Opt
 ghost use Rattle.lh_script.specs.Lines.{words};
 ghost use Rattle.lh_script.specs.Scripts.{Gives, added, fault_in, script};
 ghost use Rattle.lh_script.specs.declared.fault.LineFault.{LineFault};
+ghost use Rattle.lh_script.specs.declared.notation.Notation.{Notation};
 
 use crate::fault::{LineFault, ParseError, ScriptFault};
 use crate::lines::first_line;
+use crate::notation::Notation;
 use std::alloc::Global;
 
 /// What a line of a script may say.
 pub trait Statement: Copy {
-    /// What the words of a line say.
-    ghost reads: { List (List ℕ) → Result (Option Self) LineFault };
+    /// What the words of a line say, in a notation.
+    ghost reads: { Notation → List (List ℕ) → Result (Option Self) LineFault };
 
     /// Adds the statement of a line, if it has one, to the statements before it, which have room for one more.
-    fn read(line: &[u8], statements: &mut Vec<Self>) -> Result<(), LineFault>
+    fn read(notation: Notation, line: &[u8], statements: &mut Vec<Self>) -> Result<(), LineFault>
         requires { vec_len statements.old < vec_capacity statements.old }
-        ensures fault { result ≡ fault_in (reads (words line.now)) }
-        ensures added { statements.new.items ≡ statements.old.items ++ added (reads (words line.now)) };
+        ensures fault { result ≡ fault_in (reads notation (words line.now)) }
+        ensures added { statements.new.items ≡ statements.old.items ++ added (reads notation (words line.now)) };
 }
 
 /// Adds what was said, if it is a statement.
@@ -50,8 +52,12 @@ pub const MOST_BYTES: usize = 16_777_216;
 ///
 /// Besides the text it takes memory for the statements alone.
 #[tactic(auto, using(crate::proofs::Scripts::line_by_line))]
-pub fn parse<S: Statement>(alloc: Global, text: &[u8]) -> Result<Vec<S>, ParseError>
-    ensures { Gives (λ v. v.items) result (script S.reads text.now) }
+pub fn parse<S: Statement>(
+    alloc: Global,
+    notation: Notation,
+    text: &[u8],
+) -> Result<Vec<S>, ParseError>
+    ensures { Gives (λ v. v.items) result (script (S.reads notation) text.now) }
 {
     if text.len() > MOST_BYTES {
         return Err(ParseError::Fault(ScriptFault::TooLong));
@@ -64,7 +70,7 @@ pub fn parse<S: Statement>(alloc: Global, text: &[u8]) -> Result<Vec<S>, ParseEr
         if statements.reserve(1).is_err() {
             return Err(ParseError::Memory);
         }
-        if let Err(fault) = S::read(first, &mut statements) {
+        if let Err(fault) = S::read(notation, first, &mut statements) {
             return Err(ParseError::Fault(ScriptFault::AtLine(line, fault)));
         }
         rest = behind;

@@ -2,23 +2,30 @@
 ghost use Rattle.std.specs.Prelude.{Some};
 ghost use Rattle.lh_script.specs.StepTexts.{effect_text, entry_text, refusal_text};
 
+use crate::notation::Notation;
 use crate::texts::ReplyText;
 use lh_core::{Effect, Refusal};
 use std::fmt;
 
 /// The effect of an accepted event as one line of a text, without the line's end.
 #[derive(Clone, Copy)]
-pub struct EffectText<'a>(pub &'a Effect);
+pub struct EffectText<'a> {
+    pub notation: Notation,
+    pub effect: &'a Effect,
+}
 
 impl fmt::Display for EffectText<'_> {
-    ghost output = { λ text. Some (effect_text text.0.now) };
+    ghost output = { λ text. Some (effect_text text.notation text.effect.now) };
 
     fn fmt<W: fmt::Write>(&self, f: &mut fmt::Formatter<W>) -> fmt::Result {
-        match self.0 {
+        match self.effect {
             Effect::Called => write!(f, "called"),
             Effect::Aim { level, bucket } => write!(f, "aim {level} {bucket}"),
             Effect::Locked { bucket, level } => write!(f, "locked {bucket} {level}"),
-            Effect::Answered(reply) => write!(f, "{}", ReplyText(reply)),
+            Effect::Answered(reply) => {
+                let notation = self.notation;
+                write!(f, "{}", ReplyText { notation, reply })
+            },
             Effect::Released => write!(f, "released"),
             Effect::GivenUp => write!(f, "given up"),
             Effect::Begun { old, new } => write!(f, "begun {old} {new}"),
@@ -53,14 +60,20 @@ impl fmt::Display for RefusalText<'_> {
 
 /// The effect of an event or its refusal as one line of a text, without the line's end.
 #[derive(Clone, Copy)]
-pub struct EntryText<'a>(pub &'a Result<Effect, Refusal>);
+pub struct EntryText<'a> {
+    pub notation: Notation,
+    pub entry: &'a Result<Effect, Refusal>,
+}
 
 impl fmt::Display for EntryText<'_> {
-    ghost output = { λ text. Some (entry_text text.0.now) };
+    ghost output = { λ text. Some (entry_text text.notation text.entry.now) };
 
     fn fmt<W: fmt::Write>(&self, f: &mut fmt::Formatter<W>) -> fmt::Result {
-        match self.0 {
-            Ok(effect) => write!(f, "{}", EffectText(effect)),
+        match self.entry {
+            Ok(effect) => {
+                let notation = self.notation;
+                write!(f, "{}", EffectText { notation, effect })
+            },
             Err(refusal) => write!(f, "{}", RefusalText(refusal)),
         }
     }

@@ -6,6 +6,7 @@ ghost use Rattle.lh_script.specs.Steps.{event_of, is_decimal, of_call, of_splitt
 use crate::calls::read_call;
 use crate::fault::LineFault;
 use crate::lines::{first_word, is_name, one_word, statement_words};
+use crate::notation::Notation;
 use crate::script::{Statement, keep};
 use lh_core::Event;
 
@@ -35,8 +36,8 @@ fn worker_number(word: &[u8]) -> Result<u8, LineFault>
 }
 
 /// The call that comes in, by what stands behind `call`.
-fn call_behind(text: &[u8]) -> Result<Event, LineFault>
-    ensures { result ≡ of_call (words text.now) }
+fn call_behind(notation: Notation, text: &[u8]) -> Result<Event, LineFault>
+    ensures { result ≡ of_call notation (words text.now) }
 {
     let Some((place, behind)) = first_word(text) else {
         return Err(LineFault::WordCount);
@@ -44,7 +45,7 @@ fn call_behind(text: &[u8]) -> Result<Event, LineFault>
     let Some((verb, rest)) = first_word(behind) else {
         return Err(LineFault::WordCount);
     };
-    let (place, call) = read_call(worker_number(place), verb, rest)?;
+    let (place, call) = read_call(notation, worker_number(place), verb, rest)?;
     Ok(Event::Call(place, call))
 }
 
@@ -72,11 +73,11 @@ fn if_alone(event: Event, text: &[u8]) -> Result<Event, LineFault>
 
 /// The event of a line, by its first word and what stands behind it.
 #[tactic(auto, unfolding(crate::specs::Steps::event_of))]
-fn event_of_line(word: &[u8], rest: &[u8]) -> Result<Event, LineFault>
-    ensures { result ≡ event_of word.now (words rest.now) }
+fn event_of_line(notation: Notation, word: &[u8], rest: &[u8]) -> Result<Event, LineFault>
+    ensures { result ≡ event_of notation word.now (words rest.now) }
 {
     if is_name(word, b"call".as_slice()) {
-        call_behind(rest)
+        call_behind(notation, rest)
     } else if is_name(word, b"read".as_slice()) {
         Ok(Event::Read(worker_behind(rest)?))
     } else if is_name(word, b"lock".as_slice()) {
@@ -106,19 +107,19 @@ fn event_of_line(word: &[u8], rest: &[u8]) -> Result<Event, LineFault>
 
 /// What a line of a step script says.
 #[tactic(auto, unfolding(crate::specs::Steps::step))]
-fn read_step(line: &[u8]) -> Result<Option<Event>, LineFault>
-    ensures { result ≡ step (words line.now) }
+fn read_step(notation: Notation, line: &[u8]) -> Result<Option<Event>, LineFault>
+    ensures { result ≡ step notation (words line.now) }
 {
     let Some((word, rest)) = statement_words(line) else {
         return Ok(None);
     };
-    Ok(Some(event_of_line(word, rest)?))
+    Ok(Some(event_of_line(notation, word, rest)?))
 }
 
 impl Statement for Event {
     ghost reads = { step };
 
-    fn read(line: &[u8], statements: &mut Vec<Event>) -> Result<(), LineFault> {
-        keep(read_step(line), statements)
+    fn read(notation: Notation, line: &[u8], statements: &mut Vec<Event>) -> Result<(), LineFault> {
+        keep(read_step(notation, line), statements)
     }
 }

@@ -2,3 +2,4 @@
 mod commands;
 mod memory;
 mod steps;
+mod text;

@@ -16,6 +16,7 @@ use Rattle.lh_image.specs.declared.version.Version.TheVariants.{Two}
 use Rattle.lh_script.specs.Lines.{without_last_cr, words}
 use Rattle.lh_script.specs.Requests.{request}
 use Rattle.lh_script.specs.declared.fault.LineFault.{LineFault}
+use Rattle.lh_script.specs.declared.notation.Notation.{Notation}
 use Rattle.lh_script.specs.declared.requests.ClientRequest.{ClientRequest}
 use Rattle.lh_script.specs.declared.requests.ClientRequest.TheVariants as ask
 use Rattle.lh_serving.specs.Texts.{answer_line}
@@ -40,15 +41,21 @@ first_file settings = record { settings = settings; map = empty; size = settings
 abbrev pub file_of : Lists → FileSeen
 file_of l = record { settings = l.config; map = records_of l; size = size l; missed = false }
 
--- a line that is no request is a fault
-abbrev pub in_line : Result (Option ClientRequest) LineFault → Result (Option ClientRequest) Fault
-in_line (Ok asked) = Ok asked
-in_line (Err f) = Err (fault.Line f)
+-- a request, but for that of an image where the answers go to a terminal
+abbrev pub unless_shown : ClientRequest → Bool → Result (Option ClientRequest) Fault
+unless_shown ask.Image true = Err fault.Terminal
+unless_shown asked shown = Ok (Some asked)
 
--- what a line asks for, by what is kept of it
-abbrev pub asked_by : Option (List ℕ) → Result (Option ClientRequest) Fault
-asked_by None = Err fault.TooLong
-asked_by (Some line) = in_line (request (words (without_last_cr line)))
+-- a line that is no request is a fault
+abbrev pub in_line : Bool → Result (Option ClientRequest) LineFault → Result (Option ClientRequest) Fault
+in_line shown (Ok None) = Ok None
+in_line shown (Ok (Some asked)) = unless_shown asked shown
+in_line shown (Err f) = Err (fault.Line f)
+
+-- what a line asks for, by what is kept of it, and whether the answers are shown on a terminal
+abbrev pub asked_by : Notation → Bool → Option (List ℕ) → Result (Option ClientRequest) Fault
+asked_by notation shown None = Err fault.TooLong
+asked_by notation shown (Some line) = in_line shown (request notation (words (without_last_cr line)))
 
 -- The file after a call: the records are the plain map's; the buckets are as many as the split policy gives, but as
 -- many as before where memory ran out for the split that the policy wants, and that is noted.
@@ -73,11 +80,11 @@ AnswersCall file call (answer.Fault fault.Memory) next = (next ≡ file) × MayW
 AnswersCall file call _ next = ⊥
 
 -- an image of a file is written: a line with its length, and the canonical image of version 2 of a listing of the file
-pub record IsImaged (file : FileSeen) (said : List ℕ) : Type 0 where
+pub record IsImaged (notation : Notation) (file : FileSeen) (said : List ℕ) : Type 0 where
   pub listing : Lists
   pub listed : IsListed file.settings file.map file.size listing
   pub fits : FitsImage Two listing
-  pub text : said ≡ answer_line (Some (answer.Image (length (canonical Two listing)))) ++ canonical Two listing
+  pub text : said ≡ answer_line notation (Some (answer.Image (length (canonical Two listing)))) ++ canonical Two listing
 
 -- why none is: memory ran out, or the file is too large for one
 abbrev pub IsUnimaged : FileSeen → Fault → Type 0
@@ -88,18 +95,19 @@ IsUnimaged file _ = ⊥
 
 -- the bytes that answer what a line asks for: nothing is answered by none, a fault by its name, and neither changes
 -- anything
-abbrev pub AnswersLine : FileSeen → Result (Option ClientRequest) Fault → List ℕ → FileSeen → Type 0
-AnswersLine file (Ok None) said next = (said ≡ []) × (next ≡ file)
-AnswersLine file (Ok (Some (ask.Call call))) said next =
-    (a : LineAnswer) × (said ≡ answer_line (Some a)) × AnswersCall file call a next
-AnswersLine file (Ok (Some ask.Buckets)) said next =
-    (said ≡ answer_line (Some (answer.Buckets file.size))) × (next ≡ file)
-AnswersLine file (Ok (Some ask.Records)) said next =
-    (said ≡ answer_line (Some (answer.Records (len file.map)))) × (next ≡ file)
-AnswersLine file (Ok (Some ask.Image)) said next =
-    (IsImaged file said ⊎ ((f : Fault) × (said ≡ answer_line (Some (answer.Fault f))) × IsUnimaged file f))
+abbrev pub AnswersLine : Notation → FileSeen → Result (Option ClientRequest) Fault → List ℕ → FileSeen → Type 0
+AnswersLine notation file (Ok None) said next = (said ≡ []) × (next ≡ file)
+AnswersLine notation file (Ok (Some (ask.Call call))) said next =
+    (a : LineAnswer) × (said ≡ answer_line notation (Some a)) × AnswersCall file call a next
+AnswersLine notation file (Ok (Some ask.Buckets)) said next =
+    (said ≡ answer_line notation (Some (answer.Buckets file.size))) × (next ≡ file)
+AnswersLine notation file (Ok (Some ask.Records)) said next =
+    (said ≡ answer_line notation (Some (answer.Records (len file.map)))) × (next ≡ file)
+AnswersLine notation file (Ok (Some ask.Image)) said next =
+    (IsImaged notation file said ⊎ ((f : Fault) × (said ≡ answer_line notation (Some (answer.Fault f)))
+    × IsUnimaged file f))
     × (next ≡ file)
-AnswersLine file (Err f) said next = (said ≡ answer_line (Some (answer.Fault f))) × (next ≡ file)
+AnswersLine notation file (Err f) said next = (said ≡ answer_line notation (Some (answer.Fault f))) × (next ≡ file)
 
 -- a world at rest, with the number of its records and whether memory has run out for a split, is this file
 pub record HoldsFile (world : WorldSeen) (records : ℕ) (missed : Bool) (file : FileSeen) : Type 0 where

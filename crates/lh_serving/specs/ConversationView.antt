@@ -6,6 +6,8 @@ use Rattle.lh_serving.specs.declared.conversation.Conversation.TheInside.{Inside
 
 abbrev pub conversation_seen : Inside → ConversationSeen
 conversation_seen talk = record {
+  notation = talk.notation;
+  shown = talk.is_terminal;
   world = talk.world;
   records = talk.records;
   missed = talk.missed;

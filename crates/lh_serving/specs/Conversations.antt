@@ -5,6 +5,7 @@ use Rattle.lh_bucket.specs.Listing.{Lists}
 use Rattle.lh_core.specs.World.{WorldSeen}
 use Rattle.lh_script.specs.Lines.{is_lf}
 use Rattle.lh_script.specs.Texts.{line}
+use Rattle.lh_script.specs.declared.notation.Notation.{Notation}
 use Rattle.lh_serving.specs.Answers.{AnswersLine, FileSeen, HoldsFile, asked_by}
 use Rattle.lh_serving.specs.Parts.{kept}
 use Rattle.lh_serving.specs.Texts.{image_text}
@@ -30,15 +31,27 @@ abbrev pub answers_of : List Turn → List ℕ
 answers_of [] = []
 answers_of (turn ∷ turns) = answers_of turns ++ turn.answer
 
+-- where a conversation begins: how keys and values are written, whether the answers are shown on a terminal, and the
+-- file
+pub record Beginning : Type 0 where
+  pub notation : Notation
+  pub shown : Bool
+  pub file : FileSeen
+
+-- the beginning over a file
+abbrev pub beginning : Notation → Bool → FileSeen → Beginning
+beginning notation shown file = record { notation = notation; shown = shown; file = file }
+
 -- each line has no LF, and has its answer by the file that the turns before it left
-abbrev pub AreTurns : FileSeen → List Turn → Type 0
+abbrev pub AreTurns : Beginning → List Turn → Type 0
 AreTurns start [] = Unit {0}
 AreTurns start (turn ∷ turns) =
     AreTurns start turns × (list_any is_lf turn.said ≡ false)
-    × AnswersLine (file_after start turns) (asked_by (kept turn.said)) turn.answer turn.file
+    × AnswersLine start.notation (file_after start.file turns) (asked_by start.notation start.shown (kept turn.said))
+    turn.answer turn.file
 
--- What a client of this file was told is just the answers to the complete lines of what was heard of it.
-pub record IsAnswered (start : FileSeen) (heard answers : List ℕ) : Type 0 where
+-- What a client of a file was told is just the answers to the complete lines of what was heard of it.
+pub record IsAnswered (start : Beginning) (heard answers : List ℕ) : Type 0 where
   pub turns : List Turn
   pub rest : List ℕ
   pub each : AreTurns start turns
@@ -46,9 +59,12 @@ pub record IsAnswered (start : FileSeen) (heard answers : List ℕ) : Type 0 whe
   pub incomplete : list_any is_lf rest ≡ false
   pub same : answers ≡ answers_of turns
 
--- a conversation: its world and the number of its records, whether memory has run out for a split, what has come of the
--- next line, the lines that wait to be told, and the file whose image waits behind them, if one does
+-- a conversation: how keys and values are written, whether the answers are shown on a terminal, its world and the
+-- number of its records, whether memory has run out for a split, what has come of the next line, the lines that wait to
+-- be told, and the file whose image waits behind them, if one does
 pub record ConversationSeen : Type 0 where
+  pub notation : Notation
+  pub shown : Bool
   pub world : WorldSeen
   pub records : ℕ
   pub missed : Bool
@@ -65,9 +81,9 @@ pub record HasToldAll (talk : ConversationSeen) : Type 0 where
   pub waiting : talk.waiting ≡ []
   pub image : talk.image ≡ None
 
--- A conversation over this file that heard these bytes, where these were told: with what waits, these are just the
+-- A conversation that began so, and heard these bytes, where these were told: with what waits, these are just the
 -- answers to the complete lines.
-pub record IsAt (start : FileSeen) (talk : ConversationSeen) (heard answers : List ℕ) : Type 0 where
+pub record IsAt (start : Beginning) (talk : ConversationSeen) (heard answers : List ℕ) : Type 0 where
   pub turns : List Turn
   pub rest : List ℕ
   pub each : AreTurns start turns
@@ -75,4 +91,6 @@ pub record IsAt (start : FileSeen) (talk : ConversationSeen) (heard answers : Li
   pub incomplete : list_any is_lf rest ≡ false
   pub same : answers ++ pending talk ≡ answers_of turns
   pub part : talk.part ≡ kept rest
-  pub file : HoldsFile talk.world talk.records talk.missed (file_after start turns)
+  pub file : HoldsFile talk.world talk.records talk.missed (file_after start.file turns)
+  pub same_notation : talk.notation ≡ start.notation
+  pub same_shown : talk.shown ≡ start.shown

@@ -5,7 +5,7 @@ ghost use Rattle.lh_serving.specs.Texts.{answer_text, fault_text, answer_line};
 
 use lh_bucket::{Memory, Reply};
 use lh_image::WriteImageFault;
-use lh_script::{LineFault, ReplyText, SizeText};
+use lh_script::{LineFault, Notation, ReplyText, SizeText};
 use std::fmt;
 
 /// Why a line is not served. The file is as it was.
@@ -15,6 +15,8 @@ pub enum Fault {
     Line(LineFault),
     /// It has more bytes than a line may have.
     TooLong,
+    /// It asks for an image, and the answers go to a terminal.
+    Terminal,
     /// There was no memory for its record, or for a copy of the file.
     Memory,
     /// The file has no image.
@@ -43,6 +45,7 @@ impl fmt::Display for Fault {
         match self {
             Fault::Line(fault) => write!(f, "{fault}"),
             Fault::TooLong => write!(f, "line too long"),
+            Fault::Terminal => write!(f, "image on a terminal"),
             Fault::Memory => write!(f, "no memory"),
             Fault::Image(fault) => write!(f, "{fault}"),
         }
@@ -51,14 +54,20 @@ impl fmt::Display for Fault {
 
 /// An answer as one line of a text, without the line's end.
 #[derive(Clone, Copy)]
-pub struct AnswerText<'a>(pub &'a LineAnswer);
+pub struct AnswerText<'a> {
+    pub notation: Notation,
+    pub answer: &'a LineAnswer,
+}
 
 impl fmt::Display for AnswerText<'_> {
-    ghost output = { λ text. Some (answer_text text.0.now) };
+    ghost output = { λ text. Some (answer_text text.notation text.answer.now) };
 
     fn fmt<W: fmt::Write>(&self, f: &mut fmt::Formatter<W>) -> fmt::Result {
-        match self.0 {
-            LineAnswer::Reply(reply) => write!(f, "{}", ReplyText(reply)),
+        match self.answer {
+            LineAnswer::Reply(reply) => {
+                let notation = self.notation;
+                write!(f, "{}", ReplyText { notation, reply })
+            },
             LineAnswer::Buckets(buckets) => write!(f, "{}", SizeText(*buckets)),
             LineAnswer::Records(records) => write!(f, "records {records}"),
             LineAnswer::Image(bytes) => write!(f, "image {bytes}"),
@@ -68,13 +77,18 @@ impl fmt::Display for AnswerText<'_> {
 }
 
 /// Adds an answer, if there is one, to those that wait.
-pub fn put(waiting: &mut String, answer: Option<LineAnswer>) -> Result<(), Memory>
-    ensures { OnOk result (string_bytes waiting.new ≡ string_bytes waiting.old ++ answer_line answer) }
+pub fn put(
+    waiting: &mut String,
+    notation: Notation,
+    answer: Option<LineAnswer>,
+) -> Result<(), Memory>
+    ensures { OnOk result (string_bytes waiting.new ≡ string_bytes waiting.old ++ answer_line notation answer) }
 {
     let Some(answer) = answer else {
         return Ok(());
     };
-    if waiting.writeln(AnswerText(&answer)).is_err() {
+    let answer = &answer;
+    if waiting.writeln(AnswerText { notation, answer }).is_err() {
         return Err(Memory);
     }
     Ok(())

@@ -3,7 +3,7 @@ ghost use Rattle.std.specs.Prelude.{◌≡◌, ◌<◌, ◌++◌, ℕ, List, Non
 ghost use Rattle.std.specs.Bool.{OnFalse, OnTrue};
 ghost use Rattle.lh_core.specs.Serial.{IsAtRest};
 ghost use Rattle.lh_serving.specs.Answers.{FileSeen, HoldsFile, asked_by, file_of, first_file};
-ghost use Rattle.lh_serving.specs.Conversations.{IsAt, HasToldAll, pending};
+ghost use Rattle.lh_serving.specs.Conversations.{Beginning, IsAt, HasToldAll, beginning, pending};
 
 use crate::answer::{Fault, put};
 use crate::part::LinePart;
@@ -11,17 +11,20 @@ use crate::serving::answer_to;
 use lh_addr::Config;
 use lh_bucket::{Listing, Memory, PagedBucket};
 use lh_core::{World, count_before};
-use lh_script::{ClientRequest, cut_line, read_request};
+use lh_script::{ClientRequest, Notation, cut_line, read_request};
 use std::alloc::Global;
 use std::marker::Model;
 
 /// How much room there is for answers that wait, before more memory is taken for them.
 const ROOM: usize = 66_000;
 
-/// A file, whether memory has run out for a split of it, what has come of its client's next line, the answers that the client wasn't told yet, and the file whose
-/// image is to be told behind them.
+/// How keys and values are written, whether the answers go to a terminal, a file, whether memory has run out for a split
+/// of it, what has come of its client's next line, the answers that the client wasn't told yet, and the file whose image
+/// is to be told behind them.
 #[derive(Drop)]
 pub struct Conversation {
+    notation: Notation,
+    is_terminal: bool,
     world: World<PagedBucket>,
     records: u64,
     missed: bool,
@@ -43,13 +46,18 @@ impl Model for Conversation {
 }
 
 /// What a line asks for, by what is kept of it.
-fn asked(part: &LinePart) -> Result<Option<ClientRequest>, Fault>
-    ensures { result ≡ asked_by part.now }
+fn asked(
+    notation: Notation,
+    is_terminal: bool,
+    part: &LinePart,
+) -> Result<Option<ClientRequest>, Fault>
+    ensures { result ≡ asked_by notation is_terminal part.now }
 {
     let Some(line) = part.line() else {
         return Err(Fault::TooLong);
     };
-    match read_request(line) {
+    match read_request(notation, line) {
+        Ok(Some(ClientRequest::Image)) if is_terminal => Err(Fault::Terminal),
         Ok(request) => Ok(request),
         Err(fault) => Err(Fault::Line(fault)),
     }
@@ -57,15 +65,23 @@ fn asked(part: &LinePart) -> Result<Option<ClientRequest>, Fault>
 
 impl Conversation {
     /// A conversation over a file with so many records, before anything was said.
-    fn over(alloc: Global, world: World<PagedBucket>, records: u64) -> Result<Conversation, Memory>
+    fn over(
+        alloc: Global,
+        notation: Notation,
+        is_terminal: bool,
+        world: World<PagedBucket>,
+        records: u64,
+    ) -> Result<Conversation, Memory>
         requires { IsAtRest world.state }
-        ensures begun { (start : FileSeen) → HoldsFile world records false start →
-            IfOk result (λ talk. IsAt start talk [] []) }
+        ensures begun { (file : FileSeen) → HoldsFile world records false file →
+            IfOk result (λ talk. IsAt (beginning notation is_terminal file) talk [] []) }
         ensures quiet { IfOk result HasToldAll }
     {
         let part = LinePart::new(alloc)?;
         let waiting = String::with_capacity(alloc, ROOM)?;
         Ok(Conversation {
+            notation,
+            is_terminal,
             world,
             records,
             missed: false,
@@ -75,21 +91,32 @@ impl Conversation {
         })
     }
 
-    /// A conversation over an empty file, before anything was said.
-    pub fn new(alloc: Global, config: Config) -> Result<Conversation, Memory>
-        ensures begun { IfOk result (λ talk. IsAt (first_file config) talk [] []) }
+    /// A conversation over an empty file, before anything was said. An image isn't written to a terminal.
+    pub fn new(
+        alloc: Global,
+        notation: Notation,
+        is_terminal: bool,
+        config: Config,
+    ) -> Result<Conversation, Memory>
+        ensures begun { IfOk result (λ talk. IsAt (beginning notation is_terminal (first_file config)) talk [] []) }
         ensures quiet { IfOk result HasToldAll }
     {
-        Conversation::over(alloc, World::new(alloc, config)?, 0)
+        Conversation::over(alloc, notation, is_terminal, World::new(alloc, config)?, 0)
     }
 
     /// A conversation over the file of a listing, before anything was said.
-    pub fn open_from(alloc: Global, listing: &Listing) -> Result<Conversation, Memory>
-        ensures begun { IfOk result (λ talk. IsAt (file_of listing.now) talk [] []) }
+    pub fn open_from(
+        alloc: Global,
+        notation: Notation,
+        is_terminal: bool,
+        listing: &Listing,
+    ) -> Result<Conversation, Memory>
+        ensures begun { IfOk result (λ talk. IsAt (beginning notation is_terminal (file_of listing.now)) talk [] []) }
         ensures quiet { IfOk result HasToldAll }
     {
         let records = count_before(listing, 0)?;
-        Conversation::over(alloc, World::open_from(alloc, listing)?, records)
+        let world = World::open_from(alloc, listing)?;
+        Conversation::over(alloc, notation, is_terminal, world, records)
     }
 
     /// Hears bytes of the client up to the first LF, or all of them where there is none: what is behind it. A line that
@@ -99,7 +126,7 @@ impl Conversation {
     /// than 65,536 bytes waiting there is.
     pub fn hear<'a>(&mut self, bytes: &'a [u8]) -> Result<&'a [u8], Memory>
         requires { self.old.image ≡ None }
-        ensures heard { (start : FileSeen) (heard answers : List ℕ) → IsAt start self.old heard answers →
+        ensures heard { (start : Beginning) (heard answers : List ℕ) → IsAt start self.old heard answers →
             IfOk result (λ behind. (taken : List ℕ) × (bytes.now ≡ taken ++ behind.now)
             × IsAt start self.new (heard ++ taken) answers) }
         ensures shorter { 0 < length bytes.now → IfOk result (λ behind. length behind.now < length bytes.now) }
@@ -111,10 +138,10 @@ impl Conversation {
             }
             Some((line, behind)) => {
                 self.part.add(line);
-                let asked = asked(&self.part);
+                let asked = asked(self.notation, self.is_terminal, &self.part);
                 let said = answer_to(&mut self.world, &mut self.records, &mut self.missed, asked);
                 self.part.clear();
-                put(&mut self.waiting, said.answer)?;
+                put(&mut self.waiting, self.notation, said.answer)?;
                 self.image = said.image;
                 Ok(behind)
             }
@@ -153,7 +180,7 @@ impl Conversation {
 
     /// The client was told all that waited.
     pub fn note_told(&mut self)
-        ensures told { (start : FileSeen) (heard answers : List ℕ) → IsAt start self.old heard answers →
+        ensures told { (start : Beginning) (heard answers : List ℕ) → IsAt start self.old heard answers →
             IsAt start self.new heard (answers ++ pending self.old) }
         ensures quiet { HasToldAll self.new }
     {

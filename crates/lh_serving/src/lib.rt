@@ -4,7 +4,7 @@
 //! says is that of one plain map, whatever the pieces.
 //!
 //! ```text
-//! let mut talk = Conversation::new(alloc, config)?;
+//! let mut talk = Conversation::new(alloc, Notation::Hexadecimal, false, config)?;
 //! talk.hear(b"insert 61 31\nsea")?;    // the first line is answered; `sea` is left
 //! talk.waiting()                       // inserted
 //! ```

@@ -5,7 +5,8 @@ ghost use Rattle.lh_serving.specs.Parts.{kept};
 use std::alloc::{AllocError, Global};
 use std::marker::Model;
 
-/// The most bytes of a line before its LF. The longest call, a replace, takes 345 with single blanks.
+/// The most bytes of a line before its LF. The longest call, a replace, takes 345 with single blanks, and
+/// 513 where each byte of text is written by its digits.
 pub const LONGEST_LINE: usize = 1_024;
 
 /// What has come of a line; of a line that is too long nothing is kept but that it is.

@@ -4,6 +4,7 @@ ghost use Rattle.lh_core.specs.Serial.{IsAtRest};
 ghost use Rattle.lh_serving.specs.Answers.{AnswersLine, AnswersCall, FileSeen, IsImaged, IsUnimaged, HoldsFile};
 ghost use Rattle.lh_serving.specs.Texts.{image_text, answer_line};
 ghost use Rattle.lh_serving.specs.declared.answer.LineAnswer.TheVariants as answer;
+ghost use Rattle.lh_script.specs.declared.notation.Notation.{Notation};
 
 use crate::answer::{Fault, LineAnswer};
 use lh_bucket::{Call, Listing, Memory, PagedBucket};
@@ -58,8 +59,9 @@ fn serve_call(
 /// A copy of the file, and how many bytes its image has.
 fn imaged(world: &World<PagedBucket>) -> Result<(Listing, u64), Fault>
     requires { IsAtRest world.now.state }
-    ensures ok { (records : ℕ) (missed : Bool) (file : FileSeen) → HoldsFile world.now records missed file →
-        IfOk result (λ it. IsImaged file (answer_line (Some (answer.Image it.1)) ++ image_text (Some it.0))) }
+    ensures ok { (notation : Notation) (records : ℕ) (missed : Bool) (file : FileSeen) →
+        HoldsFile world.now records missed file → IfOk result (λ it.
+        IsImaged notation file (answer_line notation (Some (answer.Image it.1)) ++ image_text (Some it.0))) }
     ensures err { (records : ℕ) (missed : Bool) (file : FileSeen) → HoldsFile world.now records missed file →
         IfErr result (IsUnimaged file) }
 {
@@ -81,8 +83,9 @@ pub fn answer_to(
 ) -> Said
     requires { IsAtRest world.old.state }
     ensures rest { IsAtRest world.new.state }
-    ensures answered { (file : FileSeen) → HoldsFile world.old records.old missed.old file →
-        (next : FileSeen) × AnswersLine file asked (answer_line result.answer ++ image_text result.image) next
+    ensures answered { (notation : Notation) (file : FileSeen) → HoldsFile world.old records.old missed.old file →
+        (next : FileSeen)
+        × AnswersLine notation file asked (answer_line notation result.answer ++ image_text result.image) next
         × HoldsFile world.new records.new missed.new next }
 {
     match asked {

@@ -28,6 +28,7 @@ use Rattle.lh_subcommands.specs.Images.{EndsBuilding, EndsInImage, IsLedFrom, Is
 use Rattle.lh_subcommands.specs.Run.{ReadsScript}
 use Rattle.lh_script.specs.Scripts.{script}
 use Rattle.lh_script.specs.declared.fault.ScriptFault.{ScriptFault}
+use Rattle.lh_script.specs.declared.notation.Notation.{Notation}
 use Rattle.lh_subcommands.specs.declared.status.DeviceFault.TheVariants.{Read, Write}
 use Rattle.lh_subcommands.specs.declared.status.InputFault.TheVariants.{Script, Image, Load, Unwritten}
 use Rattle.lh_subcommands.specs.declared.status.Status.{Status}
@@ -77,19 +78,20 @@ unmade LeadsTo version (NotSettled fault) given a h = absurd h
 unmade LeadsTo version KeyAbsent given a h = absurd h
 
 -- a run of `build` that read no script ends without a write
-pub unbuilt : (version : Version) (settings : Settings) (status : Status) (left a : Option (List ℕ)) →
-    IfSome left (λ input. ReadsScript {A = Call} (Err status) (script command input)) →
-    IfSome left (λ input. EndsBuilding version settings input status a a)
+pub unbuilt : (k : Notation) (version : Version) (settings : Settings) (status : Status) (left a : Option (List ℕ)) →
+    IfSome left (λ input. ReadsScript {A = Call} (Err status) (script (command k) input)) →
+    IfSome left (λ input. EndsBuilding k version settings input status a a)
 unfolding EndsBuilding
-unbuilt version settings status None a h = tt
-unbuilt version settings status (Some input) a h = unmade (IsLedTo settings) version status (script command input) a h
+unbuilt k version settings status None a h = tt
+unbuilt k version settings status (Some input) a h =
+    unmade (IsLedTo settings) version status (script (command k) input) a h
 
 -- a run that is out of memory ends without a write
-pub unbuilt_memory : (version : Version) (settings : Settings) (left a : Option (List ℕ)) →
-    IfSome left (λ input. EndsBuilding version settings input Memory a a)
+pub unbuilt_memory : (k : Notation) (version : Version) (settings : Settings) (left a : Option (List ℕ)) →
+    IfSome left (λ input. EndsBuilding k version settings input Memory a a)
 unfolding EndsBuilding
-unbuilt_memory version settings None a = tt
-unbuilt_memory version settings (Some input) a = Keeps-refl a
+unbuilt_memory k version settings None a = tt
+unbuilt_memory k version settings (Some input) a = Keeps-refl a
 
 -- a fault of the file, and neither of the device nor of memory
 pub unwritten_for_file : (fault : WriteImageFault) → (fault ≡ WriteFault → ⊥) → (fault ≡ MemoryToWrite → ⊥) →
@@ -99,8 +101,8 @@ unwritten_for_file MemoryToWrite a b = absurd (b refl)
 unwritten_for_file fault a b = refl
 
 -- the script was read
-abbrev pub IsScriptOf : Option (List ℕ) → List Call → Type 0
-IsScriptOf left calls = IfSome left (λ input. script command input ≡ Ok calls)
+abbrev pub IsScriptOf : Notation → Option (List ℕ) → List Call → Type 0
+IsScriptOf k left calls = IfSome left (λ input. script (command k) input ≡ Ok calls)
 
 -- the whole image was written
 pub made_whole : (LeadsTo : Leading) (version : Version) (calls : List Call) (l : Lists)
@@ -111,14 +113,14 @@ made_whole LeadsTo version calls l given before now is led written =
     (calls, canonical version l, is, record { listing = l; led = led; fits = written.0; bytes = refl }, written.1)
 
 -- a run of `build` that wrote the whole image is done
-pub built_whole : (version : Version) (settings : Settings) (calls : List Call) (l : Lists)
+pub built_whole : (k : Notation) (version : Version) (settings : Settings) (calls : List Call) (l : Lists)
     (left before now : Option (List ℕ)) →
-    IsScriptOf left calls → IsLedTo settings calls l → IsWritten version l (Ok tt) before now →
-    IfSome left (λ input. EndsBuilding version settings input Done before now)
+    IsScriptOf k left calls → IsLedTo settings calls l → IsWritten version l (Ok tt) before now →
+    IfSome left (λ input. EndsBuilding k version settings input Done before now)
 unfolding EndsBuilding
-built_whole version settings calls l None before now given led written = tt
-built_whole version settings calls l (Some input) before now given led written =
-    made_whole (IsLedTo settings) version calls l (script command input) before now given led written
+built_whole k version settings calls l None before now given led written = tt
+built_whole k version settings calls l (Some input) before now given led written =
+    made_whole (IsLedTo settings) version calls l (script (command k) input) before now given led written
 
 -- a beginning of it was written, or nothing, since the file has no image
 pub made_not : (LeadsTo : Leading) (version : Version) (calls : List Call) (l : Lists) (fault : WriteImageFault)
@@ -136,14 +138,15 @@ made_not LeadsTo version calls l TooLarge given before now is led written =
     (calls, is, record { listing = l; led = led; refused = written.0 }, written.1)
 
 -- a run of `build` whose file was not written as an image ends by that fault
-pub built_not : (version : Version) (settings : Settings) (calls : List Call) (l : Lists) (fault : WriteImageFault)
+pub built_not : (k : Notation) (version : Version) (settings : Settings) (calls : List Call) (l : Lists)
+    (fault : WriteImageFault)
     (status : Status)
-    (left before now : Option (List ℕ)) → status ≡ unwritten_as fault → IsScriptOf left calls →
+    (left before now : Option (List ℕ)) → status ≡ unwritten_as fault → IsScriptOf k left calls →
     IsLedTo settings calls l →
     IsWritten version l (Err fault) before now →
-    IfSome left (λ input. EndsBuilding version settings input status before now)
+    IfSome left (λ input. EndsBuilding k version settings input status before now)
 unfolding EndsBuilding
-built_not version settings calls l fault status None before now is given led written = tt
-built_not version settings calls l fault status (Some input) before now is given led written =
-    subst (λ (s : Status). EndsInImage (IsLedTo settings) version s (script command input) before now) (sym is)
-    (made_not (IsLedTo settings) version calls l fault (script command input) before now given led written)
+built_not k version settings calls l fault status None before now is given led written = tt
+built_not k version settings calls l fault status (Some input) before now is given led written =
+    subst (λ (s : Status). EndsInImage (IsLedTo settings) version s (script (command k) input) before now) (sym is)
+    (made_not (IsLedTo settings) version calls l fault (script (command k) input) before now given led written)

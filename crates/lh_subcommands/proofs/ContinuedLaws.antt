@@ -46,20 +46,20 @@ leading_read leads one image text l h = ap reading_of (leads image text l h).0 �
 -- `query` answers what the plain map of the listing answers to the script's calls, or the script's first fault
 pub query_law : LeadingLaw → OneListingLaw → QueryLaw
 unfolding query_due
-query_law leads one image text l h =
+query_law leads one k image text l h =
     let read = leading_read leads one image text l h in
     let rest = (leads image text l h).1 in
-    λ i. replies_due (read i) (script command (rest i))
+    λ i. replies_due k (read i) (script (command k) (rest i))
 
 -- `apply` writes the canonical image of the listing that the calls leave, or ends at the script's first fault
 pub apply_law : LeadingLaw → OneListingLaw → ApplyLaw
 unfolding EndsApplying
-apply_law leads one version image text l status before now h ends =
-    subst (λ (file : Result Lists ImageFault). EndsLeaving version status file (script command text) before now)
+apply_law leads one k version image text l status before now h ends =
+    subst (λ (file : Result Lists ImageFault). EndsLeaving version status file (script (command k) text) before now)
     (leading_read leads one image text l h)
     (subst
     (λ (t : List ℕ).
-    EndsLeaving version status (reading_of (leading (image ++ text))) (script command t) before now)
+    EndsLeaving version status (reading_of (leading (image ++ text))) (script (command k) t) before now)
     (leads image text l h).1 ends)
 
 -- the listing of an image has an image of version 2
@@ -108,23 +108,23 @@ without_calls census image l h due KeyAbsent given before now none ends = absurd
 -- `apply` of a script without calls ends as `migrate` does for the image alone
 pub migrate_law : LeadingLaw → OneListingLaw → CensusLaw → MigrateLaw
 unfolding migrate_due
-migrate_law leads one census image text l status before now h none ends =
+migrate_law leads one census k image text l status before now h none ends =
     without_calls census image l h (ap (text_or_fault (canonical Two)) (image_read one image l h)) status
-    (script command text) before now none
-    (apply_law leads one Two image text l status before now h ends)
+    (script (command k) text) before now none
+    (apply_law leads one k Two image text l status before now h ends)
 
 -- an image and a script apart are due what they are in one input
 pub apart_law : LeadingLaw → ScriptApartLaw
 unfolding query_due query_due_of EndsApplying EndsApplyingTo
 apart_law leads = record {
-  query = λ image text l h.
+  query = λ k image text l h.
       let parts = leads image text l h in
-      λ i. replies_due (reading_of (sym parts.0 i)) (script command (sym parts.1 i));
-  apply = λ version image text l status before now h ends.
+      λ i. replies_due k (reading_of (sym parts.0 i)) (script (command k) (sym parts.1 i));
+  apply = λ k version image text l status before now h ends.
       let parts = leads image text l h in
       subst (λ (held : List ℕ).
-      EndsLeaving version status (reading_of held) (script command (following (image ++ text))) before now)
+      EndsLeaving version status (reading_of held) (script (command k) (following (image ++ text))) before now)
       (sym parts.0)
-      (subst (λ (t : List ℕ). EndsLeaving version status (reading_of image) (script command t) before now)
+      (subst (λ (t : List ℕ). EndsLeaving version status (reading_of image) (script (command k) t) before now)
       (sym parts.1) ends);
 }

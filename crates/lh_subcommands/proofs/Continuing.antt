@@ -14,6 +14,7 @@ use Rattle.lh_image.specs.Reading.{IsDueFault, following, leading, reading_of}
 use Rattle.lh_script.specs.Commands.{command}
 use Rattle.lh_script.specs.Scripts.{script}
 use Rattle.lh_script.specs.declared.fault.ScriptFault.{ScriptFault}
+use Rattle.lh_script.specs.declared.notation.Notation.{Notation}
 use Rattle.lh_subcommands.specs.Continued.{EndsApplying, EndsApplyingTo, EndsLeaving, IsLeft, ReadsContinued}
 use Rattle.lh_subcommands.specs.Continued.{query_due, query_due_of, replies_due, script_behind}
 use Rattle.lh_subcommands.specs.declared.continued.Continued.{Continued}
@@ -27,8 +28,8 @@ use Rattle.lh_subcommands.specs.declared.status.Status.TheVariants.{NotSettled}
 use Rattle.lh_subcommands.proofs.Building.{led_from}
 
 -- both were read, of one input
-abbrev pub AreRead : Option (List ℕ) → Lists → List Call → Type 0
-AreRead left l calls = IfSome left (λ input. (reading_of (leading input) ≡ Ok l) × (script_behind input ≡ Ok calls))
+abbrev pub AreRead : Notation → Option (List ℕ) → Lists → List Call → Type 0
+AreRead n left l calls = IfSome left (λ input. (reading_of (leading input) ≡ Ok l) × (script_behind n input ≡ Ok calls))
 
 -- no image was read
 no_image : (fault : ImageFault) (file : Result Lists ImageFault) (given : Result (List Call) ScriptFault) →
@@ -55,13 +56,14 @@ no_script (NotSettled fault) l file given is h = absurd h
 no_script KeyAbsent l file given is h = absurd h
 
 -- a run whose input was not read as an image ends by that fault
-pub image_refused : (fault : ImageFault) (status : Status) (left : Option (List ℕ)) → status ≡ refused_as fault →
+pub image_refused : (n : Notation) (fault : ImageFault) (status : Status) (left : Option (List ℕ)) →
+    status ≡ refused_as fault →
     IfSome left (λ input. IsDueFault fault (reading_of (leading input))) →
-    IfSome left (λ input. ReadsContinued (Err status) (reading_of (leading input)) (script_behind input))
-image_refused fault status None is h = tt
-image_refused fault status (Some input) is h =
-    subst (λ (s : Status). ReadsContinued (Err s) (reading_of (leading input)) (script_behind input)) (sym is)
-    (no_image fault (reading_of (leading input)) (script_behind input) h)
+    IfSome left (λ input. ReadsContinued (Err status) (reading_of (leading input)) (script_behind n input))
+image_refused n fault status None is h = tt
+image_refused n fault status (Some input) is h =
+    subst (λ (s : Status). ReadsContinued (Err s) (reading_of (leading input)) (script_behind n input)) (sym is)
+    (no_image fault (reading_of (leading input)) (script_behind n input) h)
 
 -- the image was read, and its script follows
 abbrev pub IsFollowed : Lists → Option (List ℕ) → Option (List ℕ) → Type 0
@@ -78,45 +80,50 @@ followed listing None now h k = tt
 followed listing (Some input) now h k = (h, k)
 
 -- where the image was read, and then the script that follows it, both were read
-pub both_read : (listing : Lists) (calls : List Call) (left now : Option (List ℕ)) → IsFollowed listing left now →
-    IfSome now (λ rest. script command rest ≡ Ok calls) → AreRead left listing calls
-both_read listing calls None now h k = tt
-both_read listing calls (Some input) now h k = (
+pub both_read : (n : Notation) (listing : Lists) (calls : List Call) (left now : Option (List ℕ)) →
+    IsFollowed listing left now →
+    IfSome now (λ rest. script (command n) rest ≡ Ok calls) → AreRead n left listing calls
+both_read n listing calls None now h k = tt
+both_read n listing calls (Some input) now h k = (
   h.0.1
       ∙ ap Ok (sym h.0.2),
-  subst (λ (o : Option (List ℕ)). IfSome o (λ rest. script command rest ≡ Ok calls)) h.1 k,
+  subst (λ (o : Option (List ℕ)). IfSome o (λ rest. script (command n) rest ≡ Ok calls)) h.1 k,
 )
 
 -- where the image was read, but no script that follows it, the run ends as the reading of the script did
-pub script_refused : (listing : Lists) (status : Status) (left now : Option (List ℕ)) → IsFollowed listing left now →
-    IfSome now (λ rest. ReadsScript {A = Call} (Err status) (script command rest)) →
-    IfSome left (λ input. ReadsContinued (Err status) (reading_of (leading input)) (script_behind input))
-script_refused listing status None now h k = tt
-script_refused listing status (Some input) now h k =
-    no_script status listing (reading_of (leading input)) (script_behind input) (h.0.1 ∙ ap Ok (sym h.0.2))
-    (subst (λ (o : Option (List ℕ)). IfSome o (λ rest. ReadsScript {A = Call} (Err status) (script command rest))) h.1
+pub script_refused : (n : Notation) (listing : Lists) (status : Status) (left now : Option (List ℕ)) →
+    IsFollowed listing left now →
+    IfSome now (λ rest. ReadsScript {A = Call} (Err status) (script (command n) rest)) →
+    IfSome left (λ input. ReadsContinued (Err status) (reading_of (leading input)) (script_behind n input))
+script_refused n listing status None now h k = tt
+script_refused n listing status (Some input) now h k =
+    no_script status listing (reading_of (leading input)) (script_behind n input) (h.0.1 ∙ ap Ok (sym h.0.2))
+    (subst (λ (o : Option (List ℕ)). IfSome o (λ rest. ReadsScript {A = Call} (Err status) (script (command n) rest)))
+    h.1
     k)
 
 -- a run that read an image and a script behind it ends as it does for what it read
-pub queried_behind : (read : Result Continued Status) (status : Status) (left before now : Option (List ℕ)) →
-    IfSome left (λ input. ReadsContinued read (reading_of (leading input)) (script_behind input)) →
+pub queried_behind : (n : Notation) (read : Result Continued Status) (status : Status)
+    (left before now : Option (List ℕ)) →
+    IfSome left (λ input. ReadsContinued read (reading_of (leading input)) (script_behind n input)) →
     ((file : Result Lists ImageFault) (given : Result (List Call) ScriptFault) → ReadsContinued read file given →
-    Ends status (replies_due file given) before now) →
-    IfSome left (λ input. Ends status (query_due input) before now)
+    Ends status (replies_due n file given) before now) →
+    IfSome left (λ input. Ends status (query_due n input) before now)
 unfolding query_due
-queried_behind read status None before now h f = tt
-queried_behind read status (Some input) before now h f = f (reading_of (leading input)) (script_behind input) h
+queried_behind n read status None before now h f = tt
+queried_behind n read status (Some input) before now h f = f (reading_of (leading input)) (script_behind n input) h
 
 -- so does one that read them apart
-pub queried_apart : (read : Result Continued Status) (status : Status) (held left before now : Option (List ℕ)) →
-    IfSome held (λ image. IfSome left (λ text. ReadsContinued read (reading_of image) (script command text))) →
+pub queried_apart : (n : Notation) (read : Result Continued Status) (status : Status)
+    (held left before now : Option (List ℕ)) →
+    IfSome held (λ image. IfSome left (λ text. ReadsContinued read (reading_of image) (script (command n) text))) →
     ((file : Result Lists ImageFault) (given : Result (List Call) ScriptFault) → ReadsContinued read file given →
-    Ends status (replies_due file given) before now) →
-    IfSome held (λ image. IfSome left (λ text. Ends status (query_due_of image text) before now))
+    Ends status (replies_due n file given) before now) →
+    IfSome held (λ image. IfSome left (λ text. Ends status (query_due_of n image text) before now))
 unfolding query_due_of
-queried_apart read status None left before now h f = tt
-queried_apart read status (Some image) None before now h f = tt
-queried_apart read status (Some image) (Some text) before now h f = f (reading_of image) (script command text) h
+queried_apart n read status None left before now h f = tt
+queried_apart n read status (Some image) None before now h f = tt
+queried_apart n read status (Some image) (Some text) before now h f = f (reading_of image) (script (command n) text) h
 
 -- without calls a file is left as it was
 same_file : (l file : Lists) (world : WorldSeen) →
@@ -135,26 +142,26 @@ left_of file calls told world l serial lists is kept = record {
 }
 
 -- a run of `apply` that read an image and a script behind it ends as it does for what it read
-pub applied_behind : (version : Version) (read : Result Continued Status) (status : Status)
+pub applied_behind : (n : Notation) (version : Version) (read : Result Continued Status) (status : Status)
     (left before now : Option (List ℕ)) →
-    IfSome left (λ input. ReadsContinued read (reading_of (leading input)) (script_behind input)) →
+    IfSome left (λ input. ReadsContinued read (reading_of (leading input)) (script_behind n input)) →
     ((file : Result Lists ImageFault) (given : Result (List Call) ScriptFault) → ReadsContinued read file given →
     EndsLeaving version status file given before now) →
-    IfSome left (λ input. EndsApplying version input status before now)
+    IfSome left (λ input. EndsApplying n version input status before now)
 unfolding EndsApplying
-applied_behind version read status None before now h f = tt
-applied_behind version read status (Some input) before now h f =
-    f (reading_of (leading input)) (script_behind input) h
+applied_behind n version read status None before now h f = tt
+applied_behind n version read status (Some input) before now h f =
+    f (reading_of (leading input)) (script_behind n input) h
 
 -- so does one that read them apart
-pub applied_apart : (version : Version) (read : Result Continued Status) (status : Status)
+pub applied_apart : (n : Notation) (version : Version) (read : Result Continued Status) (status : Status)
     (held left before now : Option (List ℕ)) →
-    IfSome held (λ image. IfSome left (λ text. ReadsContinued read (reading_of image) (script command text))) →
+    IfSome held (λ image. IfSome left (λ text. ReadsContinued read (reading_of image) (script (command n) text))) →
     ((file : Result Lists ImageFault) (given : Result (List Call) ScriptFault) → ReadsContinued read file given →
     EndsLeaving version status file given before now) →
-    IfSome held (λ image. IfSome left (λ text. EndsApplyingTo version image text status before now))
+    IfSome held (λ image. IfSome left (λ text. EndsApplyingTo n version image text status before now))
 unfolding EndsApplyingTo
-applied_apart version read status None left before now h f = tt
-applied_apart version read status (Some image) None before now h f = tt
-applied_apart version read status (Some image) (Some text) before now h f =
-    f (reading_of image) (script command text) h
+applied_apart n version read status None left before now h f = tt
+applied_apart n version read status (Some image) None before now h f = tt
+applied_apart n version read status (Some image) (Some text) before now h f =
+    f (reading_of image) (script (command n) text) h

@@ -21,6 +21,8 @@ use Rattle.lh_script.specs.Texts.{commands_text}
 use Rattle.lh_script.specs.StepTexts.{steps_text}
 use Rattle.lh_script.specs.Steps.{step}
 use Rattle.lh_script.specs.declared.fault.ScriptFault.{ScriptFault}
+use Rattle.lh_script.specs.declared.notation.Notation.{Notation}
+use Rattle.lh_script.specs.declared.notation.Notation.TheVariants.{Hexadecimal}
 use Rattle.lh_subcommands.specs.declared.status.DeviceFault.TheVariants.{Read, Write}
 use Rattle.lh_subcommands.specs.declared.status.InputFault.{InputFault}
 use Rattle.lh_subcommands.specs.declared.status.InputFault.TheVariants.{Script, Image, Load, Unwritten}
@@ -46,24 +48,26 @@ unread (NotSettled fault) given output a h = absurd h
 unread KeyAbsent given output a h = absurd h
 
 -- what was told of a script's calls is what is due
-pub told_due : (settings : Settings) (map : Records) (start : ℕ) (given : Result (List Call) ScriptFault)
+pub told_due : (n : Notation) (settings : Settings) (map : Records) (start : ℕ) (given : Result (List Call) ScriptFault)
     (calls : List Call) (told : List Reply) (buckets : ℕ) →
     given ≡ Ok calls → told ≡ replies map calls → buckets ≡ size_from settings map start calls →
-    Ok (commands_text told buckets) ≡ due (replies_text settings map start) given
-told_due settings map start given calls told buckets is replied size =
-    ap Ok (ap₂ commands_text replied size) ∙ sym (ap (due (replies_text settings map start)) is)
+    Ok (commands_text n told buckets) ≡ due (replies_text n settings map start) given
+told_due n settings map start given calls told buckets is replied size =
+    ap Ok (ap₂ (commands_text n) replied size) ∙ sym (ap (due (replies_text n settings map start)) is)
 
 -- what `commands` told of its script's calls is what is due for the input
-pub answered : (settings : Settings) (status : Status) (left before now : Option (List ℕ)) (calls : List Call)
+pub answered : (n : Notation) (settings : Settings) (status : Status) (left before now : Option (List ℕ))
+    (calls : List Call)
     (told : List Reply) (buckets : ℕ) →
-    IfSome left (λ input. script command input ≡ Ok calls) → Ends status (Ok (commands_text told buckets)) before now →
+    IfSome left (λ input. script (command n) input ≡ Ok calls) →
+    Ends status (Ok (commands_text n told buckets)) before now →
     told ≡ replies empty calls → buckets ≡ size_from settings empty settings.initial calls →
-    IfSome left (λ input. Ends status (commands_due settings input) before now)
+    IfSome left (λ input. Ends status (commands_due n settings input) before now)
 unfolding commands_due
-answered settings status None before now calls told buckets given ends replied size = tt
-answered settings status (Some input) before now calls told buckets given ends replied size =
+answered n settings status None before now calls told buckets given ends replied size = tt
+answered n settings status (Some input) before now calls told buckets given ends replied size =
     subst (λ (d : Result (List ℕ) InputFault). Ends status d before now)
-    (told_due settings empty settings.initial (script command input) calls told buckets given replied size) ends
+    (told_due n settings empty settings.initial (script (command n) input) calls told buckets given replied size) ends
 
 -- a run that read no script ends without a write
 untold : {A : Type 0} (IsOutput : List A → List ℕ → Type 0) (status : Status) (given : Result (List A) ScriptFault)
@@ -82,48 +86,49 @@ untold IsOutput (NotSettled fault) given a h = absurd h
 untold IsOutput KeyAbsent given a h = absurd h
 
 -- a run of `steps` that read no script ends without a write
-pub no_steps : (settings : Settings) (status : Status) (input : List ℕ) (a : Option (List ℕ)) →
-    ReadsScript {A = Event} (Err status) (script step input) → EndsSteps settings input status a a
+pub no_steps : (n : Notation) (settings : Settings) (status : Status) (input : List ℕ) (a : Option (List ℕ)) →
+    ReadsScript {A = Event} (Err status) (script (step n) input) → EndsSteps n settings input status a a
 unfolding EndsSteps
-no_steps settings status input a h = untold (TellsSteps settings) status (script step input) a h
+no_steps n settings status input a h = untold (TellsSteps n settings) status (script (step n) input) a h
 
 -- a run of `replay` that read no script ends without a write
 pub no_schedule : (settings : Settings) (status : Status) (input : List ℕ) (a : Option (List ℕ)) →
-    ReadsScript {A = Event} (Err status) (script step input) → EndsReplay settings input status a a
+    ReadsScript {A = Event} (Err status) (script (step Hexadecimal) input) → EndsReplay settings input status a a
 unfolding EndsReplay
-no_schedule settings status input a h = untold (IsPictured settings) status (script step input) a h
+no_schedule settings status input a h = untold (IsPictured settings) status (script (step Hexadecimal) input) a h
 
 -- a run that is out of memory ends without a write
-pub no_memory : (settings : Settings) (input : List ℕ) (a : Option (List ℕ)) → EndsSteps settings input Memory a a
+pub no_memory : (n : Notation) (settings : Settings) (input : List ℕ) (a : Option (List ℕ)) →
+    EndsSteps n settings input Memory a a
 unfolding EndsSteps
-no_memory settings input a = Keeps-refl a
+no_memory n settings input a = Keeps-refl a
 
 -- the lines of all entries were written
-pub steps_told : (settings : Settings) (left before now : Option (List ℕ)) (events : List Event)
+pub steps_told : (n : Notation) (settings : Settings) (left before now : Option (List ℕ)) (events : List Event)
     (entries : List Entry) →
-    IfSome left (λ input. script step input ≡ Ok events) → HaveEntries settings events entries →
-    Appends before now (steps_text entries) →
-    IfSome left (λ input. EndsSteps settings input Done before now)
+    IfSome left (λ input. script (step n) input ≡ Ok events) → HaveEntries settings events entries →
+    Appends before now (steps_text n entries) →
+    IfSome left (λ input. EndsSteps n settings input Done before now)
 unfolding EndsSteps
-steps_told settings None before now events entries given had written = tt
-steps_told settings (Some input) before now events entries given had written =
-    (events, steps_text entries, given, record { entries = entries; had = had; lines = refl }, written)
+steps_told n settings None before now events entries given had written = tt
+steps_told n settings (Some input) before now events entries given had written =
+    (events, steps_text n entries, given, record { entries = entries; had = had; lines = refl }, written)
 
 -- a beginning of the lines of all entries was written
-pub steps_begun : (settings : Settings) (left before now : Option (List ℕ)) (events : List Event)
+pub steps_begun : (n : Notation) (settings : Settings) (left before now : Option (List ℕ)) (events : List Event)
     (entries : List Entry) →
-    IfSome left (λ input. script step input ≡ Ok events) → HaveEntries settings events entries →
-    TakesBeginning before now (steps_text entries) →
-    IfSome left (λ input. EndsSteps settings input (Device Write) before now)
+    IfSome left (λ input. script (step n) input ≡ Ok events) → HaveEntries settings events entries →
+    TakesBeginning before now (steps_text n entries) →
+    IfSome left (λ input. EndsSteps n settings input (Device Write) before now)
 unfolding EndsSteps
-steps_begun settings None before now events entries given had written = tt
-steps_begun settings (Some input) before now events entries given had written =
-    (events, steps_text entries, given, record { entries = entries; had = had; lines = refl }, written)
+steps_begun n settings None before now events entries given had written = tt
+steps_begun n settings (Some input) before now events entries given had written =
+    (events, steps_text n entries, given, record { entries = entries; had = had; lines = refl }, written)
 
 -- the picture was written
 pub schedule_drawn : (settings : Settings) (left before now : Option (List ℕ)) (events : List Event)
     (entries : List Entry) →
-    IfSome left (λ input. script step input ≡ Ok events) → HaveEntries settings events entries →
+    IfSome left (λ input. script (step Hexadecimal) input ≡ Ok events) → HaveEntries settings events entries →
     Appends before now (picture_of events entries) →
     IfSome left (λ input. EndsReplay settings input Done before now)
 unfolding EndsReplay
@@ -134,7 +139,7 @@ schedule_drawn settings (Some input) before now events entries given had written
 -- a beginning of the picture was written
 pub schedule_begun : (settings : Settings) (left before now : Option (List ℕ)) (events : List Event)
     (entries : List Entry) →
-    IfSome left (λ input. script step input ≡ Ok events) → HaveEntries settings events entries →
+    IfSome left (λ input. script (step Hexadecimal) input ≡ Ok events) → HaveEntries settings events entries →
     TakesBeginning before now (picture_of events entries) →
     IfSome left (λ input. EndsReplay settings input (Device Write) before now)
 unfolding EndsReplay

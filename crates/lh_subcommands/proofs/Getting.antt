@@ -7,6 +7,7 @@ use Rattle.std.specs.Io.KnownBytes.{Appends}
 use Rattle.std.proofs.KnownBytes.{Keeps-refl}
 use Rattle.lh_bucket.specs.declared.call.Reply.{Reply}
 use Rattle.lh_image.specs.declared.fault.ImageFault.{ImageFault}
+use Rattle.lh_script.specs.declared.notation.Notation.{Notation}
 use Rattle.lh_image.specs.declared.fault.ImageFault.TheVariants.{ReadFault, Memory as NoMemory}
 use Rattle.lh_subcommands.specs.Get.{EndsFound, EndsGetting, EndsGettingOf, IsRefusedFor, each_in_turn, found_of}
 use Rattle.lh_subcommands.specs.Get.{found_text, has_absent, keys_of, placed_from, told_by, with_first}
@@ -92,69 +93,69 @@ placed-end text (x ∷ xs) n (suc i) h = placed-end text xs (suc n) i (omega ari
 -- ---- how a run ends
 
 -- a run that wrote all lines is done, or says that a key is absent
-pub told_all : (replies : List Reply) (status : Status) (before now : Option (List ℕ)) →
-    status ≡ told_by (has_absent replies) → Appends before now (found_text replies) →
-    EndsFound status (Ok replies) before now
-told_all replies status before now is h = go (has_absent replies) refl
+pub told_all : (n : Notation) (replies : List Reply) (status : Status) (before now : Option (List ℕ)) →
+    status ≡ told_by (has_absent replies) → Appends before now (found_text n replies) →
+    EndsFound n status (Ok replies) before now
+told_all n replies status before now is h = go (has_absent replies) refl
   where
-    go : (b : Bool) → has_absent replies ≡ b → EndsFound status (Ok replies) before now
+    go : (b : Bool) → has_absent replies ≡ b → EndsFound n status (Ok replies) before now
     go true e =
-        subst (λ (s : Status). EndsFound s (Ok replies) before now) (sym (is ∙ ap told_by e)) (e, h)
+        subst (λ (s : Status). EndsFound n s (Ok replies) before now) (sym (is ∙ ap told_by e)) (e, h)
     go false e =
-        subst (λ (s : Status). EndsFound s (Ok replies) before now) (sym (is ∙ ap told_by e)) (e, h)
+        subst (λ (s : Status). EndsFound n s (Ok replies) before now) (sym (is ∙ ap told_by e)) (e, h)
 
 -- what is found in the bytes that were read is found in the input
-pub found_read : (status : Status) (found : Result (List Reply) ImageFault) (bytes : List ℕ) (keys : List (List ℕ))
-    (left before now : Option (List ℕ)) →
-    IfSome left (λ input. input ≡ bytes) → found_of bytes keys ≡ found → EndsFound status found before now →
-    IfSome left (λ input. EndsFound status (found_of input keys) before now)
-found_read status found bytes keys None before now read is ends = tt
-found_read status found bytes keys (Some input) before now read is ends =
-    subst (λ (r : Result (List Reply) ImageFault). EndsFound status r before now)
+pub found_read : (n : Notation) (status : Status) (found : Result (List Reply) ImageFault) (bytes : List ℕ)
+    (keys : List (List ℕ)) (left before now : Option (List ℕ)) →
+    IfSome left (λ input. input ≡ bytes) → found_of bytes keys ≡ found → EndsFound n status found before now →
+    IfSome left (λ input. EndsFound n status (found_of input keys) before now)
+found_read n status found bytes keys None before now read is ends = tt
+found_read n status found bytes keys (Some input) before now read is ends =
+    subst (λ (r : Result (List Reply) ImageFault). EndsFound n status r before now)
     (sym (ap (λ b. found_of b keys) read ∙ is)) ends
 
 -- an input in which a look-up meets a fault ends the run by it, with nothing written
-pub unfound : (fault : ImageFault) (found : Result (List Reply) ImageFault) (a : Option (List ℕ)) →
-    (fault ≡ NoMemory) ⊎ (found ≡ Err fault) → EndsFound (refused_as fault) found a a
-unfound fault found a (inl is) =
-    subst (λ (f : ImageFault). EndsFound (refused_as f) found a a) (sym is) (Keeps-refl a)
-unfound ReadFault found a (inr is) = Keeps-refl a
-unfound NoMemory found a (inr is) = Keeps-refl a
-unfound fault found a (inr is) = (is, Keeps-refl a)
+pub unfound : (n : Notation) (fault : ImageFault) (found : Result (List Reply) ImageFault) (a : Option (List ℕ)) →
+    (fault ≡ NoMemory) ⊎ (found ≡ Err fault) → EndsFound n (refused_as fault) found a a
+unfound n fault found a (inl is) =
+    subst (λ (f : ImageFault). EndsFound n (refused_as f) found a a) (sym is) (Keeps-refl a)
+unfound n ReadFault found a (inr is) = Keeps-refl a
+unfound n NoMemory found a (inr is) = Keeps-refl a
+unfound n fault found a (inr is) = (is, Keeps-refl a)
 
-pub unfound_read : (fault : ImageFault) (status : Status) (bytes : List ℕ) (keys : List (List ℕ))
+pub unfound_read : (n : Notation) (fault : ImageFault) (status : Status) (bytes : List ℕ) (keys : List (List ℕ))
     (left a : Option (List ℕ)) →
     IfSome left (λ input. input ≡ bytes) → status ≡ refused_as fault →
     (fault ≡ NoMemory) ⊎ (found_of bytes keys ≡ Err fault) →
-    IfSome left (λ input. EndsFound status (found_of input keys) a a)
-unfound_read fault status bytes keys left a read is said =
-    found_read status (found_of bytes keys) bytes keys left a a read refl
-    (subst (λ (s : Status). EndsFound s (found_of bytes keys) a a) (sym is)
-    (unfound fault (found_of bytes keys) a said))
+    IfSome left (λ input. EndsFound n status (found_of input keys) a a)
+unfound_read n fault status bytes keys left a read is said =
+    found_read n status (found_of bytes keys) bytes keys left a a read refl
+    (subst (λ (s : Status). EndsFound n s (found_of bytes keys) a a) (sym is)
+    (unfound n fault (found_of bytes keys) a said))
 
 -- a run that is out of memory ends without a write
-out_of_memory : (given : Result (List (List ℕ)) NoKey) (left a : Option (List ℕ)) →
-    EndsGettingOf given Memory left left a a
-out_of_memory (Ok keys) None a = tt
-out_of_memory (Ok keys) (Some input) a = Keeps-refl a
-out_of_memory (Err wrong) left a = (tt, Keeps-refl left, Keeps-refl a)
+out_of_memory : (n : Notation) (given : Result (List (List ℕ)) NoKey) (left a : Option (List ℕ)) →
+    EndsGettingOf n given Memory left left a a
+out_of_memory n (Ok keys) None a = tt
+out_of_memory n (Ok keys) (Some input) a = Keeps-refl a
+out_of_memory n (Err wrong) left a = (tt, Keeps-refl left, Keeps-refl a)
 
 -- a run that has no keys ends without a read
-pub without_keys : (words : List (List ℕ)) (status : Status) (left a : Option (List ℕ)) →
-    (status ≡ Memory) ⊎ ((wrong : NoKey) × (keys_of words ≡ Err wrong) × IsRefusedFor wrong status) →
-    EndsGetting words status left left a a
+pub without_keys : (n : Notation) (words : List (List ℕ)) (status : Status) (left a : Option (List ℕ)) →
+    (status ≡ Memory) ⊎ ((wrong : NoKey) × (keys_of n words ≡ Err wrong) × IsRefusedFor wrong status) →
+    EndsGetting n words status left left a a
 unfolding EndsGetting
-without_keys words status left a (inl is) =
-    subst (λ (s : Status). EndsGettingOf (keys_of words) s left left a a) (sym is)
-    (out_of_memory (keys_of words) left a)
-without_keys words status left a (inr said) =
-    subst (λ (r : Result (List (List ℕ)) NoKey). EndsGettingOf r status left left a a) (sym said.1)
+without_keys n words status left a (inl is) =
+    subst (λ (s : Status). EndsGettingOf n (keys_of n words) s left left a a) (sym is)
+    (out_of_memory n (keys_of n words) left a)
+without_keys n words status left a (inr said) =
+    subst (λ (r : Result (List (List ℕ)) NoKey). EndsGettingOf n r status left left a a) (sym said.1)
     (said.2, Keeps-refl left, Keeps-refl a)
 
 -- a run that has keys ends by what they lead to
-pub with_keys : (words keys : List (List ℕ)) (status : Status) (left rest before now : Option (List ℕ)) →
-    keys_of words ≡ Ok keys → IfSome left (λ input. EndsFound status (found_of input keys) before now) →
-    EndsGetting words status left rest before now
+pub with_keys : (n : Notation) (words keys : List (List ℕ)) (status : Status) (left rest before now : Option (List ℕ)) →
+    keys_of n words ≡ Ok keys → IfSome left (λ input. EndsFound n status (found_of input keys) before now) →
+    EndsGetting n words status left rest before now
 unfolding EndsGetting
-with_keys words keys status left rest before now is ends =
-    subst (λ (r : Result (List (List ℕ)) NoKey). EndsGettingOf r status left rest before now) (sym is) ends
+with_keys n words keys status left rest before now is ends =
+    subst (λ (r : Result (List (List ℕ)) NoKey). EndsGettingOf n r status left rest before now) (sym is) ends

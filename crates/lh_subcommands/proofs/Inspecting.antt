@@ -23,6 +23,7 @@ use Rattle.lh_subcommands.specs.Devices.{TakesBeginning}
 use Rattle.lh_draw.specs.Drawing.{drawing_of}
 use Rattle.lh_subcommands.specs.ImageTexts.{check_text, dump_text}
 use Rattle.lh_exchange.specs.declared.format.StreamFormat.{StreamFormat}
+use Rattle.lh_script.specs.declared.notation.Notation.{Notation}
 use Rattle.lh_subcommands.specs.Exporting.{export_due, exported_text}
 use Rattle.lh_subcommands.specs.Images.{check_due, draw_due, dump_due, migrate_due, refused_as, text_or_fault}
 use Rattle.lh_subcommands.specs.Images.{unwritten_as}
@@ -57,12 +58,14 @@ unchecked fault status (Some input) a is h =
     (unread (λ l. check_text (census_of l)) fault (reading_of input) a h)
 
 -- a run of `dump` that read no image ends without a write
-pub undumped : (fault : ImageFault) (status : Status) (left a : Option (List ℕ)) → status ≡ refused_as fault →
-    IfSome left (λ input. IsDueFault fault (reading_of input)) → IfSome left (λ input. Ends status (dump_due input) a a)
+pub undumped : (n : Notation) (fault : ImageFault) (status : Status) (left a : Option (List ℕ)) →
+    status ≡ refused_as fault →
+    IfSome left (λ input. IsDueFault fault (reading_of input)) →
+    IfSome left (λ input. Ends status (dump_due n input) a a)
 unfolding dump_due
-undumped fault status None a is h = tt
-undumped fault status (Some input) a is h =
-    subst (λ (s : Status). Ends s (dump_due input) a a) (sym is) (unread dump_text fault (reading_of input) a h)
+undumped n fault status None a is h = tt
+undumped n fault status (Some input) a is h =
+    subst (λ (s : Status). Ends s (dump_due n input) a a) (sym is) (unread (dump_text n) fault (reading_of input) a h)
 
 -- the input is an image of a listing of which something holds
 abbrev pub Shows : Option (List ℕ) → (Lists → Type 0) → Type 0
@@ -92,25 +95,26 @@ check_begun census text (Some input) before now shows is h =
     (check_text census, census_due census shows.0 input shows.1 shows.2, subst (TakesBeginning before now) is h)
 
 -- and so are its records
-records_due : (listing l : Lists) (input : List ℕ) → reading_of input ≡ Ok l → listing ≡ l →
-    dump_due input ≡ Ok (dump_text listing)
+records_due : (n : Notation) (listing l : Lists) (input : List ℕ) → reading_of input ≡ Ok l → listing ≡ l →
+    dump_due n input ≡ Ok (dump_text n listing)
 unfolding dump_due
-records_due listing l input e is = ap (text_or_fault dump_text) e ∙ ap (λ (x : Lists). Ok (dump_text x)) (sym is)
+records_due n listing l input e is =
+    ap (text_or_fault (dump_text n)) e ∙ ap (λ (x : Lists). Ok (dump_text n x)) (sym is)
 
 -- a run of `dump` that wrote the records is done
-pub dumped : (listing : Lists) (left before now : Option (List ℕ)) → Shows left (λ l. listing ≡ l) →
-    Appends before now (dump_text listing) → IfSome left (λ input. Ends Done (dump_due input) before now)
-dumped listing None before now shows h = tt
-dumped listing (Some input) before now shows h =
-    (dump_text listing, records_due listing shows.0 input shows.1 shows.2, h)
+pub dumped : (n : Notation) (listing : Lists) (left before now : Option (List ℕ)) → Shows left (λ l. listing ≡ l) →
+    Appends before now (dump_text n listing) → IfSome left (λ input. Ends Done (dump_due n input) before now)
+dumped n listing None before now shows h = tt
+dumped n listing (Some input) before now shows h =
+    (dump_text n listing, records_due n listing shows.0 input shows.1 shows.2, h)
 
 -- a run of `dump` that wrote a beginning of the records ends by a failed write
-pub dump_begun : (listing : Lists) (left before now : Option (List ℕ)) → Shows left (λ l. listing ≡ l) →
-    TakesBeginning before now (dump_text listing) →
-    IfSome left (λ input. Ends (Device Write) (dump_due input) before now)
-dump_begun listing None before now shows h = tt
-dump_begun listing (Some input) before now shows h =
-    (dump_text listing, records_due listing shows.0 input shows.1 shows.2, h)
+pub dump_begun : (n : Notation) (listing : Lists) (left before now : Option (List ℕ)) → Shows left (λ l. listing ≡ l) →
+    TakesBeginning before now (dump_text n listing) →
+    IfSome left (λ input. Ends (Device Write) (dump_due n input) before now)
+dump_begun n listing None before now shows h = tt
+dump_begun n listing (Some input) before now shows h =
+    (dump_text n listing, records_due n listing shows.0 input shows.1 shows.2, h)
 
 -- and so is the stream of its records
 stream_due : (format : StreamFormat) (listing l : Lists) (input : List ℕ) → reading_of input ≡ Ok l → listing ≡ l →

@@ -11,6 +11,7 @@ use Rattle.lh_bucket.specs.Listing.{Lists, list_at, size}
 use Rattle.lh_subcommands.specs.Devices.{Sends, TakesBeginning}
 use Rattle.lh_subcommands.specs.ImageTexts.{bucket_text, dump_text, record_text}
 use Rattle.lh_script.specs.Texts.{line}
+use Rattle.lh_script.specs.declared.notation.Notation.{Notation}
 use Rattle.lh_subcommands.proofs.ReplyLines.{pieces-split}
 use Rattle.lh_subcommands.proofs.Sending.{begins_longer}
 
@@ -64,26 +65,28 @@ piece_begins {X} f before now sent xs i x at h =
     (begins_longer before now _ (flat_map f (drop (suc i) xs)) h)
 
 -- the lines of the first records of a bucket
-abbrev pub lines_before : ℕ → List Pair → ℕ → List ℕ
-lines_before bucket pairs place = bucket_text bucket (take place pairs)
+abbrev pub lines_before : Notation → ℕ → List Pair → ℕ → List ℕ
+lines_before n bucket pairs place = bucket_text n bucket (take place pairs)
 
 -- the line of a record follows those before it
-pub record_follows : (before now : Option (List ℕ)) (waiting sent : List ℕ) (bucket : ℕ) (pairs : List Pair) (i : ℕ)
+pub record_follows : (n : Notation) (before now : Option (List ℕ)) (waiting sent : List ℕ) (bucket : ℕ)
+    (pairs : List Pair) (i : ℕ)
     (pair : Pair) →
     slice_get pairs i ≡ Some pair →
-    Sends before now waiting ((sent ++ lines_before bucket pairs i) ++ line (record_text bucket pair)) →
-    Sends before now waiting (sent ++ lines_before bucket pairs (i + 1))
-record_follows before now waiting sent bucket pairs i pair at h =
-    piece_follows (λ p. line (record_text bucket p)) before now waiting sent pairs i pair at h
+    Sends before now waiting ((sent ++ lines_before n bucket pairs i) ++ line (record_text n bucket pair)) →
+    Sends before now waiting (sent ++ lines_before n bucket pairs (i + 1))
+record_follows n before now waiting sent bucket pairs i pair at h =
+    piece_follows (λ p. line (record_text n bucket p)) before now waiting sent pairs i pair at h
 
 -- a beginning of a bucket's lines up to a record is one of all lines of the bucket
-pub record_begins : (before now : Option (List ℕ)) (sent : List ℕ) (bucket : ℕ) (pairs : List Pair) (i : ℕ)
+pub record_begins : (n : Notation) (before now : Option (List ℕ)) (sent : List ℕ) (bucket : ℕ) (pairs : List Pair)
+    (i : ℕ)
     (pair : Pair) →
     slice_get pairs i ≡ Some pair →
-    TakesBeginning before now ((sent ++ lines_before bucket pairs i) ++ line (record_text bucket pair)) →
-    TakesBeginning before now (sent ++ bucket_text bucket pairs)
-record_begins before now sent bucket pairs i pair at h =
-    piece_begins (λ p. line (record_text bucket p)) before now sent pairs i pair at h
+    TakesBeginning before now ((sent ++ lines_before n bucket pairs i) ++ line (record_text n bucket pair)) →
+    TakesBeginning before now (sent ++ bucket_text n bucket pairs)
+record_begins n before now sent bucket pairs i pair at h =
+    piece_begins (λ p. line (record_text n bucket p)) before now sent pairs i pair at h
 
 -- the texts of the first buckets
 abbrev pub texts_before : (ℕ → List ℕ) → Lists → ℕ → List ℕ
@@ -120,24 +123,24 @@ all_texts f l i many =
     ap (flat_map f) (take_all i row past)
 
 -- the lines of the first buckets
-abbrev pub buckets_before : Lists → ℕ → List ℕ
-buckets_before l n = texts_before (λ i. bucket_text i (list_at l.lists i)) l n
+abbrev pub buckets_before : Notation → Lists → ℕ → List ℕ
+buckets_before k l n = texts_before (λ i. bucket_text k i (list_at l.lists i)) l n
 
 -- the lines of a bucket follow those before it
-pub bucket_follows : (before now : Option (List ℕ)) (waiting : List ℕ) (l : Lists) (i : ℕ) → i < size l →
-    Sends before now waiting (buckets_before l i ++ bucket_text i (list_at l.lists i)) →
-    Sends before now waiting (buckets_before l (i + 1))
-bucket_follows before now waiting l i lt h =
-    text_follows (λ i. bucket_text i (list_at l.lists i)) before now waiting [] l i lt h
+pub bucket_follows : (k : Notation) (before now : Option (List ℕ)) (waiting : List ℕ) (l : Lists) (i : ℕ) → i < size l →
+    Sends before now waiting (buckets_before k l i ++ bucket_text k i (list_at l.lists i)) →
+    Sends before now waiting (buckets_before k l (i + 1))
+bucket_follows k before now waiting l i lt h =
+    text_follows (λ i. bucket_text k i (list_at l.lists i)) before now waiting [] l i lt h
 
 -- a beginning of the lines up to a bucket is one of all that `dump` writes
-pub bucket_begins : (before now : Option (List ℕ)) (l : Lists) (i : ℕ) → i < size l →
-    TakesBeginning before now (buckets_before l i ++ bucket_text i (list_at l.lists i)) →
-    TakesBeginning before now (dump_text l)
+pub bucket_begins : (k : Notation) (before now : Option (List ℕ)) (l : Lists) (i : ℕ) → i < size l →
+    TakesBeginning before now (buckets_before k l i ++ bucket_text k i (list_at l.lists i)) →
+    TakesBeginning before now (dump_text k l)
 unfolding dump_text
-bucket_begins before now l i lt h = text_begins (λ i. bucket_text i (list_at l.lists i)) before now [] l i lt h
+bucket_begins k before now l i lt h = text_begins (λ i. bucket_text k i (list_at l.lists i)) before now [] l i lt h
 
 -- the lines of all buckets are what `dump` writes
-pub all_buckets : (l : Lists) (i : ℕ) → size l ≤ i → buckets_before l i ≡ dump_text l
+pub all_buckets : (k : Notation) (l : Lists) (i : ℕ) → size l ≤ i → buckets_before k l i ≡ dump_text k l
 unfolding dump_text
-all_buckets l i many = all_texts (λ i. bucket_text i (list_at l.lists i)) l i many
+all_buckets k l i many = all_texts (λ i. bucket_text k i (list_at l.lists i)) l i many

@@ -7,6 +7,7 @@ use Rattle.lh_core.specs.Log.{Entry}
 use Rattle.lh_subcommands.specs.Devices.{TakesBeginning}
 use Rattle.lh_script.specs.StepTexts.{entry_text, steps_text}
 use Rattle.lh_script.specs.Texts.{line, reply_text, size_text, commands_text}
+use Rattle.lh_script.specs.declared.notation.Notation.{Notation}
 use Rattle.lh_subcommands.specs.Get.{found_text}
 use Rattle.lh_subcommands.proofs.Sending.{begins_longer}
 
@@ -39,53 +40,56 @@ begins_lines text before now xs i x h e begins =
     ∙ sym (lines_of-split text xs i x h))
     (begins_longer before now (lines_of text (take i xs) ++ line (text x)) (lines_of text (drop (suc i) xs)) begins)
 
-abbrev pub reply_lines : List Reply → List ℕ
-reply_lines = lines_of reply_text
+abbrev pub reply_lines : Notation → List Reply → List ℕ
+reply_lines n = lines_of (reply_text n)
 
 -- a beginning of the lines up to a reply's
-pub begins_commands : (before now : Option (List ℕ)) (replies : List Reply) (i : ℕ) (reply : Reply) (buckets : ℕ) →
-    i < length replies →
+pub begins_commands : (n : Notation) (before now : Option (List ℕ)) (replies : List Reply) (i : ℕ) (reply : Reply)
+    (buckets : ℕ) → i < length replies →
     reply ≡ get_or replies i reply →
-    TakesBeginning before now (reply_lines (take i replies) ++ line (reply_text reply)) →
-    TakesBeginning before now (commands_text replies buckets)
+    TakesBeginning before now (reply_lines n (take i replies) ++ line (reply_text n reply)) →
+    TakesBeginning before now (commands_text n replies buckets)
 unfolding commands_text
-begins_commands before now replies i reply buckets h e begins =
-    begins_longer before now (reply_lines replies) (line (size_text buckets))
-    (begins_lines reply_text before now replies i reply h e begins)
+begins_commands n before now replies i reply buckets h e begins =
+    begins_longer before now (reply_lines n replies) (line (size_text buckets))
+    (begins_lines (reply_text n) before now replies i reply h e begins)
 
 -- the lines of all replies, and the size's
-pub commands_text-all : (replies : List Reply) (i buckets : ℕ) → length replies ≤ i →
-    reply_lines (take i replies) ++ line (size_text buckets) ≡ commands_text replies buckets
+pub commands_text-all : (n : Notation) (replies : List Reply) (i buckets : ℕ) → length replies ≤ i →
+    reply_lines n (take i replies) ++ line (size_text buckets) ≡ commands_text n replies buckets
 unfolding commands_text
-commands_text-all replies i buckets h = ap (λ all. reply_lines all ++ line (size_text buckets)) (take_all i replies h)
+commands_text-all n replies i buckets h =
+    ap (λ all. reply_lines n all ++ line (size_text buckets)) (take_all i replies h)
 
 -- a beginning of the lines up to that of a reply to a look-up
-pub begins_found : (before now : Option (List ℕ)) (replies : List Reply) (i : ℕ) (reply : Reply) → i < length replies →
+pub begins_found : (n : Notation) (before now : Option (List ℕ)) (replies : List Reply) (i : ℕ) (reply : Reply) →
+    i < length replies →
     reply ≡ get_or replies i reply →
-    TakesBeginning before now (reply_lines (take i replies) ++ line (reply_text reply)) →
-    TakesBeginning before now (found_text replies)
+    TakesBeginning before now (reply_lines n (take i replies) ++ line (reply_text n reply)) →
+    TakesBeginning before now (found_text n replies)
 unfolding found_text
-begins_found before now replies i reply h e begins = begins_lines reply_text before now replies i reply h e begins
+begins_found n before now replies i reply h e begins = begins_lines (reply_text n) before now replies i reply h e begins
 
 -- the lines of all replies to look-ups
-pub found_text-all : (replies : List Reply) (i : ℕ) → length replies ≤ i →
-    reply_lines (take i replies) ≡ found_text replies
+pub found_text-all : (n : Notation) (replies : List Reply) (i : ℕ) → length replies ≤ i →
+    reply_lines n (take i replies) ≡ found_text n replies
 unfolding found_text
-found_text-all replies i h = ap reply_lines (take_all i replies h)
+found_text-all n replies i h = ap (reply_lines n) (take_all i replies h)
 
-abbrev pub entry_lines : List Entry → List ℕ
-entry_lines = lines_of entry_text
+abbrev pub entry_lines : Notation → List Entry → List ℕ
+entry_lines n = lines_of (entry_text n)
 
 -- a beginning of the lines up to an entry's
-pub begins_steps : (before now : Option (List ℕ)) (entries : List Entry) (i : ℕ) (entry : Entry) → i < length entries →
+pub begins_steps : (n : Notation) (before now : Option (List ℕ)) (entries : List Entry) (i : ℕ) (entry : Entry) →
+    i < length entries →
     entry ≡ get_or entries i entry →
-    TakesBeginning before now (entry_lines (take i entries) ++ line (entry_text entry)) →
-    TakesBeginning before now (steps_text entries)
+    TakesBeginning before now (entry_lines n (take i entries) ++ line (entry_text n entry)) →
+    TakesBeginning before now (steps_text n entries)
 unfolding steps_text
-begins_steps before now entries i entry h e begins = begins_lines entry_text before now entries i entry h e begins
+begins_steps n before now entries i entry h e begins = begins_lines (entry_text n) before now entries i entry h e begins
 
 -- the lines of all entries
-pub steps_text-all : (entries : List Entry) (i : ℕ) → length entries ≤ i →
-    entry_lines (take i entries) ≡ steps_text entries
+pub steps_text-all : (n : Notation) (entries : List Entry) (i : ℕ) → length entries ≤ i →
+    entry_lines n (take i entries) ≡ steps_text n entries
 unfolding steps_text
-steps_text-all entries i h = ap entry_lines (take_all i entries h)
+steps_text-all n entries i h = ap (entry_lines n) (take_all i entries h)

@@ -17,10 +17,10 @@ IsReadOf most input read = (read ≡ input) ⊎ ((most < length input) × (most 
 abbrev pub written_at_once : ℕ
 written_at_once = 65536
 
--- no line has more bytes: key and value, of 56 and 112 bytes at most, take two digits a byte, and all else less than
--- 256
+-- no line has more bytes: key and value, of 56 and 112 bytes at most, take three for each of theirs, and all else less
+-- than 256
 abbrev pub longest_output_line : ℕ
-longest_output_line = 592
+longest_output_line = 760
 
 -- what waits has room for as many bytes as are written at once, and a line more
 abbrev pub IsReserved : {Z : Type 0} → String Z → Type 0

@@ -16,6 +16,7 @@ use Rattle.lh_script.specs.FaultTexts.{line_fault_text}
 use Rattle.lh_script.specs.Operands.{key}
 use Rattle.lh_script.specs.Texts.{line, reply_text}
 use Rattle.lh_script.specs.declared.fault.LineFault.{LineFault}
+use Rattle.lh_script.specs.declared.notation.Notation.{Notation}
 use Rattle.lh_subcommands.specs.Devices.{TakesBeginning}
 use Rattle.lh_subcommands.specs.declared.get.NoKey.{NoKey}
 use Rattle.lh_subcommands.specs.declared.status.DeviceFault.TheVariants.{Read, Write}
@@ -46,12 +47,12 @@ abbrev pub key_or : ℕ → Result (List ℕ) LineFault → Result (List ℕ) No
 key_or place (Ok k) = Ok k
 key_or place (Err fault) = Err (record { place = place; fault = fault })
 
-abbrev pub word_key : ℕ × List ℕ → Result (List ℕ) NoKey
-word_key p = key_or p.0 (key p.1)
+abbrev pub word_key : Notation → ℕ × List ℕ → Result (List ℕ) NoKey
+word_key notation p = key_or p.0 (key notation p.1)
 
 -- the keys that words stand for, as in a script, or the first word that stands for none, by its place from 1
-unfoldable pub keys_of : List (List ℕ) → Result (List (List ℕ)) NoKey
-keys_of words = each_in_turn word_key (placed_from 1 words)
+unfoldable pub keys_of : Notation → List (List ℕ) → Result (List (List ℕ)) NoKey
+keys_of notation words = each_in_turn (word_key notation) (placed_from 1 words)
 
 -- the text of what is wrong with a word
 abbrev pub no_key_text : NoKey → List ℕ
@@ -79,8 +80,8 @@ unfoldable pub found_of : List ℕ → List (List ℕ) → Result (List Reply) I
 found_of input keys = found_unless (opening_fault input) (view_of input) keys
 
 -- a line for each reply
-unfoldable pub found_text : List Reply → List ℕ
-found_text replies = flat_map (λ reply. line (reply_text reply)) replies
+unfoldable pub found_text : Notation → List Reply → List ℕ
+found_text notation replies = flat_map (λ reply. line (reply_text notation reply)) replies
 
 -- whether a reply says that a key is absent
 abbrev pub is_missing : Reply → Bool
@@ -101,14 +102,16 @@ told_by false = Done
 -- A status, and what the writer took, where these are the replies or the fault: done where no key is absent, or a key
 -- is absent, and it took just the lines; the fault that is met, and it took nothing; a failed write, and it took a
 -- beginning of the lines; a failed read or out of memory, and it took nothing.
-abbrev pub EndsFound : Status → Result (List Reply) ImageFault → Option (List ℕ) → Option (List ℕ) → Type 0
-EndsFound Done (Ok replies) before now = (has_absent replies ≡ false) × Appends before now (found_text replies)
-EndsFound KeyAbsent (Ok replies) before now = (has_absent replies ≡ true) × Appends before now (found_text replies)
-EndsFound (Device Write) (Ok replies) before now = TakesBeginning before now (found_text replies)
-EndsFound (Input (Image fault)) found before now = (found ≡ Err fault) × Keeps before now
-EndsFound (Device Read) found before now = Keeps before now
-EndsFound Memory found before now = Keeps before now
-EndsFound _ found before now = ⊥
+abbrev pub EndsFound : Notation → Status → Result (List Reply) ImageFault → Option (List ℕ) → Option (List ℕ) → Type 0
+EndsFound notation Done (Ok replies) before now =
+    (has_absent replies ≡ false) × Appends before now (found_text notation replies)
+EndsFound notation KeyAbsent (Ok replies) before now =
+    (has_absent replies ≡ true) × Appends before now (found_text notation replies)
+EndsFound notation (Device Write) (Ok replies) before now = TakesBeginning before now (found_text notation replies)
+EndsFound notation (Input (Image fault)) found before now = (found ≡ Err fault) × Keeps before now
+EndsFound notation (Device Read) found before now = Keeps before now
+EndsFound notation Memory found before now = Keeps before now
+EndsFound notation _ found before now = ⊥
 
 -- a word that is no key is refused, unless memory ran out
 abbrev pub IsRefusedFor : NoKey → Status → Type 0
@@ -122,13 +125,15 @@ IsKeysOf (Ok keys) given = given ≡ Ok keys.items
 IsKeysOf (Err status) given = (status ≡ Memory) ⊎ ((wrong : NoKey) × (given ≡ Err wrong) × IsRefusedFor wrong status)
 
 -- how `get` ends with these keys, or with a word that is none: then nothing is read and nothing written
-abbrev pub EndsGettingOf : Result (List (List ℕ)) NoKey → Status → Option (List ℕ) → Option (List ℕ) →
+abbrev pub EndsGettingOf : Notation → Result (List (List ℕ)) NoKey → Status → Option (List ℕ) → Option (List ℕ) →
     Option (List ℕ) → Option (List ℕ) → Type 0
-EndsGettingOf (Ok keys) status left rest before now =
-    IfSome left (λ input. EndsFound status (found_of input keys) before now)
-EndsGettingOf (Err wrong) status left rest before now = IsRefusedFor wrong status × Keeps left rest × Keeps before now
+EndsGettingOf notation (Ok keys) status left rest before now =
+    IfSome left (λ input. EndsFound notation status (found_of input keys) before now)
+EndsGettingOf notation (Err wrong) status left rest before now =
+    IsRefusedFor wrong status × Keeps left rest × Keeps before now
 
 -- how `get` ends with these words of keys
-unfoldable pub EndsGetting : List (List ℕ) → Status → Option (List ℕ) → Option (List ℕ) → Option (List ℕ) →
+unfoldable pub EndsGetting : Notation → List (List ℕ) → Status → Option (List ℕ) → Option (List ℕ) → Option (List ℕ) →
     Option (List ℕ) → Type 0
-EndsGetting words status left rest before now = EndsGettingOf (keys_of words) status left rest before now
+EndsGetting notation words status left rest before now =
+    EndsGettingOf notation (keys_of notation words) status left rest before now

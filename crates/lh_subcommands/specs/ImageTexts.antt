@@ -5,8 +5,9 @@ use Rattle.std.specs.List.{range_with_len}
 use Rattle.lh_page.specs.declared.pair.Pair.{Pair}
 use Rattle.lh_bucket.specs.Listing.{Lists, size, list_at}
 use Rattle.lh_image.specs.declared.census.Census.{Census}
-use Rattle.lh_page.specs.Texts.{hexadecimal_text}
+use Rattle.lh_script.specs.Notations.{byte_text}
 use Rattle.lh_script.specs.Texts.{line}
+use Rattle.lh_script.specs.declared.notation.Notation.{Notation}
 
 -- a number behind its name, as a line
 abbrev pub number_line : List ℕ → ℕ → List ℕ
@@ -24,14 +25,14 @@ check_text c =
     ++ number_line (codes "longest ") c.longest
 
 -- a record: the number of its bucket, its key and its value
-abbrev pub record_text : ℕ → Pair → List ℕ
-record_text bucket pair =
-    decimal bucket ++ (codes " " ++ (hexadecimal_text pair.key ++ (codes " " ++ hexadecimal_text pair.value)))
+abbrev pub record_text : Notation → ℕ → Pair → List ℕ
+record_text notation bucket pair =
+    decimal bucket ++ (codes " " ++ (byte_text notation pair.key ++ (codes " " ++ byte_text notation pair.value)))
 
 -- a line for each record of a bucket, in the order of the chain
-abbrev pub bucket_text : ℕ → List Pair → List ℕ
-bucket_text bucket pairs = flat_map (λ pair. line (record_text bucket pair)) pairs
+abbrev pub bucket_text : Notation → ℕ → List Pair → List ℕ
+bucket_text notation bucket pairs = flat_map (λ pair. line (record_text notation bucket pair)) pairs
 
 -- what `dump` writes: the lines of all records, the buckets in rising order
-unfoldable pub dump_text : Lists → List ℕ
-dump_text l = flat_map (λ i. bucket_text i (list_at l.lists i)) (range_with_len 0 (size l))
+unfoldable pub dump_text : Notation → Lists → List ℕ
+dump_text notation l = flat_map (λ i. bucket_text notation i (list_at l.lists i)) (range_with_len 0 (size l))

@@ -24,6 +24,7 @@ use Rattle.lh_subcommands.specs.ImageTexts.{check_text, dump_text}
 use Rattle.lh_subcommands.specs.Run.{EndsTelling}
 use Rattle.lh_script.specs.Scripts.{script}
 use Rattle.lh_script.specs.declared.fault.ScriptFault.{ScriptFault}
+use Rattle.lh_script.specs.declared.notation.Notation.{Notation}
 use Rattle.lh_subcommands.specs.declared.status.DeviceFault.TheVariants.{Read, Write}
 use Rattle.lh_subcommands.specs.declared.status.InputFault.{InputFault}
 use Rattle.lh_subcommands.specs.declared.status.InputFault.TheVariants.{Image, Unwritten}
@@ -64,9 +65,10 @@ EndsInImage LeadsTo version status given before now =
     EndsTelling (IsImageAfter LeadsTo version) status given before now
 
 -- how `build` ends on an input: with the image of the file that the script's calls lead to from an empty one
-unfoldable pub EndsBuilding : Version → Settings → List ℕ → Status → Option (List ℕ) → Option (List ℕ) → Type 0
-EndsBuilding version settings input status before now =
-    EndsInImage (IsLedTo settings) version status (script command input) before now
+unfoldable pub EndsBuilding : Notation → Version → Settings → List ℕ → Status → Option (List ℕ) → Option (List ℕ) →
+    Type 0
+EndsBuilding notation version settings input status before now =
+    EndsInImage (IsLedTo settings) version status (script (command notation) input) before now
 
 -- what is to be written of an image, or the first fault of bytes that are none
 abbrev pub text_or_fault : (Lists → List ℕ) → Result Lists ImageFault → Result (List ℕ) InputFault
@@ -78,8 +80,8 @@ unfoldable pub check_due : List ℕ → Result (List ℕ) InputFault
 check_due input = text_or_fault (λ l. check_text (census_of l)) (reading_of input)
 
 -- what `dump` is to write for an input: the records of the listing that it is an image of
-unfoldable pub dump_due : List ℕ → Result (List ℕ) InputFault
-dump_due input = text_or_fault dump_text (reading_of input)
+unfoldable pub dump_due : Notation → List ℕ → Result (List ℕ) InputFault
+dump_due notation input = text_or_fault (dump_text notation) (reading_of input)
 
 -- what `draw` is to write for an input: a drawing of the listing that it is an image of
 unfoldable pub draw_due : List ℕ → Result (List ℕ) InputFault

@@ -21,6 +21,8 @@ use Rattle.lh_script.specs.StepTexts.{steps_text}
 use Rattle.lh_script.specs.Steps.{step}
 use Rattle.lh_script.specs.Texts.{commands_text}
 use Rattle.lh_script.specs.declared.fault.ScriptFault.{ScriptFault}
+use Rattle.lh_script.specs.declared.notation.Notation.{Notation}
+use Rattle.lh_script.specs.declared.notation.Notation.TheVariants.{Hexadecimal}
 use Rattle.lh_subcommands.specs.declared.status.DeviceFault.TheVariants.{Read, Write}
 use Rattle.lh_subcommands.specs.declared.status.InputFault.{InputFault}
 use Rattle.lh_subcommands.specs.declared.status.InputFault.TheVariants.{Script}
@@ -44,12 +46,14 @@ due output (Err fault) = Err (Script fault)
 
 -- what is to be written of calls on a file of so many buckets that stands for a map: the replies of the plain map, then
 -- the number of buckets to which the split policy has the file grow
-abbrev pub replies_text : Settings → Records → ℕ → List Call → List ℕ
-replies_text settings map start calls = commands_text (replies map calls) (size_from settings map start calls)
+abbrev pub replies_text : Notation → Settings → Records → ℕ → List Call → List ℕ
+replies_text notation settings map start calls =
+    commands_text notation (replies map calls) (size_from settings map start calls)
 
 -- what `commands` is to write for an input: that of the script's calls, on an empty file
-unfoldable pub commands_due : Settings → List ℕ → Result (List ℕ) InputFault
-commands_due settings input = due (replies_text settings empty settings.initial) (script command input)
+unfoldable pub commands_due : Notation → Settings → List ℕ → Result (List ℕ) InputFault
+commands_due notation settings input =
+    due (replies_text notation settings empty settings.initial) (script (command notation) input)
 
 -- a status, and what the writer took, where this is due:
 -- done, and it took just the output; a fault, the one that is due, and it took nothing;
@@ -77,10 +81,10 @@ pub record HaveEntries (settings : Settings) (events : List Event) (entries : Li
   pub memory : list_any is_want entries ≡ false
 
 -- What `steps` may write for events: a line for each of the entries that they have.
-pub record TellsSteps (settings : Settings) (events : List Event) (output : List ℕ) : Type 0 where
+pub record TellsSteps (notation : Notation) (settings : Settings) (events : List Event) (output : List ℕ) : Type 0 where
   pub entries : List Entry
   pub had : HaveEntries settings events entries
-  pub lines : output ≡ steps_text entries
+  pub lines : output ≡ steps_text notation entries
 
 -- What `replay` may write for events: the picture of them and of the entries that they have.
 pub record IsPictured (settings : Settings) (events : List Event) (output : List ℕ) : Type 0 where
@@ -106,9 +110,11 @@ EndsTelling IsOutput Memory given before now = Keeps before now
 EndsTelling IsOutput _ given before now = ⊥
 
 -- how `steps` ends on an input: with what the headline tells of the events of its script
-unfoldable pub EndsSteps : Settings → List ℕ → Status → Option (List ℕ) → Option (List ℕ) → Type 0
-EndsSteps settings input status before now = EndsTelling (TellsSteps settings) status (script step input) before now
+unfoldable pub EndsSteps : Notation → Settings → List ℕ → Status → Option (List ℕ) → Option (List ℕ) → Type 0
+EndsSteps notation settings input status before now =
+    EndsTelling (TellsSteps notation settings) status (script (step notation) input) before now
 
 -- how `replay` ends on an input: with the picture of the events of its script, and of what the headline tells of them
 unfoldable pub EndsReplay : Settings → List ℕ → Status → Option (List ℕ) → Option (List ℕ) → Type 0
-EndsReplay settings input status before now = EndsTelling (IsPictured settings) status (script step input) before now
+EndsReplay settings input status before now =
+    EndsTelling (IsPictured settings) status (script (step Hexadecimal) input) before now

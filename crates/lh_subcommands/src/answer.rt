@@ -11,19 +11,31 @@ use lh_addr::Config;
 use lh_bucket::{Call, PagedBucket};
 use lh_core::{SerialRan, serial};
 use lh_image::WriteFailed;
+use lh_script::Notation;
 use std::alloc::Global;
 use std::io::{Read, Write};
 
 /// Writes the replies to calls that were served, and the number of buckets that they left.
-pub(crate) fn tell<W: Write>(alloc: Global, ran: &SerialRan<PagedBucket>, writer: &mut W) -> Status
-    ensures { Ends result (Ok (commands_text ran.now.replies.items ran.now.world.state.buckets))
+pub(crate) fn tell<W: Write>(
+    alloc: Global,
+    notation: Notation,
+    ran: &SerialRan<PagedBucket>,
+    writer: &mut W,
+) -> Status
+    ensures { Ends result (Ok (commands_text notation ran.now.replies.items ran.now.world.state.buckets))
         (W.contents writer.old) (W.contents writer.new) }
 {
     let buckets = ran.world.root().buckets();
     let Ok(mut waiting) = room(alloc) else {
         return Status::Memory;
     };
-    match write_replies(writer, &mut waiting, ran.replies.as_slice(), buckets) {
+    match write_replies(
+        writer,
+        &mut waiting,
+        notation,
+        ran.replies.as_slice(),
+        buckets,
+    ) {
         Ok(()) => Status::Done,
         Err(_) => Status::Device(DeviceFault::Write),
     }
@@ -34,19 +46,20 @@ pub(crate) fn tell<W: Write>(alloc: Global, ran: &SerialRan<PagedBucket>, writer
 #[tactic(auto, using(crate::proofs::Ending::unread), unfolding(crate::specs::Run::commands_due))]
 pub fn answer_commands<R: Read, W: Write>(
     alloc: Global,
+    notation: Notation,
     config: Config,
     reader: &mut R,
     writer: &mut W,
 ) -> Status
     ensures { IfSome (R.remaining reader.old) (λ input.
-        Ends result (commands_due config input) (W.contents writer.old) (W.contents writer.new)) }
+        Ends result (commands_due notation config input) (W.contents writer.old) (W.contents writer.new)) }
 {
-    let calls: Vec<Call> = match read_script(alloc, reader) {
+    let calls: Vec<Call> = match read_script(alloc, notation, reader) {
         Ok(calls) => calls,
         Err(status) => return status,
     };
     match serial::<PagedBucket>(alloc, config, calls.as_slice()) {
-        Ok(ran) => tell(alloc, &ran, writer),
+        Ok(ran) => tell(alloc, notation, &ran, writer),
         Err(_) => Status::Memory,
     }
 }
@@ -56,21 +69,22 @@ pub fn answer_commands<R: Read, W: Write>(
 #[tactic(auto, using(crate::proofs::Ending::no_steps))]
 pub fn answer_steps<R: Read, W: Write>(
     alloc: Global,
+    notation: Notation,
     config: Config,
     reader: &mut R,
     writer: &mut W,
 ) -> Status
     ensures { IfSome (R.remaining reader.old) (λ input.
-        EndsSteps config input result (W.contents writer.old) (W.contents writer.new)) }
+        EndsSteps notation config input result (W.contents writer.old) (W.contents writer.new)) }
 {
-    let taken = match take_steps(alloc, config, reader) {
+    let taken = match take_steps(alloc, notation, config, reader) {
         Ok(taken) => taken,
         Err(status) => return status,
     };
     let Ok(mut waiting) = room(alloc) else {
         return Status::Memory;
     };
-    match write_entries(writer, &mut waiting, taken.entries.as_slice()) {
+    match write_entries(writer, &mut waiting, notation, taken.entries.as_slice()) {
         Ok(()) => Status::Done,
         Err(WriteFailed) => Status::Device(DeviceFault::Write),
     }

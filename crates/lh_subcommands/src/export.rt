@@ -1,9 +1,10 @@
 //! The subcommand `dump` in the formats of other stores.
-ghost use Rattle.std.specs.Prelude.{◌≡◌, ◌<◌, ℕ, List, Option, [], flat_map, IfOk, IfSome, OnErr, OnOk};
+ghost use Rattle.std.specs.Prelude.{◌≡◌, ◌+◌, ◌<◌, ◌≤◌, ℕ, List, Option, [], flat_map, IfOk, IfSome, OnErr, OnOk};
+ghost use Rattle.std.specs.Prelude.{vec_capacity};
 ghost use Rattle.std.specs.Io.KnownBytes.{Appends};
 ghost use Rattle.lh_bucket.specs.Listing.{list_at, size};
-ghost use Rattle.lh_exchange.specs.StreamTexts.{pair_text};
-ghost use Rattle.lh_subcommands.specs.Devices.{Adds, Breaks, Sends, TakesBeginning};
+ghost use Rattle.lh_exchange.specs.StreamTexts.{longest_exchanged, pair_text};
+ghost use Rattle.lh_subcommands.specs.Devices.{Adds, Breaks, Sends, TakesBeginning, written_at_once};
 ghost use Rattle.lh_subcommands.specs.Exporting.{export_due, exported_text};
 ghost use Rattle.lh_subcommands.specs.Run.{Ends};
 
@@ -19,7 +20,8 @@ use std::io::{Read, Write};
 
 /// Room for the bytes that wait, so that no record needs memory later.
 fn room(alloc: Global) -> Result<Vec<u8>, AllocError>
-    ensures { IfOk result (λ waiting. waiting.items ≡ []) }
+    ensures empty { IfOk result (λ waiting. waiting.items ≡ []) }
+    ensures reserved { IfOk result (λ waiting. written_at_once + longest_exchanged ≤ vec_capacity waiting) }
 {
     Vec::with_capacity(alloc, CHUNK + LONGEST_RECORD)
 }
@@ -48,7 +50,8 @@ fn put_bytes<W: Write>(
     waiting: &mut Vec<u8>,
     bytes: &[u8],
 ) -> Result<(), WriteFailed>
-    ensures ok { Adds result (W.contents writer.old) (W.contents writer.new) waiting.old.items waiting.new.items bytes.now }
+    ensures ok { Adds result (W.contents writer.old) (W.contents writer.new) waiting.old.items waiting.new.items
+        bytes.now }
     ensures err { Breaks result (W.contents writer.old) (W.contents writer.new) waiting.old.items bytes.now }
 {
     if waiting.extend_from_slice(bytes).is_err() {

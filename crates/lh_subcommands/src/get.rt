@@ -17,7 +17,7 @@ use crate::status::{DeviceFault, Status};
 use lh_bucket::Reply;
 use lh_image::{Image, ImageFault, WriteFailed};
 use lh_page::Key;
-use lh_script::{LineFault, ReplyText, read_key};
+use lh_script::{LineFault, Notation, ReplyText, read_key};
 use std::alloc::Global;
 use std::fmt;
 use std::io::{Read, Write};
@@ -51,12 +51,12 @@ fn refused(alloc: Global, no: NoKey) -> Status
 }
 
 /// The keys that words stand for, or how the run ends at the first that stands for none.
-fn read_keys(alloc: Global, words: &[String]) -> Result<Vec<Key>, Status>
-    ensures { IsKeysOf result (keys_of (map string_bytes words.now)) }
+fn read_keys(alloc: Global, notation: Notation, words: &[String]) -> Result<Vec<Key>, Status>
+    ensures { IsKeysOf result (keys_of notation (map string_bytes words.now)) }
 {
     let mut keys = Vec::new(alloc);
     for word in words {
-        match read_key(word.as_bytes()) {
+        match read_key(notation, word.as_bytes()) {
             Ok(key) => {
                 let Ok(()) = keys.push(key) else {
                     return Err(Status::Memory);
@@ -115,16 +115,17 @@ fn find_all(alloc: Global, bytes: &[u8], keys: &[Key]) -> Result<Vec<Reply>, Ima
 fn write_found<W: Write>(
     writer: &mut W,
     waiting: &mut String,
+    notation: Notation,
     replies: &[Reply],
 ) -> Result<(), WriteFailed>
     requires empty { string_bytes waiting.old ≡ [] }
     requires room { IsReserved waiting.old }
-    ensures ok { OnOk result (Appends (W.contents writer.old) (W.contents writer.new) (found_text replies.now)) }
+    ensures ok { OnOk result (Appends (W.contents writer.old) (W.contents writer.new) (found_text notation replies.now)) }
     ensures err { OnErr result (TakesBeginning (W.contents writer.old) (W.contents writer.new)
-        (found_text replies.now)) }
+        (found_text notation replies.now)) }
 {
     for reply in replies {
-        put_line(writer, waiting, ReplyText(reply))?;
+        put_line(writer, waiting, ReplyText { notation, reply })?;
     }
     write_all(writer, waiting.as_bytes())
 }
@@ -158,13 +159,18 @@ fn told(replies: &[Reply]) -> Status
 }
 
 /// Writes the replies, and says whether each key was there.
-fn tell_found<W: Write>(alloc: Global, replies: &[Reply], writer: &mut W) -> Status
-    ensures { EndsFound result (Ok replies.now) (W.contents writer.old) (W.contents writer.new) }
+fn tell_found<W: Write>(
+    alloc: Global,
+    notation: Notation,
+    replies: &[Reply],
+    writer: &mut W,
+) -> Status
+    ensures { EndsFound notation result (Ok replies.now) (W.contents writer.old) (W.contents writer.new) }
 {
     let Ok(mut waiting) = room(alloc) else {
         return Status::Memory;
     };
-    match write_found(writer, &mut waiting, replies) {
+    match write_found(writer, &mut waiting, notation, replies) {
         Ok(()) => told(replies),
         Err(WriteFailed) => Status::Device(DeviceFault::Write),
     }
@@ -173,12 +179,13 @@ fn tell_found<W: Write>(alloc: Global, replies: &[Reply], writer: &mut W) -> Sta
 /// Reads an image whole, looks keys up in it in turn, and writes a line for each.
 fn get_keys<R: Read, W: Write>(
     alloc: Global,
+    notation: Notation,
     keys: &[Key],
     reader: &mut R,
     writer: &mut W,
 ) -> Status
     ensures { IfSome (R.remaining reader.old) (λ input.
-        EndsFound result (found_of input keys.now) (W.contents writer.old) (W.contents writer.new)) }
+        EndsFound notation result (found_of input keys.now) (W.contents writer.old) (W.contents writer.new)) }
 {
     let bytes = match read_whole(alloc, reader) {
         Ok(bytes) => bytes,
@@ -186,7 +193,7 @@ fn get_keys<R: Read, W: Write>(
         Err(ReadError::Failed) => return Status::Device(DeviceFault::Read),
     };
     match find_all(alloc, bytes.as_slice(), keys) {
-        Ok(replies) => tell_found(alloc, replies.as_slice(), writer),
+        Ok(replies) => tell_found(alloc, notation, replies.as_slice(), writer),
         Err(fault) => unreadable(fault),
     }
 }
@@ -195,15 +202,16 @@ fn get_keys<R: Read, W: Write>(
 /// no key leads to. Where a word is no key, nothing is read.
 pub fn answer_get<R: Read, W: Write>(
     alloc: Global,
+    notation: Notation,
     words: &[String],
     reader: &mut R,
     writer: &mut W,
 ) -> Status
-    ensures { EndsGetting (map string_bytes words.now) result (R.remaining reader.old) (R.remaining reader.new)
+    ensures { EndsGetting notation (map string_bytes words.now) result (R.remaining reader.old) (R.remaining reader.new)
         (W.contents writer.old) (W.contents writer.new) }
 {
-    match read_keys(alloc, words) {
-        Ok(keys) => get_keys(alloc, keys.as_slice(), reader, writer),
+    match read_keys(alloc, notation, words) {
+        Ok(keys) => get_keys(alloc, notation, keys.as_slice(), reader, writer),
         Err(status) => status,
     }
 }

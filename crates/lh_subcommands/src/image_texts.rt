@@ -3,7 +3,8 @@ ghost use Rattle.std.specs.Prelude.{Some};
 ghost use Rattle.lh_subcommands.specs.ImageTexts.{check_text, record_text};
 
 use lh_image::Census;
-use lh_page::{KeyText, Pair, ValueText};
+use lh_page::Pair;
+use lh_script::{KeyWord, Notation, ValueWord};
 use std::fmt;
 
 /// A census as seven lines, each a name and a number.
@@ -31,20 +32,27 @@ impl fmt::Display for CensusText<'_> {
     }
 }
 
-/// A record of a bucket as one line of a text, without the line's end: the bucket's number, then key
-/// and value in hexadecimal.
+/// A record of a bucket as one line of a text, without the line's end: the bucket's number, then key and value.
 #[derive(Clone, Copy)]
 pub struct RecordText<'a> {
+    pub notation: Notation,
     pub bucket: u32,
     pub pair: &'a Pair,
 }
 
 impl fmt::Display for RecordText<'_> {
-    ghost output = { λ text. Some (record_text text.bucket text.pair.now) };
+    ghost output = { λ text. Some (record_text text.notation text.bucket text.pair.now) };
 
     fn fmt<W: fmt::Write>(&self, f: &mut fmt::Formatter<W>) -> fmt::Result {
-        let key = KeyText(&self.pair.key);
-        let value = ValueText(&self.pair.value);
+        let RecordText { notation, pair, .. } = *self;
+        let key = KeyWord {
+            notation,
+            key: &pair.key,
+        };
+        let value = ValueWord {
+            notation,
+            value: &pair.value,
+        };
         write!(f, "{} {key} {value}", self.bucket)
     }
 }

@@ -17,6 +17,7 @@ use lh_bucket::{Call, Listing, PagedBucket};
 use lh_core::{Memory, serial};
 use lh_image::laws::census_counts_pages;
 use lh_image::{Version, WriteImageFault, check_image, read_image, write_image, write_image_v1};
+use lh_script::Notation;
 use std::alloc::Global;
 use std::io::{Read, Write};
 
@@ -62,15 +63,16 @@ pub(crate) fn unwritten(fault: WriteImageFault) -> Status
 #[tactic(auto, using(crate::proofs::Building::unbuilt, crate::proofs::Building::unbuilt_memory))]
 pub fn answer_build<R: Read, W: Write>(
     alloc: Global,
+    notation: Notation,
     config: Config,
     version: Version,
     reader: &mut R,
     writer: &mut W,
 ) -> Status
     ensures { IfSome (R.remaining reader.old) (λ input.
-        EndsBuilding version config input result (W.contents writer.old) (W.contents writer.new)) }
+        EndsBuilding notation version config input result (W.contents writer.old) (W.contents writer.new)) }
 {
-    let calls: Vec<Call> = match read_script(alloc, reader) {
+    let calls: Vec<Call> = match read_script(alloc, notation, reader) {
         Ok(calls) => calls,
         Err(status) => return status,
     };
@@ -120,9 +122,14 @@ pub fn answer_check<R: Read, W: Write>(alloc: Global, reader: &mut R, writer: &m
 }
 
 /// Reads an image, and writes a line for each of its records.
-pub fn answer_dump<R: Read, W: Write>(alloc: Global, reader: &mut R, writer: &mut W) -> Status
+pub fn answer_dump<R: Read, W: Write>(
+    alloc: Global,
+    notation: Notation,
+    reader: &mut R,
+    writer: &mut W,
+) -> Status
     ensures { IfSome (R.remaining reader.old) (λ input.
-        Ends result (dump_due input) (W.contents writer.old) (W.contents writer.new)) }
+        Ends result (dump_due notation input) (W.contents writer.old) (W.contents writer.new)) }
 {
     let listing = match read_image(alloc, reader) {
         Ok(listing) => listing,
@@ -131,7 +138,7 @@ pub fn answer_dump<R: Read, W: Write>(alloc: Global, reader: &mut R, writer: &mu
     let Ok(mut waiting) = room(alloc) else {
         return Status::Memory;
     };
-    match write_records(writer, &mut waiting, &listing) {
+    match write_records(writer, &mut waiting, notation, &listing) {
         Ok(()) => Status::Done,
         Err(_) => Status::Device(DeviceFault::Write),
     }

@@ -14,21 +14,25 @@ use lh_addr::Config;
 use lh_bucket::PagedBucket;
 use lh_core::{Effect, Event, Refusal, run};
 use lh_image::ImageFault;
-use lh_script::{MOST_BYTES, ParseError, Statement, parse};
+use lh_script::{MOST_BYTES, Notation, ParseError, Statement, parse};
 use std::alloc::Global;
 use std::io::Read;
 
 /// Reads and parses a script whole, or says how the run ends.
 #[tactic(auto, using(crate::proofs::Ending::same_script))]
-pub fn read_script<S: Statement, R: Read>(alloc: Global, reader: &mut R) -> Result<Vec<S>, Status>
-    ensures { IfSome (R.remaining reader.old) (λ input. ReadsScript result (script S.reads input)) }
+pub fn read_script<S: Statement, R: Read>(
+    alloc: Global,
+    notation: Notation,
+    reader: &mut R,
+) -> Result<Vec<S>, Status>
+    ensures { IfSome (R.remaining reader.old) (λ input. ReadsScript result (script (S.reads notation) input)) }
 {
     let bytes = match read_up_to(alloc, reader, MOST_BYTES) {
         Ok(bytes) => bytes,
         Err(ReadError::Memory) => return Err(Status::Memory),
         Err(ReadError::Failed) => return Err(Status::Device(DeviceFault::Read)),
     };
-    match parse(alloc, bytes.as_slice()) {
+    match parse(alloc, notation, bytes.as_slice()) {
         Ok(statements) => Ok(statements),
         Err(ParseError::Memory) => Err(Status::Memory),
         Err(ParseError::Fault(fault)) => Err(Status::Input(InputFault::Script(fault))),
@@ -61,14 +65,19 @@ pub struct Taken {
 
 /// Reads a step script whole, and takes its steps in turn from an empty file; or says how the run ends, with status 4
 /// where memory ran out at one of them.
-pub fn take_steps<R: Read>(alloc: Global, config: Config, reader: &mut R) -> Result<Taken, Status>
+pub fn take_steps<R: Read>(
+    alloc: Global,
+    notation: Notation,
+    config: Config,
+    reader: &mut R,
+) -> Result<Taken, Status>
     ensures read { IfOk result (λ taken. IfSome (R.remaining reader.old) (λ input.
-        script step input ≡ Ok taken.events.items)) }
+        script (step notation) input ≡ Ok taken.events.items)) }
     ensures told { IfOk result (λ taken. HaveEntries config taken.events.items taken.entries.items) }
     ensures err { IfErr result (λ status. IfSome (R.remaining reader.old) (λ input.
-        ReadsScript {A = EventOf} (Err status) (script step input))) }
+        ReadsScript {A = EventOf} (Err status) (script (step notation) input))) }
 {
-    let events: Vec<Event> = match read_script(alloc, reader) {
+    let events: Vec<Event> = match read_script(alloc, notation, reader) {
         Ok(events) => events,
         Err(status) => return Err(status),
     };

@@ -37,6 +37,7 @@ pub use images::{answer_build, answer_check, answer_dump, answer_migrate};
 pub use input::read_script;
 pub use lh_exchange::StreamFormat;
 pub use lh_image::WriteFailed;
+pub use lh_script::Notation;
 pub use load::{RecordsFault, answer_load};
 pub use replay::answer_replay;
 pub use serve::{answer_serve, answer_serve_from, answer_serve_of};

@@ -15,7 +15,7 @@ use lh_bucket::{Listing, Reply};
 use lh_core::{Effect, Refusal};
 use lh_image::WriteFailed;
 use lh_page::limits::{LONGEST_KEY, LONGEST_VALUE};
-use lh_script::{EntryText, ReplyText, SizeText};
+use lh_script::{EntryText, Notation, ReplyText, SizeText};
 use std::alloc::{AllocError, Global};
 use std::fmt::Display;
 use std::io::Write;
@@ -23,10 +23,10 @@ use std::io::Write;
 /// How many bytes are written at once.
 pub(crate) const CHUNK: usize = 65_536;
 
-/// No line is longer ([a law](crate::laws::lines_have_room)): key and value take two digits a byte, and all else takes
-/// less than 256 bytes. A step of a picture has none of them, and takes less than 550. What stands above a picture's
+/// No line is longer ([a law](crate::laws::lines_have_room)): key and value take three bytes for each of
+/// theirs, and all else takes less than 256. A step of a picture has none of them, and takes less than 550. What stands above a picture's
 /// steps is longer, and comes first, when nothing waits.
-const LONGEST_LINE: usize = 256 + 2 * (LONGEST_KEY + LONGEST_VALUE);
+const LONGEST_LINE: usize = 256 + 3 * (LONGEST_KEY + LONGEST_VALUE);
 
 /// Room for the lines that wait, so that none of them needs memory later.
 pub fn room(alloc: Global) -> Result<String, AllocError>
@@ -104,18 +104,19 @@ pub fn put<W: Write, D: Display + Drop>(
 pub fn write_replies<W: Write>(
     writer: &mut W,
     waiting: &mut String,
+    notation: Notation,
     replies: &[Reply],
     buckets: u32,
 ) -> Result<(), WriteFailed>
     requires empty { string_bytes waiting.old ≡ [] }
     requires room { IsReserved waiting.old }
     ensures ok { OnOk result (Appends (W.contents writer.old) (W.contents writer.new)
-        (commands_text replies.now buckets)) }
+        (commands_text notation replies.now buckets)) }
     ensures err { OnErr result (TakesBeginning (W.contents writer.old) (W.contents writer.new)
-        (commands_text replies.now buckets)) }
+        (commands_text notation replies.now buckets)) }
 {
     for reply in replies {
-        put_line(writer, waiting, ReplyText(reply))?;
+        put_line(writer, waiting, ReplyText { notation, reply })?;
     }
     put_line(writer, waiting, SizeText(buckets))?;
     write_all(writer, waiting.as_bytes())
@@ -125,17 +126,18 @@ pub fn write_replies<W: Write>(
 pub fn write_entries<W: Write>(
     writer: &mut W,
     waiting: &mut String,
+    notation: Notation,
     entries: &[Result<Effect, Refusal>],
 ) -> Result<(), WriteFailed>
     requires empty { string_bytes waiting.old ≡ [] }
     requires room { IsReserved waiting.old }
     ensures ok { OnOk result (Appends (W.contents writer.old) (W.contents writer.new)
-        (steps_text entries.now)) }
+        (steps_text notation entries.now)) }
     ensures err { OnErr result (TakesBeginning (W.contents writer.old) (W.contents writer.new)
-        (steps_text entries.now)) }
+        (steps_text notation entries.now)) }
 {
     for entry in entries {
-        put_line(writer, waiting, EntryText(entry))?;
+        put_line(writer, waiting, EntryText { notation, entry })?;
     }
     write_all(writer, waiting.as_bytes())
 }
@@ -144,14 +146,15 @@ pub fn write_entries<W: Write>(
 fn write_bucket<W: Write>(
     writer: &mut W,
     waiting: &mut String,
+    notation: Notation,
     listing: &Listing,
     bucket: u32,
 ) -> Result<(), WriteFailed>
     requires { bucket < size listing.now }
     ensures ok { Adds result (W.contents writer.old) (W.contents writer.new)
-        (string_bytes waiting.old) (string_bytes waiting.new) (bucket_text bucket (list_at listing.now.lists bucket)) }
+        (string_bytes waiting.old) (string_bytes waiting.new) (bucket_text notation bucket (list_at listing.now.lists bucket)) }
     ensures err { Breaks result (W.contents writer.old) (W.contents writer.new)
-        (string_bytes waiting.old) (bucket_text bucket (list_at listing.now.lists bucket)) }
+        (string_bytes waiting.old) (bucket_text notation bucket (list_at listing.now.lists bucket)) }
 {
     for place in 0..listing.len_of(bucket) {
         let pair = listing.pair_at(bucket, place);
@@ -159,6 +162,7 @@ fn write_bucket<W: Write>(
             writer,
             waiting,
             RecordText {
+                notation,
                 bucket,
                 pair: &pair,
             },
@@ -171,17 +175,18 @@ fn write_bucket<W: Write>(
 pub fn write_records<W: Write>(
     writer: &mut W,
     waiting: &mut String,
+    notation: Notation,
     listing: &Listing,
 ) -> Result<(), WriteFailed>
     requires empty { string_bytes waiting.old ≡ [] }
     requires room { IsReserved waiting.old }
     ensures ok { OnOk result (Appends (W.contents writer.old) (W.contents writer.new)
-        (dump_text listing.now)) }
+        (dump_text notation listing.now)) }
     ensures err { OnErr result (TakesBeginning (W.contents writer.old) (W.contents writer.new)
-        (dump_text listing.now)) }
+        (dump_text notation listing.now)) }
 {
     for bucket in 0..listing.buckets() {
-        write_bucket(writer, waiting, listing, bucket)?;
+        write_bucket(writer, waiting, notation, listing, bucket)?;
     }
     write_all(writer, waiting.as_bytes())
 }

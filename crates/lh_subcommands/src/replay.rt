@@ -16,6 +16,7 @@ use lh_addr::Config;
 use lh_core::{Effect, Event, Refusal};
 use lh_image::WriteFailed;
 use lh_replay::{End, canvas_of, caption_of, heading_of, lane_count, step_of};
+use lh_script::Notation;
 use std::alloc::Global;
 use std::io::{Read, Write};
 
@@ -92,7 +93,7 @@ pub fn answer_replay<R: Read, W: Write>(
     ensures { IfSome (R.remaining reader.old) (λ input.
         EndsReplay config input result (W.contents writer.old) (W.contents writer.new)) }
 {
-    let taken = match take_steps(alloc, config, reader) {
+    let taken = match take_steps(alloc, Notation::Hexadecimal, config, reader) {
         Ok(taken) => taken,
         Err(status) => return status,
     };

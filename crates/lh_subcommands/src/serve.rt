@@ -5,8 +5,8 @@ ghost use Rattle.std.specs.Io.{ReadsAtMost};
 ghost use Rattle.std.specs.Io.KnownBytes.{Appends, Consumes, IsAtEnd, Keeps, ReadConsumes};
 ghost use Rattle.lh_bucket.specs.Listing.{Lists};
 ghost use Rattle.lh_image.specs.Reading.{following, leading, reading_of};
-ghost use Rattle.lh_serving.specs.Answers.{FileSeen, file_of, first_file};
-ghost use Rattle.lh_serving.specs.Conversations.{IsAt, HasToldAll, pending};
+ghost use Rattle.lh_serving.specs.Answers.{file_of, first_file};
+ghost use Rattle.lh_serving.specs.Conversations.{Beginning, IsAt, HasToldAll, beginning, pending};
 ghost use Rattle.lh_subcommands.specs.Devices.{TakesBeginning};
 ghost use Rattle.lh_subcommands.specs.Serve.{EndsAtFault, EndsServing, EndsServingFrom, EndsServingOf, IsCutShort};
 ghost use Rattle.lh_subcommands.specs.Serve.{IsTelling, IsUnopened};
@@ -16,6 +16,7 @@ use crate::input::unreadable;
 use crate::status::{DeviceFault, Status};
 use lh_addr::Config;
 use lh_image::{WriteFailed, read_image, read_leading_image, write_image};
+use lh_script::Notation;
 use lh_serving::Conversation;
 use std::alloc::{AllocError, Global};
 use std::io::{Read, Write};
@@ -71,10 +72,10 @@ fn write_pending<W: Write>(writer: &mut W, talk: &Conversation) -> Result<(), Wr
 /// Tells what waits, if anything does.
 fn tell<W: Write>(writer: &mut W, talk: &mut Conversation) -> Result<(), WriteFailed>
     ensures told { OnOk result (HasToldAll talk.new) }
-    ensures ok { (start : FileSeen) (before : Option (List ℕ)) (heard : List ℕ) →
+    ensures ok { (start : Beginning) (before : Option (List ℕ)) (heard : List ℕ) →
         IsTelling start talk.old before (W.contents writer.old) heard →
         OnOk result (IsTelling start talk.new before (W.contents writer.new) heard) }
-    ensures err { (start : FileSeen) (before : Option (List ℕ)) (heard : List ℕ) →
+    ensures err { (start : Beginning) (before : Option (List ℕ)) (heard : List ℕ) →
         IsTelling start talk.old before (W.contents writer.old) heard →
         OnErr result (IsCutShort start before (W.contents writer.new) heard) }
 {
@@ -89,10 +90,10 @@ fn tell<W: Write>(writer: &mut W, talk: &mut Conversation) -> Result<(), WriteFa
 /// Tells what waits, where it is enough; an image always is.
 fn tell_enough<W: Write>(writer: &mut W, talk: &mut Conversation) -> Result<(), WriteFailed>
     ensures image { OnOk result (talk.new.image ≡ None) }
-    ensures ok { (start : FileSeen) (before : Option (List ℕ)) (heard : List ℕ) →
+    ensures ok { (start : Beginning) (before : Option (List ℕ)) (heard : List ℕ) →
         IsTelling start talk.old before (W.contents writer.old) heard →
         OnOk result (IsTelling start talk.new before (W.contents writer.new) heard) }
-    ensures err { (start : FileSeen) (before : Option (List ℕ)) (heard : List ℕ) →
+    ensures err { (start : Beginning) (before : Option (List ℕ)) (heard : List ℕ) →
         IsTelling start talk.old before (W.contents writer.old) heard →
         OnErr result (IsCutShort start before (W.contents writer.new) heard) }
 {
@@ -113,11 +114,11 @@ fn answer_first<'a, W: Write>(
     requires image { talk.old.image ≡ None }
     ensures shorter { IfOk result (λ behind. length behind.now < length bytes.now) }
     ensures image { OnOk result (talk.new.image ≡ None) }
-    ensures ok { (start : FileSeen) (before : Option (List ℕ)) (heard : List ℕ) →
+    ensures ok { (start : Beginning) (before : Option (List ℕ)) (heard : List ℕ) →
         IsTelling start talk.old before (W.contents writer.old) heard →
         IfOk result (λ behind. (taken : List ℕ) × (bytes.now ≡ taken ++ behind.now)
         × IsTelling start talk.new before (W.contents writer.new) (heard ++ taken)) }
-    ensures err { (start : FileSeen) (before : Option (List ℕ)) (heard : List ℕ) →
+    ensures err { (start : Beginning) (before : Option (List ℕ)) (heard : List ℕ) →
         IsTelling start talk.old before (W.contents writer.old) heard →
         OnErr result (IsCutShort start before (W.contents writer.new) (heard ++ bytes.now)) }
 {
@@ -136,10 +137,10 @@ fn answer_all<W: Write>(
 ) -> Result<(), WriteFailed>
     requires { talk.old.image ≡ None }
     ensures told { OnOk result (HasToldAll talk.new) }
-    ensures ok { (start : FileSeen) (before : Option (List ℕ)) (heard : List ℕ) →
+    ensures ok { (start : Beginning) (before : Option (List ℕ)) (heard : List ℕ) →
         IsTelling start talk.old before (W.contents writer.old) heard →
         OnOk result (IsTelling start talk.new before (W.contents writer.new) (heard ++ bytes.now)) }
-    ensures err { (start : FileSeen) (before : Option (List ℕ)) (heard : List ℕ) →
+    ensures err { (start : Beginning) (before : Option (List ℕ)) (heard : List ℕ) →
         IsTelling start talk.old before (W.contents writer.old) heard →
         OnErr result (IsCutShort start before (W.contents writer.new) (heard ++ bytes.now)) }
 {
@@ -160,12 +161,12 @@ fn take_turn<R: Read, W: Write>(
     requires told { HasToldAll talk.old }
     requires room { 0 < length chunk.old }
     ensures told { OnOk result (HasToldAll talk.new) }
-    ensures ok { (start : FileSeen) (before : Option (List ℕ)) (heard : List ℕ) →
+    ensures ok { (start : Beginning) (before : Option (List ℕ)) (heard : List ℕ) →
         IsTelling start talk.old before (W.contents writer.old) heard →
         IfOk result (λ more. (bytes : List ℕ) × Consumes (R.remaining reader.old) (R.remaining reader.new) bytes
         × IsTelling start talk.new before (W.contents writer.new) (heard ++ bytes)
         × (more ≡ false → IsAtEnd (R.remaining reader.new))) }
-    ensures err { (start : FileSeen) (before : Option (List ℕ)) (heard : List ℕ) →
+    ensures err { (start : Beginning) (before : Option (List ℕ)) (heard : List ℕ) →
         IsTelling start talk.old before (W.contents writer.old) heard →
         IfErr result (λ fault. (bytes : List ℕ) × Consumes (R.remaining reader.old) (R.remaining reader.new) bytes
         × EndsAtFault start fault before (W.contents writer.new) heard bytes) }
@@ -191,7 +192,7 @@ fn converse<R: Read, W: Write>(
     writer: &mut W,
 ) -> Status
     requires { HasToldAll talk }
-    ensures { (start : FileSeen) → IsAt start talk [] [] → IfSome (R.remaining reader.old) (λ input.
+    ensures { (start : Beginning) → IsAt start talk [] [] → IfSome (R.remaining reader.old) (λ input.
         EndsServing start input result (R.remaining reader.new) (W.contents writer.old) (W.contents writer.new)) }
 {
     let Ok(mut chunk) = room_to_listen(alloc) else {
@@ -212,24 +213,31 @@ fn converse<R: Read, W: Write>(
 /// Answers each line of the input, from an empty file of this configuration.
 pub fn answer_serve<R: Read, W: Write>(
     alloc: Global,
+    notation: Notation,
+    is_terminal: bool,
     config: Config,
     reader: &mut R,
     writer: &mut W,
 ) -> Status
-    ensures { IfSome (R.remaining reader.old) (λ input. EndsServing (first_file config) input result
+    ensures { IfSome (R.remaining reader.old) (λ input. EndsServing (beginning notation is_terminal (first_file config)) input result
         (R.remaining reader.new) (W.contents writer.old) (W.contents writer.new)) }
 {
-    match Conversation::new(alloc, config) {
+    match Conversation::new(alloc, notation, is_terminal, config) {
         Ok(talk) => converse(alloc, talk, reader, writer),
         Err(_) => Status::Memory,
     }
 }
 
 /// A conversation over the file of the image that the input begins with, or how the run ends.
-fn opened<R: Read>(alloc: Global, reader: &mut R) -> Result<Conversation, Status>
+fn opened<R: Read>(
+    alloc: Global,
+    notation: Notation,
+    is_terminal: bool,
+    reader: &mut R,
+) -> Result<Conversation, Status>
     ensures quiet { IfOk result HasToldAll }
     ensures ok { IfSome (R.remaining reader.old) (λ input. IfOk result (λ talk.
-        (l : Lists) × (reading_of (leading input) ≡ Ok l) × IsAt (file_of l) talk [] [])) }
+        (l : Lists) × (reading_of (leading input) ≡ Ok l) × IsAt (beginning notation is_terminal (file_of l)) talk [] [])) }
     ensures rest { IfSome (R.remaining reader.old) (λ input.
         OnOk result (R.remaining reader.new ≡ Some (following input))) }
     ensures err { IfSome (R.remaining reader.old) (λ input.
@@ -239,46 +247,59 @@ fn opened<R: Read>(alloc: Global, reader: &mut R) -> Result<Conversation, Status
         Ok(listing) => listing,
         Err(fault) => return Err(unreadable(fault)),
     };
-    match Conversation::open_from(alloc, &listing) {
+    match Conversation::open_from(alloc, notation, is_terminal, &listing) {
         Ok(talk) => Ok(talk),
         Err(_) => Err(Status::Memory),
     }
 }
 
 /// Answers each line behind the image that the input begins with, from the image's file.
-pub fn answer_serve_from<R: Read, W: Write>(alloc: Global, reader: &mut R, writer: &mut W) -> Status
-    ensures { IfSome (R.remaining reader.old) (λ input. EndsServingFrom input result
+pub fn answer_serve_from<R: Read, W: Write>(
+    alloc: Global,
+    notation: Notation,
+    is_terminal: bool,
+    reader: &mut R,
+    writer: &mut W,
+) -> Status
+    ensures { IfSome (R.remaining reader.old) (λ input. EndsServingFrom notation is_terminal input result
         (R.remaining reader.new) (W.contents writer.old) (W.contents writer.new)) }
 {
-    match opened(alloc, reader) {
+    match opened(alloc, notation, is_terminal, reader) {
         Ok(talk) => converse(alloc, talk, reader, writer),
         Err(status) => status,
     }
 }
 
 /// A conversation over the file of an image that is an input of its own, or how the run ends.
-fn opened_apart<Q: Read>(alloc: Global, image: &mut Q) -> Result<Conversation, Status>
+fn opened_apart<Q: Read>(
+    alloc: Global,
+    notation: Notation,
+    is_terminal: bool,
+    image: &mut Q,
+) -> Result<Conversation, Status>
     ensures quiet { IfOk result HasToldAll }
     ensures ok { IfSome (Q.remaining image.old) (λ held. IfOk result (λ talk.
-        (l : Lists) × (reading_of held ≡ Ok l) × IsAt (file_of l) talk [] [])) }
+        (l : Lists) × (reading_of held ≡ Ok l) × IsAt (beginning notation is_terminal (file_of l)) talk [] [])) }
     ensures err { IfSome (Q.remaining image.old) (λ held.
         IfErr result (λ status. IsUnopened status (reading_of held))) }
 {
     let listing = read_image(alloc, image).map_err(unreadable)?;
-    Conversation::open_from(alloc, &listing).map_err(|_| Status::Memory)
+    Conversation::open_from(alloc, notation, is_terminal, &listing).map_err(|_| Status::Memory)
 }
 
 /// Answers each line of the input from the file of an image that is an input of its own.
 pub fn answer_serve_of<Q: Read, R: Read, W: Write>(
     alloc: Global,
+    notation: Notation,
+    is_terminal: bool,
     image: &mut Q,
     reader: &mut R,
     writer: &mut W,
 ) -> Status
     ensures { IfSome (Q.remaining image.old) (λ held. IfSome (R.remaining reader.old) (λ lines.
-        EndsServingOf held lines result (R.remaining reader.new) (W.contents writer.old) (W.contents writer.new))) }
+        EndsServingOf notation is_terminal held lines result (R.remaining reader.new) (W.contents writer.old) (W.contents writer.new))) }
 {
-    let talk = match opened_apart(alloc, image) {
+    let talk = match opened_apart(alloc, notation, is_terminal, image) {
         Ok(talk) => talk,
         Err(status) => return status,
     };

@@ -21,6 +21,7 @@ use Rattle.lh_words.specs.History.Log.{lines_of}
 use Rattle.lh_file.specs.Snapshots.Settled.{BeforeLaw, IsSettledFirst, SnapshotLaw}
 use Rattle.lh_file.specs.Words.HandState.{HandState}
 use Rattle.lh_script.specs.Commands.{command}
+use Rattle.lh_script.specs.declared.notation.Notation.{Notation}
 use Rattle.lh_subcommands.specs.Devices.{TakesBeginning}
 use Rattle.lhash.specs.Driving.{IsSettledWith, EndsThreaded, IsDrivenWith, IsDriveFault, IsDriveFaultWith, IsFaultOfOne}
 use Rattle.lhash.specs.Driving.{IsSettledBefore, empty_file, ended_by}
@@ -37,13 +38,14 @@ use Rattle.lh_subcommands.specs.declared.status.Status.TheVariants.{Done, Input,
 use Rattle.lh_subcommands.specs.declared.status.Status.TheVariants.{Memory as NoMemory}
 
 -- the script was read
-abbrev pub IsScriptOf : Option (List ℕ) → List CallOf → Type 0
-IsScriptOf left calls = IfSome left (λ input. script command input ≡ Ok calls)
+abbrev pub IsScriptOf : Notation → Option (List ℕ) → List CallOf → Type 0
+IsScriptOf n left calls = IfSome left (λ input. script (command n) input ≡ Ok calls)
 
 -- a run in threads, whatever its totals and its faults are
-module _ (Totals : List CallOf → List ℕ → Type 0) (Fault : DriveFault → Type 0) where
+module _ (n : Notation) (Totals : List CallOf → List ℕ → Type 0) (Fault : DriveFault → Type 0) where
   unread : (status : Status) (input : List ℕ) (a : Option (List ℕ)) →
-      ReadsScript {A = CallOf} (Err status) (script command input) → EndsThreaded Totals Fault input status a a
+      ReadsScript {A = CallOf} (Err status) (script (command n) input) →
+      EndsThreaded n Totals Fault input status a a
   unfolding EndsThreaded
   unread Done input a h = absurd h
   unread (Input (Script fault)) input a h = (h, Keeps-refl a)
@@ -59,20 +61,21 @@ module _ (Totals : List CallOf → List ℕ → Type 0) (Fault : DriveFault → 
 
   -- one that read no script ends without a write
   pub unrun : (status : Status) (left a : Option (List ℕ)) →
-      IfSome left (λ input. ReadsScript {A = CallOf} (Err status) (script command input)) →
-      IfSome left (λ input. EndsThreaded Totals Fault input status a a)
+      IfSome left (λ input. ReadsScript {A = CallOf} (Err status) (script (command n) input)) →
+      IfSome left (λ input. EndsThreaded n Totals Fault input status a a)
   unrun status None a h = tt
   unrun status (Some input) a h = unread status input a h
 
   -- one that is out of memory ends without a write
   pub undriven_memory : (left a : Option (List ℕ)) →
-      IfSome left (λ input. EndsThreaded Totals Fault input NoMemory a a)
+      IfSome left (λ input. EndsThreaded n Totals Fault input NoMemory a a)
   unfolding EndsThreaded
   undriven_memory None a = tt
   undriven_memory (Some input) a = Keeps-refl a
 
   ends_so : (input : List ℕ) (calls : List CallOf) (fault : DriveFault) (a : Option (List ℕ)) →
-      script command input ≡ Ok calls → Fault fault → EndsThreaded Totals Fault input (ended_by fault) a a
+      script (command n) input ≡ Ok calls → Fault fault →
+      EndsThreaded n Totals Fault input (ended_by fault) a a
   unfolding EndsThreaded
   ends_so input calls (Settle settle.SplitUnderWay) a given h =
       (calls, given, (Settle settle.SplitUnderWay, h, refl), Keeps-refl a)
@@ -91,24 +94,26 @@ module _ (Totals : List CallOf → List ℕ → Type 0) (Fault : DriveFault → 
 
   -- one that has no totals ends by its fault, without a write
   pub undriven_so : (calls : List CallOf) (fault : DriveFault) (status : Status) (left a : Option (List ℕ)) →
-      IsScriptOf left calls → Fault fault → status ≡ ended_by fault →
-      IfSome left (λ input. EndsThreaded Totals Fault input status a a)
+      IsScriptOf n left calls → Fault fault → status ≡ ended_by fault →
+      IfSome left (λ input. EndsThreaded n Totals Fault input status a a)
   undriven_so calls fault status None a given h is = tt
   undriven_so calls fault status (Some input) a given h is =
-      subst (λ (s : Status). EndsThreaded Totals Fault input s a a) (sym is) (ends_so input calls fault a given h)
+      subst (λ (s : Status). EndsThreaded n Totals Fault input s a a) (sym is) (ends_so input calls fault a given h)
 
   -- the totals were written
-  pub totals_told : (calls : List CallOf) (text : List ℕ) (left before now : Option (List ℕ)) → IsScriptOf left calls →
+  pub totals_told : (calls : List CallOf) (text : List ℕ) (left before now : Option (List ℕ)) →
+      IsScriptOf n left calls →
       Totals calls text → Appends before now text →
-      IfSome left (λ input. EndsThreaded Totals Fault input Done before now)
+      IfSome left (λ input. EndsThreaded n Totals Fault input Done before now)
   unfolding EndsThreaded
   totals_told calls text None before now given totals h = tt
   totals_told calls text (Some input) before now given totals h = (calls, text, given, totals, h)
 
   -- a beginning of them was written
-  pub totals_begun : (calls : List CallOf) (text : List ℕ) (left before now : Option (List ℕ)) → IsScriptOf left calls →
+  pub totals_begun : (calls : List CallOf) (text : List ℕ) (left before now : Option (List ℕ)) →
+      IsScriptOf n left calls →
       Totals calls text → TakesBeginning before now text →
-      IfSome left (λ input. EndsThreaded Totals Fault input (Device Write) before now)
+      IfSome left (λ input. EndsThreaded n Totals Fault input (Device Write) before now)
   unfolding EndsThreaded
   totals_begun calls text None before now given totals h = tt
   totals_begun calls text (Some input) before now given totals h = (calls, text, given, totals, h)

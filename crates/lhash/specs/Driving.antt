@@ -16,6 +16,7 @@ use Rattle.lh_file.specs.Snapshots.Settled.{IsSettledFirst}
 use Rattle.lh_file.specs.declared.fault.FileFault.{FileFault}
 use Rattle.lh_file.specs.declared.fault.FileFault.TheVariants as file
 use Rattle.lh_script.specs.Commands.{command}
+use Rattle.lh_script.specs.declared.notation.Notation.{Notation}
 use Rattle.lhash.specs.Driven.{Counts, driven_text, snapshots_text}
 use Rattle.lh_subcommands.specs.Run.{EndsTelling}
 use Rattle.lh_script.specs.Scripts.{script}
@@ -148,13 +149,15 @@ IsTotals settings snapshots calls output =
 
 -- how a run in threads ends on an input, with such totals, or for such a fault: not settled, and the writer took
 -- nothing; otherwise with the totals, or with the script's first fault
-unfoldable pub EndsThreaded : (List CallOf → List ℕ → Type 0) → (DriveFault → Type 0) → List ℕ → Status →
+unfoldable pub EndsThreaded : Notation → (List CallOf → List ℕ → Type 0) → (DriveFault → Type 0) → List ℕ → Status →
     Option (List ℕ) → Option (List ℕ) → Type 0
-EndsThreaded Totals Fault input (NotSettled reason) before now =
-    (calls : List CallOf) × (script command input ≡ Ok calls)
+EndsThreaded notation Totals Fault input (NotSettled reason) before now =
+    (calls : List CallOf) × (script (command notation) input ≡ Ok calls)
     × ((fault : DriveFault) × Fault fault × (ended_by fault ≡ NotSettled reason)) × Keeps before now
-EndsThreaded Totals Fault input status before now = EndsTelling Totals status (script command input) before now
+EndsThreaded notation Totals Fault input status before now =
+    EndsTelling Totals status (script (command notation) input) before now
 
 -- how `drive` ends on an input with so many snapshots
-abbrev pub EndsDriving : Settings → ℕ → List ℕ → Status → Option (List ℕ) → Option (List ℕ) → Type 0
-EndsDriving settings snapshots = EndsThreaded (IsTotals settings snapshots) (IsDriveFaultWith settings snapshots)
+abbrev pub EndsDriving : Notation → Settings → ℕ → List ℕ → Status → Option (List ℕ) → Option (List ℕ) → Type 0
+EndsDriving notation settings snapshots =
+    EndsThreaded notation (IsTotals settings snapshots) (IsDriveFaultWith settings snapshots)

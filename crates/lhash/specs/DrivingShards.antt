@@ -16,6 +16,7 @@ use Rattle.lh_shards.specs.declared.closed_shard.ClosedShard.{ClosedShard}
 use Rattle.lh_subcommands.specs.declared.status.Status.{Status}
 use Rattle.lhash.specs.Driven.{Counts, driven_text}
 use Rattle.lhash.specs.Driving.{EndsThreaded, IsWorkersFault, empty_file}
+use Rattle.lh_script.specs.declared.notation.Notation.{Notation}
 use Rattle.lhash.specs.declared.drive.DriveFault.{DriveFault}
 use Rattle.lhash.specs.declared.drive.DriveFault.TheVariants.{Settle}
 use Rattle.lhash.specs.declared.driven.Driven.{Driven}
@@ -77,5 +78,6 @@ IsTotalsOfShards settings shards calls output =
     (d : Driven) × IsDrivenShards settings shards calls d × (output ≡ driven_text d)
 
 -- how `drive` ends on an input with so many shards
-abbrev pub EndsDrivingShards : Settings → ℕ → List ℕ → Status → Option (List ℕ) → Option (List ℕ) → Type 0
-EndsDrivingShards settings shards = EndsThreaded (IsTotalsOfShards settings shards) (IsDriveShardsFault settings shards)
+abbrev pub EndsDrivingShards : Notation → Settings → ℕ → List ℕ → Status → Option (List ℕ) → Option (List ℕ) → Type 0
+EndsDrivingShards notation settings shards =
+    EndsThreaded notation (IsTotalsOfShards settings shards) (IsDriveShardsFault settings shards)

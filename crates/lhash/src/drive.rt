@@ -13,7 +13,7 @@ use lh_file::laws::snapshots_are_settled;
 use lh_file::{
     Acts, Closed, FileBrand, FileFault, Gate, NoGate, Opening, SettleFault, settle, settle_snapshot,
 };
-use lh_subcommands::{DeviceFault, Status, Unsettled, read_script, write_all};
+use lh_subcommands::{DeviceFault, Notation, Status, Unsettled, read_script, write_all};
 use std::alloc::Global;
 use std::io::{Read, Write};
 use std::marker::Brand;
@@ -225,6 +225,7 @@ fn unsettled(fault: SettleFault) -> Status
 pub fn answer_drive<A: Threads + Wait + Sync, R: Read, W: Write>(
     rt: &A,
     alloc: Global,
+    notation: Notation,
     config: Config,
     threads: u32,
     snapshots: u32,
@@ -233,9 +234,9 @@ pub fn answer_drive<A: Threads + Wait + Sync, R: Read, W: Write>(
 ) -> Status
     requires { 1 ≤ threads }
     ensures { IfSome (R.remaining reader.old) (λ input.
-        EndsDriving config snapshots input result (W.contents writer.old) (W.contents writer.new)) }
+        EndsDriving notation config snapshots input result (W.contents writer.old) (W.contents writer.new)) }
 {
-    let calls: Vec<Call> = match read_script(alloc, reader) {
+    let calls: Vec<Call> = match read_script(alloc, notation, reader) {
         Ok(calls) => calls,
         Err(status) => return status,
     };

@@ -18,7 +18,7 @@ use lh_addr::Config;
 use lh_bucket::{Call, Listing};
 use lh_file::FileBrand;
 use lh_shards::{ClosedShards, OpenFault, Openings, empty_listings};
-use lh_subcommands::{DeviceFault, Status, read_script, write_all};
+use lh_subcommands::{DeviceFault, Notation, Status, read_script, write_all};
 use std::alloc::Global;
 use std::io::{Read, Write};
 use std::marker::Brand;
@@ -127,6 +127,7 @@ pub fn drive_shards_with<R: Threads + Wait + Sync>(
 pub fn answer_drive_shards<A: Threads + Wait + Sync, R: Read, W: Write>(
     rt: &A,
     alloc: Global,
+    notation: Notation,
     config: Config,
     threads: u32,
     shards: u32,
@@ -136,9 +137,9 @@ pub fn answer_drive_shards<A: Threads + Wait + Sync, R: Read, W: Write>(
     requires threads { 1 ≤ threads }
     requires shards { IsCount shards }
     ensures { IfSome (R.remaining reader.old) (λ input.
-        EndsDrivingShards config shards input result (W.contents writer.old) (W.contents writer.new)) }
+        EndsDrivingShards notation config shards input result (W.contents writer.old) (W.contents writer.new)) }
 {
-    let calls: Vec<Call> = match read_script(alloc, reader) {
+    let calls: Vec<Call> = match read_script(alloc, notation, reader) {
         Ok(calls) => calls,
         Err(status) => return status,
     };

@@ -1,5 +1,5 @@
-//! What follows of a run for the words that it was given, by the subcommand that they name. Each law is the contract of
-//! a function that does nothing.
+//! What follows of a run for the words that it was given, by the subcommand that they name, and in the notation that
+//! they ask for. Each law is the contract of a function that does nothing.
 ghost use Rattle.std.specs.Prelude.{codes};
 ghost use Rattle.lh_subcommands.specs.Continued.{query_due};
 ghost use Rattle.lh_subcommands.specs.Images.{EndsBuilding, check_due, draw_due, migrate_due};
@@ -22,7 +22,7 @@ pub fn steps_is_served()
 
 /// Words that ask for `replay` have the picture drawn of the script's events, and of what the headline tells of them.
 pub fn replay_is_served()
-    ensures { ServesFile (codes "replay") EndsReplay }
+    ensures { ServesFile (codes "replay") (λ notation. EndsReplay) }
 {}
 
 /// Words that ask for `build` have the image written, in the version that they give, of the file that the script's
@@ -35,7 +35,7 @@ pub fn build_is_served()
 /// of the input's stream, each with a key of its own; or the reason why it has none. Or the run ends at the stream's
 /// first fault, or else at the first record whose key came before, with nothing written.
 pub fn load_is_served()
-    ensures { ServesFilled (codes "load") EndsLoading }
+    ensures { ServesFilled (codes "load") (λ notation. EndsLoading) }
 {}
 
 /// Words that ask for `drive` have the totals written of a settled, legal history; and, where they give a number of
@@ -47,7 +47,7 @@ pub fn drive_is_served()
 
 /// Words that ask for `check` have the census written of the listing that the input is an image of.
 pub fn check_is_served()
-    ensures { ServesImage (codes "check") (EndsTold check_due) }
+    ensures { ServesImage (codes "check") (λ notation. EndsTold check_due) }
 {}
 
 /// Words that ask for `dump` have the records written of the listing that the input is an image of, in the format that
@@ -58,19 +58,19 @@ pub fn dump_is_served()
 
 /// Words that ask for `draw` have the drawing written of the listing that the input is an image of.
 pub fn draw_is_served()
-    ensures { ServesImage (codes "draw") (EndsTold draw_due) }
+    ensures { ServesImage (codes "draw") (λ notation. EndsTold draw_due) }
 {}
 
 /// Words that ask for `migrate` have the image of version 2 written of the listing that the input is an image of.
 pub fn migrate_is_served()
-    ensures { ServesImage (codes "migrate") (EndsTold migrate_due) }
+    ensures { ServesImage (codes "migrate") (λ notation. EndsTold migrate_due) }
 {}
 
 /// Words that ask for `query` have the replies written of the plain map of the image's listing to the calls of the
 /// script behind it, and the number of buckets that the split policy gives; or the run ends at the image's fault, or
 /// else at the script's first one, with nothing written.
 pub fn query_is_served()
-    ensures { ServesImage (codes "query") (EndsTold query_due) }
+    ensures { ServesImage (codes "query") (λ notation. EndsTold (query_due notation)) }
 {}
 
 /// Words that ask for `apply` have the image written, in the version that they give, of the file that the calls of the

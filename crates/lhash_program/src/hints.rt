@@ -3,8 +3,13 @@ use crate::ended::Ended;
 use lhash::{InputFault, LineFault, ScriptFault, Status, hint_of};
 use std::alloc::{AllocError, Global};
 
-/// What is told of a byte string that is none.
-const HEXADECIMAL: &str = "keys and values are hexadecimal, two digits a byte: ada is 616461\n";
+/// What is told of a word that is no pairs of digits.
+const HEXADECIMAL: &str =
+    "keys and values are hexadecimal, two digits a byte: ada is 616461; --text reads them as text\n";
+
+/// What is told of a word that no bytes are written with as text.
+const TEXT: &str =
+    "as text a blank is \\20, a backslash \\5c, any other byte that isn't printable ASCII so too, and - is none\n";
 
 /// Some lines on words that are refused, or none: what clap says of them, or of a key that `get` can't read.
 fn on_words<'a>(
@@ -16,6 +21,7 @@ fn on_words<'a>(
         None if reason.ends_with("bad hexadecimal") => {
             Ok(Some(String::from_str(alloc, HEXADECIMAL)?))
         },
+        None if reason.ends_with("bad text") => Ok(Some(String::from_str(alloc, TEXT)?)),
         told => Ok(told),
     }
 }
@@ -30,6 +36,9 @@ fn on_fault<'a>(
         Status::Words(reason) => on_words(alloc, words, reason.as_str()),
         Status::Input(InputFault::Script(ScriptFault::AtLine(_, LineFault::BadHexadecimal))) => {
             Ok(Some(String::from_str(alloc, HEXADECIMAL)?))
+        },
+        Status::Input(InputFault::Script(ScriptFault::AtLine(_, LineFault::BadText))) => {
+            Ok(Some(String::from_str(alloc, TEXT)?))
         },
         _ => Ok(None),
     }

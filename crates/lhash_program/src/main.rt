@@ -83,12 +83,12 @@ fn run_whole<'a, A: AllocGlobal + Threads + Wait + Sync, R: Read, W: Write + Dro
     output: &mut BufWriter<W>,
 ) -> Status
     ensures done { WritesAll result → (held : Option (List ℕ)) ×
-        IsRun (map (λ s. s.now) words.now) result (R.remaining reader.old) (R.remaining reader.new)
+        IsRun is_terminal (map (λ s. s.now) words.now) result (R.remaining reader.old) (R.remaining reader.new)
         (writer_contents W.contents output.old) held
         × Keeps held (W.contents (writer_inner output.new)) }
     ensures ran { (is_terminal ≡ true → IsWhetherImageAsked (map (λ s. s.now) words.now) true → ⊥) →
         (held : Option (List ℕ)) ×
-        IsFlushedRun (map (λ s. s.now) words.now) result (R.remaining reader.old) (R.remaining reader.new)
+        IsFlushedRun is_terminal (map (λ s. s.now) words.now) result (R.remaining reader.old) (R.remaining reader.new)
         (writer_contents W.contents output.old) held
         × Keeps held (writer_contents W.contents output.new) }
     ensures screen { is_terminal ≡ true → IsWhetherImageAsked (map (λ s. s.now) words.now) true →
@@ -98,7 +98,7 @@ fn run_whole<'a, A: AllocGlobal + Threads + Wait + Sync, R: Read, W: Write + Dro
     if let Some(status) = refused(rt.alloc(), words, is_terminal) {
         return status;
     }
-    let status = run(rt, words, reader, output);
+    let status = run(rt, words, is_terminal, reader, output);
     finish(status, output)
 }
 
@@ -112,12 +112,12 @@ fn run_whole_on<'a, A: AllocGlobal + Threads + Wait + Sync, Q: Read, R: Read, W:
     output: &mut BufWriter<W>,
 ) -> Status
     ensures done { WritesAll result → (held : Option (List ℕ)) ×
-        IsRunOn (map (λ s. s.now) words.now) result (Q.remaining file.old) (Q.remaining file.new)
+        IsRunOn is_terminal (map (λ s. s.now) words.now) result (Q.remaining file.old) (Q.remaining file.new)
         (R.remaining reader.old) (R.remaining reader.new) (writer_contents W.contents output.old) held
         × Keeps held (W.contents (writer_inner output.new)) }
     ensures ran { (is_terminal ≡ true → IsWhetherImageAsked (map (λ s. s.now) words.now) true → ⊥) →
         (held : Option (List ℕ)) ×
-        IsFlushedRunOn (map (λ s. s.now) words.now) result (Q.remaining file.old) (Q.remaining file.new)
+        IsFlushedRunOn is_terminal (map (λ s. s.now) words.now) result (Q.remaining file.old) (Q.remaining file.new)
         (R.remaining reader.old) (R.remaining reader.new) (writer_contents W.contents output.old) held
         × Keeps held (writer_contents W.contents output.new) }
     ensures screen { is_terminal ≡ true → IsWhetherImageAsked (map (λ s. s.now) words.now) true →
@@ -127,7 +127,7 @@ fn run_whole_on<'a, A: AllocGlobal + Threads + Wait + Sync, Q: Read, R: Read, W:
     if let Some(status) = refused(rt.alloc(), words, is_terminal) {
         return status;
     }
-    let ended = run_on(rt, words, file, reader, output);
+    let ended = run_on(rt, words, is_terminal, file, reader, output);
     finish(ended, output)
 }
 

@@ -12,4 +12,5 @@ mod replay;
 mod serve;
 mod steps;
 mod support;
+mod text;
 mod words;

@@ -686,7 +686,7 @@ fn subcommands_and_help(rt: HostRuntime) -> Result<(), AllocError> {
 }
 
 /// The text of help, or of the version, that these words ask for.
-fn told(rt: &impl AllocGlobal, words: &[&str]) -> Result<String, AllocError> {
+pub fn told(rt: &impl AllocGlobal, words: &[&str]) -> Result<String, AllocError> {
     match request_of(rt.alloc(), words)? {
         Request::Help(text) => Ok(text),
         _ => String::from_str(rt.alloc(), "no help"),

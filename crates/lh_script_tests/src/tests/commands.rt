@@ -4,7 +4,7 @@ ghost use Rattle.std.specs.Prelude.{◌≡◌, IfOk, vec_len};
 use lh_bucket::Call;
 use lh_expect::expect_eq;
 use lh_page::{Key, Value};
-use lh_script::{ParseError, parse};
+use lh_script::{Notation, ParseError, parse};
 use std::alloc::{AllocError, AllocGlobal, Global};
 use std::process::Abort;
 use std::test::Fail;
@@ -39,8 +39,8 @@ fn joined(alloc: Global, parts: [&[u8]; 3]) -> Result<Vec<u8>, AllocError> {
 }
 
 /// How many calls a text has, or what is wrong with it.
-fn outcome(alloc: Global, text: &[u8]) -> Result<String, AllocError> {
-    match parse::<Call>(alloc, text) {
+pub fn outcome(alloc: Global, notation: Notation, text: &[u8]) -> Result<String, AllocError> {
+    match parse::<Call>(alloc, notation, text) {
         Ok(calls) => {
             let count = calls.len();
             format!(in alloc; "{count} calls")
@@ -52,7 +52,8 @@ fn outcome(alloc: Global, text: &[u8]) -> Result<String, AllocError> {
 
 /// A text has so many calls, or this is wrong with it.
 fn expect_outcome(rt: &(impl Abort + AllocGlobal), text: &[u8], want: &str) -> Result<(), Fail> {
-    expect_eq!(rt; outcome(rt.alloc(), text)?.as_str(), want);
+    let told = outcome(rt.alloc(), Notation::Hexadecimal, text)?;
+    expect_eq!(rt; told.as_str(), want);
     Ok(())
 }
 
@@ -77,7 +78,7 @@ fn each_verb_is_a_call(rt: HostRuntime) -> Result<(), Fail> {
         Call::Delete(Key::new(b"c")?),
         Call::Replace(Key::new(b"d")?, Value::new(b"")?),
     ];
-    let Ok(calls) = parse::<Call>(rt.alloc(), text) else {
+    let Ok(calls) = parse::<Call>(rt.alloc(), Notation::Hexadecimal, text) else {
         return Err(Fail::from("no calls"));
     };
     expect_eq!(&rt, calls.as_slice(), expected.as_slice());
@@ -86,7 +87,11 @@ fn each_verb_is_a_call(rt: HostRuntime) -> Result<(), Fail> {
 
 #[test]
 fn digits_have_either_case(rt: HostRuntime) -> Result<(), Fail> {
-    let Ok(calls) = parse::<Call>(rt.alloc(), b"insert 0aF9 cDeB00".as_slice()) else {
+    let Ok(calls) = parse::<Call>(
+        rt.alloc(),
+        Notation::Hexadecimal,
+        b"insert 0aF9 cDeB00".as_slice(),
+    ) else {
         return Err(Fail::from("no calls"));
     };
     let expected = [Call::Insert(Key::new(b"\x0a\xf9")?, Value::new(b"\xcd\xeb\x00")?)];
@@ -96,7 +101,8 @@ fn digits_have_either_case(rt: HostRuntime) -> Result<(), Fail> {
 
 #[test]
 fn a_dash_is_the_empty_value(rt: HostRuntime) -> Result<(), Fail> {
-    let Ok(calls) = parse::<Call>(rt.alloc(), b"insert 61 -".as_slice()) else {
+    let Ok(calls) = parse::<Call>(rt.alloc(), Notation::Hexadecimal, b"insert 61 -".as_slice())
+    else {
         return Err(Fail::from("no calls"));
     };
     let expected = [Call::Insert(Key::new(b"a")?, Value::new(b"")?)];

@@ -3,15 +3,15 @@ use lh_bucket::Call;
 use lh_core::{Effect, Event, Refusal};
 use lh_expect::expect_eq;
 use lh_page::{Key, Value};
-use lh_script::{EntryText, LineFault, ParseError, ScriptFault, parse};
+use lh_script::{EntryText, LineFault, Notation, ParseError, ScriptFault, parse};
 use std::alloc::{AllocError, Global};
 use std::fmt::Display;
 use std::process::Abort;
 use std::test::Fail;
 
 /// How many events a text has, or what is wrong with it.
-fn outcome(alloc: Global, text: &[u8]) -> Result<String, AllocError> {
-    match parse::<Event>(alloc, text) {
+fn outcome(alloc: Global, notation: Notation, text: &[u8]) -> Result<String, AllocError> {
+    match parse::<Event>(alloc, notation, text) {
         Ok(events) => {
             let count = events.len();
             format!(in alloc; "{count} events")
@@ -21,16 +21,29 @@ fn outcome(alloc: Global, text: &[u8]) -> Result<String, AllocError> {
     }
 }
 
-fn expect(rt: &(impl Abort + AllocGlobal), text: &str, expected: &str) -> Result<(), Fail> {
-    let told = outcome(rt.alloc(), text.as_bytes())?;
+/// A script in this notation has so many events, or this is wrong with it.
+pub fn expect_in(
+    rt: &(impl Abort + AllocGlobal),
+    notation: Notation,
+    text: &str,
+    expected: &str,
+) -> Result<(), Fail> {
+    let told = outcome(rt.alloc(), notation, text.as_bytes())?;
     expect_eq!(rt, (text, told.as_str()), (text, expected));
     Ok(())
+}
+
+fn expect(rt: &(impl Abort + AllocGlobal), text: &str, expected: &str) -> Result<(), Fail> {
+    expect_in(rt, Notation::Hexadecimal, text, expected)
 }
 
 #[test]
 fn each_line_is_an_event(rt: HostRuntime) -> Result<(), Fail> {
     let text =
-        b"call 0 search 61\ncall 07 insert 62 3132\n\n# act\ncall 15 delete 63\ncall 1 replace 62 32\nread 1\nlock 2\nrehash 3\nact 4\nrelease 05\nsplit-begin\nsplit-lock\nsplit-move\nsplit-release\nsplit-point\nsplit-drop\n".as_slice();
+        b"call 0 search 61\ncall 07 insert 62 3132\n\n# act\ncall 15 delete 63\ncall 1 replace 62 32\n\
+        read 1\nlock 2\nrehash 3\nact 4\nrelease 05\n\
+        split-begin\nsplit-lock\nsplit-move\nsplit-release\nsplit-point\nsplit-drop\n"
+            .as_slice();
     let expected = [
         Event::Call(0, Call::Search(Key::new(b"a")?)),
         Event::Call(7, Call::Insert(Key::new(b"b")?, Value::new(b"12")?)),
@@ -48,7 +61,7 @@ fn each_line_is_an_event(rt: HostRuntime) -> Result<(), Fail> {
         Event::SplitPoint,
         Event::SplitDrop,
     ];
-    let Ok(events) = parse::<Event>(rt.alloc(), text) else {
+    let Ok(events) = parse::<Event>(rt.alloc(), Notation::Hexadecimal, text) else {
         return Err(Fail::from("no events"));
     };
     expect_eq!(&rt, events.as_slice(), expected.as_slice());
@@ -98,13 +111,24 @@ fn faults_of_a_line_have_an_order(rt: HostRuntime) -> Result<(), Fail> {
     Ok(())
 }
 
-fn expect_text(
+/// What a value displays.
+pub fn expect_text(
     rt: &(impl Abort + AllocGlobal),
     value: &impl Display,
     text: &str,
 ) -> Result<(), Fail> {
     expect_eq!(rt; value.to_string(rt.alloc())?.as_str(), text);
     Ok(())
+}
+
+/// The line of an entry, in hexadecimal.
+fn expect_entry(
+    rt: &(impl Abort + AllocGlobal),
+    entry: &Result<Effect, Refusal>,
+    text: &str,
+) -> Result<(), Fail> {
+    let notation = Notation::Hexadecimal;
+    expect_text(rt, &EntryText { notation, entry }, text)
 }
 
 /// Numbers of as many digits as they may have, and the refusal that ends a run in place of being told.
@@ -116,8 +140,8 @@ fn what_is_seldom_told_has_a_text(rt: HostRuntime) -> Result<(), Fail> {
     };
     let length = LineFault::ValueLength(8_388_608);
     let fault = ScriptFault::AtLine(16_777_216, length);
-    expect_text(&rt, &EntryText(&Ok(aim)), "aim 16 65535")?;
-    expect_text(&rt, &EntryText(&Err(Refusal::Memory)), "refused C7")?;
+    expect_entry(&rt, &Ok(aim), "aim 16 65535")?;
+    expect_entry(&rt, &Err(Refusal::Memory), "refused C7")?;
     expect_text(&rt, &length, "value length 8388608")?;
     expect_text(&rt, &fault, "line 16777216: value length 8388608")
 }

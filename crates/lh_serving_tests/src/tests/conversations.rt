@@ -4,6 +4,7 @@ ghost use Rattle.std.specs.Prelude.{◌≡◌, IfOk, vec_len};
 use lh_addr::Config;
 use lh_expect::{expect, expect_eq};
 use lh_serving::{Conversation, LONGEST_LINE};
+use lh_subcommands::Notation;
 use std::alloc::{AllocError, Global};
 use std::process::Abort;
 use std::test::Fail;
@@ -18,15 +19,24 @@ const ANSWERS: &[u8] = b"inserted\nfound 31\nfault unknown word\nrecords 1\nrepl
     fault wrong number of words\nfault bad hexadecimal\nfault key length 0\nfound 32\ndeleted\n\
     fault wrong number of words\nfault wrong number of words\nrecords 0\n";
 
-fn conversation(alloc: Global) -> Result<Conversation, Fail> {
-    match Conversation::new(alloc, Config::default()) {
+/// A conversation from an empty file.
+pub fn conversation_in(
+    alloc: Global,
+    notation: Notation,
+    is_terminal: bool,
+) -> Result<Conversation, Fail> {
+    match Conversation::new(alloc, notation, is_terminal, Config::default()) {
         Ok(talk) => Ok(talk),
         Err(_) => Err(Fail::from("no conversation")),
     }
 }
 
+fn conversation(alloc: Global) -> Result<Conversation, Fail> {
+    conversation_in(alloc, Notation::Hexadecimal, false)
+}
+
 /// Hears all of some bytes.
-fn hear(talk: &mut Conversation, bytes: &[u8]) -> Result<(), Fail> {
+pub fn hear(talk: &mut Conversation, bytes: &[u8]) -> Result<(), Fail> {
     let mut rest = bytes;
     for _ in 0..bytes.len() {
         if rest.is_empty() {
@@ -52,15 +62,26 @@ fn repeated(alloc: Global, byte: u8, count: usize) -> Result<Vec<u8>, AllocError
     Ok(text)
 }
 
-#[test]
-fn lines_cut_anywhere_have_the_same_answers(rt: HostRuntime) -> Result<(), Fail> {
-    for cut in 0..=LINES.len() {
-        let mut talk = conversation(rt.alloc())?;
-        hear(&mut talk, &LINES[..cut])?;
-        hear(&mut talk, &LINES[cut..])?;
-        assert!(rt; *talk.waiting() == *ANSWERS, "cut at {cut}");
+/// These lines have these answers wherever they are cut.
+pub fn cut_anywhere(
+    rt: &(impl Abort + AllocGlobal),
+    notation: Notation,
+    is_terminal: bool,
+    lines: &[u8],
+    answers: &[u8],
+) -> Result<(), Fail> {
+    for cut in 0..=lines.len() {
+        let mut talk = conversation_in(rt.alloc(), notation, is_terminal)?;
+        hear(&mut talk, &lines[..cut])?;
+        hear(&mut talk, &lines[cut..])?;
+        assert!(rt; *talk.waiting() == *answers, "cut at {cut}");
     }
     Ok(())
+}
+
+#[test]
+fn lines_cut_anywhere_have_the_same_answers(rt: HostRuntime) -> Result<(), Fail> {
+    cut_anywhere(&rt, Notation::Hexadecimal, false, LINES, ANSWERS)
 }
 
 #[test]
@@ -76,7 +97,12 @@ fn lines_that_come_byte_by_byte_have_the_same_answers(rt: HostRuntime) -> Result
 /// Three records in pages of one have three buckets, and no split is missed.
 #[test]
 fn a_conversation_splits_where_the_policy_wants_it(rt: HostRuntime) -> Result<(), Fail> {
-    let Ok(mut talk) = Conversation::new(rt.alloc(), Config::new(1, 1, 100, 65536)?) else {
+    let Ok(mut talk) = Conversation::new(
+        rt.alloc(),
+        Notation::Hexadecimal,
+        false,
+        Config::new(1, 1, 100, 65536)?,
+    ) else {
         return Err(Fail::from("no conversation"));
     };
     hear(
@@ -137,7 +163,7 @@ fn a_line_has_1024_bytes_at_most(rt: HostRuntime) -> Result<(), Fail> {
 }
 
 /// What waits is these lines, and behind them the image of a file with so many records, or none.
-fn waits(rt: &impl Abort, talk: &Conversation, lines: &[u8], records: Option<u64>) {
+pub fn waits(rt: &impl Abort, talk: &Conversation, lines: &[u8], records: Option<u64>) {
     expect_eq!(rt; talk.waiting(), lines);
     match talk.image() {
         Some(listing) => expect!(rt, records == Some(listing.len())),
@@ -171,7 +197,8 @@ fn a_conversation_goes_on_from_a_listing(rt: HostRuntime) -> Result<(), Fail> {
     let Some(listing) = first.image() else {
         return Err(Fail::from("no image"));
     };
-    let Ok(mut next) = Conversation::open_from(rt.alloc(), listing) else {
+    let Ok(mut next) = Conversation::open_from(rt.alloc(), Notation::Hexadecimal, false, listing)
+    else {
         return Err(Fail::from("no conversation"));
     };
     hear(

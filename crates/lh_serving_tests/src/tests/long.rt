@@ -1,9 +1,10 @@
 //! Conversations of many reads, and answers that are longer together than what waits at most.
 use lh_addr::Config;
 use lh_expect::{expect, expect_eq};
-use lh_subcommands::answer_serve;
+use lh_subcommands::{Notation, answer_serve};
 use std::alloc::{AllocError, Global};
 use std::io::{self, Read, Write};
+use std::process::Abort;
 use std::test::Fail;
 
 /// Sends so many empty lines, one at each read.
@@ -55,35 +56,76 @@ impl Write for Counts {
 fn a_conversation_has_many_reads(rt: HostRuntime) -> Result<(), Fail> {
     let mut sends = SendsEmptyLines { left: 120_000 };
     let mut counts = Counts::new();
-    let status = answer_serve(rt.alloc(), Config::default(), &mut sends, &mut counts);
+    let status = answer_serve(
+        rt.alloc(),
+        Notation::Hexadecimal,
+        false,
+        Config::default(),
+        &mut sends,
+        &mut counts,
+    );
     expect_eq!(&rt, status.code(), 0);
     expect_eq!(&rt, (sends.left, counts.bytes), (0, 0));
     Ok(())
 }
 
-/// A record of the longest value, and two thousand lines that ask for it.
-fn questions(alloc: Global) -> Result<Vec<u8>, AllocError> {
-    let mut lines = Vec::new(alloc);
-    lines.extend_from_slice(b"insert 61 ")?;
-    for _ in 0..112 {
-        lines.extend_from_slice(b"31")?;
+fn add(lines: &mut String, text: &str, count: usize) -> Result<(), AllocError> {
+    for _ in 0..count {
+        lines.push_str(text)?;
     }
-    lines.extend_from_slice(b"\n")?;
-    for _ in 0..2_000 {
-        lines.extend_from_slice(b"search 61\n")?;
-    }
+    Ok(())
+}
+
+/// A line that inserts a value of 112 times a byte, and two thousand lines that ask for it.
+fn questions(alloc: Global, insert: &str, byte: &str, search: &str) -> Result<String, AllocError> {
+    let mut lines = String::from_str(alloc, insert)?;
+    add(&mut lines, byte, 112)?;
+    add(&mut lines, "\n", 1)?;
+    add(&mut lines, search, 2_000)?;
     Ok(lines)
 }
 
-/// All lines come with one read. Of their answers, 231 bytes each, no more wait than begin within the first 65,536.
+/// These lines come with one read. Of their answers no more wait than begin within the first 65,536 bytes.
+fn are_told(
+    rt: &(impl Abort + AllocGlobal),
+    notation: Notation,
+    lines: &[u8],
+    too_many: usize,
+    bytes: usize,
+) {
+    let mut sends = lines;
+    let mut counts = Counts::new();
+    let status = answer_serve(
+        rt.alloc(),
+        notation,
+        false,
+        Config::default(),
+        &mut sends,
+        &mut counts,
+    );
+    expect_eq!(rt, status.code(), 0);
+    expect_eq!(rt, counts.bytes, bytes);
+    expect!(rt, counts.longest < too_many);
+}
+
+/// An answer has 231 bytes.
 #[test]
 fn answers_are_told_before_too_many_wait(rt: HostRuntime) -> Result<(), Fail> {
-    let lines = questions(rt.alloc())?;
-    let mut sends = lines.as_slice();
-    let mut counts = Counts::new();
-    let status = answer_serve(rt.alloc(), Config::default(), &mut sends, &mut counts);
-    expect_eq!(&rt, status.code(), 0);
-    expect_eq!(rt; counts.bytes, 462_009);
-    expect!(&rt, counts.longest < 65_536 + 231);
+    let lines = questions(rt.alloc(), "insert 61 ", "31", "search 61\n")?;
+    are_told(
+        &rt,
+        Notation::Hexadecimal,
+        lines.as_bytes(),
+        65_536 + 231,
+        462_009,
+    );
+    Ok(())
+}
+
+/// As text an answer has up to 343 bytes.
+#[test]
+fn answers_in_text_are_told_before_too_many_wait(rt: HostRuntime) -> Result<(), Fail> {
+    let lines = questions(rt.alloc(), "insert a ", r"\ff", "search a\n")?;
+    are_told(&rt, Notation::Text, lines.as_bytes(), 65_536 + 343, 686_009);
     Ok(())
 }

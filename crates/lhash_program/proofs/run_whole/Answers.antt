@@ -21,7 +21,7 @@ returns-clause-done g c whole =
     let told = c.finish.ensures.done whole in (
       _,
       subst
-          (λ status. IsRun (map (λ w. w.now) c.args.words.now) status
+          (λ status. IsRun c.args.is_terminal (map (λ w. w.now) c.args.words.now) status
           (g.R.Read.remaining c.args.reader.now)
           (g.R.Read.remaining c.run-status.new.reader)
           (writer_contents g.W.Write.contents c.args.output.now)

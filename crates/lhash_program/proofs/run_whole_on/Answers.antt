@@ -21,7 +21,7 @@ returns-clause-done g c whole =
     let told = c.finish.ensures.done whole in (
       _,
       subst
-          (λ status. IsRunOn (map (λ w. w.now) c.args.words.now) status
+          (λ status. IsRunOn c.args.is_terminal (map (λ w. w.now) c.args.words.now) status
           (g.Q.Read.remaining c.args.file.now)
           (g.Q.Read.remaining c.run_on-ended.new.file)
           (g.R.Read.remaining c.args.reader.now)

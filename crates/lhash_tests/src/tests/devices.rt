@@ -48,7 +48,7 @@ fn read_fails(
         failing_read,
     };
     let mut output = Vec::new(rt.alloc());
-    let status = run(rt, words, &mut source, &mut output);
+    let status = run(rt, words, false, &mut source, &mut output);
     assert!(rt;
         status.code() == 3 && output.is_empty(),
         "read {failing_read}"
@@ -74,7 +74,7 @@ fn reads_whole(
         failing_read: 0,
     };
     let mut output = Vec::new(rt.alloc());
-    let status = run(rt, words, &mut source, &mut output);
+    let status = run(rt, words, false, &mut source, &mut output);
     expect!(rt, status.code() == 0 && *output.as_slice() == *told);
     Ok(source.reads)
 }
@@ -105,7 +105,7 @@ fn write_fails(
 ) -> Result<(), Fail> {
     let mut source = input;
     let mut sink = Sink::new(rt.alloc(), at_once, failing_write);
-    let status = run(rt, words, &mut source, &mut sink);
+    let status = run(rt, words, false, &mut source, &mut sink);
     assert!(rt;
         status.code() == 3 && sink.writes == failing_write,
         "write {failing_write}"
@@ -126,7 +126,7 @@ fn takes_whole(
 ) -> usize {
     let mut source = input;
     let mut sink = Sink::new(rt.alloc(), at_once, 0);
-    let status = run(rt, words, &mut source, &mut sink);
+    let status = run(rt, words, false, &mut source, &mut sink);
     expect!(rt, status.code() == 0 && *sink.bytes.as_slice() == *whole);
     sink.writes
 }
@@ -342,7 +342,7 @@ fn ends_behind(
             failing_read: 5,
         };
         let mut output = Vec::new(rt.alloc());
-        let status = run(rt, words.as_slice(), &mut source, &mut output);
+        let status = run(rt, words.as_slice(), false, &mut source, &mut output);
         expect!(rt, status.code() == code && output.is_empty());
     }
     Ok(())
@@ -382,7 +382,7 @@ fn first_page_fails(
         failing_read: 2,
     };
     let mut output = Vec::new(rt.alloc());
-    let status = run(rt, &["lhash", "check"], &mut source, &mut output);
+    let status = run(rt, &["lhash", "check"], false, &mut source, &mut output);
     expect!(rt, status.code() == 1 && output.is_empty());
     expect_eq!(rt; status.to_string(rt.alloc())?.as_str(), text);
     Ok(())
@@ -409,7 +409,7 @@ fn a_writer_that_takes_nothing_has_failed(rt: HostRuntime) -> Result<(), Fail> {
     let mut input = b"".as_slice();
     let mut sink = Sink::new(rt.alloc(), 0, 0);
     let words = ["lhash", "commands"];
-    let status = run(&rt, words.as_slice(), &mut input, &mut sink);
+    let status = run(&rt, words.as_slice(), false, &mut input, &mut sink);
     expect_eq!(&rt, status.to_string(rt.alloc())?.as_str(), "write failed");
     expect_eq!(rt; sink.writes, 1);
     Ok(())
@@ -424,7 +424,7 @@ fn goes_out_in_chunks(
 ) {
     let mut source = input;
     let mut sink = Sink::new(rt.alloc(), usize::MAX, 0);
-    let status = run(rt, words, &mut source, &mut sink);
+    let status = run(rt, words, false, &mut source, &mut sink);
     expect!(rt, status.code() == 0 && sink.writes < 16);
     let written = sink.bytes.iter().filter(|byte| **byte == b'\n').count();
     expect!(rt, written == lines);
@@ -469,7 +469,7 @@ fn the_last_chunk_is_flushed(rt: HostRuntime) -> Result<(), Fail> {
         }
         let mut input = script.as_bytes();
         let mut output = Unflushed { bytes: 0, whole: 0 };
-        let status = run(&rt, &["lhash", "commands"], &mut input, &mut output);
+        let status = run(&rt, &["lhash", "commands"], false, &mut input, &mut output);
         expect!(&rt, status.code() == 0 && output.bytes == 0);
         expect_eq!(rt;
             output.whole,

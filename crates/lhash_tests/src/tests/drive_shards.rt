@@ -101,7 +101,7 @@ fn answered(
 ) -> Result<(Status, Vec<u8>), Fail> {
     let words = ["lhash", "drive", "--threads", threads, "--shards", shards];
     let (mut source, mut output) = (script.as_bytes(), Vec::new(rt.alloc()));
-    let status = run(rt, words.as_slice(), &mut source, &mut output);
+    let status = run(rt, words.as_slice(), false, &mut source, &mut output);
     Ok((status, output))
 }
 
@@ -167,7 +167,7 @@ fn a_device_may_fail(rt: HostRuntime) -> Result<(), Fail> {
             failing_read,
         };
         let mut sink = Sink::new(rt.alloc(), 1_000, failing_write);
-        let status = run(&rt, words.as_slice(), &mut source, &mut sink);
+        let status = run(&rt, words.as_slice(), false, &mut source, &mut sink);
         let fault = if failing_read > 0 {
             DeviceFault::Read
         } else {

@@ -125,7 +125,7 @@ fn words_are_read_before_the_input(rt: HostRuntime) -> Result<(), Fail> {
     };
     let mut output = Vec::new(rt.alloc());
     let words = ["lhash", "get", "-", "61", "z"];
-    let status = run(&rt, words.as_slice(), &mut source, &mut output);
+    let status = run(&rt, words.as_slice(), false, &mut source, &mut output);
     expect_eq!(&rt, (status.code(), source.reads), (2, 0));
     Ok(())
 }
@@ -193,7 +193,7 @@ fn a_failed_write_comes_before_an_absent_key(rt: HostRuntime) -> Result<(), Fail
     for failing_write in 1..=8 {
         let mut source = image.as_slice();
         let mut sink = Sink::new(rt.alloc(), 1, failing_write);
-        let status = run(&rt, words.as_slice(), &mut source, &mut sink);
+        let status = run(&rt, words.as_slice(), false, &mut source, &mut sink);
         expect!(
             &rt,
             status.code() == 3 && b"absent\n".starts_with(sink.bytes.as_slice())

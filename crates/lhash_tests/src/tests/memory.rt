@@ -83,7 +83,7 @@ fn a_refused_run_with_snapshots_may_be_made_again(rt: HostRuntime) -> Result<(),
 fn built(rt: &(impl AllocGlobal + Threads + Wait + Sync)) -> Vec<u8> {
     let mut script = FIVE.as_bytes();
     let mut image = Vec::new(rt.alloc());
-    let status = run(rt, FIVE_WORDS, &mut script, &mut image);
+    let status = run(rt, FIVE_WORDS, false, &mut script, &mut image);
     if status.code() != 0 {
         image.clear();
     }
@@ -104,7 +104,7 @@ fn looked_up(rt: &(impl AllocGlobal + Threads + Wait + Sync), image: &[u8]) -> (
     let mut source = image;
     let mut output = Vec::new(rt.alloc());
     let words = ["lhash", "get", "-", "61", "66"];
-    let status = run(rt, words.as_slice(), &mut source, &mut output);
+    let status = run(rt, words.as_slice(), false, &mut source, &mut output);
     (status.code(), output)
 }
 

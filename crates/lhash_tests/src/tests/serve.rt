@@ -153,7 +153,7 @@ fn a_read_that_fails_within_the_image_ends_serve(rt: HostRuntime) -> Result<(), 
             failing_read,
         };
         let mut output = Vec::new(rt.alloc());
-        let status = run(&rt, FROM_IMAGE.as_slice(), &mut source, &mut output);
+        let status = run(&rt, FROM_IMAGE.as_slice(), false, &mut source, &mut output);
         assert!(rt; status.code() == 3, "read {failing_read}");
         assert!(rt; output.is_empty(), "read {failing_read}");
     }
@@ -172,7 +172,7 @@ fn read_fails(
         failing_read,
     };
     let mut output = Vec::new(rt.alloc());
-    let status = run(rt, SERVE.as_slice(), &mut source, &mut output);
+    let status = run(rt, SERVE.as_slice(), false, &mut source, &mut output);
     expect_eq!(rt, status.code(), 3);
     let came = CALLS.len().saturating_sub(source.bytes.len());
     let (heard, _) = CALLS.as_bytes().split_at(came.min(CALLS.len()));
@@ -195,7 +195,7 @@ fn a_failed_write_ends_a_conversation(rt: HostRuntime) -> Result<(), Fail> {
     for failing_write in 1..=answers.len() / AT_ONCE + 1 {
         let mut input = CALLS.as_bytes();
         let mut sink = Sink::new(rt.alloc(), AT_ONCE, failing_write);
-        let status = run(&rt, SERVE.as_slice(), &mut input, &mut sink);
+        let status = run(&rt, SERVE.as_slice(), false, &mut input, &mut sink);
         assert!(rt;
             status.code() == 3 && answers.starts_with(&sink.bytes),
             "write {failing_write}"

@@ -80,7 +80,7 @@ pub fn ran(
 ) -> Result<(u8, Vec<u8>, String), Fail> {
     let mut source = input;
     let mut output = Vec::new(rt.alloc());
-    let status = run(rt, words, &mut source, &mut output);
+    let status = run(rt, words, false, &mut source, &mut output);
     Ok((status.code(), output, status.to_string(rt.alloc())?))
 }
 

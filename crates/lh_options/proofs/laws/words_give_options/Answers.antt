@@ -20,6 +20,10 @@ use Rattle.lh_options.specs.OptionLaws.{snapshots_with_minus, steps_given, third
 use Rattle.lh_options.specs.OptionLaws.{threads_zero, unknown_option, serve_given}
 use Rattle.lh_options.specs.OptionLaws.{GivesDump, GivesLoad, RefusesMax, check_with_format, dump_as_cdb, dump_as_csv}
 use Rattle.lh_options.specs.OptionLaws.{dump_as_db, load_alone, load_files_given, load_given, load_max_below_initial}
+use Rattle.lh_options.specs.OptionLaws.{GivesText, apply_of_text, build_of_text, check_of_text, commands_of_text}
+use Rattle.lh_options.specs.OptionLaws.{drive_of_text, dump_of_text, get_of_text, load_of_text, query_of_text}
+use Rattle.lh_options.specs.OptionLaws.{replay_of_text, serve_of_text, steps_of_text, text_as_a_key, text_twice}
+use Rattle.lh_options.specs.OptionLaws.{text_with_value}
 use Rattle.lh_options.specs.declared.dump_format.DumpFormat.TheVariants.{Cdb, Db, Lines}
 use Rattle.lh_options.specs.declared.options.ImageVersion.TheVariants.{First, Second}
 use Rattle.lh_options.specs.Options.{Accepts, Asks, AsksForHelp, asked_by, settings_given, subcommand_named}
@@ -265,6 +269,70 @@ no_output : Refuses check_with_output
 unfolding clap_on_literals Accepts
 no_output = λ e. false≢true (ap is_empty e.0)
 
+commands_text : GivesText commands_of_text true
+unfolding clap_on_literals Accepts
+commands_text = ((refl, refl, refl), refl)
+
+steps_text : GivesText steps_of_text true
+unfolding clap_on_literals Accepts
+steps_text = ((refl, refl, refl), refl)
+
+drive_text : GivesText drive_of_text true
+unfolding clap_on_literals Accepts
+drive_text = ((refl, refl, refl), refl)
+
+build_text : GivesText build_of_text true
+unfolding clap_on_literals Accepts
+build_text = ((refl, refl, refl), refl)
+
+query_text : GivesText query_of_text true
+unfolding clap_on_literals Accepts
+query_text = ((refl, refl, refl), refl)
+
+apply_text : GivesText apply_of_text true
+unfolding clap_on_literals Accepts
+apply_text = ((refl, refl, refl), refl)
+
+serve_text : GivesText serve_of_text true
+unfolding clap_on_literals Accepts
+serve_text = ((refl, refl, refl), refl)
+
+dump_text : GivesText dump_of_text true
+unfolding clap_on_literals Accepts
+dump_text = ((refl, refl, refl), refl)
+
+get_text : GivesText get_of_text true
+unfolding clap_on_literals Accepts
+get_text = ((refl, refl, refl), refl)
+
+text_left_out : GivesText no_options false
+unfolding clap_on_literals Accepts
+text_left_out = ((refl, refl, refl), refl)
+
+text_is_a_key : GivesText text_as_a_key false
+unfolding clap_on_literals Accepts
+text_is_a_key = ((refl, refl, refl), refl)
+
+no_text_of_replay : Refuses replay_of_text
+unfolding clap_on_literals Accepts
+no_text_of_replay = λ e. false≢true (ap is_empty e.0)
+
+no_text_of_load : Refuses load_of_text
+unfolding clap_on_literals Accepts
+no_text_of_load = λ e. false≢true (ap is_empty e.0)
+
+no_text_of_check : Refuses check_of_text
+unfolding clap_on_literals Accepts
+no_text_of_check = λ e. false≢true (ap is_empty e.0)
+
+no_second_text : Refuses text_twice
+unfolding clap_on_literals Accepts
+no_second_text = λ e. false≢true (ap is_empty e.0)
+
+no_value_of_text : Refuses text_with_value
+unfolding clap_on_literals Accepts
+no_value_of_text = λ e. false≢true (ap is_empty e.0)
+
 help : AsksForHelp help_asked
 unfolding clap_on_literals AsksForHelp
 help = (kind.DisplayHelp, inl refl, inl refl)
@@ -335,6 +403,22 @@ returns c = record {
   image_and_file = image_and_file;
   second_file = second_file;
   no_output = no_output;
+  commands_text = commands_text;
+  steps_text = steps_text;
+  drive_text = drive_text;
+  build_text = build_text;
+  query_text = query_text;
+  apply_text = apply_text;
+  serve_text = serve_text;
+  dump_text = dump_text;
+  get_text = get_text;
+  text_left_out = text_left_out;
+  text_is_a_key = text_is_a_key;
+  no_text_of_replay = no_text_of_replay;
+  no_text_of_load = no_text_of_load;
+  no_text_of_check = no_text_of_check;
+  no_second_text = no_second_text;
+  no_value_of_text = no_value_of_text;
   help = help;
   version = version;
 }

@@ -1,6 +1,5 @@
-use Rattle.std.proofs.Common.{codes}
 use Rattle.std.proofs.lemmas.Result.{IfOk-weaker}
-use Rattle.lh_options.specs.Options.{most_snapshots, option_rule}
+use Rattle.lh_options.specs.Options.{text_rule}
 use Rattle.lh_options.proofs.CommandShapes.{option-reads}
 use Rattle.lh_options.proofs.options.drive_command.Goals as goal
 
@@ -12,7 +11,10 @@ returns c =
     let second =
     option-reads _ _ c.option-2.result _ _ c.in_ok-arg-2.ensures c.option-2.ensures.local c.option-2.ensures.rule
     first in
-    IfOk-weaker c.arg-3.result _ _
+    let third =
+    option-reads _ _ c.option-3.result _ _ c.in_ok-arg-3.ensures c.option-3.ensures.local c.option-3.ensures.rule
+    second in
+    IfOk-weaker c.arg-4.result _ _
     (λ m h.
-    option-reads _ m c.option-3.result _ (option_rule (codes "snapshots") (codes "0") 0 most_snapshots) h
-    c.option-3.ensures.local c.option-3.ensures.rule second) c.arg-3.ensures
+    option-reads _ m c.text_flag.result _ text_rule h c.text_flag.ensures.local c.text_flag.ensures.rule third)
+    c.arg-4.ensures

@@ -1,7 +1,7 @@
 use Rattle.std.proofs.Common.{codes}
 use Rattle.std.proofs.lemmas.Result.{IfOk-weaker}
 use Rattle.clap.specs.Words.{new_app}
-use Rattle.lh_options.specs.Options.{keys_rule, needed_file_rule}
+use Rattle.lh_options.specs.Options.{keys_rule, needed_file_rule, text_rule}
 use Rattle.lh_options.specs.OptionSteps.{Reads}
 use Rattle.lh_options.proofs.CommandShapes.{about-reads, example-reads, option-reads}
 use Rattle.lh_options.proofs.options.get_command.Goals as goal
@@ -14,7 +14,10 @@ returns c =
     let first =
     option-reads _ _ c.needed_file_operand.result _ needed_file_rule c.in_ok-arg.ensures
     c.needed_file_operand.ensures.local c.needed_file_operand.ensures.rule start in
-    IfOk-weaker c.arg-2.result _ _
+    let second =
+    option-reads _ _ c.keys_operand.result _ keys_rule c.in_ok-arg-2.ensures c.keys_operand.ensures.local
+    c.keys_operand.ensures.rule first in
+    IfOk-weaker c.arg-3.result _ _
     (λ m h.
-    option-reads _ m c.keys_operand.result _ keys_rule h c.keys_operand.ensures.local c.keys_operand.ensures.rule
-    first) c.arg-2.ensures
+    option-reads _ m c.text_flag.result _ text_rule h c.text_flag.ensures.local c.text_flag.ensures.rule second)
+    c.arg-3.ensures

@@ -16,8 +16,7 @@ returns c =
     subcommand-reads _ _ _ _ draw_app c.in_ok-subcommand-5.ensures fourth c.in_ok-changing_command.ensures in
     let sixth =
     subcommand-reads _ _ _ _ migrate_app c.in_ok-subcommand-6.ensures fifth c.in_ok-changing_command-2.ensures in
-    let seventh =
-    subcommand-reads _ _ _ _ query_app c.in_ok-subcommand-7.ensures sixth c.in_ok-image_command-2.ensures in
+    let seventh = subcommand-reads _ _ _ _ query_app c.in_ok-subcommand-7.ensures sixth c.in_ok-query_command.ensures in
     let eighth =
     subcommand-reads _ _ _ _ apply_app c.in_ok-subcommand-8.ensures seventh c.in_ok-apply_command.ensures in
     let ninth = subcommand-reads _ _ _ _ serve_app c.in_ok-subcommand-9.ensures eighth c.in_ok-serve_command.ensures in

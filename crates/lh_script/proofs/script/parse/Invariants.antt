@@ -6,8 +6,8 @@ use Rattle.lh_script.proofs.script.parse.Given as goal
 
 abbrev pub invariant-loop-rest : goal.invariant-loop-rest
 invariant-loop-rest g l = record {
-  whole : from_line g.S.Statement.reads 1 (lines l.text) ≡
-      after l.statements.items (from_line g.S.Statement.reads l.line (lines l.rest));
+  whole : from_line (g.S.Statement.reads l.notation) 1 (lines l.text) ≡
+      after l.statements.items (from_line (g.S.Statement.reads l.notation) l.line (lines l.rest));
   number : l.line + length l.rest ≤ 16777217;
 }
 

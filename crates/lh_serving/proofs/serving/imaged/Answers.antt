@@ -7,11 +7,11 @@ use Rattle.lh_serving.proofs.CallsServed.{copied}
 use Rattle.lh_serving.proofs.serving.imaged.Goals as goal
 
 pub returns-in-Ok-image_len-clause-ok : goal.returns-in-Ok-image_len-clause-ok
-returns-in-Ok-image_len-clause-ok c = λ n b file h. record {
+returns-in-Ok-image_len-clause-ok c = λ k n b file h. record {
   listing = c.in-Ok.listing;
   listed = copied c.args.world.now n b file c.in-Ok.listing h c.in-Ok.ensures.listed;
   fits = c.in-Ok-image_len.ensures.ok.0;
-  text = ap (λ (k : ℕ). answer_line (Some (answer.Image k)) ++ canonical Two c.in-Ok.listing)
+  text = ap (λ (m : ℕ). answer_line k (Some (answer.Image m)) ++ canonical Two c.in-Ok.listing)
       c.in-Ok-image_len.ensures.ok.1;
 }
 

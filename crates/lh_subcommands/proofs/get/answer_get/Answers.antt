@@ -7,13 +7,13 @@ use Rattle.lh_subcommands.proofs.get.answer_get.Goals as goal
 pub returns-in-Ok : goal.returns-in-Ok
 returns-in-Ok g c =
     let same : c.as_slice.result.now ≡ c.in-Ok.keys.items = search in
-    with_keys (map string_bytes c.args.words.now) c.in-Ok.keys.items _ _ _ _ _ c.in-Ok.ensures
+    with_keys c.args.notation (map string_bytes c.args.words.now) c.in-Ok.keys.items _ _ _ _ _ c.in-Ok.ensures
     (subst
     (λ keys.
     IfSome (g.R.Read.remaining c.args.reader.now)
     (λ input.
-    EndsFound c.get_keys.result (found_of input keys) (g.W.Write.contents c.args.writer.now)
+    EndsFound c.args.notation c.get_keys.result (found_of input keys) (g.W.Write.contents c.args.writer.now)
     (g.W.Write.contents c.get_keys.new.writer))) same c.get_keys.ensures)
 
 pub returns-in-Err : goal.returns-in-Err
-returns-in-Err g c = without_keys (map string_bytes c.args.words.now) _ _ _ c.in-Err.ensures
+returns-in-Err g c = without_keys c.args.notation (map string_bytes c.args.words.now) _ _ _ c.in-Err.ensures

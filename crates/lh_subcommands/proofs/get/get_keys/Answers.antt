@@ -9,14 +9,15 @@ pub returns-in-Ok-find_all : goal.returns-in-Ok-find_all
 returns-in-Ok-find_all g c =
     let same : c.as_slice.result.now ≡ c.in-Ok.bytes.items = search in
     let replies : c.as_slice-in-Ok-find_all.result.now ≡ c.in-Ok-find_all.replies.items = search in
-    found_read c.tell_found.result _ c.in-Ok.bytes.items c.args.keys.now _ _ _ c.in-Ok.ensures
+    found_read c.args.notation c.tell_found.result _ c.in-Ok.bytes.items c.args.keys.now _ _ _ c.in-Ok.ensures
     (ap (λ b. found_of b c.args.keys.now) (sym same) ∙ c.in-Ok-find_all.ensures.ok ∙ ap (λ rs. Ok rs) (sym replies))
     c.tell_found.ensures
 
 pub returns : goal.returns
 returns g c =
     let same : c.as_slice.result.now ≡ c.in-Ok.bytes.items = search in
-    unfound_read c.in-Err.fault c.unreadable.result c.in-Ok.bytes.items c.args.keys.now _ _ c.in-Ok.ensures
+    unfound_read c.args.notation c.in-Err.fault c.unreadable.result c.in-Ok.bytes.items c.args.keys.now _ _
+    c.in-Ok.ensures
     c.unreadable.ensures
     (subst (λ b. (c.in-Err.fault ≡ NoMemory) ⊎ (found_of b c.args.keys.now ≡ Err c.in-Err.fault)) same
     c.in-Err.ensures.err)

@@ -12,12 +12,15 @@ returns-in-Err c =
     let i = c.loop-word.word-index in
     let word = string_bytes c.word-item.result in
     let place : 1 + i ≡ c.len-place.result + 1 = search arith in
-    let is : word_key (1 + i, word) ≡ Err (record { place = c.len-place.result + 1; fault = c.in-Err.fault }) =
-    ap (λ b. key_or (1 + i) (key b)) (sym c.as_bytes.ensures.value) ∙ ap (key_or (1 + i)) (sym c.in-Err.ensures)
+    let is : word_key c.args.notation (1 + i, word)
+    ≡ Err (record { place = c.len-place.result + 1; fault = c.in-Err.fault }) =
+    ap (λ b. key_or (1 + i) (key c.args.notation b)) (sym c.as_bytes.ensures.value)
+    ∙ ap (key_or (1 + i)) (sym c.in-Err.ensures)
     ∙ ap (λ n. Err (record { place = n; fault = c.in-Err.fault })) place in
     inr (
       record { place = c.len-place.result + 1; fault = c.in-Err.fault },
-      made-error word_key (placed_from 1 (map string_bytes c.args.words.now)) i c.loop-word.keys.items (1 + i, word) _
+      made-error (word_key c.args.notation)
+          (placed_from 1 (map string_bytes c.args.words.now)) i c.loop-word.keys.items (1 + i, word) _
           c.loop-word.invariant.made
           (placed-at string_bytes c.args.words.now 1 i c.word-item.result (omega arith) c.word-item.is) is,
       c.refused.ensures,
@@ -28,14 +31,17 @@ loop-word-preserved c =
     let i = c.loop-word.word-index in
     let word = string_bytes c.word-item.result in
     let next : suc i ≡ i + 1 = omega arith in
-    let is : word_key (1 + i, word) ≡ Ok c.in-Ok.key =
-    ap (λ b. key_or (1 + i) (key b)) (sym c.as_bytes.ensures.value) ∙ ap (key_or (1 + i)) (sym c.in-Ok.ensures) in
+    let is : word_key c.args.notation (1 + i, word) ≡ Ok c.in-Ok.key =
+    ap (λ b. key_or (1 + i) (key c.args.notation b)) (sym c.as_bytes.ensures.value)
+    ∙ ap (key_or (1 + i)) (sym c.in-Ok.ensures) in
     record {
       made =
-          subst (λ n. AreMade word_key (placed_from 1 (map string_bytes c.args.words.now)) n c.push.new.self.items) next
-          (subst (AreMade word_key (placed_from 1 (map string_bytes c.args.words.now)) (suc i))
+          subst (λ n. AreMade (word_key c.args.notation)
+          (placed_from 1 (map string_bytes c.args.words.now)) n c.push.new.self.items) next
+          (subst (AreMade (word_key c.args.notation) (placed_from 1 (map string_bytes c.args.words.now)) (suc i))
           (sym c.in-Ok-push.ensures.items)
-          (made-more word_key (placed_from 1 (map string_bytes c.args.words.now)) i c.loop-word.keys.items (1 + i, word)
+          (made-more (word_key c.args.notation)
+          (placed_from 1 (map string_bytes c.args.words.now)) i c.loop-word.keys.items (1 + i, word)
           c.in-Ok.key c.loop-word.invariant.made
           (placed-at string_bytes c.args.words.now 1 i c.word-item.result (omega arith) c.word-item.is) is));
       count = ap length c.in-Ok-push.ensures.items ∙ length-append c.loop-word.keys.items _
@@ -45,5 +51,6 @@ loop-word-preserved c =
 pub returns : goal.returns
 unfolding keys_of
 returns c =
-    made-all word_key (placed_from 1 (map string_bytes c.args.words.now)) _ _ c.loop-word.invariant.made
+    made-all (word_key c.args.notation) (placed_from 1 (map string_bytes c.args.words.now)) _ _
+    c.loop-word.invariant.made
     (placed-end string_bytes c.args.words.now 1 _ (omega arith))

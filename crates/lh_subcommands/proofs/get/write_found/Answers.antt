@@ -11,17 +11,19 @@ use Rattle.lh_subcommands.proofs.get.write_found.Goals as goal
 pub returns-in_err-put_line-clause-err : goal.returns-in_err-put_line-clause-err
 returns-in_err-put_line-clause-err g c =
     on_err c.from_residual.result
-    (begins_found _ _ c.args.replies.now c.loop-reply.reply-index c.reply-item.result (omega arith) c.reply-item.is
-    (c.in_err-put_line.ensures.err (g.W.Write.contents c.args.writer.now) (reply_lines _) c.loop-reply.invariant))
+    (begins_found c.args.notation _ _ c.args.replies.now c.loop-reply.reply-index c.reply-item.result
+    (omega arith) c.reply-item.is
+    (c.in_err-put_line.ensures.err (g.W.Write.contents c.args.writer.now)
+    (reply_lines c.args.notation _) c.loop-reply.invariant))
 
 pub returns : goal.returns
 returns g c =
     let now = g.W.Write.contents c.loop-reply.writer in
     let end = g.W.Write.contents c.write_all.new.writer in
     let sent : Sends (g.W.Write.contents c.args.writer.now) now (string_bytes c.loop-reply.waiting)
-    (found_text c.args.replies.now) =
+    (found_text c.args.notation c.args.replies.now) =
     subst (Sends (g.W.Write.contents c.args.writer.now) now (string_bytes c.loop-reply.waiting))
-    (found_text-all c.args.replies.now c.loop-reply.reply-index (omega arith)) c.loop-reply.invariant in
+    (found_text-all c.args.notation c.args.replies.now c.loop-reply.reply-index (omega arith)) c.loop-reply.invariant in
     record {
       ok =
           on_ok_weaker c.write_all.result

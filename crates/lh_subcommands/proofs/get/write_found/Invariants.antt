@@ -7,4 +7,4 @@ use Rattle.lh_subcommands.proofs.get.write_found.Given as goal
 abbrev pub invariant-loop-reply : goal.invariant-loop-reply
 invariant-loop-reply g l =
     Sends (g.W.Write.contents l.fn.writer) (g.W.Write.contents l.writer) (string_bytes l.waiting)
-    (reply_lines (take l.reply-index l.replies))
+    (reply_lines l.notation (take l.reply-index l.replies))

@@ -9,7 +9,8 @@ returns-in-Ok-write_in g c =
     let led =
     subst (λ (calls : List Call). IsLedTo c.args.config calls c.in-Ok-file_after.listing) c.as_slice.ensures.value
     c.in-Ok-file_after.ensures in
-    built_whole c.args.version c.args.config c.in-Ok.calls.items c.in-Ok-file_after.listing _ _ _ c.in-Ok.ensures led
+    built_whole c.args.notation c.args.version c.args.config c.in-Ok.calls.items c.in-Ok-file_after.listing _ _ _
+    c.in-Ok.ensures led
     c.in-Ok-write_in.ensures
 
 pub returns : goal.returns
@@ -17,6 +18,7 @@ returns g c =
     let led =
     subst (λ (calls : List Call). IsLedTo c.args.config calls c.in-Ok-file_after.listing) c.as_slice.ensures.value
     c.in-Ok-file_after.ensures in
-    built_not c.args.version c.args.config c.in-Ok.calls.items c.in-Ok-file_after.listing c.in-Err-write_in.fault _ _ _
+    built_not c.args.notation c.args.version c.args.config c.in-Ok.calls.items c.in-Ok-file_after.listing
+    c.in-Err-write_in.fault _ _ _
     _
     c.unwritten.ensures c.in-Ok.ensures led c.in-Err-write_in.ensures

@@ -3,8 +3,8 @@ use Rattle.lh_subcommands.proofs.laws.lines_have_room.Goals as goal
 
 pub returns : goal.returns
 returns c = record {
-  replies = reply_fits;
+  replies = reply_fits c.words_are_short.ensures;
   sizes = size_fits;
-  entries = entry_fits;
-  records = record_fits;
+  entries = entry_fits c.words_are_short.ensures;
+  records = record_fits c.words_are_short.ensures;
 }

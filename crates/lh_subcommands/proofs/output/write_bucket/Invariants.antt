@@ -10,4 +10,4 @@ invariant-loop-place g l =
     (before : Option (List ℕ)) (sent : List ℕ) →
     Sends before (g.W.Write.contents l.fn.writer) (string_bytes l.fn.waiting) sent →
     Sends before (g.W.Write.contents l.writer) (string_bytes l.waiting)
-    (sent ++ lines_before l.bucket (list_at l.listing.lists l.bucket) l.place)
+    (sent ++ lines_before l.notation l.bucket (list_at l.listing.lists l.bucket) l.place)

@@ -11,17 +11,19 @@ use Rattle.lh_subcommands.proofs.output.write_entries.Goals as goal
 pub returns-in_err-put_line-clause-err : goal.returns-in_err-put_line-clause-err
 returns-in_err-put_line-clause-err g c =
     on_err c.from_residual.result
-    (begins_steps _ _ c.args.entries.now c.loop-entry.entry-index c.entry-item.result (omega arith) c.entry-item.is
-    (c.in_err-put_line.ensures.err (g.W.Write.contents c.args.writer.now) (entry_lines _) c.loop-entry.invariant))
+    (begins_steps c.args.notation _ _ c.args.entries.now c.loop-entry.entry-index c.entry-item.result
+    (omega arith) c.entry-item.is
+    (c.in_err-put_line.ensures.err (g.W.Write.contents c.args.writer.now)
+    (entry_lines c.args.notation _) c.loop-entry.invariant))
 
 pub returns : goal.returns
 returns g c =
     let now = g.W.Write.contents c.loop-entry.writer in
     let end = g.W.Write.contents c.write_all.new.writer in
     let sent : Sends (g.W.Write.contents c.args.writer.now) now (string_bytes c.loop-entry.waiting)
-    (steps_text c.args.entries.now) =
+    (steps_text c.args.notation c.args.entries.now) =
     subst (Sends (g.W.Write.contents c.args.writer.now) now (string_bytes c.loop-entry.waiting))
-    (steps_text-all c.args.entries.now c.loop-entry.entry-index (omega arith)) c.loop-entry.invariant in
+    (steps_text-all c.args.notation c.args.entries.now c.loop-entry.entry-index (omega arith)) c.loop-entry.invariant in
     record {
       ok =
           on_ok_weaker c.write_all.result

@@ -14,14 +14,14 @@ returns-in_err-write_bucket-clause-err g c =
     let here : c.loop-bucket.bucket < size c.args.listing.now =
     subst (λ (n : ℕ). c.loop-bucket.bucket < n) c.buckets-bucket-end.ensures.value c.loop-bucket-test.true in
     on_err c.from_residual.result
-    (bucket_begins _ _ c.args.listing.now c.loop-bucket.bucket here
+    (bucket_begins c.args.notation _ _ c.args.listing.now c.loop-bucket.bucket here
     (c.in_err-write_bucket.ensures.err (g.W.Write.contents c.args.writer.now) _ c.loop-bucket.invariant))
 
 pub loop-bucket-preserved : goal.loop-bucket-preserved
 loop-bucket-preserved g c =
     let here : c.loop-bucket.bucket < size c.args.listing.now =
     subst (λ (n : ℕ). c.loop-bucket.bucket < n) c.buckets-bucket-end.ensures.value c.loop-bucket-test.true in
-    bucket_follows _ _ _ c.args.listing.now c.loop-bucket.bucket here
+    bucket_follows c.args.notation _ _ _ c.args.listing.now c.loop-bucket.bucket here
     (c.in_ok-write_bucket.ensures.ok (g.W.Write.contents c.args.writer.now) _ c.loop-bucket.invariant)
 
 pub returns : goal.returns
@@ -31,9 +31,9 @@ returns g c =
     let past : size c.args.listing.now ≤ c.loop-bucket.bucket =
     subst (λ (n : ℕ). n ≤ c.loop-bucket.bucket) c.buckets-bucket-end.ensures.value c.loop-bucket-test.false in
     let sent : Sends (g.W.Write.contents c.args.writer.now) now (string_bytes c.loop-bucket.waiting)
-    (dump_text c.args.listing.now) =
+    (dump_text c.args.notation c.args.listing.now) =
     subst (Sends (g.W.Write.contents c.args.writer.now) now (string_bytes c.loop-bucket.waiting))
-    (all_buckets c.args.listing.now c.loop-bucket.bucket past) c.loop-bucket.invariant in
+    (all_buckets c.args.notation c.args.listing.now c.loop-bucket.bucket past) c.loop-bucket.invariant in
     record {
       ok =
           on_ok_weaker c.write_all.result

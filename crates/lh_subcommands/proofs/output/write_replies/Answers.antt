@@ -11,26 +11,30 @@ use Rattle.lh_subcommands.proofs.output.write_replies.Goals as goal
 pub returns-in_err-put_line-clause-err : goal.returns-in_err-put_line-clause-err
 returns-in_err-put_line-clause-err g c =
     on_err c.from_residual.result
-    (begins_commands _ _ c.args.replies.now c.loop-reply.reply-index c.reply-item.result c.args.buckets (omega arith)
+    (begins_commands c.args.notation _ _ c.args.replies.now c.loop-reply.reply-index c.reply-item.result c.args.buckets
+    (omega arith)
     c.reply-item.is
-    (c.in_err-put_line.ensures.err (g.W.Write.contents c.args.writer.now) (reply_lines _) c.loop-reply.invariant))
+    (c.in_err-put_line.ensures.err (g.W.Write.contents c.args.writer.now)
+    (reply_lines c.args.notation _) c.loop-reply.invariant))
 
 pub returns-in_err-put_line-2-clause-err : goal.returns-in_err-put_line-2-clause-err
 returns-in_err-put_line-2-clause-err g c =
     on_err c.from_residual-in_err-put_line-2.result
     (subst (TakesBeginning (g.W.Write.contents c.args.writer.now) (g.W.Write.contents c.put_line-2.new.writer))
-    (commands_text-all c.args.replies.now c.loop-reply.reply-index c.args.buckets (omega arith))
-    (c.in_err-put_line-2.ensures.err (g.W.Write.contents c.args.writer.now) (reply_lines _) c.loop-reply.invariant))
+    (commands_text-all c.args.notation c.args.replies.now c.loop-reply.reply-index c.args.buckets (omega arith))
+    (c.in_err-put_line-2.ensures.err (g.W.Write.contents c.args.writer.now)
+    (reply_lines c.args.notation _) c.loop-reply.invariant))
 
 pub returns : goal.returns
 returns g c =
     let now = g.W.Write.contents c.put_line-2.new.writer in
     let end = g.W.Write.contents c.write_all.new.writer in
     let sent : Sends (g.W.Write.contents c.args.writer.now) now (string_bytes c.put_line-2.new.waiting)
-    (commands_text c.args.replies.now c.args.buckets) =
+    (commands_text c.args.notation c.args.replies.now c.args.buckets) =
     subst (Sends (g.W.Write.contents c.args.writer.now) now (string_bytes c.put_line-2.new.waiting))
-    (commands_text-all c.args.replies.now c.loop-reply.reply-index c.args.buckets (omega arith))
-    (c.in_ok-put_line-2.ensures.ok (g.W.Write.contents c.args.writer.now) (reply_lines _) c.loop-reply.invariant) in
+    (commands_text-all c.args.notation c.args.replies.now c.loop-reply.reply-index c.args.buckets (omega arith))
+    (c.in_ok-put_line-2.ensures.ok (g.W.Write.contents c.args.writer.now)
+    (reply_lines c.args.notation _) c.loop-reply.invariant) in
     record {
       ok =
           on_ok_weaker c.write_all.result

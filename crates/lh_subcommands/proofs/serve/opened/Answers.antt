@@ -6,4 +6,5 @@ returns-in-Err-clause-err g c = not_opened c.in-Err.fault _ _ c.unreadable.ensur
 
 pub returns-in-Ok-open_from-clause-ok : goal.returns-in-Ok-open_from-clause-ok
 returns-in-Ok-open_from-clause-ok g c =
-    is_opened c.in-Ok.listing _ _ c.in-Ok.ensures.exact c.in-Ok-open_from.ensures.begun
+    is_opened c.args.notation c.args.is_terminal c.in-Ok.listing _ _ c.in-Ok.ensures.exact
+    c.in-Ok-open_from.ensures.begun

@@ -20,7 +20,7 @@ fn ran_on(
 ) -> Result<(u8, Vec<u8>, String), Fail> {
     let (mut file, mut source) = (file, input);
     let mut output = Vec::new(rt.alloc());
-    let status = run_on(rt, words, &mut file, &mut source, &mut output);
+    let status = run_on(rt, words, false, &mut file, &mut source, &mut output);
     Ok((status.code(), output, status.to_string(rt.alloc())?))
 }
 
