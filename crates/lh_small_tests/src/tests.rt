@@ -1,5 +1,6 @@
-//! Files of small records, untraced and traced: eight threads, a snapshot, and where memory is refused.
+//! Files of small records, untraced and traced: eight threads, a snapshot, where memory is refused, and records of two bytes.
 mod crowd;
 mod made;
 mod memory;
+mod narrow;
 mod snapshot;

@@ -1,18 +1,20 @@
 //! Files that are opened from a listing.
+ghost use Rattle.lh_file.specs.FileState.{IsOf};
 
-use super::tasks::{Task, Told};
 use super::turns::{Ended, Turn, play_in_turn};
 use lh_addr::Config;
 use lh_bucket::Listing;
 use lh_expect::{expect, expect_eq};
-use lh_file::Right;
+use lh_file::{Hand, HashFile, Load, NoGate, Right};
 use lh_page::{Key, Pair, Value};
+use lh_stage::{Task, Told};
 use std::alloc::Global;
+use std::process::Abort;
 use std::sync::Wait;
 use std::test::Fail;
 
 /// A record of each letter, in their order, with a 1 as its value.
-pub(crate) fn records(alloc: Global, letters: &[u8]) -> Result<Vec<Pair>, Fail> {
+fn records(alloc: Global, letters: &[u8]) -> Result<Vec<Pair>, Fail> {
     let mut pairs = Vec::new(alloc);
     for &letter in letters {
         pairs.push(Pair {
@@ -23,13 +25,19 @@ pub(crate) fn records(alloc: Global, letters: &[u8]) -> Result<Vec<Pair>, Fail> 
     Ok(pairs)
 }
 
+/// Lists of the records of these letters.
+fn lists_of(alloc: Global, buckets: &[&[u8]]) -> Result<Vec<Vec<Pair>>, Fail> {
+    let mut lists = Vec::new(alloc);
+    for letters in buckets {
+        lists.push(records(alloc, letters)?)?;
+    }
+    Ok(lists)
+}
+
 /// Five records in three buckets.
 fn growth_example(alloc: Global) -> Result<Listing, Fail> {
-    let mut lists = Vec::new(alloc);
-    lists.push(records(alloc, b"ae")?)?;
-    lists.push(records(alloc, b"bd")?)?;
-    lists.push(records(alloc, b"c")?)?;
-    Ok(Listing::new(alloc, Config::new(1, 2, 100, 65536)?, 3, lists)?)
+    let config = Config::new(1, 2, 100, 65536)?;
+    Ok(Listing::new(alloc, config, 3, lists_of(alloc, &[b"ae", b"bd", b"c"])?)?)
 }
 
 /// Whether a bucket of a listing has just these letters, in their order.
@@ -80,6 +88,40 @@ fn an_opened_file_is_listed(rt: HostRuntime) -> Result<(), Fail> {
         &rt,
         has_letters(&after, 2, b"cg") && has_letters(&after, 3, b"d")
     );
+    Ok(())
+}
+
+/// The records of seven letters in five buckets of a file that began with three.
+fn seven_letters(alloc: Global) -> Result<Listing, Fail> {
+    let config = Config::new(3, 14, 100, 65536)?;
+    let lists = lists_of(alloc, &[b"ce", b"bd", b"g", b"f", b"a"])?;
+    Ok(Listing::new(alloc, config, 5, lists)?)
+}
+
+/// A file has the five buckets and the seven records that it was opened with, and is split next where it was to be.
+fn expect_opened(rt: &impl Abort, file: &HashFile<NoGate>, hand: &mut Hand)
+    requires { IsOf file.now.state hand.old }
+{
+    expect_eq!(rt, file.buckets(hand), 5);
+    expect_eq!(rt, (hand.left(), hand.has_right()), (1 << 63, false));
+    let load = Load {
+        opening: 7,
+        inserted: 0,
+        deleted: 0,
+    };
+    expect_eq!(rt; file.load(hand), load);
+    expect_eq!(
+        rt,
+        file.try_split_right(hand),
+        Right::Got { old: 2, new: 5 }
+    );
+}
+
+#[test]
+fn a_file_opens_as_it_was(rt: HostRuntime) -> Result<(), Fail> {
+    let listing = seven_letters(rt.alloc())?;
+    let (file, mut hand) = HashFile::open_from(rt.alloc(), &listing, false, NoGate)?;
+    expect_opened(&rt, &file, &mut hand);
     Ok(())
 }
 

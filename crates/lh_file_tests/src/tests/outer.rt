@@ -1,11 +1,11 @@
 //! The calls of a file, one hand after another.
 
-use super::tasks::{BUSY, FIRST_RIGHT, FOURTH_RIGHT, SECOND_RIGHT, THIRD_RIGHT, Task, Told};
 use super::turns::{Turn, perform_in_turn, play_in_turn};
 use lh_addr::Config;
 use lh_bucket::Listing;
 use lh_expect::expect_eq;
 use lh_file::{FileFault, HashFile, NoGate, Right, SettleFault};
+use lh_stage::{BUSY, FIRST_RIGHT, FOURTH_RIGHT, SECOND_RIGHT, THIRD_RIGHT, Task, Told};
 use std::test::Fail;
 
 const SEEN_BY_BOTH: [Turn; 8] = [

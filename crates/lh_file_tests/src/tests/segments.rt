@@ -2,13 +2,12 @@
 ghost use Rattle.std.specs.Prelude.{◌≡◌, IfOk, IfSome};
 ghost use Rattle.lh_file.specs.FileState.{IsOf};
 
-use super::made::{made, split_once};
-use super::tasks::{FIRST_RIGHT, SECOND_RIGHT, THIRD_RIGHT, Task, Told};
 use super::turns::{Turn, perform_in_turn};
 use lh_addr::Config;
 use lh_bucket::Listing;
 use lh_expect::{expect, expect_eq};
 use lh_file::{Hand, HashFile, Memory, NoGate, Segment, parts};
+use lh_stage::{FIRST_RIGHT, SECOND_RIGHT, THIRD_RIGHT, Task, Told, made, split_once};
 use std::alloc::Global;
 use std::sync::Wait;
 use std::test::Fail;

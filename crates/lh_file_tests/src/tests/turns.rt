@@ -1,14 +1,11 @@
 //! Two hands that take turns in one thread, and the file that is settled after it.
 ghost use Rattle.lh_file.specs.FileState.{IsOf};
 
-use super::made::second_of;
-use super::play::closed;
-use super::stage::Progress;
-use super::tasks::{Task, Told, one};
 use lh_addr::Config;
 use lh_bucket::Listing;
 use lh_expect::expect_eq;
 use lh_file::{Acts, Closed, Gate, Hand, HashFile, NoGate, SettleFault, settle};
+use lh_stage::{Progress, Task, Told, closed, one, second_of};
 use std::alloc::Global;
 use std::process::Abort;
 use std::sync::Wait;

@@ -1,5 +1,0 @@
-use Rattle.lh_file.specs.FileState.{IsOf}
-use Rattle.lh_file_tests.proofs.tests.atomic.added_nine.Given as goal
-
-abbrev pub invariant-loop-number : goal.invariant-loop-number
-invariant-loop-number g l = IsOf l.file.state l.hand

@@ -1,5 +1,0 @@
-use Rattle.lh_file.specs.FileState.{IsOf}
-use Rattle.lh_file_tests.proofs.tests.crew.add.Given as goal
-
-abbrev pub invariant-loop-letter : goal.invariant-loop-letter
-invariant-loop-letter g l = IsOf l.file.state l.hand

@@ -1,5 +1,0 @@
-use Rattle.lh_file.specs.FileState.{IsOf}
-use Rattle.lh_file_tests.proofs.tests.crowd.share.Given as goal
-
-abbrev pub invariant-loop-turn : goal.invariant-loop-turn
-invariant-loop-turn g l = IsOf l.file.state l.hand
