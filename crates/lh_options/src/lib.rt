@@ -7,6 +7,7 @@
 //! ```
 #![tactic(auto)]
 
+mod app;
 mod dump_format;
 mod escapes;
 mod help;

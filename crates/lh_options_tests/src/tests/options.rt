@@ -54,20 +54,22 @@ fn answer(rt: &(impl Abort + AllocGlobal), words: &[&str]) -> Result<String, All
             let keys = keys.as_slice();
             format!(in alloc; "get {keys:?}")
         }
-        Request::Help(text) => {
-            expect!(
-                rt,
-                text.as_str().starts_with("Usage: lhash")
-                    || text.as_str().contains("\nUsage: lhash")
-            );
-            String::from_str(alloc, "help")
-        }
+        Request::Help(text) => help(rt, text.as_str()),
         Request::Refused(text) => format!(in alloc; "refused: {text}"),
         Request::ServeImage => String::from_str(alloc, "serve, from an image"),
         Request::MaxBelowInitial => String::from_str(alloc, "max is below initial"),
         Request::SettingsBesideImage => String::from_str(alloc, "settings beside an image"),
         Request::SnapshotsOfShards => String::from_str(alloc, "snapshots of shards"),
     }
+}
+
+/// What stands in the place of a text for help, which shows the usage.
+fn help(rt: &(impl Abort + AllocGlobal), text: &str) -> Result<String, AllocError> {
+    expect!(
+        rt,
+        text.starts_with("Usage: lhash") || text.contains("\nUsage: lhash")
+    );
+    String::from_str(rt.alloc(), "help")
 }
 
 fn text_of(version: ImageVersion) -> &'static str {
