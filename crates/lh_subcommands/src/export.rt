@@ -1,11 +1,11 @@
 //! The subcommand `dump` in the formats of other stores.
 ghost use Rattle.std.specs.Prelude.{◌≡◌, ◌+◌, ◌<◌, ◌≤◌, ℕ, List, Option, [], flat_map, IfOk, IfSome, OnErr, OnOk};
-ghost use Rattle.std.specs.Prelude.{vec_capacity};
+ghost use Rattle.std.specs.Prelude.{length, vec_capacity};
 ghost use Rattle.std.specs.Io.KnownBytes.{Appends};
 ghost use Rattle.lh_bucket.specs.Listing.{list_at, size};
 ghost use Rattle.lh_exchange.specs.StreamTexts.{longest_exchanged, pair_text};
 ghost use Rattle.lh_subcommands.specs.Devices.{Adds, Breaks, Sends, TakesBeginning, written_at_once};
-ghost use Rattle.lh_subcommands.specs.Exporting.{export_due, exported_text};
+ghost use Rattle.lh_subcommands.specs.Exporting.{HasRecordRoom, export_due, exported_text};
 ghost use Rattle.lh_subcommands.specs.Run.{Ends};
 
 use crate::device::write_all;
@@ -13,6 +13,7 @@ use crate::input::unreadable;
 use crate::output::CHUNK;
 use crate::status::{DeviceFault, Status};
 use lh_bucket::Listing;
+use lh_exchange::laws::records_have_room;
 use lh_exchange::{LONGEST_RECORD, StreamFormat, head, tail, write_record};
 use lh_image::{WriteFailed, read_image};
 use std::alloc::{AllocError, Global};
@@ -35,6 +36,8 @@ fn send_enough<W: Write>(writer: &mut W, waiting: &mut Vec<u8>) -> Result<(), Wr
     ensures err { (before : Option (List ℕ)) (text : List ℕ) →
         Sends before (W.contents writer.old) waiting.old.items text →
         OnErr result (TakesBeginning before (W.contents writer.new) text) }
+    ensures few { OnOk result (length waiting.new.items < written_at_once) }
+    ensures room { vec_capacity waiting.new ≡ vec_capacity waiting.old }
 {
     if waiting.len() >= CHUNK {
         write_all(writer, waiting.as_slice())?;
@@ -43,20 +46,23 @@ fn send_enough<W: Write>(writer: &mut W, waiting: &mut Vec<u8>) -> Result<(), Wr
     Ok(())
 }
 
-/// Adds bytes to those that wait, and writes these where they are enough. Bytes without room count as a failed write;
-/// with that of [`room`] there are none.
+/// Adds bytes, no more than a record has, to those that wait, and writes these where they are enough.
 fn put_bytes<W: Write>(
     writer: &mut W,
     waiting: &mut Vec<u8>,
     bytes: &[u8],
 ) -> Result<(), WriteFailed>
+    requires room { HasRecordRoom waiting.old }
+    requires short { length bytes.now ≤ longest_exchanged }
+    ensures room { OnOk result (HasRecordRoom waiting.new) }
     ensures ok { Adds result (W.contents writer.old) (W.contents writer.new) waiting.old.items waiting.new.items
         bytes.now }
     ensures err { Breaks result (W.contents writer.old) (W.contents writer.new) waiting.old.items bytes.now }
 {
-    if waiting.extend_from_slice(bytes).is_err() {
-        return Err(WriteFailed);
-    }
+    let Ok(()) = waiting.extend_from_slice(bytes) else {
+        // There is room for a record more than what waits.
+        unreachable!()
+    };
     send_enough(writer, waiting)
 }
 
@@ -68,12 +74,16 @@ fn write_pairs<W: Write>(
     listing: &Listing,
     bucket: u32,
 ) -> Result<(), WriteFailed>
-    requires { bucket < size listing.now }
+    requires bucket { bucket < size listing.now }
+    requires room { HasRecordRoom waiting.old }
+    ensures room { OnOk result (HasRecordRoom waiting.new) }
     ensures ok { Adds result (W.contents writer.old) (W.contents writer.new) waiting.old.items waiting.new.items
         (flat_map (pair_text format) (list_at listing.now.lists bucket)) }
     ensures err { Breaks result (W.contents writer.old) (W.contents writer.new) waiting.old.items
         (flat_map (pair_text format) (list_at listing.now.lists bucket)) }
 {
+    // No record is longer than the room that is kept for one.
+    records_have_room();
     let mut room = [0; LONGEST_RECORD];
     for place in 0..listing.len_of(bucket) {
         let pair = listing.pair_at(bucket, place);
@@ -89,7 +99,8 @@ fn write_stream<W: Write>(
     format: StreamFormat,
     listing: &Listing,
 ) -> Result<(), WriteFailed>
-    requires { waiting.old.items ≡ [] }
+    requires empty { waiting.old.items ≡ [] }
+    requires room { written_at_once + longest_exchanged ≤ vec_capacity waiting.old }
     ensures ok { OnOk result (Appends (W.contents writer.old) (W.contents writer.new)
         (exported_text format listing.now)) }
     ensures err { OnErr result (TakesBeginning (W.contents writer.old) (W.contents writer.new)

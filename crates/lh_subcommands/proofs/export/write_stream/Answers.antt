@@ -16,15 +16,17 @@ returns-in_err-put_bytes-clause-err g c =
     (begins_head c.args.format c.args.listing.now _ _
     (subst (TakesBeginning (g.W.Write.contents c.args.writer.now) (g.W.Write.contents c.put_bytes.new.writer))
     c.head.ensures
-    (c.in_err-put_bytes.ensures.err _ [] (sends_nothing _ _ c.requires))))
+    (c.in_err-put_bytes.ensures.err _ [] (sends_nothing _ _ c.requires.empty))))
 
 pub loop-bucket-init : goal.loop-bucket-init
-loop-bucket-init g c =
-    subst
-    (Sends (g.W.Write.contents c.args.writer.now) (g.W.Write.contents c.put_bytes.new.writer)
-    c.put_bytes.new.waiting.items)
-    (c.head.ensures ∙ sym (append-nil (leading_text c.args.format)))
-    (c.in_ok-put_bytes.ensures.ok _ [] (sends_nothing _ _ c.requires))
+loop-bucket-init g c = (
+  c.in_ok-put_bytes.ensures.room,
+  subst
+      (Sends (g.W.Write.contents c.args.writer.now) (g.W.Write.contents c.put_bytes.new.writer)
+      c.put_bytes.new.waiting.items)
+      (c.head.ensures ∙ sym (append-nil (leading_text c.args.format)))
+      (c.in_ok-put_bytes.ensures.ok _ [] (sends_nothing _ _ c.requires.empty)),
+)
 
 pub returns-in_err-write_pairs-clause-err : goal.returns-in_err-write_pairs-clause-err
 returns-in_err-write_pairs-clause-err g c =
@@ -34,15 +36,17 @@ returns-in_err-write_pairs-clause-err g c =
     (begins_records c.args.format c.args.listing.now _ _
     (text_begins (chain_stream c.args.format c.args.listing.now) _ _ (leading_text c.args.format) c.args.listing.now
     c.loop-bucket.bucket here
-    (c.in_err-write_pairs.ensures.err (g.W.Write.contents c.args.writer.now) _ c.loop-bucket.invariant)))
+    (c.in_err-write_pairs.ensures.err (g.W.Write.contents c.args.writer.now) _ c.loop-bucket.invariant.1)))
 
 pub loop-bucket-preserved : goal.loop-bucket-preserved
 loop-bucket-preserved g c =
     let here : c.loop-bucket.bucket < size c.args.listing.now =
-    subst (λ (n : ℕ). c.loop-bucket.bucket < n) c.buckets-bucket-end.ensures.value c.loop-bucket-test.true in
-    text_follows (chain_stream c.args.format c.args.listing.now) _ _ _ (leading_text c.args.format) c.args.listing.now
-    c.loop-bucket.bucket here
-    (c.in_ok-write_pairs.ensures.ok (g.W.Write.contents c.args.writer.now) _ c.loop-bucket.invariant)
+    subst (λ (n : ℕ). c.loop-bucket.bucket < n) c.buckets-bucket-end.ensures.value c.loop-bucket-test.true in (
+      c.in_ok-write_pairs.ensures.room,
+      text_follows (chain_stream c.args.format c.args.listing.now) _ _ _ (leading_text c.args.format) c.args.listing.now
+          c.loop-bucket.bucket here
+          (c.in_ok-write_pairs.ensures.ok (g.W.Write.contents c.args.writer.now) _ c.loop-bucket.invariant.1),
+    )
 
 pub returns-in_err-put_bytes-2-clause-err : goal.returns-in_err-put_bytes-2-clause-err
 returns-in_err-put_bytes-2-clause-err g c =
@@ -53,7 +57,7 @@ returns-in_err-put_bytes-2-clause-err g c =
     on_err c.from_residual-in_err-put_bytes-2.result
     (subst (TakesBeginning (g.W.Write.contents c.args.writer.now) (g.W.Write.contents c.put_bytes-2.new.writer))
     (stream_whole format l c.loop-bucket.bucket _ past c.tail.ensures)
-    (c.in_err-put_bytes-2.ensures.err (g.W.Write.contents c.args.writer.now) _ c.loop-bucket.invariant))
+    (c.in_err-put_bytes-2.ensures.err (g.W.Write.contents c.args.writer.now) _ c.loop-bucket.invariant.1))
 
 pub returns-clause-ok : goal.returns-clause-ok
 returns-clause-ok g c =
@@ -67,7 +71,7 @@ returns-clause-ok g c =
     let sent : Sends start now c.put_bytes-2.new.waiting.items (exported_text format l) =
     subst (Sends start now c.put_bytes-2.new.waiting.items)
     (stream_whole format l c.loop-bucket.bucket _ past c.tail.ensures)
-    (c.in_ok-put_bytes-2.ensures.ok start _ c.loop-bucket.invariant) in
+    (c.in_ok-put_bytes-2.ensures.ok start _ c.loop-bucket.invariant.1) in
     on_ok_weaker c.write_all.result
     (λ written. sends_all _ _ _ _ _ sent (subst (Appends now end) c.as_slice.ensures.value written))
     c.write_all.ensures.ok
@@ -84,7 +88,7 @@ returns-clause-err g c =
     let sent : Sends start now c.put_bytes-2.new.waiting.items (exported_text format l) =
     subst (Sends start now c.put_bytes-2.new.waiting.items)
     (stream_whole format l c.loop-bucket.bucket _ past c.tail.ensures)
-    (c.in_ok-put_bytes-2.ensures.ok start _ c.loop-bucket.invariant) in
+    (c.in_ok-put_bytes-2.ensures.ok start _ c.loop-bucket.invariant.1) in
     on_err_weaker c.write_all.result
     (λ written. stops_within _ _ _ _ _ sent (subst (TakesBeginning now end) c.as_slice.ensures.value written))
     c.write_all.ensures.err

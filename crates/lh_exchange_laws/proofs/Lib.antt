@@ -1,0 +1,5 @@
+pub mod AddedRecords
+pub mod ListedRecords
+pub mod LoadedRecords
+pub mod ReadBytes
+pub mod SameRecords
