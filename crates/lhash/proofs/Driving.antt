@@ -30,7 +30,7 @@ use Rattle.lh_script.specs.Scripts.{script}
 use Rattle.lhash.specs.declared.drive.DriveFault.{DriveFault}
 use Rattle.lhash.specs.declared.drive.DriveFault.TheVariants.{Settle, Call, Thread, Memory}
 use Rattle.lhash.specs.declared.driven.Driven.{Driven}
-use Rattle.lhash.specs.Workers.{HasTakenOne}
+use Rattle.lhash.specs.Crew.{HasTakenOne}
 use Rattle.lh_subcommands.specs.declared.status.DeviceFault.TheVariants.{Read, Write}
 use Rattle.lh_subcommands.specs.declared.status.InputFault.TheVariants.{Script, Image, Load, Unwritten}
 use Rattle.lh_subcommands.specs.declared.status.Status.{Status}

@@ -1,5 +1,6 @@
 pub mod Counting
 pub mod Driving
+pub mod HandCalls
 pub mod Looking
 pub mod Merges
 pub mod Places

@@ -11,7 +11,7 @@ use Rattle.lh_file.specs.Snapshots.Hands.{HasSurveyed}
 use Rattle.lh_file.specs.Snapshots.Moments.{IsSnapshot}
 use Rattle.lh_file.specs.Words.HandState.{HandState, IsJoined, knowing, told_of}
 use Rattle.lh_words.specs.declared.seat_view.Entry.{Entry}
-use Rattle.lhash.specs.Workers.{HasLookedOn, HasTakenOne, KnowsOf}
+use Rattle.lhash.specs.Crew.{HasLookedOn, HasTakenOne, KnowsOf}
 
 -- a hand that was told of more forgets nothing
 knows_more : (old new : HandState) (more : List (List Entry)) → new.logs ≡ old.logs ++ more → KnowsOf old new
@@ -28,11 +28,12 @@ joined_knows first second new j = (
 
 -- one that has looked on, and again
 looked : (file : FileState) (first old new same : HandState) → new ≡ same → same.entries ≡ old.entries →
-    same.acts ≡ old.acts →
+    same.view.has_right ≡ old.view.has_right → same.acts ≡ old.acts →
     share_of same ≡ share_of old → KnowsOf old same → IsOf file new → HasLookedOn file first old →
     HasLookedOn file first new
-looked file first old new same is entries acts share knows of k = record {
+looked file first old new same is entries right acts share knows of k = record {
   own = record { of = of; own = subst NoneOutside (sym (ap (λ (h : HandState). h.entries) is ∙ entries)) k.own.own };
+  right = ap (λ (h : HandState). h.view.has_right) is ∙ right ∙ k.right;
   acts = ap (λ (h : HandState). h.acts) is ∙ acts ∙ k.acts;
   share = ap share_of is ∙ share ∙ k.share;
   knows = λ log in_first. subst (λ (h : HandState). Contains h.logs log) (sym is) (knows log (k.knows log in_first));
@@ -40,7 +41,13 @@ looked file first old new same is entries acts share knows of k = record {
 
 -- a hand that is its file's own, and has done nothing since, has looked on
 pub looked_first : (file : FileState) (hand : HandState) → IsOwn file hand → HasLookedOn file hand hand
-looked_first file hand own = record { own = own; acts = refl; share = refl; knows = λ log there. there }
+looked_first file hand own = record {
+  own = own;
+  right = refl;
+  acts = refl;
+  share = refl;
+  knows = λ log there. there;
+}
 
 -- a hand that has looked on, and then was told of a log, has looked on
 pub looked_told : (file : FileState) (first old new : HandState) (count : ℕ) (log : List Entry) →
@@ -53,7 +60,7 @@ looked_told file first old new count log is k =
       max = k.own.of.max;
       recording = k.own.of.recording;
     } in
-    looked file first old new (told_of old count log) is refl refl refl
+    looked file first old new (told_of old count log) is refl refl refl refl
     (knows_more old (told_of old count log) (log ∷ []) refl) (subst (IsOf file) (sym is) of) k
 
 -- so has one that then looked at the records of the file
@@ -61,8 +68,8 @@ pub looked_surveyed : (file : FileState) (first old new : HandState) → HasSurv
     HasLookedOn file first old → HasLookedOn file first new
 looked_surveyed file first old new h of k =
     elim h.told [
-      | inl is ↦ looked file first old new (knowing old h.known) is refl refl refl (λ log there. there) of k
-      | inr told ↦ looked file first old new (told_of (knowing old h.known) told.0 told.1) told.3 refl refl refl
+      | inl is ↦ looked file first old new (knowing old h.known) is refl refl refl refl (λ log there. there) of k
+      | inr told ↦ looked file first old new (told_of (knowing old h.known) told.0 told.1) told.3 refl refl refl refl
           (knows_more old (told_of (knowing old h.known) told.0 told.1) (told.1 ∷ []) refl) of k
     ]
 
@@ -72,6 +79,7 @@ pub looked_again : (file : FileState) (first old new : HandState) → HasLookedO
 looked_again file first old new h k =
     record {
       own = h.own;
+      right = h.right ∙ k.right;
       acts = h.acts ∙ k.acts;
       share = h.share ∙ k.share;
       knows = λ log there. h.knows log (k.knows log there);

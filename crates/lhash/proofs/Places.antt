@@ -5,7 +5,7 @@ use Rattle.std.specs.Int.{div_ceil}
 use Rattle.std.proofs.lemmas.Bool.{cases_lt, cases_order}
 use Rattle.std.proofs.lemmas.Grind.{div_ceil_times}
 use Rattle.std.proofs.lemmas.Nat.{row_fits, mod_below}
-use Rattle.lhash.specs.Workers.{places_from}
+use Rattle.lhash.specs.Crew.{places_from}
 
 row_more : (a b : ℕ) → (a + 1) * b ≡ a * b + b
 row_more a b = omega (arith, add-mul a 1 b)
@@ -87,3 +87,14 @@ places_before-all step count some =
 pub places_before-within : (first step count : ℕ) → 0 < step → first ≤ step → places_before first step count ≤ count
 places_before-within first step count some within =
     omega (arith, mul-le-mul_right (count / step) within, places_before-all step count some)
+
+-- where the places from each of the first ones on were dealt of so many, which there are at most, what is left has room
+-- for those from the next one on
+pub places_before-left : (first step count left most : ℕ) → first < step → count ≤ most →
+    left + places_before first step count ≡ most →
+    (left ≡ left - places_from first step count + places_from first step count)
+    × (left - places_from first step count + places_before (first + 1) step count ≡ most)
+places_before-left first step count left most within few kept =
+    let more = places_before-more first step count within in
+    let all = places_before-within (first + 1) step count (omega arith) (omega arith) in
+    (omega (arith, kept, more, all, few), omega (arith, kept, more, all, few))

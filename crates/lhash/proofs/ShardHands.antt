@@ -1,29 +1,22 @@
 -- How many acts hands of all shards keep, and how many calls each may make, when one makes a call, and when they are
 -- divided, joined and closed
-use Rattle.std.proofs.Common.{zero, suc, ◌≡◌, ℕ, ◌+◌, ◌-◌, ◌^◌, ◌<◌, ◌≤◌, ◌⊎◌, true, false, List, [], ◌∷◌, ◌++◌, All}
+use Rattle.std.proofs.Common.{zero, suc, ◌≡◌, ◌≢◌, ℕ, ◌+◌, ◌^◌, ◌<◌, ◌≤◌, true, false, List, [], ◌∷◌, All, arith}
 use Rattle.std.proofs.Common.{length, length-append, set, get_or, Result, Some, Ok, Err, refl, sym, ap, ◌∙◌, subst}
-use Rattle.std.proofs.Common.{◌≢◌, inl, inr, ⊎_elim, arith}
 use Rattle.std.specs.Prelude.{IfErr, IfOk, OnOk, replicate, sum_by, slice_get}
-use Rattle.std.proofs.lemmas.List.{length_push}
-use Rattle.std.proofs.lemmas.List.Sums.{sum_by-cons, sum_by-set}
+use Rattle.std.proofs.lemmas.List.Sums.{get_or-le-sum_by, sum_by-cons, sum_by-set}
 use Rattle.std.proofs.lemmas.Option.{get_or_from_slice_get, same_Some, slice_get-get_or, slice_get_within}
 use Rattle.lh_addr.specs.Settings.{Settings}
 use Rattle.lh_bucket.specs.Answer.{Answered}
 use Rattle.lh_bucket.specs.Listing.{Lists, list_at}
 use Rattle.lh_bucket.specs.declared.call.Call.{Call}
-use Rattle.lh_bucket.specs.declared.call.Reply.{Reply}
 use Rattle.lh_settling.specs.Settled.{Settled}
-use Rattle.lh_settling.specs.declared.act.ActLine.{ActLine}
-use Rattle.lh_file.specs.Calls.Served.{HasServed, IsNotSpent, Serves}
-use Rattle.lh_file.specs.Closing.{NoneOutside}
+use Rattle.lh_file.specs.Calls.Served.{IsNotSpent, Serves}
 use Rattle.lh_file.specs.FileState.{FileState}
 use Rattle.lh_words.specs.History.Log.{lines_of}
 use Rattle.lh_file.specs.History.Own.{ServedLaw}
 use Rattle.lh_file.specs.History.Entered.{HasEntered}
 use Rattle.lh_file.specs.Words.HandState.{HandState, IsBranch}
-use Rattle.lh_file.specs.Words.Recording.{kept_of}
 use Rattle.lh_file.specs.declared.fault.FileFault.{FileFault}
-use Rattle.lh_words.specs.declared.view.View.{View}
 use Rattle.lh_shards.specs.Closing.{AreClosedBy}
 use Rattle.lh_shards.specs.Dividing.{AllHave, EachPair, HasGiven}
 use Rattle.lh_shards.specs.Hands.{AreOf, AtShardOf, IsCount}
@@ -31,14 +24,14 @@ use Rattle.lh_shards.specs.Joining.{AreJoinedByShard}
 use Rattle.lh_shards.specs.Number.{home_of}
 use Rattle.lh_shards.specs.OpenFault.{IsOpenFault}
 use Rattle.lh_shards.specs.Openings.{AreBegun, AreTraced}
-use Rattle.lh_shards.specs.Own.{AllShare, AreOwn, CalledLaw, SameLaw}
+use Rattle.lh_shards.specs.Own.{AreOwn, CalledLaw, HandsDividedLaw, HandsJoinedLaw, SameLaw}
 use Rattle.lh_shards.specs.declared.closed_shard.ClosedShard.{ClosedShard}
 use Rattle.lh_shards.specs.declared.fault.OpenFault.{OpenFault}
 use Rattle.lh_shards.specs.declared.fault.OpenFault.TheVariants as open_fault
+use Rattle.lhash.proofs.HandCalls.{opened_calls as opened_one, served_one}
 use Rattle.lhash.specs.Driving.{empty_file}
 use Rattle.lhash.specs.DrivingShards.{AreShardsOf, IsSettledWhole, acts_in, empty_files}
-use Rattle.lhash.specs.ShardWorkers.{AreKept, AreLessened, ArePartOf, AreRecording, HaveMadeAll, HaveMadeOne, acts_of}
-use Rattle.lhash.specs.declared.drive.DriveFault.{DriveFault}
+use Rattle.lhash.specs.Crew.{AreRecording, HaveCalls, acts_of}
 
 abbrev kept : HandState → ℕ
 kept hand = length hand.acts
@@ -48,15 +41,6 @@ pub there : {X : Type 0} (xs : List X) (i : ℕ) → i < length xs → (x : X) �
 there [] i lt = absurd (omega arith)
 there (x ∷ xs) zero lt = (x, refl)
 there (x ∷ xs) (suc i) lt = there xs i (omega arith)
-
--- what stands at a place of a list that was written to
-at_set : {X : Type 0} (xs : List X) (i : ℕ) (v : X) (j : ℕ) (x : X) → slice_get (set xs i v) j ≡ Some x →
-    ((j ≡ i) × (x ≡ v)) ⊎ (slice_get xs j ≡ Some x)
-at_set [] i v j x h = inr h
-at_set (y ∷ ys) zero v zero x h = inl (refl, sym (same_Some v x h))
-at_set (y ∷ ys) zero v (suc j) x h = inr h
-at_set (y ∷ ys) (suc i) v zero x h = inr h
-at_set (y ∷ ys) (suc i) v (suc j) x h = ⊎_elim (λ e. inl (ap suc e.0, e.1)) (λ e. inr e) (at_set ys i v j x h)
 
 -- what holds at each place holds of all
 pub all_at : {X : Type 0} (P : X → Type 0) (xs : List X) → ((k : ℕ) (x : X) → slice_get xs k ≡ Some x → P x) → All P xs
@@ -96,127 +80,81 @@ no_acts (h ∷ hs) each =
 
 -- ---- a call
 
-served_one : (old : HandState) (call : Call) (reply : Reply) (new : HandState) → old.recording ≡ true →
-    HasServed old call reply new → kept new ≡ kept old + 1
-served_one old call reply new recording s =
-    let line : ActLine = record { stamp = s.stamp; call = call; reply = reply } in
-    ap length s.acts ∙ ap (λ records. length (old.acts ++ kept_of records line)) recording ∙ length_push old.acts line
+-- where hands have so many calls left together, each of them has
+pub all_have : (files : List FileState) (calls made more : ℕ) (hands : List HandState) →
+    HaveCalls files calls made hands → more + made ≤ calls → AllHave more hands
+all_have files calls made more hands h few k hand at =
+    let within = get_or-le-sum_by kept hands k hand (slice_get_within hands k hand at) in
+    omega (arith, few, h.acts, h.share k hand at, ap kept (get_or_from_slice_get hands k hand hand at), within)
 
--- a hand that made its call may make one fewer, and the others as many as before
-left_after : (olds : List HandState) (i : ℕ) (before after : HandState) (others : ℕ) → slice_get olds i ≡ Some before →
-    after.view.left + 1 ≡ before.view.left →
-    AllHave (others + 1) olds → AllHave others (set olds i after)
-left_after olds i before after others here fewer enough k hand at =
-    ⊎_elim
-    (λ e. let was : others + 1 ≤ before.view.left = enough i before here in
-    omega (arith, was, fewer, ap (λ (h : HandState). h.view.left) e.1))
-    (λ old. let was : others + 1 ≤ hand.view.left = enough k hand old in omega (arith, was))
-    (at_set olds i after k hand at)
-
-one_made : (files : List FileState) (olds : List HandState) (i : ℕ) (file : FileState) (before after : HandState)
-    (call : Call) (reply : Reply) → AreOf files olds → AreRecording files →
-    slice_get files i ≡ Some file → slice_get olds i ≡ Some before → HasServed before call reply after →
-    HaveMadeOne olds (set olds i after)
-one_made files olds i file before after call reply of recording file_is here s =
-    let records : before.recording ≡ true =
-    (of.each i file before file_is here).of.recording
-    ∙ at_place (λ (f : FileState). f.recording ≡ true) files i file recording file_is in
-    let act = served_one before call reply after records s in
-    let sum = sum_by-set kept olds i after before (slice_get_within olds i before here) in
-    let was = ap kept (get_or_from_slice_get olds i before before here) in
-    let enough : 1 ≤ before.view.left = s.enough in
-    let left : after.view.left ≡ before.view.left - 1 = ap (λ (v : View). v.left) s.view in record {
-      acts = omega (arith, sum, was, act);
-      left = λ others. left_after olds i before after others here (omega (arith, left, enough));
-    }
-
--- after a call that was answered hands keep one act more, and each may make no more than one call fewer
-pub call_made : (key : List ℕ) (call : Call) (files : List FileState) (olds news : List HandState)
-    (result : Result Answered FileFault) → AreOf files olds → AreRecording files →
-    AtShardOf key files olds news (λ file before after. Serves file before call result after) →
-    OnOk result (HaveMadeOne olds news)
-call_made key call files olds news (Ok a) of recording s =
-    subst (HaveMadeOne olds) (sym s.after_is)
-    (one_made files olds (home_of (length files) key) s.file s.before s.after a.call a.reply of recording s.file_is
-    s.before_is s.does.served)
-call_made key call files olds news (Err e) of recording s = tt
-
--- where each hand may make a call, the fault of one is none for want of calls
-pub call_refused : (key : List ℕ) (call : Call) (files : List FileState) (olds news : List HandState)
-    (result : Result Answered FileFault) → AllHave 1 olds →
-    AtShardOf key files olds news (λ file before after. Serves file before call result after) → IfErr result IsNotSpent
-call_refused key call files olds news result enough s =
-    s.does.not_spent (enough (home_of (length files) key) s.before s.before_is)
-
--- a call leaves the hand of its shard the file's own, with its share, and so all hands
-pub call_kept : ServedLaw → CalledLaw → SameLaw → (key : List ℕ) (call : Call) (files : List FileState)
-    (olds news : List HandState) (result : Result Answered FileFault) → AreOf files olds → AreRecording files →
+-- after a call that was answered hands have made one call more
+pub call_made : ServedLaw → CalledLaw → SameLaw → (key : List ℕ) (call : Call) (files : List FileState)
+    (olds news : List HandState) (result : Result Answered FileFault) → AreOf files news →
     AtShardOf key files olds news (λ file before after. Serves file before call result after) →
     AtShardOf key files olds news (λ file before after.
     IfOk result (λ a. HasEntered false before a.call a.reply after)) →
-    AreKept files olds news
-call_kept served called same key call files olds news result of recording s e =
+    OnOk result ((calls made : ℕ) → HaveCalls files calls made olds → HaveCalls files calls (made + 1) news)
+call_made served called same key call files olds news (Ok a) of s e = λ calls made h.
     let i = home_of (length files) key in
     let before : e.before ≡ s.before = same_Some e.before s.before (sym e.before_is ∙ s.before_is) in
     let after : e.after ≡ s.after = same i olds s.before e.after s.after s.before_is (sym e.after_is ∙ s.after_is) in
     let entered =
-    subst (λ b. IfOk result (λ (a : Answered). HasEntered false b a.call a.reply s.after)) before
-    (subst (λ h. IfOk result (λ (a : Answered). HasEntered false e.before a.call a.reply h)) after e.does) in
-    let law = served s.file call result s.before s.after s.does in
+    subst (λ (b : HandState). HasEntered false b a.call a.reply s.after) before
+    (subst (λ (x : HandState). HasEntered false e.before a.call a.reply x) after e.does) in
+    let law = served s.file call (Ok a) s.before s.after s.does in
+    let kept_so = called i calls files s.file olds news s.before s.after s.file_is s.before_is s.after_is in
     let records : s.before.recording ≡ true =
-    (of.each i s.file s.before s.file_is s.before_is).of.recording
-    ∙ at_place (λ (f : FileState). f.recording ≡ true) files i s.file recording s.file_is in record {
-      own = (called i 0 files s.file olds news s.before s.after s.file_is s.before_is s.after_is).0 (law.0 entered);
-      share = λ calls.
-          (called i calls files s.file olds news s.before s.after s.file_is s.before_is s.after_is).1 (law.1 records);
+    (h.of.each i s.file s.before s.file_is s.before_is).of.recording
+    ∙ at_place (λ (f : FileState). f.recording ≡ true) files i s.file h.records s.file_is in
+    let sum = sum_by-set kept olds i s.after s.before (slice_get_within olds i s.before s.before_is) in
+    let was = ap kept (get_or_from_slice_get olds i s.before s.before s.before_is) in
+    let act = served_one s.before a.call a.reply s.after records s.does.served in
+    let more : acts_of (set olds i s.after) ≡ made + 1 = omega (arith, sum, was, act, h.acts) in record {
+      of = of;
+      own = kept_so.0 (law.0 entered) h.own;
+      records = h.records;
+      share = kept_so.1 (law.1 records) h.share;
+      acts = ap acts_of s.after_is ∙ more;
     }
+call_made served called same key call files olds news (Err e) of s entered = tt
+
+-- where hands have a call left, the fault of one is none for want of calls
+pub call_refused : (key : List ℕ) (call : Call) (files : List FileState) (olds news : List HandState)
+    (result : Result Answered FileFault) (calls made : ℕ) → HaveCalls files calls made olds → made < calls →
+    AtShardOf key files olds news (λ file before after. Serves file before call result after) → IfErr result IsNotSpent
+call_refused key call files olds news result calls made h few s =
+    s.does.not_spent
+    (all_have files calls made 1 olds h (omega (arith, few)) (home_of (length files) key) s.before s.before_is)
 
 -- ---- hands divided
 
--- where each may make so many calls, each may make fewer
-pub have_fewer : (most calls : ℕ) (hands : List HandState) → calls ≤ most → AllHave most hands → AllHave calls hands
-have_fewer most calls hands fewer enough k hand at =
-    let had : most ≤ hand.view.left = enough k hand at in omega (arith, had, fewer)
-
--- the hands that are answered have made all calls where each part of that holds of them
-pub made_all : (files : List FileState) (calls : ℕ) (old : List HandState) (r : Result (List HandState) DriveFault) →
-    IfOk r (AreOf files) → IfOk r (AreOwn files) →
-    IfOk r (λ new. (others : ℕ) → AllShare (others + calls) old → AllShare (others + calls) new) →
-    IfOk r (λ new. acts_of new ≡ acts_of old + calls) → IfOk r (HaveMadeAll files calls old)
-made_all files calls old (Ok new) of own share acts = record { of = of; own = own; share = share; acts = acts }
-made_all files calls old (Err fault) of own share acts = tt
-
--- hands that got so many calls, and are their files' own with these shares, are a thread's hands of these calls
-pub part_of : (files : List FileState) (calls : ℕ) (olds part : List HandState) → AreOf files part →
-    AreOwn files part → AllShare calls part → EachPair (IsBranch calls) olds part → ArePartOf files calls part
-part_of files calls olds part of own share p =
+-- hands that are divided and the new ones have their calls between them
+pub divided : HandsDividedLaw → (files : List FileState) (calls : ℕ) (olds part news : List HandState) →
+    AreOf files part → AreOf files news → EachPair (IsBranch calls) olds part → EachPair (HasGiven calls) olds news →
+    (others : ℕ) → HaveCalls files (others + calls) 0 olds →
+    HaveCalls files calls 0 part × HaveCalls files others 0 news
+divided law files calls olds part news of_part of_news given kept_by others h =
+    let kept_so = law calls others files olds part news h.of given kept_by h.own in
     let was =
     λ (k : ℕ) (hand : HandState) (at : slice_get part k ≡ Some hand).
-    there olds k (subst (λ n. k < n) p.count (slice_get_within part k hand at)) in
-    record {
-      of = of;
-      own = own;
-      share = share;
-      idle = no_acts part (λ k hand at. (p.each k (was k hand at).0 hand (was k hand at).1 at).acts);
-      enough = λ k hand at.
-          let left : hand.view.left ≡ calls =
-          ap (λ (v : View). v.left) (p.each k (was k hand at).0 hand (was k hand at).1 at).view in
-          omega (arith, left);
-    }
-
--- hands that gave so many calls away keep the same acts, and each may make no more than so many fewer
-pub lessened_by : (calls : ℕ) (olds news : List HandState) → EachPair (HasGiven calls) olds news →
-    ((others : ℕ) → AllShare (others + calls) olds → AllShare others news) → AreLessened calls olds news
-lessened_by calls olds news p share = record {
-  share = share;
-  acts = sums_agree kept kept olds news p.count (λ k old new ko kn. ap kept (p.each k old new ko kn).kept);
-  left = λ others enough k hand at.
-      let was = there olds k (subst (λ n. k < n) p.count (slice_get_within news k hand at)) in
-      let given = p.each k was.0 hand was.1 at in
-      let left : hand.view.left ≡ was.0.view.left - calls = ap (λ (h : HandState). h.view.left) given.kept in
-      let had : others + calls ≤ was.0.view.left = enough k was.0 was.1 in
-      omega (arith, left, had);
-}
+    there olds k (subst (λ n. k < n) given.count (slice_get_within part k hand at)) in (
+      record {
+        of = of_part;
+        own = kept_so.1;
+        records = h.records;
+        share = kept_so.2;
+        acts = no_acts part (λ k hand at. (given.each k (was k hand at).0 hand (was k hand at).1 at).acts);
+      },
+      record {
+        of = of_news;
+        own = kept_so.0;
+        records = h.records;
+        share = kept_so.3 h.share;
+        acts = sums_agree kept kept olds news kept_by.count
+            (λ k old new ko kn. ap kept (kept_by.each k old new ko kn).kept)
+            ∙ h.acts;
+      },
+    )
 
 -- ---- hands joined
 
@@ -239,12 +177,21 @@ sum_joined (f ∷ fs) (s ∷ ss) (n ∷ ns) long many each =
       sum_joined fs ss ns (omega (arith, long)) (omega (arith, many)) (λ k. each (suc k)),
     )
 
--- hands that are made of two for each shard keep as many acts as both
-pub acts_joined : (files : List FileState) (first second news : List HandState) → AreOf files first →
-    AreOf files second → AreJoinedByShard first second news → acts_of news ≡ acts_of first + acts_of second
-acts_joined files first second news one other j =
-    sum_joined first second news j.count (other.count ∙ sym one.count)
-    (λ k a b n ka kb kn. ap length (j.each k a b n ka kb kn).acts ∙ length-append a.acts b.acts)
+-- hands that are made of two for each shard have the calls of both
+pub joined : HandsJoinedLaw → (files : List FileState) (first second news : List HandState) → AreOf files news →
+    AreJoinedByShard first second news → (calls made others more : ℕ) → HaveCalls files calls made first →
+    HaveCalls files others more second → HaveCalls files (calls + others) (made + more) news
+joined law files first second news of j calls made others more a b =
+    let both = law calls others files first second news a.of b.of j in record {
+      of = of;
+      own = both.0 a.own b.own;
+      records = a.records;
+      share = both.1 a.share b.share;
+      acts = sum_joined first second news j.count (b.of.count ∙ sym a.of.count)
+          (λ k one other new ko kt kn.
+          ap length (j.each k one other new ko kt kn).acts ∙ length-append one.acts other.acts)
+          ∙ omega (arith, a.acts, b.acts);
+    }
 
 -- ---- shards opened and closed
 
@@ -301,37 +248,24 @@ none_refused config listings (open_fault.Misplaced shard bucket place) count emp
     omega (arith, refused.2.here.within, ap length none)
 none_refused config listings open_fault.Memory count empty refused ne = ne refl
 
--- the first hands of traced shards are their files' own
-pub opened_own : (openings files : List FileState) (hands : List HandState) → AreTraced openings files hands →
-    AreOwn files hands
-opened_own openings files hands t k file hand fk hk =
-    let opened = t.each k file hand fk hk in
-    record { of = opened.is_of; own = subst NoneOutside (sym opened.entries) (λ p e at. absurd cc) }
-
--- each first hand may make 2^63 calls, and has made none
-opened_left : (openings files : List FileState) (hands : List HandState) → AreTraced openings files hands →
-    (k : ℕ) (hand : HandState) → slice_get hands k ≡ Some hand → (hand.view.left ≡ 2 ^ 63) × (hand.acts ≡ [])
-opened_left openings files hands t k hand at =
-    let file = there files k (subst (λ n. k < n) t.of.count (slice_get_within hands k hand at)) in
-    let opened = t.each k file.0 hand file.1 at in
-    (ap (λ (v : View). v.left) opened.view, opened.acts)
-
--- the first hands of traced shards keep no act
-pub opened_idle : (openings files : List FileState) (hands : List HandState) → AreTraced openings files hands →
-    acts_of hands ≡ 0
-opened_idle openings files hands t = no_acts hands (λ k hand at. (opened_left openings files hands t k hand at).1)
-
--- each first hand may make any number of calls up to 2^63
-pub opened_have : (openings files : List FileState) (hands : List HandState) (calls : ℕ) →
-    AreTraced openings files hands → calls ≤ 2 ^ 63 → AllHave calls hands
-opened_have openings files hands calls t few k hand at =
-    let left = (opened_left openings files hands t k hand at).0 in omega (arith, left, few)
-
--- each first hand has made or may still make 2^63 calls
-pub opened_share : (openings files : List FileState) (hands : List HandState) → AreTraced openings files hands →
-    AllShare (2 ^ 63) hands
-opened_share openings files hands t k hand at =
-    let idle = opened_left openings files hands t k hand at in omega (arith, idle.0, ap length idle.1)
+-- the first hands of traced shards that record have 2^63 calls each, and have made none
+pub opened_calls : (openings files : List FileState) (hands : List HandState) → AreTraced openings files hands →
+    AreRecording files → HaveCalls files (2 ^ 63) 0 hands
+opened_calls openings files hands t records =
+    let each =
+    λ (k : ℕ) (file : FileState) (hand : HandState) (fk : slice_get files k ≡ Some file)
+    (hk : slice_get hands k ≡ Some hand).
+    opened_one _ _ _ _ file hand (t.each k file hand fk hk)
+    (at_place (λ (f : FileState). f.recording ≡ true) files k file records fk) in
+    let its =
+    λ (k : ℕ) (hand : HandState) (at : slice_get hands k ≡ Some hand).
+    there files k (subst (λ n. k < n) t.of.count (slice_get_within hands k hand at)) in record {
+      of = t.of;
+      own = λ k file hand fk hk. (each k file hand fk hk).own;
+      records = records;
+      share = λ k hand at. (each k (its k hand at).0 hand (its k hand at).1 at).share;
+      acts = no_acts hands (λ k hand at. (t.each k (its k hand at).0 hand (its k hand at).1 at).acts);
+    }
 
 -- shards that were opened empty are as many once they are closed, each of a file of the settings
 pub closed_of : (config : Settings) (openings files : List FileState) (first all : List HandState)
@@ -351,17 +285,17 @@ closed_of config openings files first all closed t empty of by = record {
 }
 
 -- where all calls came home each closed shard is settled, if it was met whole
-pub closed_settled : (config : Settings) (files : List FileState) (all : List HandState) (closed : List ClosedShard) →
-    AreEmpty config files → AreOf files all → AreOwn files all → AllShare (2 ^ 63) all →
+pub closed_settled : (config : Settings) (files : List FileState) (all : List HandState) (made : ℕ)
+    (closed : List ClosedShard) → AreEmpty config files → HaveCalls files (2 ^ 63) made all →
     AreClosedBy true files all closed → All (IsSettledWhole config) closed
-closed_settled config files all closed empty of own share by = all_at (IsSettledWhole config) closed
+closed_settled config files all made closed empty h by = all_at (IsSettledWhole config) closed
     (λ k shard at gathered still.
     let within : k < length files = subst (λ n. k < n) by.count (slice_get_within closed k shard at) in
     let file = there files k within in
-    let hand = there all k (subst (λ n. k < n) (sym of.count) within) in
+    let hand = there all k (subst (λ n. k < n) (sym h.of.count) within) in
     let held = (by.each k file.0 hand.0 shard file.1 hand.1 at).history refl gathered still in
     subst (λ (l : Lists). Settled l shard.closed shard.acts) (empty.listing k file.0 file.1)
-    (lines_of held.0, (held.2 (share k hand.0 hand.1) (own k file.0 hand.0 file.1 hand.1).own).0))
+    (lines_of held.0, (held.2 (h.share k hand.0 hand.1) (h.own k file.0 hand.0 file.1 hand.1).own).0))
 
 -- shards that were opened empty have, once they are closed, an act for each call that was made since
 pub acts_closed : (files : List FileState) (hands : List HandState) (closed : List ClosedShard) → AreOf files hands →

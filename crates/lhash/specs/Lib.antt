@@ -1,6 +1,5 @@
+pub mod Crew
 pub mod Driven
 pub mod Driving
 pub mod DrivingShards
 pub mod Serving
-pub mod ShardWorkers
-pub mod Workers

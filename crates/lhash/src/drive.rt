@@ -5,8 +5,8 @@ ghost use Rattle.lh_file.specs.Buckets.Brands.{IsBrandOf};
 ghost use Rattle.lhash.specs.Driving.{EndsDriving, IsDriven, IsDrivenWith, IsDriveFault, IsDriveFaultWith};
 ghost use Rattle.lhash.specs.Driving.{IsFaultOfOne, IsSettledBefore, IsSettledWith, empty_file, ended_by, unsettled_as};
 
+use crate::crew::work_in_threads;
 use crate::driven::{Driven, SnapshotsText};
-use crate::workers::work_in_threads;
 use lh_addr::Config;
 use lh_bucket::{Call, Listing, Memory};
 use lh_file::laws::snapshots_are_settled;

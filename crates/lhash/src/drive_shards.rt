@@ -11,9 +11,9 @@ ghost use Rattle.lh_shards.specs.Settling.{AreParts};
 ghost use Rattle.lhash.specs.DrivingShards.{EndsDrivingShards, IsDrivenShards, IsDriveShardsFault, IsSettledWhole};
 ghost use Rattle.lhash.specs.DrivingShards.{acts_in, empty_files};
 
+use crate::crew::work_in_threads;
 use crate::drive::{DriveFault, undriven};
 use crate::driven::Driven;
-use crate::shard_workers::work_in_threads;
 use lh_addr::Config;
 use lh_bucket::{Call, Listing};
 use lh_file::FileBrand;
@@ -78,7 +78,7 @@ fn driven_in<J: FileBrand + Send + Sync, R: Threads + Wait + Sync>(
     ensures err { IfErr result (IsDriveShardsFault config (length openings.entry)) }
 {
     let (shards, hands) = openings.shards::<J>()?;
-    let hands = work_in_threads(rt, alloc, &shards, hands, calls, threads as usize)?;
+    let (hands, ()) = work_in_threads(rt, alloc, &shards, hands, calls, threads as usize, 0)?;
     let closed = shards.close(rt, hands)?;
     totals(alloc, config, empty, &closed)
 }

@@ -4,13 +4,14 @@
 //! that share one file or several shards, and writes totals; `lh_subcommands` has all others.
 #![tactic(auto)]
 
+mod crew;
 mod drive;
 mod drive_shards;
 mod driven;
+mod file_crew;
 pub mod laws;
 mod program;
-mod shard_workers;
-mod workers;
+mod shards_crew;
 
 pub use drive::{DriveFault, drive_with, drive_with_snapshots};
 pub use drive_shards::drive_shards_with;

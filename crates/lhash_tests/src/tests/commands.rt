@@ -1,7 +1,12 @@
 //! `commands`, from words and bytes to bytes and a status.
-use crate::tests::support::{fails, ran, writes};
 use lh_expect::{expect, expect_eq};
+use lhash_expect::{fails, ran, told, writes};
+use std::process::Abort;
+use std::sync::Wait;
 use std::test::Fail;
+use std::thread::Threads;
+
+const COMMANDS: &[&str] = &["lhash", "commands"];
 
 #[test]
 fn an_empty_script_has_the_size_alone(rt: HostRuntime) -> Result<(), Fail> {
@@ -55,58 +60,75 @@ fn records_of_many_buckets_are_found(rt: HostRuntime) -> Result<(), Fail> {
     writes(&rt, words.as_slice(), script, output)
 }
 
-#[test]
-fn a_file_grows_past_its_threshold(rt: HostRuntime) -> Result<(), Fail> {
+/// Five records grow a file to so many buckets.
+fn grows_to(
+    rt: &(impl AllocGlobal + Threads + Wait + Sync),
+    words: &[&str],
+    buckets: u32,
+) -> Result<(), Fail> {
     let script = "insert 61 31\ninsert 62 32\ninsert 63 33\ninsert 64 34\ninsert 65 35\n";
     let told = "inserted\ninserted\ninserted\ninserted\ninserted\n";
-    let words = ["lhash", "commands", "--capacity", "2"];
-    let output = format!(in rt.alloc(); "{told}buckets 3\n")?;
-    writes(&rt, words.as_slice(), script, output.as_str())?;
-    let words = ["lhash", "commands", "--capacity", "2", "--load", "200"];
-    let output = format!(in rt.alloc(); "{told}buckets 2\n")?;
-    writes(&rt, words.as_slice(), script, output.as_str())?;
-    let words = ["lhash", "commands", "--capacity", "2", "--max", "1"];
-    let output = format!(in rt.alloc(); "{told}buckets 1\n")?;
-    writes(&rt, words.as_slice(), script, output.as_str())
+    let output = format!(in rt.alloc(); "{told}buckets {buckets}\n")?;
+    writes(rt, words, script, output.as_str())
 }
 
 #[test]
-fn lengths_have_limits(rt: HostRuntime) -> Result<(), Fail> {
-    let commands = ["lhash", "commands"];
-    let quarter = "6162636465666768696a6b6c6d6e";
-    let key = format!(in rt.alloc(); "{quarter}{quarter}{quarter}{quarter}")?;
-    let value = format!(in rt.alloc(); "{key}{key}")?;
-    let longer = format!(in rt.alloc(); "{quarter}{quarter}616263")?;
-    let longest = format!(in rt.alloc();
-        "insert {key} {value}\nsearch {key}\ninsert {longer} -\ninsert 61 -\n"
+fn a_file_grows_past_its_threshold(rt: HostRuntime) -> Result<(), Fail> {
+    let words = ["lhash", "commands", "--capacity", "2"];
+    grows_to(&rt, words.as_slice(), 3)?;
+    let words = ["lhash", "commands", "--capacity", "2", "--load", "200"];
+    grows_to(&rt, words.as_slice(), 2)?;
+    let words = ["lhash", "commands", "--capacity", "2", "--max", "1"];
+    grows_to(&rt, words.as_slice(), 1)
+}
+
+/// A quarter of the longest key, and an eighth of the longest value.
+const PART: &str = "6162636465666768696a6b6c6d6e";
+
+fn longest_are_taken(
+    rt: &(impl AllocGlobal + Threads + Wait + Sync),
+    key: &str,
+    value: &str,
+) -> Result<(), Fail> {
+    let script = format!(in rt.alloc();
+        "insert {key} {value}\nsearch {key}\ninsert {PART}{PART}616263 -\ninsert 61 -\n"
     )?;
     let output = format!(in rt.alloc();
         "inserted\nfound {value}\ninserted\ninserted\nbuckets 1\n"
     )?;
-    writes(&rt, commands.as_slice(), longest.as_str(), output.as_str())?;
-    let script = format!(in rt.alloc(); "insert {key}61 31")?;
-    fails(
-        &rt,
-        commands.as_slice(),
-        script.as_str(),
-        1,
-        "line 1: key length 57",
-    )?;
-    let script = format!(in rt.alloc(); "insert 61 {value}31")?;
-    fails(
-        &rt,
-        commands.as_slice(),
-        script.as_str(),
-        1,
-        "line 1: value length 113",
-    )?;
-    fails(
-        &rt,
-        commands.as_slice(),
-        "insert - 31",
-        1,
-        "line 1: key length 0",
-    )
+    writes(rt, COMMANDS, script.as_str(), output.as_str())
+}
+
+/// An insert of this key and this value is refused.
+fn insert_fails(
+    rt: &(impl AllocGlobal + Threads + Wait + Sync),
+    key: &str,
+    value: &str,
+    fault: &str,
+) -> Result<(), Fail> {
+    let script = format!(in rt.alloc(); "insert {key} {value}")?;
+    fails(rt, COMMANDS, script.as_str(), 1, fault)
+}
+
+/// The longest key and the longest value, and longer ones, of one byte more.
+fn length_limits(
+    rt: &(impl AllocGlobal + Threads + Wait + Sync),
+    key: &str,
+    value: &str,
+) -> Result<(), Fail> {
+    longest_are_taken(rt, key, value)?;
+    let longer = format!(in rt.alloc(); "{key}61")?;
+    insert_fails(rt, longer.as_str(), "31", "line 1: key length 57")?;
+    let longer = format!(in rt.alloc(); "{value}31")?;
+    insert_fails(rt, "61", longer.as_str(), "line 1: value length 113")?;
+    insert_fails(rt, "-", "31", "line 1: key length 0")
+}
+
+#[test]
+fn lengths_have_limits(rt: HostRuntime) -> Result<(), Fail> {
+    let key = format!(in rt.alloc(); "{PART}{PART}{PART}{PART}")?;
+    let value = format!(in rt.alloc(); "{key}{key}")?;
+    length_limits(&rt, key.as_str(), value.as_str())
 }
 
 #[test]
@@ -153,18 +175,22 @@ fn blanks_and_line_ends_mean_nothing(rt: HostRuntime) -> Result<(), Fail> {
     )
 }
 
+fn is_too_long(
+    rt: &(impl Abort + AllocGlobal + Threads + Wait + Sync),
+    script: &[u8],
+) -> Result<(), Fail> {
+    let (code, written, text) = ran(rt, COMMANDS, script)?;
+    expect_eq!(rt, text.as_str(), "script too long");
+    expect_eq!(rt; code, 1);
+    expect!(rt, written.is_empty());
+    Ok(())
+}
+
 #[test]
 fn a_script_has_a_limit(rt: HostRuntime) -> Result<(), Fail> {
     let mut blanks = Vec::new(rt.alloc());
     blanks.resize(16_777_217, b' ')?;
-    let words = ["lhash", "commands"];
-    let (code, written, text) = ran(&rt, words.as_slice(), blanks.as_slice())?;
-    expect_eq!(&rt, text.as_str(), "script too long");
-    expect_eq!(rt; code, 1);
-    expect!(&rt, written.is_empty());
+    is_too_long(&rt, &blanks)?;
     blanks.truncate(16_777_216);
-    let (code, written, _) = ran(&rt, words.as_slice(), blanks.as_slice())?;
-    expect_eq!(rt; code, 0);
-    expect_eq!(&rt, written.as_slice(), b"buckets 1\n".as_slice());
-    Ok(())
+    told(&rt, COMMANDS, &blanks, b"buckets 1\n")
 }

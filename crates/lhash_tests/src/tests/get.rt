@@ -1,8 +1,7 @@
 //! Keys that are looked up in an image.
-use crate::tests::images::{CHAIN, CHAIN_WORDS, FIVE, FIVE_WORDS, built, put, told};
-use crate::tests::support::{Sink, Source, ran};
 use lh_expect::{expect, expect_eq};
 use lhash::run;
+use lhash_expect::{CHAIN, CHAIN_WORDS, FIVE, FIVE_WORDS, Sink, Source, built, put, ran, told};
 use std::process::Abort;
 use std::sync::Wait;
 use std::test::Fail;
@@ -33,20 +32,30 @@ fn keys_that_are_there(rt: HostRuntime) -> Result<(), Fail> {
     Ok(())
 }
 
+/// What these words write of the image that `build` writes of a script.
+fn finds(
+    rt: &(impl AllocGlobal + Threads + Wait + Sync),
+    build: &[&str],
+    script: &str,
+    words: &[&str],
+    lines: &[u8],
+) -> Result<(), Fail> {
+    told(rt, words, &built(rt, build, script)?, lines)
+}
+
 /// The second page of a chain, in either version, and a value without a byte.
 #[test]
 fn keys_in_a_chain(rt: HostRuntime) -> Result<(), Fail> {
     let words = ["lhash", "get", "-", "67", "61"];
-    let first = built(&rt, CHAIN_WORDS, CHAIN)?;
-    told(&rt, &words, &first, b"found 34\nfound 31\n")?;
+    finds(&rt, CHAIN_WORDS, CHAIN, &words, b"found 34\nfound 31\n")?;
     let build = ["lhash", "build", "--capacity=2", "--max=1"];
-    let second = built(&rt, build.as_slice(), CHAIN)?;
-    told(&rt, &words, &second, b"found 34\nfound 31\n")?;
-    let empty = built(&rt, CHAIN_WORDS, "insert 6A -\n")?;
-    told(
+    finds(&rt, &build, CHAIN, &words, b"found 34\nfound 31\n")?;
+    let words = ["lhash", "get", "-", "6a", "6A"];
+    finds(
         &rt,
-        &["lhash", "get", "-", "6a", "6A"],
-        &empty,
+        CHAIN_WORDS,
+        "insert 6A -\n",
+        &words,
         b"found -\nfound -\n",
     )
 }
@@ -143,7 +152,7 @@ fn bytes_that_are_no_image(rt: HostRuntime) -> Result<(), Fail> {
 }
 
 /// The five records of which the pages of the first bucket and of the second have a wrong kind.
-fn forged(rt: &(impl Abort + AllocGlobal + Threads + Wait + Sync)) -> Result<Vec<u8>, Fail> {
+fn forged(rt: &(impl AllocGlobal + Threads + Wait + Sync)) -> Result<Vec<u8>, Fail> {
     let mut image = built(rt, FIVE_WORDS, FIVE)?;
     put(image.as_mut_slice(), 1_024, b"\x07");
     put(image.as_mut_slice(), 2_048, b"\x07");

@@ -1,7 +1,7 @@
 //! Pictures of step scripts.
-use crate::tests::support::{fails, has_parts, ran, writes};
 use lh_expect::expect_eq;
-use std::alloc::{AllocError, Global};
+use lhash_expect::{fails, has_parts, ran, writes};
+use std::alloc::Global;
 use std::test::Fail;
 
 /// What is drawn of the steps of a caller with an old root.
@@ -121,14 +121,12 @@ lock 0
 
 /// The steps of [`FOUND`] and of [`SPLIT`], 9 and 24; in between each place but the first tries six times to lock that
 /// bucket, in 8 steps.
-fn many_steps(alloc: Global) -> Result<String, AllocError> {
+fn many_steps(alloc: Global) -> Result<String, Fail> {
     let mut script = String::from_str(alloc, FOUND)?;
     for place in 1..16_u32 {
-        let line = format!(in alloc; "call {place} replace 62 32\nread {place}\n")?;
-        script.push_str(line.as_str())?;
+        script.writeln(format_args!("call {place} replace 62 32\nread {place}"))?;
         for _try in 0..6_u32 {
-            let line = format!(in alloc; "lock {place}\n")?;
-            script.push_str(line.as_str())?;
+            script.writeln(format_args!("lock {place}"))?;
         }
     }
     script.push_str(SPLIT)?;
@@ -180,7 +178,7 @@ fn many_steps_of_all_kinds_are_drawn(rt: HostRuntime) -> Result<(), Fail> {
     let words = ["lhash", "replay", "--max=2"];
     let (code, written, text) = ran(&rt, words.as_slice(), script.as_bytes())?;
     expect_eq!(&rt, text.as_str(), "");
-    has_parts(&rt, written.as_slice(), MANY_PARTS.as_slice());
+    has_parts(written.as_slice(), MANY_PARTS.as_slice())?;
     expect_eq!(rt; code, 0);
     Ok(())
 }

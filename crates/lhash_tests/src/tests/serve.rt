@@ -1,7 +1,7 @@
 //! `serve`, from words and bytes to bytes and a status.
-use crate::tests::support::{Sink, Source, fails, ran, writes};
 use lh_expect::expect_eq;
 use lhash::run;
+use lhash_expect::{Sink, Source, fails, ran, writes};
 use std::alloc::Global;
 use std::process::Abort;
 use std::sync::Wait;

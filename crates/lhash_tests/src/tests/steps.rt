@@ -1,38 +1,49 @@
 //! Step scripts, from words and bytes to bytes and a status.
-use crate::tests::support::{fails, ran, writes};
 use lh_expect::{expect, expect_eq};
-use std::process::Abort;
+use lhash_expect::{fails, ran, writes};
+use std::alloc::Global;
 use std::sync::Wait;
 use std::test::Fail;
 use std::thread::Threads;
 
-/// The steps of these lines, and then of those, tell these lines.
-fn tells_both(
-    rt: &(impl Abort + AllocGlobal + Threads + Wait + Sync),
-    options: &[&str],
-    lines: &[(&str, &str)],
-    more: &[(&str, &str)],
-) -> Result<(), Fail> {
-    let mut words = Vec::new(rt.alloc());
+/// The words of a run of steps with options.
+fn words_of<'a>(alloc: Global, options: &[&'a str]) -> Result<Vec<&'a str>, Fail> {
+    let mut words = Vec::new(alloc);
     words.push("lhash")?;
     words.push("steps")?;
-    for option in options {
-        words.push(*option)?;
-    }
-    let mut script = String::new(rt.alloc());
-    let mut output = String::new(rt.alloc());
-    for (line, told) in lines.iter().chain(more) {
+    words.extend_from_slice(options)?;
+    Ok(words)
+}
+
+/// Adds steps and what they tell.
+fn add_lines(script: &mut String, output: &mut String, lines: &[(&str, &str)]) -> Result<(), Fail> {
+    for (line, told) in lines {
         script.push_str(line)?;
         script.push_str("\n")?;
         output.push_str(told)?;
         output.push_str("\n")?;
     }
+    Ok(())
+}
+
+/// The steps of these lines, and then of those, tell these lines.
+fn tells_both(
+    rt: &(impl AllocGlobal + Threads + Wait + Sync),
+    options: &[&str],
+    lines: &[(&str, &str)],
+    more: &[(&str, &str)],
+) -> Result<(), Fail> {
+    let words = words_of(rt.alloc(), options)?;
+    let mut script = String::new(rt.alloc());
+    let mut output = String::new(rt.alloc());
+    add_lines(&mut script, &mut output, lines)?;
+    add_lines(&mut script, &mut output, more)?;
     writes(rt, words.as_slice(), script.as_str(), output.as_str())
 }
 
 /// The steps of these lines tell these lines.
 fn tells(
-    rt: &(impl Abort + AllocGlobal + Threads + Wait + Sync),
+    rt: &(impl AllocGlobal + Threads + Wait + Sync),
     options: &[&str],
     lines: &[(&str, &str)],
 ) -> Result<(), Fail> {

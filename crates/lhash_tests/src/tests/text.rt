@@ -1,8 +1,7 @@
 //! Keys and values as text.
-use crate::tests::images::{built, told};
-use crate::tests::support::{fails, ran, writes};
 use lh_expect::{expect, expect_eq};
 use lhash::run;
+use lhash_expect::{built, fails, ran, told, writes};
 use std::test::Fail;
 
 /// Three records: a key of letters, one with a blank, and a single dash with the empty value.

@@ -1,6 +1,6 @@
 //! Words that ask for no file.
-use crate::tests::support::{fails, ran, writes};
 use lh_expect::{expect, expect_eq};
+use lhash_expect::{fails, ran, writes};
 use std::test::Fail;
 
 #[test]

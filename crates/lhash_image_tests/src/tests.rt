@@ -1,0 +1,4 @@
+//! Runs that read an image or write one.
+mod draw;
+mod images;
+mod load;
