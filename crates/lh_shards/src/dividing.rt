@@ -1,6 +1,6 @@
 //! Hands of all shards divided in two.
-ghost use Rattle.std.specs.Prelude.{◌≡◌, ◌+◌, ◌<◌, ◌≤◌, ◌∷◌, ◌++◌, [], length, vec_capacity, vec_len, IfOk, IfNone};
-ghost use Rattle.std.specs.Prelude.{IfSome, OnOk, OnErr};
+ghost use Rattle.std.specs.Prelude.{◌≡◌, ◌+◌, ◌^◌, ◌<◌, ◌≤◌, ◌∷◌, ◌++◌, ℕ, [], length, vec_capacity, vec_len, IfOk};
+ghost use Rattle.std.specs.Prelude.{IfNone, IfSome, OnOk, OnErr};
 ghost use Rattle.lh_file.specs.FileState.{IsOf};
 ghost use Rattle.lh_file.specs.Words.HandState.{IsBranch};
 ghost use Rattle.lh_shards.specs.Dividing.{AllHave, AreDivided, EachPair, HasGiven, IsRefused};
@@ -27,6 +27,20 @@ fn first_short(hands: &[Hand], calls: u64) -> Option<SplitFault>
         }
     }
     None
+}
+
+impl Hands {
+    /// How many more calls may be made by these hands, whichever shards the calls go to.
+    pub fn left(&self) -> u64
+        ensures all { AllHave result self.now }
+        ensures most { (calls : ℕ) → calls < 2 ^ 64 → AllHave calls self.now → calls ≤ result }
+    {
+        let mut least = u64::MAX;
+        for shard in 0..self.hands.len() {
+            least = least.min(self.hands[shard].left());
+        }
+        least
+    }
 }
 
 /// Divides one hand, which may make so many calls.

@@ -6,8 +6,9 @@ ghost use Rattle.lh_store.specs.Histories.{IsOneHistory};
 ghost use Rattle.lh_store.specs.Sessions.{no_state};
 
 use crate::fault::CallFault;
-use crate::room::{check_room, fitting};
+use crate::room::{check_fit, check_room};
 use crate::session::Session;
+use crate::snapshots::Snapshots;
 use crate::store::Store;
 use crate::threads::ThreadSession;
 use lh_file::laws::hands_keep_their_shares;
@@ -156,7 +157,6 @@ impl<'a, R: Wait, M: Mode, J: FileBrand, B: SessionName, const ROOM: usize> Size
 impl<'a, R: Wait, M: Mode, J: FileBrand, B: SessionName, const ROOM: usize> Session
     for SizedSession<'a, R, M, J, B, ROOM> {
     ghost use Rattle.lh_file.specs.Calls.Served.{KnowsMore};
-    ghost use Rattle.lh_store.specs.Histories.{IsLeftByAll};
     ghost use Rattle.lh_store.specs.Sessions.{IsMade, IsMet};
 
     ghost made = { λ old call reply new. IsMade M.traced old.hand call reply new.hand };
@@ -167,13 +167,13 @@ impl<'a, R: Wait, M: Mode, J: FileBrand, B: SessionName, const ROOM: usize> Sess
 
     ghost room = { ROOM };
 
-    ghost leaves = { λ own listing. IsLeftByAll M.traced own.file.listing listing };
-
+    #[inline(always)]
     fn get(&mut self, key: &[u8]) -> Result<Option<Value>, CallFault> {
         let key = Key::new(key)?;
         Ok(self.file.get(self.rt, &mut self.hand, &key)?)
     }
 
+    #[inline(always)]
     fn with_value<T, F: FnOnce(&[u8]) -> T + Drop>(
         &mut self,
         key: &[u8],
@@ -183,36 +183,51 @@ impl<'a, R: Wait, M: Mode, J: FileBrand, B: SessionName, const ROOM: usize> Sess
         Ok(self.file.with_value(self.rt, &mut self.hand, &key, then)?)
     }
 
+    #[inline(always)]
     fn put(&mut self, key: &[u8], value: &[u8]) -> Result<bool, CallFault> {
-        let (key, value) = fitting::<ROOM>(key, value)?;
+        let key = Key::new(key)?;
+        let value = Value::new(value)?;
+        check_fit::<ROOM>(&key, &value)?;
         Ok(self.file.put(self.rt, &mut self.hand, &key, &value)?)
     }
 
+    #[inline(always)]
     fn set(&mut self, key: &[u8], value: &[u8]) -> Result<bool, CallFault> {
-        let (key, value) = fitting::<ROOM>(key, value)?;
+        let key = Key::new(key)?;
+        let value = Value::new(value)?;
+        check_fit::<ROOM>(&key, &value)?;
         Ok(self.file.set(self.rt, &mut self.hand, &key, &value)?)
     }
 
+    #[inline(always)]
     fn remove(&mut self, key: &[u8]) -> Result<bool, CallFault> {
         let key = Key::new(key)?;
         Ok(self.file.remove(self.rt, &mut self.hand, &key)?)
     }
 
+    #[inline(always)]
     fn upsert(&mut self, key: &[u8], value: &[u8]) -> Result<bool, CallFault> {
-        let (key, value) = fitting::<ROOM>(key, value)?;
+        let key = Key::new(key)?;
+        let value = Value::new(value)?;
+        check_fit::<ROOM>(&key, &value)?;
         Ok(self.file.upsert(self.rt, &mut self.hand, &key, &value)?)
     }
 
+    #[inline(always)]
     fn get_or_put(&mut self, key: &[u8], value: &[u8]) -> Result<Option<Value>, CallFault> {
-        let (key, value) = fitting::<ROOM>(key, value)?;
+        let key = Key::new(key)?;
+        let value = Value::new(value)?;
+        check_fit::<ROOM>(&key, &value)?;
         Ok(self.file.get_or_put(self.rt, &mut self.hand, &key, &value)?)
     }
 
+    #[inline(always)]
     fn take(&mut self, key: &[u8]) -> Result<Option<Value>, CallFault> {
         let key = Key::new(key)?;
         Ok(self.file.take(self.rt, &mut self.hand, &key)?)
     }
 
+    #[inline(always)]
     fn update_within<F: FnOnce(&[u8]) -> Value + Drop>(
         &mut self,
         key: &[u8],
@@ -224,6 +239,7 @@ impl<'a, R: Wait, M: Mode, J: FileBrand, B: SessionName, const ROOM: usize> Sess
         Ok(self.file.update(self.rt, &mut self.hand, &key, change)?)
     }
 
+    #[inline(always)]
     fn merge_within<F: FnOnce(&[u8]) -> Value + Drop>(
         &mut self,
         key: &[u8],
@@ -231,7 +247,8 @@ impl<'a, R: Wait, M: Mode, J: FileBrand, B: SessionName, const ROOM: usize> Sess
         most: usize,
         next: F,
     ) -> Result<bool, CallFault> {
-        let (key, first) = (Key::new(key)?, Value::new(first)?);
+        let key = Key::new(key)?;
+        let first = Value::new(first)?;
         check_room::<ROOM>(key.bytes().len() + first.bytes().len().max(most))?;
         Ok(
             self.file
@@ -239,6 +256,7 @@ impl<'a, R: Wait, M: Mode, J: FileBrand, B: SessionName, const ROOM: usize> Sess
         )
     }
 
+    #[inline(always)]
     fn compare_and_set(
         &mut self,
         key: &[u8],
@@ -246,14 +264,16 @@ impl<'a, R: Wait, M: Mode, J: FileBrand, B: SessionName, const ROOM: usize> Sess
         value: &[u8],
     ) -> Result<Compared, CallFault> {
         let key = Key::new(key)?;
-        let (expected, value) = (Value::new(expected)?, Value::new(value)?);
-        check_room::<ROOM>(key.bytes().len() + value.bytes().len())?;
+        let expected = Value::new(expected)?;
+        let value = Value::new(value)?;
+        check_fit::<ROOM>(&key, &value)?;
         Ok(
             self.file
                 .compare_and_set(self.rt, &mut self.hand, &key, &expected, &value)?,
         )
     }
 
+    #[inline(always)]
     fn contains(&mut self, key: &[u8]) -> Result<bool, CallFault> {
         let found = self.with_value(key, |_bytes: &[u8]| ())?;
         Ok(found.is_some())
@@ -274,15 +294,22 @@ impl<'a, R: Wait, M: Mode, J: FileBrand, B: SessionName, const ROOM: usize> Sess
         self.hand.left()
     }
 
-    fn snapshot(&mut self) -> Result<Store, CallFault> {
-        let snapshot = self.file.snapshot(self.rt, &mut self.hand)?;
-        Ok(Store::of(snapshot.into_known_listing()))
-    }
-
     fn for_each<F: FnMut(BucketCopy)>(&mut self, f: F) -> Result<(), CallFault> {
         let mut scan = Scan::new(self.alloc, self.file)?;
         scan.for_each(self.rt, self.file, &mut self.hand, f)?;
         Ok(())
+    }
+}
+
+impl<'a, R: Wait, M: Mode, J: FileBrand, B: SessionName, const ROOM: usize> Snapshots
+    for SizedSession<'a, R, M, J, B, ROOM> {
+    ghost use Rattle.lh_store.specs.Histories.{IsLeftByAll};
+
+    ghost leaves = { λ own listing. IsLeftByAll M.traced own.file.listing listing };
+
+    fn snapshot(&mut self) -> Result<Store, CallFault> {
+        let snapshot = self.file.snapshot(self.rt, &mut self.hand)?;
+        Ok(Store::of(snapshot.into_known_listing()))
     }
 }
 

@@ -28,6 +28,7 @@ mod file_session;
 mod open_store;
 mod room;
 mod session;
+mod snapshots;
 mod store;
 mod threads;
 
@@ -42,4 +43,5 @@ pub use lh_image::{ImageFault, WriteImageFault};
 pub use lh_page::{Key, KeyLength, Value, ValueLength};
 pub use open_store::{OpenStore, SizedOpenStore};
 pub use session::Session;
+pub use snapshots::Snapshots;
 pub use store::{Store, Work, WorkDone};

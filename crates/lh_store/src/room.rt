@@ -1,5 +1,5 @@
 //! Whether records have room for a key and a value.
-ghost use Rattle.std.specs.Prelude.{◌≡◌, ◌+◌, length, IfErr, IfOk, OnOk};
+ghost use Rattle.std.specs.Prelude.{◌+◌, length, IfErr, OnOk};
 ghost use Rattle.lh_store.specs.Rooms.{HasRoomFor, TellsRoom};
 
 use crate::fault::CallFault;
@@ -7,7 +7,7 @@ use lh_file::WIDEST_ROOM;
 use lh_page::{Key, Value};
 
 /// Makes sure that records have room for so many bytes, key and value together.
-#[inline]
+#[inline(always)]
 pub(crate) fn check_room<const ROOM: usize>(bytes: usize) -> Result<(), CallFault>
     ensures ok { OnOk result (HasRoomFor ROOM bytes) }
     ensures err { IfErr result (TellsRoom ROOM bytes) }
@@ -18,18 +18,11 @@ pub(crate) fn check_room<const ROOM: usize>(bytes: usize) -> Result<(), CallFaul
     Ok(())
 }
 
-/// The key and the value with these bytes, which have room together.
-#[inline]
-pub(crate) fn fitting<const ROOM: usize>(
-    key: &[u8],
-    value: &[u8],
-) -> Result<(Key, Value), CallFault>
-    ensures key { IfOk result (λ pair. pair.0 ≡ key.now) }
-    ensures value { IfOk result (λ pair. pair.1 ≡ value.now) }
+/// Makes sure that records have room for this key with this value.
+#[inline(always)]
+pub(crate) fn check_fit<const ROOM: usize>(key: &Key, value: &Value) -> Result<(), CallFault>
     ensures fits { OnOk result (HasRoomFor ROOM (length key.now + length value.now)) }
     ensures err { IfErr result (TellsRoom ROOM (length key.now + length value.now)) }
 {
-    let (key, value) = (Key::new(key)?, Value::new(value)?);
-    check_room::<ROOM>(key.bytes().len() + value.bytes().len())?;
-    Ok((key, value))
+    check_room::<ROOM>(key.bytes().len() + value.bytes().len())
 }

@@ -3,7 +3,6 @@ ghost use denote.Ref.{Bor};
 ghost use Rattle.std.specs.Prelude.{◌≡◌, ◌≢◌, ◌↔◌, ◌+◌, ◌<◌, ◌≤◌, ℕ, List, Option, true, length, max};
 ghost use Rattle.std.specs.Prelude.{slice_index_or, IfOk, IfErr, OnOk, OnErr};
 ghost use Rattle.std.specs.Fn.{FnOnceReturnsAt};
-ghost use Rattle.lh_bucket.specs.Listing.{Lists};
 ghost use Rattle.lh_bucket.specs.PlainMap.{found};
 ghost use Rattle.lh_bucket.specs.declared.call.Call.{Call};
 ghost use Rattle.lh_bucket.specs.declared.call.Call.TheVariants as call;
@@ -17,7 +16,6 @@ ghost use Rattle.lh_store.specs.Sessions.{IsAtOnce, HasPut};
 ghost use Rattle.lh_words.specs.History.Buckets.{bit};
 
 use crate::fault::{CallFault, ExtendFault};
-use crate::store::Store;
 use lh_file::{BucketCopy, Compared};
 use lh_page::Value;
 use lh_page::limits::LONGEST_VALUE;
@@ -42,9 +40,6 @@ pub trait Session {
 
     // The bytes that each record of its table has for key and value together.
     ghost room: { ℕ };
-
-    // These records are what all calls of its table leave so far.
-    ghost leaves: { Self → Lists → Type 0 };
 
     /// The value under a key.
     fn get(&mut self, key: &[u8]) -> Result<Option<Value>, CallFault>
@@ -246,11 +241,6 @@ pub trait Session {
 
     /// How many more calls the session may make. A run divides those of its table evenly, and what is left comes back.
     fn left(&self) -> u64;
-
-    /// All records at one moment, which may be [saved](Store::save) while other threads go on. Writes wait while the records
-    /// are copied.
-    fn snapshot(&mut self) -> Result<Store, CallFault>
-        ensures { IfOk result (leaves self.old) };
 
     /// Gives copies of all buckets to a closure, one after the other, while other threads go on. Each key that is there
     /// all along is in one of them, and none is in two. No bucket is held meanwhile, so the closure may take its time.

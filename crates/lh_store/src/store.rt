@@ -6,7 +6,7 @@ ghost use Rattle.lh_store.specs.Histories.{IsOneHistory};
 
 use crate::disk::{LoadFault, SaveFault, load, save};
 use crate::file_session::{FileSession, SessionName};
-use crate::session::Session;
+use crate::snapshots::Snapshots;
 use crate::threads::on_threads;
 use lh_addr::Config;
 use lh_bucket::Listing;
@@ -23,7 +23,7 @@ pub trait Work {
     type Done;
 
     /// Does the part of one thread, with a session of its own. Threads are numbered from 0.
-    fn run<S: Session>(&self, thread: usize, table: &mut S) -> Self::Done;
+    fn run<S: Snapshots>(&self, thread: usize, table: &mut S) -> Self::Done;
 }
 
 /// What came of the work of each thread, in their order, and how many acts all have made.

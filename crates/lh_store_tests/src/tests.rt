@@ -1,7 +1,4 @@
-//! Sessions alone and in a crowd, at small rooms, images on a disk, and where memory is refused.
+//! Sessions alone and in a crowd, and at small rooms.
 mod calls;
 mod crowd;
-mod disk;
-mod memory;
 mod rooms;
-mod saving;

@@ -3,8 +3,8 @@ ghost use Rattle.std.specs.Prelude.{◌≤◌, length};
 
 use lh_expect::expect_eq;
 use lh_store::{
-    BucketCopy, CallFault, Compared, Config, ExtendFault, KeyLength, OpenStore, Session, Store,
-    Value, ValueLength, Work,
+    BucketCopy, CallFault, Compared, Config, ExtendFault, KeyLength, OpenStore, Session, Snapshots,
+    Store, Value, ValueLength, Work,
 };
 use std::test::Fail;
 
@@ -200,7 +200,7 @@ pub(crate) struct Facts {
     pub(crate) given: u64,
 }
 
-pub(crate) fn facts_of<S: Session>(table: &mut S) -> Result<Facts, CallFault> {
+pub(crate) fn facts_of<S: Snapshots>(table: &mut S) -> Result<Facts, CallFault> {
     let mut given = 0_u64;
     table.for_each(|copy: BucketCopy| given = given.saturating_add(copy.pairs.len() as u64))?;
     let listed = table.snapshot()?.len();
@@ -219,7 +219,7 @@ struct Rows;
 impl Work for Rows {
     type Done = (Option<(usize, Told)>, Option<Facts>);
 
-    fn run<S: Session>(&self, _thread: usize, table: &mut S) -> Self::Done {
+    fn run<S: Snapshots>(&self, _thread: usize, table: &mut S) -> Self::Done {
         (first_wrong(table, &ROWS), facts_of(table).ok())
     }
 }

@@ -4,7 +4,7 @@ use super::crowd::{count_by_all, number_in};
 use lh_expect::{expect, expect_eq};
 use lh_store::{
     CallFault, Config, ExtendFault, OpenStore, OpenStoreFault, RoomFault, Session, SizedOpenStore,
-    Store, Value,
+    Snapshots, Store, Value,
 };
 use std::sync::Wait;
 use std::test::Fail;
@@ -47,7 +47,7 @@ const DUE: Facts = Facts {
 };
 
 /// Whether each call is answered.
-fn answers_each_call<S: Session>(table: &mut S) -> bool {
+fn answers_each_call<S: Snapshots>(table: &mut S) -> bool {
     first_wrong(table, &ROWS).is_none() && facts_of(table) == Ok(DUE)
 }
 

@@ -10,8 +10,8 @@ returns-in_err-expected-clause-err g c = idle_itself _ _
 pub returns-in_err-value-clause-err : goal.returns-in_err-value-clause-err
 returns-in_err-value-clause-err g c = idle_itself _ _
 
-pub returns-in_err-check_room-clause-err : goal.returns-in_err-check_room-clause-err
-returns-in_err-check_room-clause-err g c = idle_itself _ _
+pub returns-in_err-check_fit-clause-err : goal.returns-in_err-check_fit-clause-err
+returns-in_err-check_fit-clause-err g c = idle_itself _ _
 
 pub invariant_of-self-2 : goal.invariant_of-self-2
 invariant_of-self-2 g c = at_once_keeps _ _ _ _ _ _ _ _ _ c.self.invariant c.compare_and_set.ensures

@@ -4,11 +4,17 @@ use Rattle.lh_store.proofs.file_session.SizedSessionSession.set.Goals as goal
 pub returns-in_err-key-clause-err : goal.returns-in_err-key-clause-err
 returns-in_err-key-clause-err g c = idle_itself _ _
 
+pub returns-in_err-value-clause-err : goal.returns-in_err-value-clause-err
+returns-in_err-value-clause-err g c = idle_itself _ _
+
+pub returns-in_err-check_fit-clause-err : goal.returns-in_err-check_fit-clause-err
+returns-in_err-check_fit-clause-err g c = idle_itself _ _
+
 pub invariant_of-self-2 : goal.invariant_of-self-2
 invariant_of-self-2 g c =
     makes_keeps _ _ _ _ _ _ _ _ _ c.self.invariant c.set.ensures.served c.set.ensures.entered
 
 pub returns-clause-made : goal.returns-clause-made
 returns-clause-made g c =
-    rw (← c.self.view_is, ← c.in_ok-key.ensures.key, ← c.in_ok-key.ensures.value)
+    rw (← c.self.view_is, ← c.in_ok-key.ensures.ok, ← c.in_ok-value.ensures.ok)
     (record { served = c.in_ok-set.ensures.served.served; entered = c.in_ok-set.ensures.entered })

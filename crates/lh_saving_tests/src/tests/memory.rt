@@ -4,7 +4,8 @@ use super::disk::{Disk, OnDisk, PATH};
 use lh_expect::{expect, expect_eq};
 use lh_image::ImageFault;
 use lh_store::{
-    CallFault, Config, FileFault, LoadFault, Memory, OpenStore, SaveFault, Session, Store, Work,
+    CallFault, Config, FileFault, LoadFault, Memory, OpenStore, SaveFault, Session, Snapshots,
+    Store, Work,
 };
 use std::alloc::Global;
 use std::process::Abort;

@@ -1,6 +1,6 @@
 use Rattle.std.proofs.Common.{◌∙◌}
 use Rattle.lh_store.proofs.Histories.{history_of}
-use Rattle.lh_store.proofs.file_session.SizedSessionSession.snapshot.Goals as goal
+use Rattle.lh_store.proofs.file_session.SizedSessionSnapshots.snapshot.Goals as goal
 
 pub returns : goal.returns
 returns g c t =

@@ -1,0 +1,17 @@
+use Rattle.lh_shard_store.proofs.ShardCalls.{idle_itself, idle_after, at_once_after}
+use Rattle.lh_shard_store.proofs.sharded_session.ShardedSessionSession.upsert.Goals as goal
+
+pub returns-in_err-key-clause-err : goal.returns-in_err-key-clause-err
+returns-in_err-key-clause-err g c = idle_itself _ _
+
+pub returns-in_err-value-clause-err : goal.returns-in_err-value-clause-err
+returns-in_err-value-clause-err g c = idle_itself _ _
+
+pub returns-in_err-upsert-clause-err : goal.returns-in_err-upsert-clause-err
+returns-in_err-upsert-clause-err g c =
+    rw (← c.self.view_is) (idle_after _ c.in_err-upsert.ensures.at_once c.in_err-upsert.ensures.at_once.does.made.err)
+
+pub returns-clause-made : goal.returns-clause-made
+returns-clause-made g c =
+    rw (← c.self.view_is, ← c.in_ok-key.ensures.ok, ← c.in_ok-value.ensures.ok)
+    (at_once_after _ _ _ c.in_ok-upsert.ensures.at_once)

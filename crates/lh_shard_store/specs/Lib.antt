@@ -1,0 +1,2 @@
+-- What contracts see of sessions of shards
+pub mod ShardedSessions
