@@ -70,6 +70,18 @@ pub struct Contents {
 }
 
 impl Contents {
+    /// The bytes of a short key.
+    #[inline]
+    pub fn key_bytes(self, number: u64) -> [u8; 16] {
+        bytes_of(self.seed, number)
+    }
+
+    /// The bytes of a short value.
+    #[inline]
+    pub fn value_bytes(self, number: u64) -> [u8; 16] {
+        bytes_of(self.seed ^ VALUES, number)
+    }
+
     #[inline]
     pub fn key(self, number: u64) -> Key {
         if self.are_long {

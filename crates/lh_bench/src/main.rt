@@ -7,8 +7,9 @@
 //!
 //! With `--shards 16` the table is 16 files as one, and the line says so. With `--traced` the file is traced, and the
 //! line says so. With `--room 32` each record has room for 32 bytes of key and value, and the line says so.
-//! `--workload all` runs on a file first, and then on what of these is asked for. With `--lent` the calls are those
-//! without an answer, and a value is compared where it is lent. With `--image 1` the image of W5 and W10 is one of
+//! With `--session` the calls are those of a store's session, and the line says so. `--workload all` runs on a file first,
+//! and then on what of these is asked for. With `--lent` the calls are those without an answer, and a value is compared
+//! where it is lent, as sessions do it. With `--image 1` the image of W5 and W10 is one of
 //! version 1, which has room for its records too. With `--longest` each insert of W1 is timed, and the line tells the
 //! longest.
 #![tactic(auto)]
@@ -30,6 +31,7 @@ mod order;
 mod passes;
 mod replacing;
 mod report;
+mod sessions;
 mod settling;
 mod splits;
 mod starter;
@@ -58,6 +60,7 @@ where
     match order.workload {
         Workload::Image => image::write_and_read(rt, order),
         Workload::LookUps => look_ups::look_up_all(rt, order),
+        _ if order.by_session => sessions::run_by_session(rt, order),
         _ if order.traced => kinds::run_traced(rt, order),
         _ => match order.shards {
             Some(shards) => kinds::run_sharded(rt, order, shards),
@@ -103,18 +106,26 @@ where
     Ok(())
 }
 
-/// Runs one workload with this room on an untraced file, and then on a traced one and on shards, where they are asked
-/// for and it may run on them.
+/// Runs one workload with this room on an untraced file, and then by a session, on a traced file and on shards, where they
+/// are asked for and it may run so.
 fn run_in_room<R>(rt: &R, order: &Order, form: Form) -> Result<()>
 where
     R: Runtime + AllocGlobal + CpuClock + Threads + Wait + Sync,
 {
     let plain = Order {
         traced: false,
+        by_session: false,
         shards: None,
         ..*order
     };
     run_one(rt, &plain, form)?;
+    if order.by_session && plain.may_be_by_session() {
+        let by_session = Order {
+            by_session: true,
+            ..plain
+        };
+        run_one(rt, &by_session, form)?;
+    }
     if order.traced && order.workload.may_trace() {
         let traced = Order {
             traced: true,

@@ -6,7 +6,7 @@ use clap::builder::ValueParser;
 use clap::{Arg, ArgAction, ArgMatches, Command, Error};
 use lh_image::Version;
 use lh_shards::MOST_SHARDS;
-use std::alloc::Global;
+use std::alloc::{AllocError, Global};
 
 /// What is measured.
 #[derive(Clone, Copy, Debug, PartialEq, Eq)]
@@ -198,6 +198,8 @@ pub struct Order {
     pub shards: Option<u32>,
     /// Whether the file is traced. Where all workloads are asked for: whether they run on such a file too.
     pub traced: bool,
+    /// Whether its calls are those of a store's session. Where all workloads are asked for: whether they run so too.
+    pub by_session: bool,
     /// Whether its calls are those without an answer, which lend values.
     pub lends: bool,
     /// The version of the image, where one is written.
@@ -253,7 +255,9 @@ impl Order {
             Some("it has one file")
         } else if self.room != Room::Any && !self.may_have_little_room() {
             Some("its records have room for any record")
-        } else if self.longest && self.workload != Workload::Inserts {
+        } else if self.by_session && !self.may_be_by_session() {
+            Some("a session runs W1, W2 and W4 in one thread on an untraced file")
+        } else if self.longest && (self.by_session || self.workload != Workload::Inserts) {
             Some("W1 alone tells its longest insert")
         } else {
             None
@@ -263,6 +267,16 @@ impl Order {
     /// Whether it can be run on a traced file.
     pub fn may_trace(&self) -> bool {
         self.workload.may_trace() && self.shards.is_none()
+    }
+
+    /// Whether it can be run by a session.
+    pub fn may_be_by_session(&self) -> bool {
+        let is_plain = !self.traced && self.shards.is_none() && self.threads == 1;
+        is_plain
+            && matches!(
+                self.workload,
+                Workload::Inserts | Workload::Searches | Workload::Mixed
+            )
     }
 
     /// Whether it can be run with room for its records alone: where their keys and values have 16 bytes.
@@ -307,82 +321,104 @@ const WORDS: [&str; 18] = [
 
 const ROOMS: [&str; 2] = ["32", "168"];
 
-fn number<'a>(
-    alloc: Global,
-    name: &'a str,
-    help: &'a str,
-    default: &'a str,
-    parser: ValueParser<'a>,
-) -> Arg<'a> {
-    Arg::new(alloc, name)
-        .long(name)
-        .help(help)
-        .action(ArgAction::Set)
-        .value_parser(parser)
-        .default_value(default)
-}
-
-fn command<'a>(alloc: Global) -> Result<Command<'a>, Error> {
-    let workload = Arg::new(alloc, "workload")
+fn workload_option<'a>(alloc: Global) -> Arg<'a> {
+    Arg::new(alloc, "workload")
         .long("workload")
         .help(
             "What to measure; beside W4's calls W11 takes snapshots, W12 takes scans, and W13 only reads the clock; W14 counts",
         )
         .required(true)
         .action(ArgAction::Set)
-        .value_parser(ValueParser::Names(&WORDS));
-    let counts = Arg::new(alloc, "counts")
-        .long("counts")
-        .help("Print what is the same in every run, and times on standard error")
-        .action(ArgAction::SetTrue);
-    let traced = Arg::new(alloc, "traced")
-        .long("traced")
-        .help("Run on a traced file, and with all on both kinds")
-        .action(ArgAction::SetTrue);
-    let lent = Arg::new(alloc, "lent")
-        .long("lent")
-        .help("Make the calls without an answer, which lend values")
-        .action(ArgAction::SetTrue);
-    let longest = Arg::new(alloc, "longest")
-        .long("longest")
-        .help("Time each insert of W1 by the clock, and tell the longest")
-        .action(ArgAction::SetTrue);
-    let room = Arg::new(alloc, "room")
+        .value_parser(ValueParser::Names(&WORDS))
+}
+
+fn number<'a>(
+    alloc: Global,
+    name: &'a str,
+    help: &'a str,
+    default: &'a str,
+    least: u64,
+    most: u64,
+) -> Arg<'a> {
+    Arg::new(alloc, name)
+        .long(name)
+        .help(help)
+        .action(ArgAction::Set)
+        .value_parser(ValueParser::Unsigned(least, most))
+        .default_value(default)
+}
+
+fn shards_option<'a>(alloc: Global) -> Arg<'a> {
+    Arg::new(alloc, "shards")
+        .long("shards")
+        .help("Run on this many files as one, and not on a file")
+        .action(ArgAction::Set)
+        .value_parser(ValueParser::Unsigned(1, MOST_SHARDS as u64))
+}
+
+fn room_option<'a>(alloc: Global) -> Arg<'a> {
+    Arg::new(alloc, "room")
         .long("room")
         .help("Bytes of room that a record has; with all, beside room for any record")
         .action(ArgAction::Set)
         .value_parser(ValueParser::Names(&ROOMS))
-        .default_value("168");
-    let threads = ValueParser::Unsigned(1, 64);
-    let records = ValueParser::Unsigned(1, 1_000_000_000);
-    let seed = ValueParser::Unsigned(0, u64::MAX);
-    let shards = Arg::new(alloc, "shards")
-        .long("shards")
-        .help("Run on this many files as one, and not on a file")
-        .action(ArgAction::Set)
-        .value_parser(ValueParser::Unsigned(1, MOST_SHARDS as u64));
-    let image = ValueParser::Unsigned(1, 2);
-    Ok(
-        Command::new(alloc, "lh_bench")
-            .about("Measures a linear hash file that threads share")
-            .arg(workload)?
-            .arg(number(alloc, "threads", "Threads", "1", threads))?
-            .arg(number(alloc, "records", "Records", "1000", records))?
-            .arg(number(alloc, "seed", "Seed of the streams", "1", seed))?
-            .arg(number(
-                alloc,
-                "image",
-                "Version of the image in W5 and W10",
-                "2",
-                image,
-            ))?
-            .arg(shards)?
-            .arg(traced)?
-            .arg(lent)?
-            .arg(longest)?
-            .arg(room)?
-            .arg(counts)?,
-    )
+        .default_value("168")
+}
+
+fn flag<'a>(alloc: Global, name: &'a str, help: &'a str) -> Arg<'a> {
+    Arg::new(alloc, name)
+        .long(name)
+        .help(help)
+        .action(ArgAction::SetTrue)
+}
+
+/// The options that are numbers or words.
+fn with_values<'a>(alloc: Global) -> Result<Command<'a>, AllocError> {
+    Command::new(alloc, "lh_bench")
+        .about("Measures a linear hash file that threads share")
+        .arg(workload_option(alloc))?
+        .arg(number(alloc, "threads", "Threads", "1", 1, 64))?
+        .arg(number(alloc, "records", "Records", "1000", 1, 1_000_000_000))?
+        .arg(number(alloc, "seed", "Seed of the streams", "1", 0, u64::MAX))?
+        .arg(number(
+            alloc,
+            "image",
+            "Version of the image in W5 and W10",
+            "2",
+            1,
+            2,
+        ))?
+        .arg(shards_option(alloc))?
+        .arg(room_option(alloc))
+}
+
+fn command<'a>(alloc: Global) -> Result<Command<'a>, AllocError> {
+    with_values(alloc)?
+        .arg(flag(
+            alloc,
+            "traced",
+            "Run on a traced file, and with all on both kinds",
+        ))?
+        .arg(flag(
+            alloc,
+            "session",
+            "Make the calls of a store's session, and with all those too",
+        ))?
+        .arg(flag(
+            alloc,
+            "lent",
+            "Make the calls without an answer, which lend values",
+        ))?
+        .arg(flag(
+            alloc,
+            "longest",
+            "Time each insert of W1 by the clock, and tell the longest",
+        ))?
+        .arg(flag(
+            alloc,
+            "counts",
+            "Print what is the same in every run, and times on standard error",
+        ))
 }
 
 fn order_of(matches: &ArgMatches<'_>) -> Order {
@@ -393,6 +429,7 @@ fn order_of(matches: &ArgMatches<'_>) -> Order {
         seed: matches.get_one("seed").unwrap_or(1),
         shards: matches.get_one("shards"),
         traced: matches.get_flag("traced"),
+        by_session: matches.get_flag("session"),
         lends: matches.get_flag("lent"),
         image: match matches.get_one("image") {
             Some(1_u64) => Version::One,
@@ -410,7 +447,7 @@ fn order_of(matches: &ArgMatches<'_>) -> Order {
 pub fn read_words<'a>(alloc: Global, words: &'a [&'a str]) -> Asked {
     let command = match command(alloc) {
         Ok(command) => command,
-        Err(error) => return Asked::Told(error),
+        Err(error) => return Asked::Told(Error::from(error)),
     };
     match command.try_get_matches_from(words) {
         Ok(matches) => {

@@ -90,6 +90,9 @@ impl Outcome {
         if order.room == Room::Bytes32 {
             print!(rt; ",\"room\":32")?;
         }
+        if order.by_session {
+            print!(rt; ",\"session\":true")?;
+        }
         if order.lends {
             print!(rt; ",\"lent\":true")?;
         }

@@ -1,5 +1,0 @@
-use Rattle.lh_file.specs.FileState.{IsOf}
-use Rattle.use_snapshot.proofs.moments.Given as goal
-
-abbrev pub invariant-loop : goal.invariant-loop
-invariant-loop g l = IsOf l.file.state l.hand
