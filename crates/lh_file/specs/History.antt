@@ -3,5 +3,6 @@ pub mod Entered
 pub mod Met
 pub mod Own
 pub mod RealTime
+pub mod Telling
 pub mod Updating
 pub mod UpdatingLaws

@@ -1,13 +1,16 @@
 -- Terms that files have answered to their hands, one shard after another
-use Rattle.std.proofs.Common.{zero, suc, ◌≡◌, ℕ, ◌+◌, ◌<◌, ◌≤◌, List, [], ◌∷◌, ◌++◌, length, set, Some, refl, sym, ap}
-use Rattle.std.proofs.Common.{◌∙◌, subst, ⊎_elim, arith}
+use Rattle.std.proofs.Common.{zero, suc, ◌≡◌, ℕ, ◌+◌, ◌<◌, ◌≤◌, Bool, List, [], ◌∷◌, ◌++◌, length, set, Some, refl}
+use Rattle.std.proofs.Common.{sym, ap, ◌∙◌, subst, ⊎_elim, arith}
 use Rattle.std.specs.List.{slice_get}
+use Rattle.std.specs.Prelude.{sum_by}
 use Rattle.std.proofs.lemmas.List.{length_push}
+use Rattle.std.proofs.lemmas.List.Sums.{sum_by_push}
 use Rattle.std.proofs.lemmas.Option.{same_Some, slice_get_within}
 use Rattle.lh_file.specs.FileState.{FileState}
+use Rattle.lh_file.specs.History.Telling.{HasTold}
 use Rattle.lh_file.specs.Words.Calls.{IsBuckets}
 use Rattle.lh_file.specs.Words.HandState.{HandState}
-use Rattle.lh_shards.specs.Counts.{AreAnswered}
+use Rattle.lh_shards.specs.Counts.{AreAnswered, capped}
 use Rattle.lh_shards.specs.Hands.{AreOf, IsOfShard}
 use Rattle.lh_shards.proofs.Passing.{HandFact, Passed, passed_next, passed_as}
 use Rattle.lh_shards.proofs.Places.{there, at_push}
@@ -68,19 +71,51 @@ has_counted n i f old term new o b = subst (λ x. IsOfShard n i f x) (sym b.know
   home = o.home;
 })
 
--- hands that were answered the number of buckets are hands of their files still
-pub counted_are_of : (files : List FileState) (olds news : List HandState) (terms : List ℕ) → AreOf files olds →
-    AreAnswered IsBuckets files olds terms news → AreOf files news
-counted_are_of files olds news terms o b = record {
+has_heard : (traced : Bool) (n i : ℕ) (f : FileState) (old : HandState) (term : ℕ) (new : HandState) →
+    IsOfShard n i f old → HasTold traced f old term new → IsOfShard n i f new
+has_heard traced n i f old term new o t = subst (λ x. IsOfShard n i f x) (sym t.after_is) (record {
+  of = record { table = o.of.table; initial = o.of.initial; max = o.of.max; recording = o.of.recording };
+  right = o.right;
+  home = o.home;
+})
+
+-- hands of which each stays one of its file by what that answers are hands of their files still
+answered_are_of : (Answers : FileState → HandState → ℕ → HandState → Type 0) →
+    ((n i : ℕ) (f : FileState) (old : HandState) (term : ℕ) (new : HandState) → IsOfShard n i f old →
+    Answers f old term new → IsOfShard n i f new) →
+    (files : List FileState) (olds news : List HandState) (terms : List ℕ) → AreOf files olds →
+    AreAnswered Answers files olds terms news → AreOf files news
+answered_are_of Answers stays files olds news terms o b = record {
   count = b.hands_count ∙ o.count;
   each = λ i f h fi hi.
       let in_olds : i < length olds = subst (λ n. i < n) b.hands_count (slice_get_within news i h hi) in
       let in_terms : i < length terms = subst (λ n. i < n) (sym b.terms_count) (slice_get_within files i f fi) in
       let was : (x : HandState) × (slice_get olds i ≡ Some x) = there olds i in_olds in
       let term : (t : ℕ) × (slice_get terms i ≡ Some t) = there terms i in_terms in
-      has_counted (length files) i f was.0 term.0 h (o.each i f was.0 fi was.1)
+      stays (length files) i f was.0 term.0 h (o.each i f was.0 fi was.1)
       (b.each i f was.0 term.0 h fi was.1 term.1 hi);
 }
+
+-- such are hands that were answered the number of buckets,
+pub counted_are_of : (files : List FileState) (olds news : List HandState) (terms : List ℕ) → AreOf files olds →
+    AreAnswered IsBuckets files olds terms news → AreOf files news
+counted_are_of = answered_are_of IsBuckets has_counted
+
+-- and those that were told of acts
+pub told_are_of : (traced : Bool) (files : List FileState) (olds news : List HandState) (terms : List ℕ) →
+    AreOf files olds → AreAnswered (HasTold traced) files olds terms news → AreOf files news
+told_are_of traced = answered_are_of (HasTold traced) (has_heard traced)
+
+-- what is capped may be capped before a number is added
+capped_twice : (m n : ℕ) → capped (capped m + n) ≡ capped (m + n)
+capped_twice m n = omega arith
+
+-- a number of one term more is added to a capped sum
+pub one_more : {X : Type 0} (f : X → ℕ) (terms : List X) (term : X) (total new : ℕ) → total ≡ capped (sum_by f terms) →
+    new ≡ capped (total + f term) → new ≡ capped (sum_by f (terms ++ term ∷ []))
+one_more f terms term total new was is =
+    is ∙ ap (λ n. capped (n + f term)) was ∙ capped_twice (sum_by f terms) (f term)
+    ∙ ap capped (sym (sum_by_push f terms term))
 
 -- what stands at a place is written there again
 pub set_self : {X : Type 0} (xs : List X) (i : ℕ) (x : X) → slice_get xs i ≡ Some x → set xs i x ≡ xs

@@ -21,7 +21,7 @@ use Rattle.lh_file.specs.declared.fault.FileFault.{FileFault}
 use Rattle.lh_words.specs.declared.view.View.{View}
 use Rattle.lh_shards.specs.Hands.{AreOf, AtShard, AreAtHome, IsOfShard, ShardFact, EachShard}
 use Rattle.lh_shards.specs.Number.{home_of}
-use Rattle.lh_shards.specs.Told.{HasTold}
+use Rattle.lh_file.specs.History.Telling.{HasTold}
 use Rattle.lh_shards.proofs.Places.{at_set, at_push, length_mapped}
 use lib.ListN.{length-set}
 

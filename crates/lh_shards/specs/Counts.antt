@@ -1,6 +1,7 @@
 -- How many buckets and records all shards have: sums of what each file answers
-use Rattle.std.specs.Prelude.{◌≡◌, ℕ, ◌-◌, ◌^◌, List, length, min, sum, sum_by, Some, slice_get}
+use Rattle.std.specs.Prelude.{◌≡◌, ℕ, ◌-◌, ◌^◌, Bool, List, length, min, sum, sum_by, Some, slice_get}
 use Rattle.lh_file.specs.FileState.{FileState}
+use Rattle.lh_file.specs.History.Telling.{HasTold}
 use Rattle.lh_file.specs.Words.Calls.{IsBuckets, IsLoadOf}
 use Rattle.lh_file.specs.Words.HandState.{HandState}
 use Rattle.lh_file.specs.declared.words.load.Load.{Load}
@@ -33,3 +34,10 @@ pub record AreLoads (files : List FileState) (old : List HandState) (load : Load
   pub opening : load.opening ≡ capped (sum_by (λ term. term.opening) terms)
   pub inserted : load.inserted ≡ capped (sum_by (λ term. term.inserted) terms)
   pub deleted : load.deleted ≡ capped (sum_by (λ term. term.deleted) terms)
+
+-- the number of acts is the sum of what the files have told their hands of, up to 2^64 - 1
+pub record IsActSum (traced : Bool) (files : List FileState) (old : List HandState) (acts : ℕ) (new : List HandState)
+    : Type 0 where
+  pub terms : List ℕ
+  pub answered : AreAnswered (HasTold traced) files old terms new
+  pub total : acts ≡ capped (sum terms)

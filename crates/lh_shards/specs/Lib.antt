@@ -14,5 +14,4 @@ pub mod Own
 pub mod Rooms
 pub mod Settling
 pub mod Snapshots
-pub mod Told
 pub mod Traced

@@ -1,6 +1,6 @@
-//! How many buckets and records all shards have.
+//! How many buckets and records all shards have, and how many acts there were.
 ghost use Rattle.std.specs.Prelude.{◌≡◌, ◌+◌};
-ghost use Rattle.lh_shards.specs.Counts.{IsBucketSum, AreLoads, capped};
+ghost use Rattle.lh_shards.specs.Counts.{IsBucketSum, AreLoads, IsActSum, capped};
 ghost use Rattle.lh_shards.specs.Hands.{AreOf};
 
 use crate::hands::Hands;
@@ -51,6 +51,20 @@ impl<M: Mode, J: FileBrand, const ROOM: usize> SizedShards<M, J, ROOM> {
         };
         for shard in 0..self.files.len() {
             total = added(total, self.files[shard].load(&mut hands.hands[shard]));
+        }
+        total
+    }
+
+    /// How many acts there were so far in all shards: the sum of what each file [tells](HashFile::told) its hand, one
+    /// after another, or 2^64 - 1 where that is greater.
+    pub fn acts(&self, hands: &mut Hands) -> u64
+        requires { AreOf self.now hands.old }
+        ensures sum { IsActSum M.traced self.now hands.old result hands.new }
+        ensures of { AreOf self.now hands.new }
+    {
+        let mut total = 0_u64;
+        for place in 0..self.files.len() {
+            total = total.saturating_add(self.files[place].told(&mut hands.hands[place]));
         }
         total
     }

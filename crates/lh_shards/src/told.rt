@@ -1,7 +1,7 @@
 //! What hands are told of the histories of traced shards.
 ghost use Rattle.std.specs.Prelude.{◌<◌, length};
+ghost use Rattle.lh_file.specs.History.Telling.{HasTold};
 ghost use Rattle.lh_shards.specs.Hands.{AreOf, AtShard};
-ghost use Rattle.lh_shards.specs.Told.{HasTold};
 
 use crate::hands::Hands;
 use crate::shards::SizedShards;

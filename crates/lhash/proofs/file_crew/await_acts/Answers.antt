@@ -7,8 +7,8 @@ told-made-requires g c = (search rules, c.loop-turn.invariant.own.of)
 
 pub loop-turn-preserved : goal.loop-turn-preserved
 loop-turn-preserved g c =
-    looked_told _ _ _ _ c.told-made.result c.told-made.ensures.told.0 c.told-made.ensures.told.1 c.loop-turn.invariant
+    looked_told _ _ _ _ c.told-made.result c.told-made.ensures.log c.told-made.ensures.after_is c.loop-turn.invariant
 
 pub returns-then-made-acts : goal.returns-then-made-acts
 returns-then-made-acts g c =
-    looked_told _ _ _ _ c.told-made.result c.told-made.ensures.told.0 c.told-made.ensures.told.1 c.loop-turn.invariant
+    looked_told _ _ _ _ c.told-made.result c.told-made.ensures.log c.told-made.ensures.after_is c.loop-turn.invariant

@@ -1,13 +1,10 @@
 -- The file whose turn it is answers one term more, and its hand is as it was.
-use Rattle.std.proofs.Common.{◌≡◌, ℕ, ◌+◌, ◌≤◌, ◌∷◌, [], ◌++◌, List, length, set, sym, ap, ◌∙◌, lit<, arith}
-use Rattle.std.specs.Prelude.{sum_by}
-use Rattle.std.proofs.lemmas.List.Sums.{sum_by_push}
+use Rattle.std.proofs.Common.{◌≡◌, ℕ, ◌≤◌, ◌∷◌, [], ◌++◌, List, length, set, sym, ap, ◌∙◌, lit<, arith}
 use Rattle.lh_file.specs.HashFile.{Shared}
 use Rattle.lh_file.specs.Words.Calls.{IsLoadOf}
 use Rattle.lh_file.specs.Words.HandState.{HandState}
 use Rattle.lh_file.specs.declared.words.load.Load.{Load}
-use Rattle.lh_shards.specs.Counts.{capped}
-use Rattle.lh_shards.proofs.Counting.{so_far_next, all_answered, set_self}
+use Rattle.lh_shards.proofs.Counting.{so_far_next, all_answered, one_more, set_self}
 use Rattle.lh_shards.proofs.Giving.{Ready, turn}
 use Rattle.lh_shards.proofs.Places.{length_mapped}
 use Rattle.lh_shards.proofs.shards.SizedShards.load.Given.{Over}
@@ -26,16 +23,6 @@ ready g c =
 
 pub load-requires : goal.load-requires
 load-requires g c = (lit< tt, (ready g (goal.at.load-requires g c).After-index_mut).of)
-
--- what is capped may be capped before a number is added
-capped_twice : (m n : ℕ) → capped (capped m + n) ≡ capped (m + n)
-capped_twice m n = omega arith
-
-one_more : (f : Load → ℕ) (terms : List Load) (term : Load) (total new : ℕ) → total ≡ capped (sum_by f terms) →
-    new ≡ capped (total + f term) → new ≡ capped (sum_by f (terms ++ term ∷ []))
-one_more f terms term total new was is =
-    is ∙ ap (λ n. capped (n + f term)) was ∙ capped_twice (sum_by f terms) (f term)
-    ∙ ap capped (sym (sum_by_push f terms term))
 
 pub loop-shard-preserved : goal.loop-shard-preserved
 loop-shard-preserved g c =

@@ -1,8 +1,8 @@
--- What a hand is told of its shard's history
+-- What a hand is told of its file's history
 use Rattle.std.specs.Prelude.{◌≡◌, ℕ, ◌≤◌, Bool, true, List}
 use Rattle.lh_file.specs.FileState.{FileState}
-use Rattle.lh_words.specs.History.Told.{IsTold}
 use Rattle.lh_file.specs.Words.HandState.{HandState, told_of}
+use Rattle.lh_words.specs.History.Told.{IsTold}
 use Rattle.lh_words.specs.declared.seat_view.Entry.{Entry}
 
 -- The hand was told of this many acts of its file, no fewer than before. Of a traced file they are one legal history,
