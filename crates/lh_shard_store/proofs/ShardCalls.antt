@@ -1,16 +1,18 @@
 -- What a call on one shard leaves of a session
-use Rattle.std.proofs.Common.{zero, suc, ◌≡◌, ℕ, ◌⊎◌, Bool, List, [], ◌∷◌, set, Result, Some, Ok, Err, OnErr, refl}
-use Rattle.std.proofs.Common.{sym, ap, ◌∙◌, subst, inl, inr, ⊎_elim, arith}
+use Rattle.std.proofs.Common.{zero, suc, ◌≡◌, ℕ, ◌⊎◌, length, Bool, List, [], ◌∷◌, set, Result, Some, Ok, Err, OnErr}
+use Rattle.std.proofs.Common.{refl, sym, ap, ◌∙◌, subst, inl, inr, ⊎_elim, arith}
 use Rattle.std.specs.List.{slice_get}
-use Rattle.std.proofs.lemmas.Option.{same_Some}
+use Rattle.std.proofs.lemmas.Option.{same_Some, none-some}
 use Rattle.lh_bucket.specs.declared.call.Call.{Call}
 use Rattle.lh_bucket.specs.declared.call.Reply.{Reply}
 use Rattle.lh_file.specs.Calls.Atomic.{MakesAtOnce, Reaction}
 use Rattle.lh_file.specs.Calls.Served.{HasServed, KnowsMore}
 use Rattle.lh_file.specs.FileState.{FileState}
+use Rattle.lh_file.specs.Words.Calls.{IsBuckets}
 use Rattle.lh_file.specs.Words.HandState.{HandState}
+use Rattle.lh_shards.specs.Counts.{IsBucketSum}
 use Rattle.lh_shards.specs.Dividing.{EachPair}
-use Rattle.lh_shards.specs.Hands.{AtShard, AtShardOf}
+use Rattle.lh_shards.specs.Hands.{AreOf, AtShard, AtShardOf}
 use Rattle.lh_store.specs.Sessions.{IsAtOnce}
 use Rattle.lh_shard_store.specs.ShardedSessions.{IsMadeAtHome}
 use lib.ListN.{length-set}
@@ -106,4 +108,32 @@ at_once_after {T} {traced} {files} {old} {new} key does t a = record {
   made =
       subst (λ k. AtShardOf k files old new (λ _ before after. HasServed before a.does.call a.does.given after))
       (sym a.does.by) (made_after a.does.call a.does.given a a.does.made.served);
+}
+
+-- Something stands at each place of a list that is as long as one where something stands there.
+there : {X Y : Type 0} (xs : List X) (ys : List Y) (i : ℕ) (x : X) → length ys ≡ length xs →
+    slice_get xs i ≡ Some x → (y : Y) × (slice_get ys i ≡ Some y)
+there [] ys i x long at = absurd (none-some x at)
+there (x' ∷ xs) [] i x long at = absurd (omega (arith, long))
+there (x' ∷ xs) (y ∷ ys) zero x long at = (y, refl)
+there (x' ∷ xs) (y ∷ ys) (suc i) x long at = there xs ys i x (omega (arith, long)) at
+
+-- Hands that have counted the buckets of their files know more.
+pub counting_know : (files : List FileState) (old : List HandState) (buckets : ℕ) (new : List HandState) →
+    AreOf files old → IsBucketSum files old buckets new → EachPair KnowsMore old new
+counting_know files old buckets new of sum = record {
+  count = sum.answered.hands_count;
+  each = λ shard before after at_before at_after.
+      let file = there old files shard before (sym of.count) at_before in
+      let term = there files sum.terms shard file.0 sum.answered.terms_count file.1 in
+      let b = sum.answered.each shard file.0 before term.0 after file.1 at_before term.1 at_after in record {
+        known = term.0;
+        rises = b.rises;
+        view = ap (λ h. h.view) b.knows;
+        entries = ap (λ h. h.entries) b.knows;
+        logs = ap (λ h. h.logs) b.knows;
+        acts = ap (λ h. h.acts) b.knows;
+        table = ap (λ h. h.table) b.knows;
+        recording = ap (λ h. h.recording) b.knows;
+      };
 }

@@ -32,18 +32,6 @@ pub(crate) fn hands_for(
     Ok(given)
 }
 
-/// How many acts the shards tell their hands of.
-pub(crate) fn acts_told(shards: &Shards, hands: &mut Hands) -> u64
-    requires { AreOf shards.now hands.old }
-    ensures { AreOf shards.now hands.new }
-{
-    let mut acts = 0_u64;
-    for shard in 0..shards.count() {
-        acts = acts.saturating_add(shards.told(hands, shard));
-    }
-    acts
-}
-
 /// Gives copies of all buckets of a shard to a closure, one after the other, with no lock held.
 fn give_shard<R: Wait, F: FnMut(BucketCopy)>(
     rt: &R,

@@ -1,11 +1,12 @@
 //! Sessions of several files as one table.
-ghost use Rattle.std.specs.Prelude.{◌≡◌, ◌^◌, ◌<◌, ◌≤◌, ℕ, length, All, IfOk};
+ghost use Rattle.std.specs.Prelude.{◌≡◌, ◌^◌, ◌<◌, ◌≤◌, ℕ, false, length, All, IfOk};
 ghost use Rattle.lh_page.specs.Slots.{widest_room};
+ghost use Rattle.lh_shards.specs.Counts.{IsActSum, IsBucketSum};
 ghost use Rattle.lh_shards.specs.Dividing.{AllHave};
 ghost use Rattle.lh_shards.specs.Hands.{AreOf};
 ghost use Rattle.lh_shard_store.specs.ShardedSessions.{HasIdled, IsMadeAtHome, IsRecordSum};
 
-use crate::all_shards::{acts_told, give_all};
+use crate::all_shards::give_all;
 use lh_shards::{Hands, Shards};
 use lh_store::{BucketCopy, CallFault, Compared, Key, Memory, Session, Value};
 use std::alloc::Global;
@@ -76,12 +77,25 @@ impl<'a, R: Wait> Session for ShardedSession<'a, R> {
 
     ghost idle = { HasIdled };
 
+    ghost counts = { λ old buckets new. IsBucketSum old.files old.hands buckets new.hands };
+
+    ghost tells = { λ old acts new. IsActSum false old.files old.hands acts new.hands };
+
     ghost room = { widest_room };
 
     #[inline(always)]
     fn get(&mut self, key: &[u8]) -> Result<Option<Value>, CallFault> {
         let key = Key::new(key)?;
         Ok(self.shards.get(self.rt, &mut self.hands, &key)?)
+    }
+
+    #[inline(always)]
+    fn read_into(&mut self, key: &[u8], value: &mut Value) -> Result<bool, CallFault> {
+        let key = Key::new(key)?;
+        Ok(
+            self.shards
+                .read_into(self.rt, &mut self.hands, &key, value)?,
+        )
     }
 
     #[inline(always)]
@@ -199,8 +213,12 @@ impl<'a, R: Wait> Session for ShardedSession<'a, R> {
             .saturating_sub(load.deleted)
     }
 
+    fn buckets(&mut self) -> u64 {
+        self.shards.buckets(&mut self.hands)
+    }
+
     fn told(&mut self) -> u64 {
-        acts_told(self.shards, &mut self.hands)
+        self.shards.acts(&mut self.hands)
     }
 
     fn left(&self) -> u64

@@ -10,6 +10,7 @@ use Rattle.lh_file.specs.Closing.{NoneOutside}
 use Rattle.lh_file.specs.FileState.{FileState, IsOf}
 use Rattle.lh_file.specs.History.Entered.{HasActedOn, HasEntered}
 use Rattle.lh_file.specs.Snapshots.Scans.{HasScanned, HasVisited, Scanning}
+use Rattle.lh_file.specs.Words.Calls.{IsBuckets}
 use Rattle.lh_file.specs.Words.HandState.{HandState, seeing, IsJoined}
 use Rattle.lh_file.specs.Words.Recording.{kept_of}
 use Rattle.lh_file.specs.declared.fault.FileFault.{FileFault}
@@ -87,6 +88,34 @@ module _ (traced is_named : Bool) (name file : FileState) (old new : HandState)
       let e = acted t in
       subst NoneOutside (sym e.2)
       (each_snoc (λ (a : Entry). a.outside ≡ false) old.entries (entry false e.0 call reply was) (s.own t) refl))
+
+-- A hand that has counted the buckets knows more,
+pub counting_knows : (file : FileState) (buckets : ℕ) (old new : HandState) → IsBuckets file old buckets new →
+    KnowsMore old new
+counting_knows file buckets old new b = record {
+  known = buckets;
+  rises = b.rises;
+  view = ap (λ h. h.view) b.knows;
+  entries = ap (λ h. h.entries) b.knows;
+  logs = ap (λ h. h.logs) b.knows;
+  acts = ap (λ h. h.acts) b.knows;
+  table = ap (λ h. h.table) b.knows;
+  recording = ap (λ h. h.recording) b.knows;
+}
+
+-- and is still a session's.
+pub counting_keeps : (traced is_named : Bool) (name file : FileState) (buckets : ℕ) (old new : HandState) →
+    IsSession traced is_named name file old → IsBuckets file old buckets new →
+    IsSession traced is_named name file new
+counting_keeps traced is_named name file buckets old new s b =
+    idle_keeps traced is_named name file old new s
+    (record {
+      table = ap (λ h. h.table) b.knows ∙ s.of.table;
+      initial = ap (λ h. h.view.initial) b.knows ∙ s.of.initial;
+      max = ap (λ h. h.view.max) b.knows ∙ s.of.max;
+      recording = ap (λ h. h.recording) b.knows ∙ s.of.recording;
+    })
+    (counting_knows file buckets old new b)
 
 -- A visit leaves a session one,
 visited_keeps : (traced is_named : Bool) (name file : FileState) (copy : BucketCopy) (old new : HandState) →

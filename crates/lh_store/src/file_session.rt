@@ -157,6 +157,8 @@ impl<'a, R: Wait, M: Mode, J: FileBrand, B: SessionName, const ROOM: usize> Size
 impl<'a, R: Wait, M: Mode, J: FileBrand, B: SessionName, const ROOM: usize> Session
     for SizedSession<'a, R, M, J, B, ROOM> {
     ghost use Rattle.lh_file.specs.Calls.Served.{KnowsMore};
+    ghost use Rattle.lh_file.specs.History.Telling.{HasTold};
+    ghost use Rattle.lh_file.specs.Words.Calls.{IsBuckets};
     ghost use Rattle.lh_store.specs.Sessions.{IsMade, IsMet};
 
     ghost made = { λ old call reply new. IsMade M.traced old.hand call reply new.hand };
@@ -165,12 +167,22 @@ impl<'a, R: Wait, M: Mode, J: FileBrand, B: SessionName, const ROOM: usize> Sess
 
     ghost idle = { λ old new. KnowsMore old.hand new.hand };
 
+    ghost counts = { λ old buckets new. IsBuckets old.file old.hand buckets new.hand };
+
+    ghost tells = { λ old acts new. HasTold M.traced old.file old.hand acts new.hand };
+
     ghost room = { ROOM };
 
     #[inline(always)]
     fn get(&mut self, key: &[u8]) -> Result<Option<Value>, CallFault> {
         let key = Key::new(key)?;
         Ok(self.file.get(self.rt, &mut self.hand, &key)?)
+    }
+
+    #[inline(always)]
+    fn read_into(&mut self, key: &[u8], value: &mut Value) -> Result<bool, CallFault> {
+        let key = Key::new(key)?;
+        Ok(self.file.read_into(self.rt, &mut self.hand, &key, value)?)
     }
 
     #[inline(always)]
@@ -284,6 +296,10 @@ impl<'a, R: Wait, M: Mode, J: FileBrand, B: SessionName, const ROOM: usize> Sess
         load.opening
             .saturating_add(load.inserted)
             .saturating_sub(load.deleted)
+    }
+
+    fn buckets(&mut self) -> u64 {
+        u64::from(self.file.buckets(&mut self.hand))
     }
 
     fn told(&mut self) -> u64 {

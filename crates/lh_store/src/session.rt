@@ -1,6 +1,6 @@
 //! What every session can do.
 ghost use denote.Ref.{Bor};
-ghost use Rattle.std.specs.Prelude.{◌≡◌, ◌≢◌, ◌↔◌, ◌+◌, ◌<◌, ◌≤◌, ℕ, List, Option, true, length, max};
+ghost use Rattle.std.specs.Prelude.{◌≡◌, ◌≢◌, ◌↔◌, ◌+◌, ◌<◌, ◌≤◌, ℕ, List, Option, Ok, true, length, max};
 ghost use Rattle.std.specs.Prelude.{slice_index_or, IfOk, IfErr, OnOk, OnErr};
 ghost use Rattle.std.specs.Fn.{FnOnceReturnsAt};
 ghost use Rattle.lh_bucket.specs.PlainMap.{found};
@@ -9,7 +9,7 @@ ghost use Rattle.lh_bucket.specs.declared.call.Call.TheVariants as call;
 ghost use Rattle.lh_bucket.specs.declared.call.Reply.{Reply};
 ghost use Rattle.lh_bucket.specs.declared.call.Reply.TheVariants.{Absent};
 ghost use Rattle.lh_file.specs.Calls.Atomic.{Upserts, GetsOrPuts, Takes, Updates, Merges, ComparesAndSets};
-ghost use Rattle.lh_file.specs.Calls.Lean.{put_reply, set_reply, remove_reply, LendsTo};
+ghost use Rattle.lh_file.specs.Calls.Lean.{read_reply, put_reply, set_reply, remove_reply, LendsTo};
 ghost use Rattle.lh_page.specs.Limits.{IsValue, longest_value};
 ghost use Rattle.lh_store.specs.Rooms.{HasRoomFor, TellsRoom, MakesWithin, bytes_of_record};
 ghost use Rattle.lh_store.specs.Sessions.{IsAtOnce, HasPut};
@@ -38,12 +38,26 @@ pub trait Session {
     // or it has made no call.
     ghost idle: { Self → Self → Type 0 };
 
+    // It has counted so many buckets,
+    ghost counts: { Self → ℕ → Self → Type 0 };
+
+    // or was told of so many acts.
+    ghost tells: { Self → ℕ → Self → Type 0 };
+
     // The bytes that each record of its table has for key and value together.
     ghost room: { ℕ };
 
     /// The value under a key.
     fn get(&mut self, key: &[u8]) -> Result<Option<Value>, CallFault>
         ensures made { IfOk result (λ value. made self.old (call.Search key.now) (found value) self.new) }
+        ensures err { OnErr result (idle self.old self.new) };
+
+    /// Copies the value under a key over another one: whether the key is there. Where it isn't, and after a fault, that one
+    /// is as it was.
+    fn read_into(&mut self, key: &[u8], value: &mut Value) -> Result<bool, CallFault>
+        ensures made { IfOk result (λ is_there.
+            made self.old (call.Search key.now) (read_reply value.new is_there) self.new) }
+        ensures same { result ≢ Ok true → value.new ≡ value.old }
         ensures err { OnErr result (idle self.old self.new) };
 
     /// What a closure returns of the bytes of the value under a key, or none where the key isn't there. Nothing is
@@ -236,8 +250,14 @@ pub trait Session {
     fn len(&mut self) -> u64
         ensures { idle self.old self.new };
 
+    /// The number of buckets, which never falls; of several files their sum, counted one after the other.
+    fn buckets(&mut self) -> u64
+        ensures idle { idle self.old self.new }
+        ensures counts { counts self.old result self.new };
+
     /// How many acts there were so far, those of other threads too. What this session does later comes after all of them.
-    fn told(&mut self) -> u64;
+    fn told(&mut self) -> u64
+        ensures { tells self.old result self.new };
 
     /// How many more calls the session may make. A run divides those of its table evenly, and what is left comes back.
     fn left(&self) -> u64;

@@ -21,10 +21,18 @@ fn first_of(value: Option<Value>) -> Option<u8> {
     value.and_then(|value| value.bytes().first().copied())
 }
 
-/// Whether eleven calls by a key that isn't there are answered, which add no record.
+/// Whether the value under a key, or none, is read over another one, which stays where there is none.
+fn reads<S: Session>(table: &mut S, key: &[u8], due: Option<u8>) -> Result<bool, CallFault> {
+    let mut value = next_of(b"8");
+    let is_there = table.read_into(key, &mut value)?;
+    Ok(is_there == due.is_some() && first_of(Some(value)) == Some(due.unwrap_or(b'9')))
+}
+
+/// Whether twelve calls by a key that isn't there are answered, which add no record.
 fn misses<S: Session>(table: &mut S) -> Result<bool, CallFault> {
     Ok(
         table.get(b"a")?.is_none()
+            && reads(table, b"a", None)?
             && table.with_value(b"a", |_bytes: &[u8]| ())?.is_none()
             && !table.contains(b"a")?
             && !table.set(b"a", b"1")?
@@ -38,12 +46,13 @@ fn misses<S: Session>(table: &mut S) -> Result<bool, CallFault> {
     )
 }
 
-/// Whether fourteen calls by a key that the first of them adds, and the last removes, are answered.
+/// Whether fifteen calls by a key that the first of them adds, and the last removes, are answered.
 fn hits<S: Session>(table: &mut S) -> Result<bool, CallFault> {
     Ok(
         table.put(b"a", b"1")?
             && !table.put(b"a", b"2")?
             && first_of(table.get(b"a")?) == Some(b'1')
+            && reads(table, b"a", Some(b'1'))?
             && table.with_value(b"a", |bytes: &[u8]| bytes.len())? == Some(1)
             && table.contains(b"a")?
             && table.set(b"a", b"3")?
@@ -82,11 +91,11 @@ fn each_call_is_answered(rt: HostRuntime) -> Result<(), Fail> {
     expect_eq!(&rt, misses(&mut session), Ok(true));
     expect_eq!(&rt, hits(&mut session), Ok(true));
     expect_eq!(&rt, adds(&mut session), Ok(true));
-    expect_eq!(&rt, (session.len(), session.told()), (3, 28));
+    expect_eq!(&rt, (session.len(), session.told()), (3, 30));
     expect_eq!(&rt, (given(&mut session), left), (Ok(3), 1 << 44));
 
     // All calls by "a" went to one shard.
-    expect!(&rt, session.left() <= left - 25);
+    expect!(&rt, session.left() <= left - 27);
     Ok(())
 }
 
@@ -102,6 +111,7 @@ fn all_shards_are_one_table(rt: HostRuntime) -> Result<(), Fail> {
         expect_eq!(&rt, session.contains(&[letter]), Ok(true));
     }
     expect_eq!(&rt, (session.len(), session.told()), (26, 52));
+    expect_eq!(&rt, session.buckets(), 8);
     expect_eq!(&rt, given(&mut session), Ok(26));
     Ok(())
 }

@@ -12,6 +12,7 @@ use std::test::Fail;
 #[derive(Clone, Copy)]
 pub(crate) enum Ask {
     Get,
+    ReadInto,
     WithValue,
     Contains,
     Put,
@@ -103,10 +104,22 @@ fn next_of(bytes: &[u8]) -> Value
     Value::new(&[first_of(bytes).wrapping_add(1)]).unwrap_or(Value::empty())
 }
 
+/// Reads the value under a key over another one, which stays where there is none.
+fn read<S: Session>(table: &mut S, key: &[u8]) -> Result<Told, CallFault> {
+    let mut value = next_of(b"8");
+    let is_there = table.read_into(key, &mut value)?;
+    Ok(match (is_there, first_of(value.bytes())) {
+        (true, byte) => Told::Value(byte),
+        (false, b'9') => Told::None,
+        (false, _) => Told::Fault,
+    })
+}
+
 /// Makes a call.
 fn made<S: Session>(table: &mut S, ask: Ask, key: &[u8], value: &[u8]) -> Result<Told, CallFault> {
     Ok(match ask {
         Ask::Get => table.get(key)?.into(),
+        Ask::ReadInto => read(table, key)?,
         Ask::WithValue => table
             .with_value(key, |bytes: &[u8]| first_of(bytes))?
             .into(),
@@ -139,8 +152,9 @@ pub(crate) fn tell<S: Session>(table: &mut S, ask: Ask, key: &[u8], value: &[u8]
 pub(crate) type Row = (Ask, u8, u8, Told);
 
 /// Each call where its key is there, and where it isn't.
-const ROWS: [Row; 35] = [
+const ROWS: [Row; 37] = [
     (Ask::Get, b'a', b'-', Told::None),
+    (Ask::ReadInto, b'a', b'-', Told::None),
     (Ask::WithValue, b'a', b'-', Told::None),
     (Ask::Contains, b'a', b'-', Told::No),
     (Ask::Set, b'a', b'1', Told::No),
@@ -150,6 +164,7 @@ const ROWS: [Row; 35] = [
     (Ask::CompareAndSet, b'a', b'1', Told::Absent),
     (Ask::Put, b'a', b'1', Told::Yes),
     (Ask::Get, b'a', b'-', Told::Value(b'1')),
+    (Ask::ReadInto, b'a', b'-', Told::Value(b'1')),
     (Ask::WithValue, b'a', b'-', Told::Value(b'1')),
     (Ask::Contains, b'a', b'-', Told::Yes),
     (Ask::Put, b'a', b'2', Told::No),
@@ -192,6 +207,7 @@ pub(crate) fn first_wrong<S: Session>(table: &mut S, rows: &[Row]) -> Option<(us
 #[derive(Clone, Copy, Debug, PartialEq, Eq)]
 pub(crate) struct Facts {
     pub(crate) len: u64,
+    pub(crate) buckets: u64,
     pub(crate) told: u64,
     pub(crate) left: u64,
     /// How many records a snapshot has,
@@ -206,6 +222,7 @@ pub(crate) fn facts_of<S: Snapshots>(table: &mut S) -> Result<Facts, CallFault> 
     let listed = table.snapshot()?.len();
     Ok(Facts {
         len: table.len(),
+        buckets: table.buckets(),
         told: table.told(),
         left: table.left(),
         listed,
@@ -228,8 +245,9 @@ impl Work for Rows {
 fn due(calls: u64) -> Facts {
     Facts {
         len: 3,
-        told: 35,
-        left: calls.saturating_sub(35),
+        buckets: 1,
+        told: 37,
+        left: calls.saturating_sub(37),
         listed: 3,
         given: 3,
     }
@@ -241,7 +259,7 @@ fn each_call_is_answered_on_a_traced_store(rt: HostRuntime) -> Result<(), Fail> 
     let mut store = Store::new(rt.alloc(), Config::default())?;
     let ran = store.run(&rt, 1, &Rows)?;
     expect_eq!(&rt, ran.done.first(), Some(&(None, Some(due(1 << 62)))));
-    expect_eq!(&rt, (ran.acts, store.len()), (35, 3));
+    expect_eq!(&rt, (ran.acts, store.len()), (37, 3));
     Ok(())
 }
 
@@ -254,8 +272,9 @@ fn each_call_is_answered_on_an_open_store(rt: HostRuntime) -> Result<(), Fail> {
     Ok(())
 }
 
-const ALL: [Ask; 14] = [
+const ALL: [Ask; 15] = [
     Ask::Get,
+    Ask::ReadInto,
     Ask::WithValue,
     Ask::Contains,
     Ask::Put,

@@ -2,7 +2,7 @@
 ghost use Rattle.std.specs.Prelude.{◌≤◌, length};
 
 use lh_expect::{expect, expect_eq};
-use lh_store::{CallFault, Config, OpenStore, Session, Store, Value, Work};
+use lh_store::{CallFault, Config, OpenStore, Session, Snapshots, Store, Value, Work};
 use std::test::Fail;
 use std::thread::{self, Threads};
 
@@ -102,6 +102,9 @@ fn threads_work_on_an_open_store(rt: HostRuntime) -> Result<(), Fail> {
     }
     let mut session = table.session(&rt)?;
     expect_eq!(&rt, (session.len(), session.told()), (4 * 50 + 1, 4 * 250));
+    let (buckets, left) = (session.buckets(), session.snapshot()?);
+    expect!(&rt, buckets > 1);
+    expect_eq!(&rt, buckets, u64::from(left.listing().buckets()));
     Ok(())
 }
 

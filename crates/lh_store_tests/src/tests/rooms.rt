@@ -40,6 +40,7 @@ const ROWS: [Row; 20] = [
 /// Two records, after an act for each row.
 const DUE: Facts = Facts {
     len: 2,
+    buckets: 1,
     told: 20,
     left: (1 << 44) - 20,
     listed: 2,
