@@ -9,14 +9,17 @@ use lh_store::{CallFault, Config, Session, Store, Work, WorkDone};
 use std::sync::Wait;
 use std::thread::Threads;
 
-/// What each thread does: it books each seat that is free, looks who has it, and gives up those before `m`. Then it asks
-/// how many acts there were so far. The other may be at work.
+/// What each thread does: it books each seat that is free, looks who has it, and gives up those before `m`. Then it is
+/// told how many acts there were so far, as its contract says: in a traced table a legal history, with its own acts. The
+/// other may be at work.
 struct Booking;
 
 impl Work for Booking {
     type Done = Result<u64, CallFault>;
 
-    fn run<S: Session>(&self, thread: usize, seats: &mut S) -> Self::Done {
+    fn run<S: Session>(&self, thread: usize, seats: &mut S) -> Self::Done
+        ensures { IfOk result (λ acts. (before : S) × S.tells before acts seats.new) }
+    {
         let name = if thread == 0 { b"1" } else { b"2" };
         for seat in b'a'..b'y' {
             seats.put(&[seat], name)?;
