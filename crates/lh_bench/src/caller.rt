@@ -6,7 +6,7 @@ use crate::order::Order;
 use crate::starter::Starter;
 use crate::streams::{Step, Stream};
 use crate::table::Table;
-use crate::tally::Tally;
+use crate::tally::{Tally, either};
 use lh_bucket::Reply;
 use lh_file::FileFault;
 use std::rt::Clock;
@@ -20,11 +20,6 @@ pub struct Caller<T> {
     /// Whether its calls are those without an answer, which lend values.
     pub lends: bool,
     pub tally: Tally,
-}
-
-/// One of two replies.
-fn either(is_first: bool, first: Reply, second: Reply) -> Reply {
-    if is_first { first } else { second }
 }
 
 impl<T: Table> Caller<T> {

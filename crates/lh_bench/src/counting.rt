@@ -1,7 +1,7 @@
 //! Counters, to which several threads add.
 ghost use Rattle.std.specs.Prelude.{◌≡◌, length};
 
-use crate::crew::play_in_threads;
+use crate::crew::{Shift, play_in_threads};
 use crate::order::Order;
 use crate::report::Outcome;
 use crate::starter::Starter;
@@ -71,21 +71,30 @@ fn sum_of_counters<T: Table, R: Wait>(
     Ok(sum)
 }
 
-/// Several threads add to counters that are there. At the end the sum of the counters is the number of calls.
+/// What came of threads that have added to this many counters: at the end the sum of the counters is the number of calls.
+fn outcome_of<T: Table, R: Wait>(
+    rt: &R,
+    shift: &mut Shift<T>,
+    order: &Order,
+    counters: u64,
+) -> Result<Outcome> {
+    let sum = sum_of_counters(rt, &mut shift.table, order)?;
+    let is_due = counters == order.records
+        && shift.tally.replaced == shift.calls
+        && sum == shift.calls as u128;
+    Ok(Outcome {
+        buckets: shift.table.buckets(),
+        ..Outcome::new(shift.calls, shift.spent, shift.tally, is_due)
+    })
+}
+
+/// Several threads add to counters that are there.
 pub fn counts<T, R>(rt: &R, mut table: T, order: &Order) -> Result<Outcome>
 where
     T: Table + Send,
     R: Threads + Wait + Sync + Clock + CpuClock + Files + AllocGlobal,
 {
     let new = make_counters(rt, &mut table, order)?;
-    let shift = play_in_threads(rt, &Starter::new(), table, *order)?;
-    let mut table = shift.table;
-    let sum = sum_of_counters(rt, &mut table, order)?;
-    let is_due = new == order.records
-        && shift.tally.replaced == shift.calls
-        && sum == shift.calls as u128;
-    Ok(Outcome {
-        buckets: table.buckets(),
-        ..Outcome::new(shift.calls, shift.spent, shift.tally, is_due)
-    })
+    let mut shift = play_in_threads(rt, &Starter::new(), table, *order)?;
+    outcome_of(rt, &mut shift, order, new)
 }

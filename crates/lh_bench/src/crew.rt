@@ -99,14 +99,15 @@ fn beside_workers<T: Table, R: Wait + Clock + Files + AllocGlobal>(
     passes
 }
 
-/// Lets all workers begin at once, and waits for them. It is a fault if there are fewer than the order has threads.
-fn shift_of<T, R>(
+/// Lets all workers begin at once, and waits for them: what they were told, and in which time. It is a fault if there are
+/// fewer than the order has threads.
+fn led<T, R>(
     rt: &R,
     starter: &Starter,
-    mut table: T,
-    order: Order,
+    table: &mut T,
+    order: &Order,
     workers: Vec<JoinHandle<Tally>>,
-) -> Result<Shift<T>>
+) -> Result<(Tally, TimeSpent, Passes)>
 where
     T: Table,
     R: Threads + Wait + Clock + CpuClock + Files + AllocGlobal,
@@ -117,23 +118,43 @@ where
     }
     let watch = Stopwatch::start(rt);
     starter.start();
-    let passes = beside_workers(rt, starter, &mut table, &order);
+    let passes = beside_workers(rt, starter, table, order);
     let tally = tally_of(rt, workers);
     let spent = watch?.stop(rt)?;
     if started != order.threads {
         bail!("no memory for {started} threads and one more");
     }
-    let calls = if order.workload.times_calls() {
+    Ok((tally, spent, passes?))
+}
+
+/// How many calls the workers have made.
+fn calls_of(order: &Order, tally: &Tally) -> u64 {
+    if order.workload.times_calls() {
         tally.replies()
     } else {
-        order.calls_of_thread().wrapping_mul(started)
-    };
+        order.calls_of_thread().wrapping_mul(order.threads)
+    }
+}
+
+/// What workers do who begin at once, and the table.
+fn shift_of<T, R>(
+    rt: &R,
+    starter: &Starter,
+    mut table: T,
+    order: &Order,
+    workers: Vec<JoinHandle<Tally>>,
+) -> Result<Shift<T>>
+where
+    T: Table,
+    R: Threads + Wait + Clock + CpuClock + Files + AllocGlobal,
+{
+    let (tally, spent, passes) = led(rt, starter, &mut table, order, workers)?;
     Ok(Shift {
         table,
+        calls: calls_of(order, &tally),
         tally,
-        calls,
         spent,
-        passes: passes?,
+        passes,
     })
 }
 
@@ -158,6 +179,6 @@ where
                 break;
             }
         }
-        shift_of(rt, starter, all, order, workers)
+        shift_of(rt, starter, all, &order, workers)
     })
 }

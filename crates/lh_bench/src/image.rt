@@ -97,11 +97,25 @@ where
     }
 }
 
+/// The listing that the image under a path has.
+fn read_listing_at(rt: &(impl Files + AllocGlobal), path: &str) -> Result<Listing> {
+    let mut reader = BufReader::with_capacity(rt.alloc(), BUFFER, fs::open(rt, path)?)?;
+    Ok(read_image(rt.alloc(), &mut reader)?)
+}
+
 /// The listing that the image of this file has.
 fn read_listing(rt: &(impl Files + AllocGlobal), file: u32) -> Result<Listing> {
     let path = path_of(rt.alloc(), file)?;
-    let mut reader = BufReader::with_capacity(rt.alloc(), BUFFER, fs::open(rt, path.as_str())?)?;
-    Ok(read_image(rt.alloc(), &mut reader)?)
+    read_listing_at(rt, path.as_str())
+}
+
+/// A file with these records.
+fn file_of<const ROOM: usize>(alloc: Global, listing: &Listing) -> Result<(File<ROOM>, Hand)>
+    requires { IsRoom ROOM }
+    ensures { IfOk result (λ made. IsOf made.0.state made.1) }
+{
+    File::<ROOM>::fit_listing(listing)?;
+    Ok(File::open_from(alloc, listing, false, NoGate)?)
 }
 
 /// The file that was written.
@@ -110,8 +124,31 @@ fn read_file<R: Files + AllocGlobal, const ROOM: usize>(rt: &R) -> Result<(File<
     ensures { IfOk result (λ made. IsOf made.0.state made.1) }
 {
     let listing = read_listing(rt, 0)?;
-    File::<ROOM>::fit_listing(&listing)?;
-    Ok(File::open_from(rt.alloc(), &listing, false, NoGate)?)
+    file_of::<ROOM>(rt.alloc(), &listing)
+}
+
+/// Reads the listings that the images of so many files have.
+fn read_listings(
+    rt: &(impl Files + AllocGlobal),
+    files: u32,
+    listings: &mut Vec<Listing>,
+) -> Result<()> {
+    for file in 0..files {
+        listings.push(read_listing(rt, file)?)?;
+    }
+    Ok(())
+}
+
+/// Shards with these records.
+fn shards_of<const ROOM: usize>(
+    alloc: Global,
+    listings: &[Listing],
+) -> Result<(Shards<ROOM>, Hands)>
+    requires { IsRoom ROOM }
+    ensures { IfOk result (λ made. AreOf made.0 made.1) }
+{
+    Shards::<ROOM>::fit_listings(listings)?;
+    Ok(Shards::open_from(alloc, listings, false)?)
 }
 
 /// The shards that were written.
@@ -123,11 +160,8 @@ fn read_shards<R: Files + AllocGlobal, const ROOM: usize>(
     ensures { IfOk result (λ made. AreOf made.0 made.1) }
 {
     let mut listings = Vec::new(rt.alloc());
-    for shard in 0..shards {
-        listings.push(read_listing(rt, shard)?)?;
-    }
-    Shards::<ROOM>::fit_listings(&listings)?;
-    Ok(Shards::open_from(rt.alloc(), &listings, false)?)
+    read_listings(rt, shards, &mut listings)?;
+    shards_of::<ROOM>(rt.alloc(), &listings)
 }
 
 /// Searches for each record, and stops the watch.
@@ -164,12 +198,17 @@ where
     }
 }
 
+/// The blocks that the image of this file takes on the disk.
+fn blocks_of(rt: &(impl Files + AllocGlobal), file: u32) -> Result<u64> {
+    let path = path_of(rt.alloc(), file)?;
+    Ok(fs::metadata(rt, path.as_str())?.blocks())
+}
+
 /// The bytes that the images take on the disk.
 fn bytes_on_disk(rt: &(impl Files + AllocGlobal), order: &Order) -> Result<u64> {
     let mut blocks = 0_u64;
     for file in 0..order.files() {
-        let path = path_of(rt.alloc(), file)?;
-        blocks = blocks.saturating_add(fs::metadata(rt, path.as_str())?.blocks());
+        blocks = blocks.saturating_add(blocks_of(rt, file)?);
     }
     Ok(blocks.saturating_mul(512))
 }

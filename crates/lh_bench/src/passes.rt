@@ -5,6 +5,7 @@ use crate::order::{Order, Workload};
 use crate::table::Table;
 use anyhow::Result;
 use lh_bucket::Reply;
+use lh_file::Closed;
 use lh_page::{Pair, Value};
 use std::rt::{Clock, Files};
 use std::sync::Wait;
@@ -125,6 +126,15 @@ pub fn sees_all<T: Table, R: Wait + AllocGlobal>(
     Ok(met == found(rt, table, order))
 }
 
+/// How many records snapshots have. None is read.
+fn counted(snapshots: &[Closed]) -> Met {
+    let mut records = 0_u64;
+    for snapshot in snapshots {
+        records = records.saturating_add(snapshot.records());
+    }
+    Met { records, sum: 0 }
+}
+
 /// One pass: what was met, and in how many nanoseconds. The records of snapshots are counted, and not read.
 fn pass<T: Table, R: Wait + Clock + AllocGlobal>(
     rt: &R,
@@ -135,23 +145,19 @@ fn pass<T: Table, R: Wait + Clock + AllocGlobal>(
     if let Workload::Snapshots = workload {
         let snapshots = table.snapshots(rt)?;
         let time = laps.next(rt)?;
-        let mut records = 0_u64;
-        for snapshot in &snapshots {
-            records = records.saturating_add(snapshot.records());
-        }
-        return Ok((Met { records, sum: 0 }, time));
+        return Ok((counted(&snapshots), time));
     }
     let met = table.scan(rt)?;
     Ok((met, laps.next(rt)?))
 }
 
-/// Makes passes one after another, for a second at least.
-pub fn make_passes<T: Table, R: Wait + Clock + Files + AllocGlobal>(
+/// Makes passes one after another, for a second at least, and keeps how long each took.
+fn pass_for_a_second<T: Table, R: Wait + Clock + AllocGlobal>(
     rt: &R,
     table: &mut T,
     order: &Order,
+    times: &mut Vec<u64>,
 ) -> Result<Passes> {
-    let mut times = Vec::new(rt.alloc());
     let mut passes = Passes::NONE;
     let mut laps = Laps::start(rt)?;
     let mut passed = 0_u64;
@@ -164,6 +170,17 @@ pub fn make_passes<T: Table, R: Wait + Clock + Files + AllocGlobal>(
             break;
         }
     }
+    Ok(passes)
+}
+
+/// Makes passes, and tells how long they took.
+pub fn make_passes<T: Table, R: Wait + Clock + Files + AllocGlobal>(
+    rt: &R,
+    table: &mut T,
+    order: &Order,
+) -> Result<Passes> {
+    let mut times = Vec::new(rt.alloc());
+    let mut passes = pass_for_a_second(rt, table, order, &mut times)?;
     passes.peak_bytes = peak_bytes(rt);
     Ok(passes.timed(times))
 }

@@ -6,7 +6,7 @@ use crate::meter::{Stopwatch, resident_bytes};
 use crate::order::{Order, Room, Workload};
 use crate::report::Outcome;
 use crate::streams::{Inserts, Mixed, Part, Picks, Step, Stream};
-use crate::tally::Tally;
+use crate::tally::{Tally, either};
 use crate::workloads::settings;
 use anyhow::Result;
 use lh_bucket::Reply;
@@ -21,11 +21,6 @@ struct SessionCaller<'a, S: Session> {
     session: &'a mut S,
     contents: Contents,
     tally: Tally,
-}
-
-/// One of two replies.
-fn either(is_first: bool, first: Reply, second: Reply) -> Reply {
-    if is_first { first } else { second }
 }
 
 impl<S: Session> SessionCaller<'_, S> {

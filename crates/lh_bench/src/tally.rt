@@ -23,6 +23,11 @@ pub struct Tally {
     pub writes: Lengths,
 }
 
+/// One of two replies.
+pub fn either(is_first: bool, first: Reply, second: Reply) -> Reply {
+    if is_first { first } else { second }
+}
+
 fn count(number: &mut u64) {
     *number = number.wrapping_add(1);
 }
