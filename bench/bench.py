@@ -27,7 +27,7 @@ ONLY = {"lh_image1": {"W5", "W10"}}  # the workloads of a peer, where it has not
 UNRANKED = {"null"}
 REFERENCE = "std_onelock"  # its digests at one thread are those due
 # What the pictures show, and under which names; the bars of those that are this file are red.
-OURS = {"lh_bench": "this file", "lh_default": "this file", "lh_room32": "of small records"}
+OURS = {"lh_bench": "this file", "lh_default": "this file", "lh_room64": "with room 64", "lh_room32": "of small records"}
 SHOWN = {**OURS, "twin_tags": "the same in C++", "dashmap": "DashMap", "tbb": "oneTBB", "libcuckoo": "libcuckoo",
          "std_onelock": "one lock", "kc_hash": "Kyoto Cabinet", "lmdb": "LMDB", "tdb": "TDB", "gdbm": "GDBM", "bdb_hash": "Berkeley DB"}
 TITLES = {"W1": "W1 inserts", "W2": "W2 searches", "W3": "W3, 1 insert to 19 searches", "W4": "W4, half are writes",

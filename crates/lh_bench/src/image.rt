@@ -246,6 +246,7 @@ where
 {
     match order.room {
         Room::Any => write_and_read_sized::<R, WIDEST_ROOM>(rt, order),
+        Room::Bytes64 => write_and_read_sized::<R, 64>(rt, order),
         Room::Bytes32 => write_and_read_sized::<R, 32>(rt, order),
     }
 }

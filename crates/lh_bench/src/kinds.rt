@@ -13,7 +13,7 @@ use crate::replacing::replaces;
 use crate::report::Outcome;
 use crate::table::Table;
 use crate::workloads::{empty_shards, empty_sized_file, inserts, searches, settings, shared};
-use anyhow::Result;
+use anyhow::{Result, bail};
 use lh_bucket::Listing;
 use lh_file::{FileBrand, NoGate, Opening, SizedFile, Unbranded, Untraced, WIDEST_ROOM};
 use std::marker::Brand;
@@ -61,6 +61,7 @@ where
 {
     match order.room {
         Room::Any => run_sized::<R, WIDEST_ROOM>(rt, order),
+        Room::Bytes64 => run_sized::<R, 64>(rt, order),
         Room::Bytes32 => run_sized::<R, 32>(rt, order),
     }
 }
@@ -83,6 +84,7 @@ where
 {
     match order.room {
         Room::Any => run_sized_shards::<R, WIDEST_ROOM>(rt, order, shards),
+        Room::Bytes64 => run_sized_shards::<R, 64>(rt, order, shards),
         Room::Bytes32 => run_sized_shards::<R, 32>(rt, order, shards),
     }
 }
@@ -151,6 +153,7 @@ where
 {
     match order.room {
         Room::Any => run_wide_traced(rt, order),
+        Room::Bytes64 => bail!("no traced file has that room"),
         Room::Bytes32 => run_small_traced(rt, order),
     }
 }

@@ -184,7 +184,19 @@ impl Workload {
 pub enum Room {
     /// Enough for any record: 168 bytes.
     Any,
+    Bytes64,
     Bytes32,
+}
+
+impl Room {
+    /// The number of bytes, where that isn't enough for any record.
+    pub fn bytes(self) -> Option<u64> {
+        match self {
+            Room::Any => None,
+            Room::Bytes64 => Some(64),
+            Room::Bytes32 => Some(32),
+        }
+    }
 }
 
 /// What is to be run.
@@ -266,7 +278,7 @@ impl Order {
 
     /// Whether it can be run on a traced file.
     pub fn may_trace(&self) -> bool {
-        self.workload.may_trace() && self.shards.is_none()
+        self.workload.may_trace() && self.shards.is_none() && self.room != Room::Bytes64
     }
 
     /// Whether it can be run by a session.
@@ -319,7 +331,7 @@ const WORDS: [&str; 18] = [
     "steps", "settle", "all",
 ];
 
-const ROOMS: [&str; 2] = ["32", "168"];
+const ROOMS: [&str; 3] = ["32", "64", "168"];
 
 fn workload_option<'a>(alloc: Global) -> Arg<'a> {
     Arg::new(alloc, "workload")
@@ -437,6 +449,7 @@ fn order_of(matches: &ArgMatches<'_>) -> Order {
         },
         longest: matches.get_flag("longest"),
         room: match matches.get_str("room") {
+            Some("64") => Room::Bytes64,
             Some("32") => Room::Bytes32,
             _ => Room::Any,
         },

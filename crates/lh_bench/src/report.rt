@@ -2,7 +2,7 @@
 
 use crate::lengths::Lengths;
 use crate::meter::TimeSpent;
-use crate::order::{Order, Room, Workload};
+use crate::order::{Order, Workload};
 use crate::passes::Passes;
 use crate::tally::Tally;
 use crate::units::Seconds;
@@ -87,8 +87,8 @@ impl Outcome {
         if order.traced {
             print!(rt; ",\"traced\":true")?;
         }
-        if order.room == Room::Bytes32 {
-            print!(rt; ",\"room\":32")?;
+        if let Some(bytes) = order.room.bytes() {
+            print!(rt; ",\"room\":{bytes}")?;
         }
         if order.by_session {
             print!(rt; ",\"session\":true")?;

@@ -167,6 +167,7 @@ where
 {
     match order.room {
         Room::Any => run_sized::<R, WIDEST_ROOM>(rt, order),
+        Room::Bytes64 => run_sized::<R, 64>(rt, order),
         Room::Bytes32 => run_sized::<R, 32>(rt, order),
     }
 }
