@@ -5,12 +5,9 @@ mod borrowed;
 mod counts;
 mod end;
 pub(crate) mod hand;
-mod history;
 pub(crate) mod load;
 pub(crate) mod looks;
 pub(crate) mod right;
-mod root;
-mod shares;
 mod traced_acts;
 mod traced_looks;
 

@@ -1,35 +1,113 @@
-//! The stamps of changes that stand in the history of a traced file: the bucket's seat lies with the hand for the time
-//! of the stamp.
-ghost use Rattle.std.specs.Prelude.{◌≡◌, ◌+◌, ◌<◌, ◌≤◌, true, false, [], ◌∷◌, length, All};
+//! The stamps of acts. An act that is entered in the history of a traced file has the bucket's seat with the hand for the
+//! time of its stamp.
+ghost use Rattle.std.specs.Prelude.{◌≡◌, ◌+◌, ◌<◌, ◌≤◌, true, false, None, [], ◌∷◌, length, All};
+ghost use Rattle.lh_bucket.specs.Bucket.{Seen, content};
 ghost use Rattle.lh_bucket.specs.Change.{call_of, reply_of};
+ghost use Rattle.lh_bucket.specs.PlainMap.{reply};
+ghost use Rattle.lh_bucket.specs.declared.call.Call.{Call};
+ghost use Rattle.lh_bucket.specs.declared.call.Call.TheVariants.{Search};
+ghost use Rattle.lh_bucket.specs.declared.call.Reply.{Reply};
 
 use crate::mode::Mode;
 use crate::offsets::STAMPS;
 use crate::perches::taken;
-use crate::plays::{Deed, DrawStamp, GiveBack, TakeIn};
+use crate::plays::{Deed, DrawOutside, DrawStamp, GiveBack, TakeIn};
 use crate::seat_view::SeatView;
-use crate::shown::Shown;
 use crate::table::WordTable;
 use atomic_table::{Perch, Seat};
 use lh_bucket::{Change, ChangeReply, SizedBucket};
+use lh_page::Key;
 use std::marker::Brand;
 use std::sync::Wait;
 
+/// What a stamp is drawn for: a call, its reply, and the bucket as the call leaves it.
+pub trait Act {
+    ghost call: { Self → Call };
+
+    ghost reply: { Self → Reply };
+
+    ghost bucket: { Self → Seen };
+}
+
+/// A change that a bucket has served, and its reply.
+#[derive(Clone, Copy)]
+pub struct Changed<'a, const ROOM: usize> {
+    pub change: Change<'a>,
+    pub reply: ChangeReply,
+    pub bucket: &'a SizedBucket<ROOM>,
+}
+
+impl<'a, const ROOM: usize> Act for Changed<'a, ROOM> {
+    ghost call = { λ act. call_of act.change };
+
+    ghost reply = { λ act. reply_of act.reply };
+
+    ghost bucket = { λ act. act.bucket.now };
+}
+
+/// A search of a bucket, which needn't have answered yet: the answer is what the bucket has now.
+#[derive(Clone, Copy)]
+pub struct Looked<'a, const ROOM: usize> {
+    pub key: &'a Key,
+    pub bucket: &'a SizedBucket<ROOM>,
+}
+
+impl<'a, const ROOM: usize> Act for Looked<'a, ROOM> {
+    ghost call = { λ act. Search act.key.now };
+
+    ghost reply = { λ act. reply (content act.bucket.now) (Search act.key.now) };
+
+    ghost bucket = { λ act. act.bucket.now };
+}
+
 impl<M: Mode> WordTable<M> {
     ghost use Rattle.lh_addr.specs.Fnv.{code_of};
-    ghost use Rattle.lh_bucket.specs.Bucket.{Seen};
     ghost use Rattle.lh_bucket.specs.PlainMap.{key_of};
     ghost use Rattle.lh_words.specs.History.Buckets.{owns, HasServedCall};
     ghost use Rattle.lh_words.specs.Seats.{with_act, holder, met_in};
 
-    /// One stamp, with which an act stands in the history. The bucket's seat lies with the hand, and the bucket has
-    /// served the call. A call picks what is done by the last four arguments.
-    fn draw<D: Deed, B: Shown>(
+    /// The step of [`stamp`](Self::stamp), which picks the deed by the act.
+    // Inlined: it is one step.
+    #[inline(always)]
+    fn stamp_deed<D: Deed, A: Act>(&self, seat: &mut Seat<(), SeatView>, _act: &A) -> u64
+        requires at { seat.old.table_id ≡ self.now.id }
+        requires live { 0 < seat.old.me.0.view.initial }
+        requires left { 0 < seat.old.me.0.view.left }
+        ensures at { seat.new.table_id ≡ seat.old.table_id }
+        ensures newest { All (λ x. x < result) seat.old.me.0.view.stamps }
+        ensures few { seat.old.me.0.view.inserted + seat.old.me.0.view.deleted ≤ length seat.old.me.0.view.stamps }
+        ensures acted { seat.new.me
+            ≡ (with_act true D.call D.reply None seat.old.me.0.parts result seat.old.me.0, seat.old.me.1) }
+    {
+        self.words
+            .shared
+            .fetch_add::<DrawOutside<D>>(seat, STAMPS, 1)
+    }
+
+    /// Stamps an act outside the history: the file isn't traced, or the bucket isn't the file's.
+    #[inline(always)]
+    pub fn stamp<A: Act>(&self, seat: &mut Seat<(), SeatView>, act: &A) -> u64
+        requires at { seat.old.table_id ≡ self.now.id }
+        requires live { 0 < seat.old.me.0.view.initial }
+        requires left { 0 < seat.old.me.0.view.left }
+        ensures at { seat.new.table_id ≡ seat.old.table_id }
+        ensures newest { All (λ x. x < result) seat.old.me.0.view.stamps }
+        ensures few { seat.old.me.0.view.inserted + seat.old.me.0.view.deleted ≤ length seat.old.me.0.view.stamps }
+        ensures acted { seat.new.me ≡ (
+          with_act true (A.call act.now) (A.reply act.now) None seat.old.me.0.parts result seat.old.me.0,
+          seat.old.me.1,
+        ) }
+    {
+        self.stamp_deed::<Brand, _>(seat, act)
+    }
+
+    /// The step of [`enter`](Self::enter), which picks the deed by the act and by what lay on the perch.
+    // Inlined: it is one step.
+    #[inline(always)]
+    fn enter_deed<D: Deed, A: Act>(
         &self,
         seat: &mut Seat<(), SeatView>,
-        _change: Change<'_>,
-        _reply: ChangeReply,
-        _bucket: &B,
+        _act: &A,
         _perch: &Perch<(), SeatView>,
     ) -> u64
         requires at { seat.old.table_id ≡ self.now.id }
@@ -48,16 +126,14 @@ impl<M: Mode> WordTable<M> {
         self.words.shared.fetch_add::<DrawStamp<D>>(seat, STAMPS, 1)
     }
 
-    /// The act of a hand with which the seat of a bucket lies for the time of the stamp. The bucket has served the
-    /// call, and its seat comes back. What the act met is what the bucket had under the key before.
-    pub fn draw_with_seat<R: Wait, const ROOM: usize>(
+    /// Stamps an act and enters it in the history, by a hand with which the seat of its bucket lies for the time of the
+    /// stamp. The seat comes back. What the act met is what the bucket had under the key before.
+    pub fn enter<R: Wait, A: Act>(
         &self,
         rt: &R,
         perch: &Perch<(), SeatView>,
         seat: &mut Seat<(), SeatView>,
-        change: Change<'_>,
-        reply: ChangeReply,
-        bucket: &SizedBucket<ROOM>,
+        act: &A,
     ) -> (u64, Seat<(), SeatView>)
         requires at { seat.old.table_id ≡ self.now.id }
         requires there { perch.now.table_id ≡ self.now.id }
@@ -66,23 +142,23 @@ impl<M: Mode> WordTable<M> {
         requires live { 0 < seat.old.me.0.view.initial }
         requires left { 0 < seat.old.me.0.view.left }
         requires serves { (p : Seen) × (perch.now.view ≡ holder (p ∷ []))
-            × (owns (code_of (key_of (call_of change))) p ≡ true)
-            × HasServedCall p (call_of change) (reply_of reply) bucket.now }
+            × (owns (code_of (key_of (A.call act.now))) p ≡ true)
+            × HasServedCall p (A.call act.now) (A.reply act.now) (A.bucket act.now) }
         ensures at { seat.new.table_id ≡ seat.old.table_id }
         ensures newest { All (λ x. x < result.0) seat.old.me.0.view.stamps }
         ensures above { seat.old.me.0.view.floor ≤ result.0 }
         ensures few { seat.old.me.0.view.inserted + seat.old.me.0.view.deleted ≤ length seat.old.me.0.view.stamps }
         ensures acted { seat.new.me ≡ (
-          with_act false (call_of change.entry) (reply_of reply)
-              (met_in perch.now.view.parts (key_of (call_of change.entry))) [] result.0 seat.old.me.0,
+          with_act false (A.call act.now) (A.reply act.now) (met_in perch.now.view.parts (key_of (A.call act.now))) []
+              result.0 seat.old.me.0,
           [],
         ) }
         ensures table { result.1.table_id ≡ self.now.id }
-        ensures bucket_seat { result.1.me ≡ (holder (bucket.now ∷ []), []) }
+        ensures bucket_seat { result.1.me ≡ (holder (A.bucket act.now ∷ []), []) }
     {
         let bucket_seat = taken(rt, perch);
         self.words.shared.join_seat::<TakeIn>(seat, bucket_seat);
-        let stamp = self.draw::<Brand, _>(seat, change, reply, bucket, perch);
+        let stamp = self.enter_deed::<Brand, _>(seat, act, perch);
         (stamp, self.words.shared.split_seat::<GiveBack>(seat))
     }
 }

@@ -1,64 +1,17 @@
-//! The stamps of acts that the history has outside of it, and the counts of inserts and of deletes.
-ghost use Rattle.std.specs.Prelude.{◌≡◌, ◌+◌, ◌<◌, ◌≤◌, true, None, length, All};
-ghost use Rattle.lh_bucket.specs.Change.{call_of, reply_of};
+//! The counts of inserts and of deletes.
+ghost use Rattle.std.specs.Prelude.{◌≡◌, ◌+◌, ◌<◌, ◌≤◌, length};
+ghost use Rattle.lh_bucket.specs.Change.{reply_of};
 
 use crate::mode::Mode;
-use crate::offsets::{DELETES, INSERTS, STAMPS};
-use crate::plays::{CountDelete, CountInsert, Deed, DrawOutside, LoadDeletes, LoadInserts};
+use crate::offsets::{DELETES, INSERTS};
+use crate::plays::{CountDelete, CountInsert, LoadDeletes, LoadInserts};
 use crate::seat_view::SeatView;
 use crate::table::WordTable;
 use atomic_table::Seat;
-use lh_bucket::{Change, ChangeReply};
-use std::marker::Brand;
+use lh_bucket::ChangeReply;
 
 impl<M: Mode> WordTable<M> {
     ghost use Rattle.lh_words.specs.Counting.{with_counts};
-    ghost use Rattle.lh_words.specs.Seats.{with_act};
-
-    /// One stamp, for an act on a bucket that isn't the file's. A call picks what is done by the last two arguments.
-    // Inlined: it is one step.
-    #[inline(always)]
-    fn draw_for<D: Deed>(
-        &self,
-        seat: &mut Seat<(), SeatView>,
-        _change: Change<'_>,
-        _reply: ChangeReply,
-    ) -> u64
-        requires at { seat.old.table_id ≡ self.now.id }
-        requires live { 0 < seat.old.me.0.view.initial }
-        requires left { 0 < seat.old.me.0.view.left }
-        ensures at { seat.new.table_id ≡ seat.old.table_id }
-        ensures newest { All (λ x. x < result) seat.old.me.0.view.stamps }
-        ensures few { seat.old.me.0.view.inserted + seat.old.me.0.view.deleted ≤ length seat.old.me.0.view.stamps }
-        ensures acted { seat.new.me
-            ≡ (with_act true D.call D.reply None seat.old.me.0.parts result seat.old.me.0, seat.old.me.1) }
-    {
-        self.words
-            .shared
-            .fetch_add::<DrawOutside<D>>(seat, STAMPS, 1)
-    }
-
-    /// One stamp, for a change that was made on a bucket that isn't the file's, with this reply.
-    #[inline(always)]
-    pub fn draw_outside(
-        &self,
-        seat: &mut Seat<(), SeatView>,
-        change: Change<'_>,
-        reply: ChangeReply,
-    ) -> u64
-        requires at { seat.old.table_id ≡ self.now.id }
-        requires live { 0 < seat.old.me.0.view.initial }
-        requires left { 0 < seat.old.me.0.view.left }
-        ensures at { seat.new.table_id ≡ seat.old.table_id }
-        ensures newest { All (λ x. x < result) seat.old.me.0.view.stamps }
-        ensures few { seat.old.me.0.view.inserted + seat.old.me.0.view.deleted ≤ length seat.old.me.0.view.stamps }
-        ensures acted { seat.new.me ≡ (
-          with_act true (call_of change.entry) (reply_of reply) None seat.old.me.0.parts result seat.old.me.0,
-          seat.old.me.1,
-        ) }
-    {
-        self.draw_for::<Brand>(seat, change, reply)
-    }
 
     /// Counts the reply of an act that has drawn its stamp.
     // Inlined: the reply is known to many a call.

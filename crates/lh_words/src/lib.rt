@@ -24,7 +24,6 @@ mod perches;
 mod plays;
 mod root;
 mod rule;
-mod searches;
 mod seat_view;
 mod shares;
 mod shown;
@@ -32,6 +31,7 @@ mod table;
 mod telling;
 mod view;
 
+pub use acts::{Act, Changed, Looked};
 pub use mode::{Mode, Traced, Untraced};
 pub use numbers::FileWords;
 pub use perches::{give_back, rested, resting, taken};

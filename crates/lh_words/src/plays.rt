@@ -70,7 +70,7 @@ impl Deed for Brand {
     ghost bucket = { unowned_bucket };
 }
 
-/// An addition of 1 to the stamp word, for an act on a bucket that isn't the file's.
+/// An addition of 1 to the stamp word, for an act outside the history.
 pub struct DrawOutside<D> {
     of: PhantomData<D>,
 }

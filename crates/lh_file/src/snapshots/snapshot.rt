@@ -55,7 +55,7 @@ impl<G: Gate, M: Mode, J: FileBrand, const ROOM: usize> SizedFile<G, M, J, ROOM>
         records_make_a_map();
         full_buckets_are_placed();
         let words = &self.words;
-        let buckets = words.buckets(hand);
+        let buckets = self.buckets(hand);
         self.gate.at(Point::Read);
         let guards = self.segments.hold_all(rt, buckets)?;
         check_held(&words.config, &guards)?;
