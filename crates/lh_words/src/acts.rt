@@ -21,7 +21,7 @@ use std::marker::Brand;
 use std::sync::Wait;
 
 /// What a stamp is drawn for: a call, its reply, and the bucket as the call leaves it.
-pub trait Act {
+pub trait Stamped {
     ghost call: { Self → Call };
 
     ghost reply: { Self → Reply };
@@ -31,13 +31,13 @@ pub trait Act {
 
 /// A change that a bucket has served, and its reply.
 #[derive(Clone, Copy)]
-pub struct Changed<'a, const ROOM: usize> {
+pub struct StampedChange<'a, const ROOM: usize> {
     pub change: Change<'a>,
     pub reply: ChangeReply,
     pub bucket: &'a SizedBucket<ROOM>,
 }
 
-impl<'a, const ROOM: usize> Act for Changed<'a, ROOM> {
+impl<'a, const ROOM: usize> Stamped for StampedChange<'a, ROOM> {
     ghost call = { λ act. call_of act.change };
 
     ghost reply = { λ act. reply_of act.reply };
@@ -47,12 +47,12 @@ impl<'a, const ROOM: usize> Act for Changed<'a, ROOM> {
 
 /// A search of a bucket, which needn't have answered yet: the answer is what the bucket has now.
 #[derive(Clone, Copy)]
-pub struct Looked<'a, const ROOM: usize> {
+pub struct StampedSearch<'a, const ROOM: usize> {
     pub key: &'a Key,
     pub bucket: &'a SizedBucket<ROOM>,
 }
 
-impl<'a, const ROOM: usize> Act for Looked<'a, ROOM> {
+impl<'a, const ROOM: usize> Stamped for StampedSearch<'a, ROOM> {
     ghost call = { λ act. Search act.key.now };
 
     ghost reply = { λ act. reply (content act.bucket.now) (Search act.key.now) };
@@ -69,7 +69,7 @@ impl<M: Mode> WordTable<M> {
     /// The step of [`stamp`](Self::stamp), which picks the deed by the act.
     // Inlined: it is one step.
     #[inline(always)]
-    fn stamp_deed<D: Deed, A: Act>(&self, seat: &mut Seat<(), SeatView>, _act: &A) -> u64
+    fn stamp_deed<D: Deed, A: Stamped>(&self, seat: &mut Seat<(), SeatView>, _act: &A) -> u64
         requires at { seat.old.table_id ≡ self.now.id }
         requires live { 0 < seat.old.me.0.view.initial }
         requires left { 0 < seat.old.me.0.view.left }
@@ -86,7 +86,7 @@ impl<M: Mode> WordTable<M> {
 
     /// Stamps an act outside the history: the file isn't traced, or the bucket isn't the file's.
     #[inline(always)]
-    pub fn stamp<A: Act>(&self, seat: &mut Seat<(), SeatView>, act: &A) -> u64
+    pub fn stamp<A: Stamped>(&self, seat: &mut Seat<(), SeatView>, act: &A) -> u64
         requires at { seat.old.table_id ≡ self.now.id }
         requires live { 0 < seat.old.me.0.view.initial }
         requires left { 0 < seat.old.me.0.view.left }
@@ -104,7 +104,7 @@ impl<M: Mode> WordTable<M> {
     /// The step of [`enter`](Self::enter), which picks the deed by the act and by what lay on the perch.
     // Inlined: it is one step.
     #[inline(always)]
-    fn enter_deed<D: Deed, A: Act>(
+    fn enter_deed<D: Deed, A: Stamped>(
         &self,
         seat: &mut Seat<(), SeatView>,
         _act: &A,
@@ -128,7 +128,7 @@ impl<M: Mode> WordTable<M> {
 
     /// Stamps an act and enters it in the history, by a hand with which the seat of its bucket lies for the time of the
     /// stamp. The seat comes back. What the act met is what the bucket had under the key before.
-    pub fn enter<R: Wait, A: Act>(
+    pub fn enter<R: Wait, A: Stamped>(
         &self,
         rt: &R,
         perch: &Perch<(), SeatView>,

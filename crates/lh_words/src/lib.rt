@@ -31,7 +31,7 @@ mod table;
 mod telling;
 mod view;
 
-pub use acts::{Act, Changed, Looked};
+pub use acts::{Stamped, StampedChange, StampedSearch};
 pub use mode::{Mode, Traced, Untraced};
 pub use numbers::FileWords;
 pub use perches::{give_back, rested, resting, taken};

@@ -15,8 +15,8 @@ loop-other-preserved g c =
     let acts = λ (h : HandState). length h.acts in
     let before = fold united c.args.first (into_iter_items c.into_iter-other-iterator.result) in record {
       of =
-          of_joined c.args.self.now.state c.loop-other.first c.in-Some.other c.add_hand.new.first c.loop-other.invariant.of
-          c.add_hand.ensures.joined;
+          of_joined c.args.self.now.state c.loop-other.first c.in-Some.other c.add_hand.new.first
+          c.loop-other.invariant.of c.add_hand.ensures.joined;
       others =
           All-tail (MayBeJoined c.args.self.now.state) c.in-Some.other rest
           (subst (All (MayBeJoined c.args.self.now.state)) e c.loop-other.invariant.others);

@@ -20,7 +20,8 @@ loop-thread-preserved g c =
     let hand : HandState = c.args.hand.now in
     let before = c.loop-thread.invariant in
     let given = c.give.ensures.given in
-    let of_loop : IsBranch c.args.calls (seeing hand (lessened (c.loop-thread._thread * c.args.calls) hand.view)) given.0 =
+    let loop = seeing hand (lessened (c.loop-thread._thread * c.args.calls) hand.view) in
+    let of_loop : IsBranch c.args.calls loop given.0 =
     subst (λ (h : HandState). IsBranch c.args.calls h given.0) before.kept given.2 in
     let of_hand : IsBranch c.args.calls hand given.0 = record {
       table = of_loop.table;
