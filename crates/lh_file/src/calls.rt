@@ -3,7 +3,7 @@ pub(crate) mod aim;
 mod answered;
 pub(crate) mod atomic;
 pub(crate) mod coded;
-mod lean;
+mod lent;
 pub mod parts;
 mod serve;
 pub(crate) mod split;

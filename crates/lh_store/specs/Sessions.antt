@@ -8,7 +8,7 @@ use Rattle.lh_bucket.specs.declared.call.Call.TheVariants.{Insert}
 use Rattle.lh_bucket.specs.declared.call.Reply.{Reply}
 use Rattle.lh_file.specs.Buckets.Brands.{no_table}
 use Rattle.lh_file.specs.Calls.Atomic.{Reaction}
-use Rattle.lh_file.specs.Calls.Lean.{put_reply}
+use Rattle.lh_file.specs.Calls.Lent.{put_reply}
 use Rattle.lh_file.specs.Calls.Served.{HasServed}
 use Rattle.lh_file.specs.Closing.{NoneOutside}
 use Rattle.lh_file.specs.FileState.{FileState, IsOf}

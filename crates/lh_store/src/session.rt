@@ -9,7 +9,7 @@ ghost use Rattle.lh_bucket.specs.declared.call.Call.TheVariants as call;
 ghost use Rattle.lh_bucket.specs.declared.call.Reply.{Reply};
 ghost use Rattle.lh_bucket.specs.declared.call.Reply.TheVariants.{Absent};
 ghost use Rattle.lh_file.specs.Calls.Atomic.{Upserts, GetsOrPuts, Takes, Updates, Merges, ComparesAndSets};
-ghost use Rattle.lh_file.specs.Calls.Lean.{read_reply, put_reply, set_reply, remove_reply, LendsTo};
+ghost use Rattle.lh_file.specs.Calls.Lent.{read_reply, put_reply, set_reply, remove_reply, LendsTo};
 ghost use Rattle.lh_page.specs.Limits.{IsValue, longest_value};
 ghost use Rattle.lh_store.specs.Rooms.{HasRoomFor, TellsRoom, MakesWithin, bytes_of_record};
 ghost use Rattle.lh_store.specs.Sessions.{IsAtOnce, HasPut};

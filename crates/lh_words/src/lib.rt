@@ -34,7 +34,7 @@ mod view;
 pub use acts::{Stamped, StampedChange, StampedSearch};
 pub use mode::{Mode, Traced, Untraced};
 pub use numbers::FileWords;
-pub use perches::{give_back, rested, resting, taken};
+pub use perches::{give_back, perch_of, resting, taken};
 pub use seat_view::{Entry, SeatView};
 pub use table::WordTable;
 pub use view::View;

@@ -46,7 +46,7 @@ pub fn resting(perch: &Perch<(), SeatView>) -> Option<Seat<(), SeatView>>
 }
 
 /// A perch of this seat, which rests there.
-pub fn rested(seat: Seat<(), SeatView>) -> Perch<(), SeatView>
+pub fn perch_of(seat: Seat<(), SeatView>) -> Perch<(), SeatView>
     requires { seat.me.1 ≡ [] }
     ensures table { result.table_id ≡ seat.table_id }
     ensures view { result.view ≡ seat.me.0 }

@@ -16,7 +16,7 @@ use Rattle.lh_words.specs.Views.{rooted}
 use Rattle.lh_words.specs.declared.view.View.{View}
 use Rattle.lh_file.specs.Calls.Aiming.{IsReady}
 use Rattle.lh_file.specs.Calls.Atomic.{Reaction, MakesAtOnce}
-use Rattle.lh_file.specs.Calls.Lean.{remove_reply, LendsTo}
+use Rattle.lh_file.specs.Calls.Lent.{remove_reply, LendsTo}
 use Rattle.lh_file.specs.Calls.Served.{KnowsMore, HasServed, IsNotSpent}
 use Rattle.lh_file.specs.FileState.{FileState, IsOf}
 use Rattle.lh_file.specs.History.Entered.{HasActedOn}

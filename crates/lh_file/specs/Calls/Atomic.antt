@@ -5,7 +5,7 @@ use Rattle.lh_bucket.specs.declared.call.Call.{Call}
 use Rattle.lh_bucket.specs.declared.call.Call.TheVariants.{Search, Insert, Delete, Replace}
 use Rattle.lh_bucket.specs.declared.call.Reply.{Reply}
 use Rattle.lh_bucket.specs.declared.call.Reply.TheVariants.{Found, Absent, Inserted, Replaced}
-use Rattle.lh_file.specs.Calls.Lean.{remove_reply}
+use Rattle.lh_file.specs.Calls.Lent.{remove_reply}
 use Rattle.lh_file.specs.Calls.Served.{Makes}
 use Rattle.lh_file.specs.FileState.{FileState}
 use Rattle.lh_file.specs.History.Entered.{HasActedOn}

@@ -15,7 +15,7 @@ ghost use Rattle.lh_file.specs.FileState.{IsOf};
 
 use crate::buckets::brand::FileBrand;
 use crate::calls::coded::Coded;
-use crate::calls::lean::lend_found;
+use crate::calls::lent::lend_found;
 use crate::calls::serve::copy_found;
 use crate::fault::FileFault;
 use crate::file::SizedFile;

@@ -58,8 +58,8 @@ pub(crate) fn insert_letters<R: Abort + Wait>(
     Ok(())
 }
 
-/// Each lean call, after letters were inserted.
-fn make_lean_calls<R: Abort + Wait>(rt: &R, shards: &Shards, hands: &mut Hands) -> Result<(), Fail>
+/// Each call that is lent its key, after letters were inserted.
+fn make_lent_calls<R: Abort + Wait>(rt: &R, shards: &Shards, hands: &mut Hands) -> Result<(), Fail>
     requires { AreOf shards.now hands.old }
 {
     let (key, value) = (CodedKey::new(Key::new(b"b")?), Value::new(b"other")?);
@@ -77,9 +77,9 @@ fn make_lean_calls<R: Abort + Wait>(rt: &R, shards: &Shards, hands: &mut Hands) 
 }
 
 #[test]
-fn lean_calls_are_those_of_a_map(rt: HostRuntime) -> Result<(), Fail> {
+fn calls_with_keys_lent_are_those_of_a_map(rt: HostRuntime) -> Result<(), Fail> {
     let (shards, mut hands) = shards_of(rt.alloc(), 8)?;
-    make_lean_calls(&rt, &shards, &mut hands)
+    make_lent_calls(&rt, &shards, &mut hands)
 }
 
 /// The value of the next digit.

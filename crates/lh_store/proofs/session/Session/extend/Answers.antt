@@ -1,7 +1,7 @@
 use Rattle.std.proofs.Common.{◌≡◌, ◌+◌, ◌∙◌, ℕ, suc, List, Bor, slice_index_or, ap, sym, subst, arith}
 use Rattle.std.proofs.lemmas.List.{get_or_default}
 use Rattle.lh_bucket.specs.declared.call.Call.TheVariants.{Insert}
-use Rattle.lh_file.specs.Calls.Lean.{put_reply}
+use Rattle.lh_file.specs.Calls.Lent.{put_reply}
 use Rattle.lh_store.specs.Rooms.{TellsRoom, bytes_of_record}
 use Rattle.lh_store.specs.Sessions.{HasPut}
 use Rattle.lh_store.proofs.session.Session.extend.Goals as goal

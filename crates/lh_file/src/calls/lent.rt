@@ -8,7 +8,7 @@ ghost use Rattle.lh_bucket.specs.declared.call.Call.TheVariants as call;
 ghost use Rattle.lh_bucket.specs.declared.call.Reply.{Reply};
 ghost use Rattle.lh_page.specs.Limits.{IsValue};
 ghost use Rattle.lh_page.specs.Slots.{FitsRoom};
-ghost use Rattle.lh_file.specs.Calls.Lean.{read_reply, put_reply, set_reply, remove_reply, LendsTo};
+ghost use Rattle.lh_file.specs.Calls.Lent.{read_reply, put_reply, set_reply, remove_reply, LendsTo};
 ghost use Rattle.lh_file.specs.Calls.Served.{Makes};
 ghost use Rattle.lh_file.specs.FileState.{IsOf};
 ghost use Rattle.lh_file.specs.History.Entered.{HasEntered};
