@@ -20,7 +20,7 @@ pub(crate) fn modulo(c: u64, buckets: u64) -> u64
     requires { 1 ≤ buckets }
     ensures { result ≡ c % buckets }
 {
-    if buckets == 1 << buckets.ilog2() {
+    if buckets.is_power_of_two() {
         c & (buckets - 1)
     } else {
         c % buckets

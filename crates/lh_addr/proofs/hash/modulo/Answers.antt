@@ -1,8 +1,11 @@
-use Rattle.std.proofs.Common.{◌≡◌, ◌^◌, arith}
+use Rattle.std.proofs.Common.{T, count_ones, sym, ◌∙◌, subst}
 use Rattle.std.proofs.lemmas.Nat.{and_mask}
+use Rattle.lh_addr.proofs.Powers.{power_of}
 use Rattle.lh_addr.proofs.hash.modulo.Goals as goal
+use lib.Dec.{eqb→eq}
 
-pub returns-then-buckets-ilog2 : goal.returns-then-buckets-ilog2
-returns-then-buckets-ilog2 c =
-    let power : c.args.buckets ≡ 2 ^ c.ilog2.result = omega arith in
-    rw power (and_mask c.args.c c.ilog2.result)
+pub returns-then-is_power_of_two : goal.returns-then-is_power_of_two
+returns-then-is_power_of_two c =
+    let is = sym c.is_power_of_two.ensures ∙ c.if-is_power_of_two.true in
+    let power = power_of c.args.buckets (eqb→eq (count_ones c.args.buckets) 1 (subst T (sym is) tt)) in
+    rw power.1 (and_mask c.args.c power.0)
