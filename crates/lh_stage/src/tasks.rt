@@ -2,8 +2,8 @@
 ghost use Rattle.lh_file.specs.FileState.{IsOf};
 
 use crate::progress::Progress;
-use lh_bucket::Reply;
-use lh_file::{FileFault, Gate, Hand, HashFile, Right};
+use lh_bucket::{Call, Reply};
+use lh_file::{FileBrand, FileFault, Gate, Hand, HashFile, Mode, Right};
 use lh_page::{Key, Value};
 use std::sync::Wait;
 
@@ -27,8 +27,8 @@ pub enum Task {
 /// What came of it.
 #[derive(Clone, Copy, Debug, PartialEq, Eq)]
 pub enum Told {
-    Found,
-    FoundNew,
+    /// The only byte of the value that was found.
+    Found(u8),
     Absent,
     Inserted,
     Exists,
@@ -36,9 +36,16 @@ pub enum Told {
     Replaced,
     Fault(FileFault),
     Number(u64),
+    /// How many inserts have added a record, and how many deletes have removed one.
+    Load(u64, u64),
     Right(Right),
     Done,
+    /// Something else than what a task is about.
+    Wrong,
 }
+
+/// The answer to a call for which there was no memory.
+pub const REFUSED: Told = Told::Fault(FileFault::Memory);
 
 /// The right to split a file that began with one bucket, before its first, second, third and fourth split.
 pub const FIRST_RIGHT: Told = Told::Right(Right::Got { old: 0, new: 1 });
@@ -52,23 +59,50 @@ pub const FOURTH_RIGHT: Told = Told::Right(Right::Got { old: 0, new: 4 });
 /// What a hand is told while another one has the right to split a file of one bucket.
 pub const BUSY: Told = Told::Right(Right::Busy { seen: 3 });
 
-/// What a reply tells; a value that is found is to be a 1, or a 2 where a replace has put it there.
+/// Done, or wrong.
+pub fn done(is_well: bool) -> Told {
+    if is_well { Told::Done } else { Told::Wrong }
+}
+
+/// What is told of a value that was found.
+pub fn found(value: &[u8]) -> Told {
+    match value.first() {
+        Some(byte) if value.len() == 1 => Told::Found(*byte),
+        _ => Told::Wrong,
+    }
+}
+
+/// What a reply tells.
 fn telling_of(reply: Reply) -> Told {
     match reply {
-        Reply::Found(value) => {
-            if value.bytes() == b"1".as_slice() {
-                Told::Found
-            } else if value.bytes() == b"2".as_slice() {
-                Told::FoundNew
-            } else {
-                Told::Done
-            }
-        }
+        Reply::Found(value) => found(value.bytes()),
         Reply::Absent => Told::Absent,
         Reply::Inserted => Told::Inserted,
         Reply::Exists => Told::Exists,
         Reply::Deleted => Told::Deleted,
         Reply::Replaced => Told::Replaced,
+    }
+}
+
+/// Makes a call.
+pub fn asked<G: Gate, M: Mode, J: FileBrand, R: Wait>(
+    rt: &R,
+    file: &HashFile<G, M, J>,
+    hand: &mut Hand,
+    call: &Call,
+) -> Told
+    requires { IsOf file.now.state hand.old }
+    ensures { IsOf file.now.state hand.new }
+{
+    let answer = match call {
+        Call::Search(key) => file.search(rt, hand, *key),
+        Call::Insert(key, value) => file.insert(rt, hand, *key, *value),
+        Call::Delete(key) => file.delete(rt, hand, *key),
+        Call::Replace(key, value) => file.replace(rt, hand, *key, *value),
+    };
+    match answer {
+        Ok(answer) => telling_of(answer.reply()),
+        Err(fault) => Told::Fault(fault),
     }
 }
 
@@ -85,27 +119,28 @@ fn call<G: Gate, R: Wait>(
 {
     let (Ok(key), Ok(value), Ok(new)) = (Key::new(&[letter]), Value::new(b"1"), Value::new(b"2"))
     else {
-        return Told::Done;
+        return Told::Wrong;
     };
-    let answer = match task {
-        Task::Insert(_) => file.insert(rt, hand, key, value),
-        Task::Delete(_) => file.delete(rt, hand, key),
-        Task::Replace(_) => file.replace(rt, hand, key, new),
-        _ => file.search(rt, hand, key),
+    let call = match task {
+        Task::Insert(_) => Call::Insert(key, value),
+        Task::Delete(_) => Call::Delete(key),
+        Task::Replace(_) => Call::Replace(key, new),
+        _ => Call::Search(key),
     };
-    match answer {
-        Ok(answer) => telling_of(answer.reply()),
-        Err(fault) => Told::Fault(fault),
-    }
+    asked(rt, file, hand, &call)
 }
 
-/// Splits, where the hand has the right.
-fn split<G: Gate, R: Wait>(rt: &R, file: &HashFile<G>, hand: &mut Hand) -> Told
+/// Splits, if the hand has the right.
+pub fn split<G: Gate, M: Mode, J: FileBrand, R: Wait>(
+    rt: &R,
+    file: &HashFile<G, M, J>,
+    hand: &mut Hand,
+) -> Told
     requires { IsOf file.now.state hand.old }
     ensures { IsOf file.now.state hand.new }
 {
     if !hand.has_right() {
-        return Told::Done;
+        return Told::Wrong;
     }
     match file.split(rt, hand) {
         Ok(()) => Told::Done,
@@ -113,14 +148,16 @@ fn split<G: Gate, R: Wait>(rt: &R, file: &HashFile<G>, hand: &mut Hand) -> Told
     }
 }
 
-/// Drops the right, where the hand has it.
-fn drop_right<G: Gate>(file: &HashFile<G>, hand: &mut Hand)
+/// Drops the right, if the hand has it: whether it had it.
+pub fn drop_right<G: Gate, M: Mode, J: FileBrand>(file: &HashFile<G, M, J>, hand: &mut Hand) -> bool
     requires { IsOf file.now.state hand.old }
     ensures { IsOf file.now.state hand.new }
 {
-    if hand.has_right() {
-        file.drop_right(hand);
+    if !hand.has_right() {
+        return false;
     }
+    file.drop_right(hand);
+    true
 }
 
 /// Does one task.
@@ -143,10 +180,7 @@ pub fn one<G: Gate, R: Wait>(
         Task::Inserted => Told::Number(file.load(hand).inserted),
         Task::Deleted => Told::Number(file.load(hand).deleted),
         Task::TryRight => try_right(file, hand),
-        Task::DropRight => {
-            drop_right(file, hand);
-            Told::Done
-        }
+        Task::DropRight => done(drop_right(file, hand)),
         Task::Split => split(rt, file, hand),
         Task::Reach(step) => {
             progress.reach(step);

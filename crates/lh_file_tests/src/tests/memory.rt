@@ -5,18 +5,15 @@ ghost use Rattle.lh_file.specs.FileState.{IsOf};
 use lh_addr::Config;
 use lh_bucket::{Listing, ListingFault};
 use lh_expect::{expect, expect_eq};
-use lh_file::{
-    Acts, Closed, FileFault, Hand, HashFile, JoinFault, Memory, NoGate, SettleFault, settle,
-};
+use lh_file::{Acts, Closed, Hand, HashFile, JoinFault, Memory, NoGate};
 use lh_page::{Key, Pair, Value};
-use lh_stage::{FIRST_RIGHT, Progress, Task, Told, made_again, one, second_of};
+use lh_stage::{
+    FIRST_RIGHT, Progress, REFUSED, Task, Told, made_again, one, second_of, settled_acts,
+};
 use std::alloc::Global;
 use std::process::Abort;
 use std::sync::Wait;
 use std::test::Fail;
-
-/// The answer to a call for which there was no memory.
-const REFUSED: Told = Told::Fault(FileFault::Memory);
 
 /// Makes a call, and counts it as a step of the test where it is answered. A call that was refused leaves the hand as
 /// many calls as it had, and its right; none is told where it doesn't.
@@ -85,7 +82,7 @@ fn insert_again<R: Wait>(
         told = asked(rt, file, answered, hand, Task::Insert(letter));
     }
     let found = asked_again(rt, file, answered, other, Task::Search(letter));
-    told == Some(Told::Inserted) && found == Some(Told::Found) && hand.has_right() == right
+    told == Some(Told::Inserted) && found == Some(Told::Found(b'1')) && hand.has_right() == right
 }
 
 /// Makes a change of a letter that is there, and says whether all went as it has to. After a refused one another hand
@@ -113,7 +110,7 @@ fn change_again<R: Wait>(
     }
     let found = asked_again(rt, file, answered, other, Task::Search(letter));
     let told = asked(rt, file, answered, hand, change);
-    found == Some(Told::Found) && told == Some(due)
+    found == Some(Told::Found(b'1')) && told == Some(due)
 }
 
 /// The first hand replaces a value and the second deletes a record; then each sees what the other did. Says whether all
@@ -139,7 +136,7 @@ fn replace_and_delete<R: Wait>(
     }
     let new = asked_again(rt, file, answered, second, Task::Search(b'a'));
     let gone = asked_again(rt, file, answered, first, Task::Search(b'b'));
-    new == Some(Told::FoundNew) && gone == Some(Told::Absent)
+    new == Some(Told::Found(b'2')) && gone == Some(Told::Absent)
 }
 
 /// The number of buckets that a hand is told.
@@ -223,7 +220,7 @@ fn join_again<R: Wait>(
     let as_before = first.left() == left && second.left() == more;
     let by_first = asked(rt, file, answered, &mut first, Task::Search(b'c'));
     let by_second = asked(rt, file, answered, &mut second, Task::Search(b'c'));
-    let found = Some(Told::Found);
+    let found = Some(Told::Found(b'1'));
     if !as_before || by_first != found || by_second != found || second.has_right() {
         return None;
     }
@@ -300,19 +297,6 @@ fn used_and_closed<R: Wait>(rt: &R, alloc: Global, config: Config) -> Option<Res
     }
 }
 
-/// How many acts a closed file is settled with.
-fn settled(alloc: Global, config: Config, closed: &Closed, acts: &Acts) -> Option<usize> {
-    let listing = match Listing::empty(alloc, config) {
-        Ok(listing) => listing,
-        Err(Memory) => Listing::empty(alloc, config).ok()?,
-    };
-    let history = match settle(alloc, &listing, closed, acts) {
-        Err(SettleFault::Memory) => settle(alloc, &listing, closed, acts).ok()?,
-        history => history.ok()?,
-    };
-    Some(history.len())
-}
-
 /// How many records the listing of a closed file has.
 fn listed_records(closed: &Closed) -> Option<u64> {
     let listing = match closed.listing() {
@@ -337,7 +321,7 @@ fn refused_growth_changes_nothing(rt: HostRuntime) -> Result<(), Fail> {
     expect_eq!(rt; acts.len() as u64, answered);
     expect_eq!(
         &rt,
-        settled(rt.alloc(), config, &closed, &acts),
+        settled_acts(rt.alloc(), config, &closed, &acts),
         Some(acts.len())
     );
     Ok(())
@@ -364,7 +348,9 @@ fn used_until_refused<R: Wait>(
         }
         inserted = inserted.saturating_add(1);
         let found = asked(rt, file, answered, &mut second, Task::Search(*letter));
-        if told != Some(Told::Inserted) || (found != Some(Told::Found) && found != Some(REFUSED)) {
+        if told != Some(Told::Inserted)
+            || (found != Some(Told::Found(b'1')) && found != Some(REFUSED))
+        {
             return None;
         }
         if found == Some(REFUSED) {
@@ -405,7 +391,7 @@ fn refused_growth_leaves_no_act(rt: HostRuntime) -> Result<(), Fail> {
     expect_eq!(rt; acts.len() as u64, answered);
     expect_eq!(
         &rt,
-        settled(rt.alloc(), config, &closed, &acts),
+        settled_acts(rt.alloc(), config, &closed, &acts),
         Some(acts.len())
     );
     match closed.into_listing() {
@@ -464,7 +450,11 @@ fn expect_both<R: Wait + Abort>(rt: &R, file: &HashFile<NoGate>, hand: &mut Hand
     let answered = Progress::new();
     let first = asked_again(rt, file, &answered, hand, Task::Search(b'a'));
     let second = asked_again(rt, file, &answered, hand, Task::Search(b'b'));
-    expect_eq!(rt, (first, second), (Some(Told::Found), Some(Told::Found)));
+    expect_eq!(
+        rt,
+        (first, second),
+        (Some(Told::Found(b'1')), Some(Told::Found(b'1')))
+    );
     expect_eq!(rt, size_of(file, hand), 2);
 }
 

@@ -176,7 +176,7 @@ fn greatest(alloc: Global) -> Result<Listing, Fail> {
 
 const IN_THE_GREATEST: [Turn; 5] = [
     (1, Task::Insert(b'a'), Told::Inserted),
-    (2, Task::Search(b'a'), Told::Found),
+    (2, Task::Search(b'a'), Told::Found(b'1')),
     (1, Task::Replace(b'a'), Told::Replaced),
     (2, Task::Delete(b'a'), Told::Deleted),
     (1, Task::TryRight, Told::Right(Right::Full)),

@@ -109,7 +109,7 @@ const INTO_ONE_SEGMENT: [Turn; 10] = [
     (1, Task::TryRight, THIRD_RIGHT),
     (1, Task::Split, Told::Done),
     (2, Task::Buckets, Told::Number(4)),
-    (2, Task::Search(b'c'), Told::FoundNew),
+    (2, Task::Search(b'c'), Told::Found(b'2')),
 ];
 
 /// The segment isn't made again: its first bucket has its record.

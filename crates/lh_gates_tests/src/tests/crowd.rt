@@ -2,28 +2,17 @@
 ghost use Rattle.std.specs.Prelude.{◌≡◌, All, IfSome};
 ghost use Rattle.lh_file.specs.FileState.{IsOf};
 
-use super::play::settled_acts;
 use lh_addr::Config;
 use lh_bucket::Reply;
 use lh_expect::{expect, expect_eq};
-use lh_file::{Acts, Closed, Gate, Hand, HashFile, Point};
+use lh_file::{Acts, Closed, Hand, HashFile};
 use lh_page::{Key, Value};
-use lh_stage::{closed_by, joined, made, second_of};
+use lh_stage::{GiveWay, closed_by, joined, made, second_of, settled_acts};
 use std::alloc::Global;
 use std::sync::Wait;
 use std::test::Fail;
 use std::thread;
 use std::thread::{Promise, PromisedHandle, Threads};
-
-/// A gate that waits for one turn at every point.
-#[derive(Clone, Copy)]
-struct GiveWay;
-
-impl Gate for GiveWay {
-    fn at(&self, _point: Point) {
-        thread::yield_now();
-    }
-}
 
 /// Which keys each of the threads calls by: those of its own, or the same three as all others.
 #[derive(Clone, Copy)]

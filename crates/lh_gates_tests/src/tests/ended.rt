@@ -46,6 +46,6 @@ fn told_second<R: Threads + Wait + Sync>(
 fn a_record_outlives_the_thread_of_its_writer(rt: HostRuntime) -> Result<(), Fail> {
     let config = Config::new(1, 14, 100, 65536)?;
     let (file, first) = made(rt.alloc(), config, NoGate)?;
-    expect_eq!(&rt, told_second(&rt, &file, first)?, Told::Found);
+    expect_eq!(&rt, told_second(&rt, &file, first)?, Told::Found(b'1'));
     Ok(())
 }

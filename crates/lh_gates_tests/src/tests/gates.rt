@@ -1,9 +1,8 @@
 //! Calls that are held at a point while others go on.
 
 use super::play::{Scene, perform};
-use super::stage::Hold;
 use lh_file::Point;
-use lh_stage::{BUSY, FIRST_RIGHT, FOURTH_RIGHT, SECOND_RIGHT, THIRD_RIGHT, Task, Told};
+use lh_stage::{BUSY, FIRST_RIGHT, FOURTH_RIGHT, Hold, SECOND_RIGHT, THIRD_RIGHT, Task, Told};
 use std::test::Fail;
 
 const HELD: [Hold; 1] = [Hold {
@@ -61,7 +60,7 @@ fn a_search_waits_for_the_replace_of_its_bucket(rt: HostRuntime) -> Result<(), F
         ],
         second: &[
             (Task::Wait(2), Told::Done),
-            (Task::Search(b'a'), Told::FoundNew),
+            (Task::Search(b'a'), Told::Found(b'2')),
         ],
         buckets: 1,
         acts: 3,
@@ -112,7 +111,7 @@ fn a_search_finds_its_record_between_move_and_pointer(rt: HostRuntime) -> Result
         second: &[
             (Task::Wait(1), Told::Done),
             (Task::Buckets, Told::Number(1)),
-            (Task::Search(b'b'), Told::Found),
+            (Task::Search(b'b'), Told::Found(b'1')),
         ],
         buckets: 2,
         acts: 4,
@@ -130,7 +129,7 @@ fn a_replace_meets_its_record_between_move_and_pointer(rt: HostRuntime) -> Resul
             (Task::Insert(b'a'), Told::Inserted),
             (Task::Insert(b'b'), Told::Inserted),
             (Task::Insert(b'c'), Told::Inserted),
-            (Task::Search(b'b'), Told::FoundNew),
+            (Task::Search(b'b'), Told::Found(b'2')),
         ],
         second: &[
             (Task::Wait(1), Told::Done),
@@ -217,7 +216,7 @@ fn a_search_by_an_old_root_follows_four_splits(rt: HostRuntime) -> Result<(), Fa
         second: &[
             (Task::Insert(b'h'), Told::Inserted),
             (Task::Reach(1), Told::Done),
-            (Task::Search(b'h'), Told::Found),
+            (Task::Search(b'h'), Told::Found(b'1')),
         ],
         buckets: 5,
         acts: 2,
@@ -320,7 +319,7 @@ fn a_search_comes_before_what_it_does_not_see(rt: HostRuntime) -> Result<(), Fai
         ],
         second: &[
             (Task::Wait(1), Told::Done),
-            (Task::Search(b'a'), Told::Found),
+            (Task::Search(b'a'), Told::Found(b'1')),
         ],
         buckets: 1,
         acts: 3,

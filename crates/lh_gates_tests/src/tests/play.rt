@@ -2,12 +2,11 @@
 ghost use Rattle.std.specs.Prelude.{◌≡◌, IfSome};
 ghost use Rattle.lh_file.specs.FileState.{IsOf};
 
-use super::stage::{Hold, Log, Stage};
+use super::stage::{Log, Stage};
 use lh_addr::Config;
-use lh_bucket::Listing;
 use lh_expect::{expect, expect_eq};
-use lh_file::{Acts, Closed, Gate, Hand, HashFile, Point, settle};
-use lh_stage::{Progress, Task, Told, closed, made, one, second_of};
+use lh_file::{Gate, Hand, HashFile, Point};
+use lh_stage::{Hold, Progress, Task, Told, closed, made, one, second_of, settled_acts};
 use std::alloc::Global;
 use std::process::Abort;
 use std::sync::Wait;
@@ -132,18 +131,6 @@ struct Outcome {
     acts: Option<usize>,
 }
 
-/// How many acts of a file that began with no record are settled, if they are.
-pub(crate) fn settled_acts(
-    alloc: Global,
-    config: Config,
-    closed: &Closed,
-    acts: &Acts,
-) -> Option<usize> {
-    let listing = Listing::empty(alloc, config).ok()?;
-    let history = settle(alloc, &listing, closed, acts).ok()?;
-    Some(history.len())
-}
-
 /// A hand of a file and a second one do their tasks beside each other.
 fn play<G: Gate + Sync, R: Threads + Wait + Sync>(
     rt: &R,
@@ -180,7 +167,7 @@ fn staged<R: Threads + Wait + Sync>(
         second,
         wrong,
     } = play(rt, &file, hand, &progress, scene)?;
-    if progress.is_late() {
+    if progress.has_failed() {
         return None;
     }
     let (closed, acts) = closed(rt, file, first, second)?;

@@ -1,19 +1,9 @@
-//! Gates that hold calls until others have come so far.
+//! Gates that hold calls, and log the points that they meet.
 
 use lh_file::{Gate, Point};
-use lh_stage::Progress;
+use lh_stage::{Hold, Progress};
 use std::array;
 use std::sync::atomic::{AtomicU64, Ordering};
-
-/// What a gate does at a point: where the test has come to step `from`, it has come to step `to`, and
-/// the call is held until it comes to step `until`.
-#[derive(Clone, Copy)]
-pub(crate) struct Hold {
-    pub(crate) from: u64,
-    pub(crate) point: Point,
-    pub(crate) to: u64,
-    pub(crate) until: u64,
-}
 
 /// The points that were met, in their order, as far as there is room for them.
 #[derive(Drop)]
@@ -85,12 +75,6 @@ pub(crate) struct Stage<'a> {
 impl Gate for Stage<'_> {
     fn at(&self, point: Point) {
         self.log.note(point);
-        for hold in self.holds {
-            if hold.point == point && hold.from == self.progress.step() {
-                self.progress.reach(hold.to);
-                self.progress.wait(hold.until);
-                return;
-            }
-        }
+        Hold::call(self.holds, self.progress, point);
     }
 }

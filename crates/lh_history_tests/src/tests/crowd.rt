@@ -8,24 +8,15 @@ use super::ended::{Ended, File, close};
 use lh_addr::Config;
 use lh_bucket::{Call, Listing};
 use lh_expect::{expect, expect_eq};
-use lh_file::{FileBrand, Gate, Hand, Opening, Point, Right};
+use lh_file::{FileBrand, Hand, Opening, Right};
 use lh_page::{Key, Value};
+use lh_stage::GiveWay;
 use std::alloc::Global;
 use std::marker::Brand;
 use std::sync::Wait;
 use std::test::Fail;
 use std::thread;
 use std::thread::{Promise, PromisedHandle, Threads};
-
-/// A gate that waits for one turn at every point.
-#[derive(Clone, Copy)]
-struct GiveWay;
-
-impl Gate for GiveWay {
-    fn at(&self, _point: Point) {
-        thread::yield_now();
-    }
-}
 
 /// A hand that has done its share, whether each of its calls was answered and told from then on, and beside how many of
 /// them others acted.

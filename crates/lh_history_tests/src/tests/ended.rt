@@ -2,7 +2,8 @@
 ghost use Rattle.lh_file.specs.FileState.{IsOf};
 
 use lh_bucket::Listing;
-use lh_file::{Acts, Closed, FileBrand, Gate, Hand, HashFile, Traced, settle};
+use lh_file::{FileBrand, Gate, Hand, HashFile, Traced};
+use lh_stage::settle_again;
 use std::alloc::Global;
 use std::sync::Wait;
 
@@ -17,16 +18,6 @@ pub(crate) struct Ended {
     pub(crate) gathered: bool,
     pub(crate) records: u64,
     pub(crate) settled: Option<usize>,
-}
-
-/// How many acts of a file that was opened from a listing are settled, if they are. Asked for once more where memory
-/// was refused.
-fn settled(alloc: Global, listing: &Listing, closed: &Closed, acts: &Acts) -> Option<usize> {
-    let history = match settle(alloc, listing, closed, acts) {
-        Ok(history) => history,
-        Err(_) => settle(alloc, listing, closed, acts).ok()?,
-    };
-    Some(history.len())
 }
 
 /// Closes a file that was opened from a listing, unless there is no memory.
@@ -45,6 +36,8 @@ pub(crate) fn close<G: Gate + Drop, J: FileBrand, R: Wait>(
         told,
         gathered: closed.gathered(),
         records: closed.records(),
-        settled: settled(alloc, listing, &closed, &acts),
+        settled: settle_again(alloc, listing, &closed, &acts)
+            .ok()
+            .map(|history| history.len()),
     })
 }

@@ -9,6 +9,7 @@ use lh_bucket::{Listing, Reply};
 use lh_expect::expect_eq;
 use lh_file::{FileBrand, FileFault, Hand, NoGate, Opening};
 use lh_page::{Key, Value};
+use lh_stage::empty_again;
 use std::alloc::Global;
 use std::marker::Brand;
 use std::sync::Wait;
@@ -93,18 +94,10 @@ fn ten_of<R: Wait>(rt: &R, alloc: Global, listing: &Listing) -> Outcome {
     }
 }
 
-/// The listing of an empty file, asked for once more where memory was refused.
-fn empty(alloc: Global, config: Config) -> Result<Listing, Fail> {
-    match Listing::empty(alloc, config) {
-        Ok(listing) => Ok(listing),
-        Err(_) => Ok(Listing::empty(alloc, config)?),
-    }
-}
-
 #[test]
 fn refused_growth_of_a_traced_file_is_told(rt: HostRuntime) -> Result<(), Fail> {
     let alloc = rt.alloc();
-    let listing = empty(alloc, Config::new(1, 2, 100, 65536)?)?;
+    let listing = empty_again(alloc, Config::new(1, 2, 100, 65536)?)?;
     let mut made = ten_of(&rt, alloc, &listing);
     if let Outcome::Gone = made {
         made = ten_of(&rt, alloc, &listing);

@@ -3,52 +3,16 @@ ghost use Rattle.lh_file.specs.FileState.{IsOf};
 
 use super::lean::lean_as;
 use super::rights::split_if_free;
-use super::tasks::{REFUSED, Task, Told};
-use lh_bucket::{Call, Reply};
+use super::tasks::Task;
+use lh_bucket::Call;
 use lh_file::{FileBrand, Gate, Hand, HashFile, Mode};
 use lh_page::{Key, Value};
+use lh_stage::{REFUSED, Told, asked};
 use std::sync::Wait;
 
 /// The keys that tests look for, at least one of each bucket of a file that began with one, two or four buckets and has
 /// at most eight.
 pub(crate) const LETTERS: [u8; 8] = *b"abcdefgh";
-
-/// What a reply tells.
-fn telling_of(reply: Reply) -> Told {
-    match reply {
-        Reply::Found(value) => match value.bytes().first() {
-            Some(byte) => Told::Found(*byte),
-            None => Told::Wrong,
-        },
-        Reply::Absent => Told::Absent,
-        Reply::Inserted => Told::Inserted,
-        Reply::Exists => Told::Exists,
-        Reply::Deleted => Told::Deleted,
-        Reply::Replaced => Told::Replaced,
-    }
-}
-
-/// Makes a call.
-pub(crate) fn asked<G: Gate, M: Mode, J: FileBrand, R: Wait>(
-    rt: &R,
-    file: &HashFile<G, M, J>,
-    hand: &mut Hand,
-    call: &Call,
-) -> Told
-    requires { IsOf file.now.state hand.old }
-    ensures { IsOf file.now.state hand.new }
-{
-    let answer = match call {
-        Call::Search(key) => file.search(rt, hand, *key),
-        Call::Insert(key, value) => file.insert(rt, hand, *key, *value),
-        Call::Delete(key) => file.delete(rt, hand, *key),
-        Call::Replace(key, value) => file.replace(rt, hand, *key, *value),
-    };
-    match answer {
-        Ok(answer) => telling_of(answer.reply()),
-        Err(fault) => Told::Fault(fault),
-    }
-}
 
 /// Makes a call, and once more where memory was refused.
 fn asked_again<G: Gate, M: Mode, J: FileBrand, R: Wait>(

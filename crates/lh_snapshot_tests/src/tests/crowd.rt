@@ -2,7 +2,8 @@
 
 use super::scene::{ONE_BUCKET, Scene, perform};
 use super::sound::ANY;
-use super::tasks::{Task, Tasks, Told};
+use super::tasks::{Task, Tasks};
+use lh_stage::Told;
 use std::test::Fail;
 
 /// Eight hands that write, two that take three snapshots each, and one that scans.

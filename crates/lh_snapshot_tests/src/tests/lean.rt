@@ -2,10 +2,11 @@
 ghost use Rattle.lh_file.specs.FileState.{IsOf};
 
 use super::scene::{ONE_BUCKET, Scene, perform};
-use super::tasks::{Task, Told};
+use super::tasks::Task;
 use lh_bucket::Call;
 use lh_file::{Coded, CodedKey, FileBrand, FileFault, Gate, Hand, HashFile, Mode};
 use lh_page::{Key, Value};
+use lh_stage::{Told, found};
 use std::sync::Wait;
 use std::test::Fail;
 
@@ -18,17 +19,6 @@ pub(crate) enum Lean {
     Put,
     Set,
     Remove,
-}
-
-/// What is told of the bytes that were found, if any were.
-fn found(bytes: Option<&[u8]>) -> Told {
-    match bytes {
-        Some(bytes) => match bytes.first() {
-            Some(byte) => Told::Found(*byte),
-            None => Told::Wrong,
-        },
-        None => Told::Absent,
-    }
 }
 
 /// One of two answers.
@@ -49,7 +39,7 @@ fn read<K: Coded, G: Gate, M: Mode, J: FileBrand, R: Wait>(
     let mut value = Value::empty();
     value.set(b"unread");
     if file.read_into(rt, hand, key, &mut value)? {
-        return Ok(found(Some(value.bytes())));
+        return Ok(found(value.bytes()));
     }
     let is_unread = value.bytes() == b"unread".as_slice();
     Ok(either(is_unread, Told::Absent, Told::Wrong))
@@ -69,7 +59,7 @@ fn make_lean<K: Coded, G: Gate, M: Mode, J: FileBrand, R: Wait>(
 {
     Ok(match call {
         Lean::Get => match file.get(rt, hand, key)? {
-            Some(value) => found(Some(value.bytes())),
+            Some(value) => found(value.bytes()),
             None => Told::Absent,
         },
         Lean::ReadInto => read(rt, file, hand, key)?,
@@ -77,7 +67,7 @@ fn make_lean<K: Coded, G: Gate, M: Mode, J: FileBrand, R: Wait>(
             let told = file.with_value(rt, hand, key, |bytes: &[u8]| {
                 // A closure may rely on the length that values have.
                 let _length = bytes.len() as u8;
-                found(Some(bytes))
+                found(bytes)
             })?;
             told.unwrap_or(Told::Absent)
         }

@@ -1,9 +1,10 @@
 //! What locks a call holds, and which of them it shares.
 
 use super::scene::{ONE_BUCKET, Scene, perform};
-use super::stage::Hold;
-use super::tasks::{Task, Tasks, Told};
+use super::stage::Rest;
+use super::tasks::{Task, Tasks};
 use lh_file::Point;
+use lh_stage::{Hold, Told};
 use std::test::Fail;
 
 /// Nine letters go to nine buckets of sixteen. Each insert has the lock of its bucket, and is held until all nine have
@@ -14,63 +15,54 @@ const NINE_HELD: [Hold; 9] = [
         point: Point::Holding { bucket: 12 },
         to: 1,
         until: 9,
-        not: None,
     },
     Hold {
         from: 1,
         point: Point::Holding { bucket: 5 },
         to: 2,
         until: 9,
-        not: None,
     },
     Hold {
         from: 2,
         point: Point::Holding { bucket: 2 },
         to: 3,
         until: 9,
-        not: None,
     },
     Hold {
         from: 3,
         point: Point::Holding { bucket: 3 },
         to: 4,
         until: 9,
-        not: None,
     },
     Hold {
         from: 4,
         point: Point::Holding { bucket: 0 },
         to: 5,
         until: 9,
-        not: None,
     },
     Hold {
         from: 5,
         point: Point::Holding { bucket: 9 },
         to: 6,
         until: 9,
-        not: None,
     },
     Hold {
         from: 6,
         point: Point::Holding { bucket: 6 },
         to: 7,
         until: 9,
-        not: None,
     },
     Hold {
         from: 7,
         point: Point::Holding { bucket: 7 },
         to: 8,
         until: 9,
-        not: None,
     },
     Hold {
         from: 8,
         point: Point::Holding { bucket: 4 },
         to: 9,
         until: 9,
-        not: None,
     },
 ];
 
@@ -128,14 +120,12 @@ const BOTH_HELD: [Hold; 2] = [
         point: Point::Holding { bucket: 0 },
         to: 1,
         until: 2,
-        not: None,
     },
     Hold {
         from: 1,
         point: Point::Holding { bucket: 0 },
         to: 2,
         until: 2,
-        not: None,
     },
 ];
 
@@ -159,14 +149,12 @@ const BOTH_HAVE_LOOKED: [Hold; 2] = [
         point: Point::Acted { bucket: 0 },
         to: 1,
         until: 2,
-        not: None,
     },
     Hold {
         from: 1,
         point: Point::Acted { bucket: 0 },
         to: 2,
         until: 2,
-        not: None,
     },
 ];
 
@@ -189,26 +177,24 @@ const HELD_AT_ITS_ACT: [Hold; 3] = [
         point: Point::Acted { bucket: 0 },
         to: 2,
         until: 3,
-        not: Some(4),
     },
     Hold {
         from: 2,
         point: Point::Read,
         to: 3,
         until: 3,
-        not: None,
     },
     Hold {
         from: 3,
         point: Point::Holding { bucket: 0 },
         to: 4,
         until: 4,
-        not: None,
     },
 ];
 
 const TWO_WRITES: Scene = Scene {
     holds: &HELD_AT_ITS_ACT,
+    rest: Some(Rest { from: 1, not: 4 }),
     hands: &[
         &[
             (Task::Reach(1), Told::Done),
@@ -265,21 +251,18 @@ const HELD_UNTIL_BUCKET_1_IS_TAKEN: [Hold; 3] = [
         point: Point::Read,
         to: 2,
         until: 4,
-        not: None,
     },
     Hold {
         from: 3,
         point: Point::Holding { bucket: 1 },
         to: 4,
         until: 6,
-        not: None,
     },
     Hold {
         from: 4,
         point: Point::Released { bucket: 0 },
         to: 5,
         until: 5,
-        not: None,
     },
 ];
 

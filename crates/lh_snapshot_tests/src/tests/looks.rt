@@ -3,10 +3,11 @@ ghost use Rattle.lh_file.specs.FileState.{IsOf};
 
 use super::calls::works_on;
 use super::scene::{ONE_BUCKET, Scene, perform};
-use super::tasks::{REFUSED, Task, Told};
+use super::tasks::Task;
 use lh_bucket::Listing;
 use lh_file::{Closed, FileBrand, Gate, Hand, HashFile, Mode};
 use lh_image::{read_image, write_image};
+use lh_stage::{REFUSED, Told};
 use std::alloc::Global;
 use std::sync::Wait;
 use std::test::Fail;

@@ -2,13 +2,13 @@
 //! where it was refused, and the file works on in between.
 ghost use Rattle.lh_file.specs.FileState.{IsOf};
 
-use super::calls::{LETTERS, asked, call_of};
+use super::calls::{LETTERS, call_of};
 use super::lean::REFUSED_ONCE;
-use super::rights::drop_right;
 use super::scene::{ONE_BUCKET, Scene, perform_refused};
-use super::stage::{Counts, Progress};
-use super::tasks::{REFUSED, Task, Told};
+use super::stage::{Counts, Course};
+use super::tasks::Task;
 use lh_file::{FileBrand, Gate, Hand, HashFile, Mode};
+use lh_stage::{REFUSED, Told, asked, drop_right};
 use std::sync::Wait;
 use std::test::Fail;
 
@@ -58,7 +58,7 @@ fn refused_calls_without_an_answer_do_nothing(rt: HostRuntime) -> Result<(), Fai
 fn insert<G: Gate, M: Mode, J: FileBrand, R: Wait>(
     rt: &R,
     file: &HashFile<G, M, J>,
-    progress: &Progress,
+    course: &Course,
     hand: &mut Hand,
     letter: u8,
 ) -> bool
@@ -68,12 +68,12 @@ fn insert<G: Gate, M: Mode, J: FileBrand, R: Wait>(
     let Some(call) = call_of(Task::Insert(letter)) else {
         return false;
     };
-    let before = progress.counts();
+    let before = course.counts();
     let told = asked(rt, file, hand, &call);
     if told != REFUSED {
         return told == Told::Inserted;
     }
-    progress.counts() == before && asked(rt, file, hand, &call) == Told::Inserted
+    course.counts() == before && asked(rt, file, hand, &call) == Told::Inserted
 }
 
 /// Whether the right to split is there to be got. It is given up again.
@@ -93,15 +93,15 @@ fn is_right_free<G: Gate, M: Mode, J: FileBrand>(file: &HashFile<G, M, J>, hand:
 fn insert_and_split<G: Gate, M: Mode, J: FileBrand, R: Wait>(
     rt: &R,
     file: &HashFile<G, M, J>,
-    progress: &Progress,
+    course: &Course,
     hand: &mut Hand,
     letter: u8,
 ) -> Option<bool>
     requires { IsOf file.now.state hand.old }
     ensures { IsOf file.now.state hand.new }
 {
-    let (size, before) = (file.buckets(hand), progress.counts());
-    if !insert(rt, file, progress, hand, letter) {
+    let (size, before) = (file.buckets(hand), course.counts());
+    if !insert(rt, file, course, hand, letter) {
         return None;
     }
     let splits = u64::from(file.buckets(hand).wrapping_sub(size));
@@ -111,7 +111,7 @@ fn insert_and_split<G: Gate, M: Mode, J: FileBrand, R: Wait>(
         moved: before.moved.wrapping_add(splits),
         pointed: before.pointed.wrapping_add(splits),
     };
-    if progress.counts() != due || splits > 1 || !is_right_free(file, hand) {
+    if course.counts() != due || splits > 1 || !is_right_free(file, hand) {
         return None;
     }
     Some(splits == 1)
@@ -122,7 +122,7 @@ fn insert_and_split<G: Gate, M: Mode, J: FileBrand, R: Wait>(
 pub(crate) fn fill_and_grow<G: Gate, M: Mode, J: FileBrand, R: Wait>(
     rt: &R,
     file: &HashFile<G, M, J>,
-    progress: &Progress,
+    course: &Course,
     hand: &mut Hand,
 ) -> bool
     requires { IsOf file.now.state hand.old }
@@ -130,7 +130,7 @@ pub(crate) fn fill_and_grow<G: Gate, M: Mode, J: FileBrand, R: Wait>(
 {
     let mut refused: u64 = 0;
     for letter in LETTERS {
-        match insert_and_split(rt, file, progress, hand, letter) {
+        match insert_and_split(rt, file, course, hand, letter) {
             Some(true) => {}
             Some(false) => refused = refused.wrapping_add(1),
             None => return false,

@@ -2,9 +2,10 @@
 
 use super::scene::{ONE_BUCKET, Scene, perform};
 use super::sound::ANY;
-use super::stage::Hold;
-use super::tasks::{Task, Told};
+use super::stage::Rest;
+use super::tasks::Task;
 use lh_file::Point;
+use lh_stage::{Hold, Told};
 use std::test::Fail;
 
 /// The snapshot has all locks, and is held until the replace has begun. That doesn't come to its act while it is held.
@@ -14,27 +15,25 @@ const HELD_AT_ITS_MOMENT: [Hold; 3] = [
         point: Point::Surveyed { buckets: 2 },
         to: 1,
         until: 3,
-        not: Some(4),
     },
     Hold {
         from: 2,
         point: Point::Read,
         to: 3,
         until: 3,
-        not: None,
     },
     Hold {
         from: 3,
         point: Point::Acted { bucket: 1 },
         to: 4,
         until: 4,
-        not: None,
     },
 ];
 
 /// Searches are answered meanwhile.
 const ONE_MOMENT: Scene = Scene {
     holds: &HELD_AT_ITS_MOMENT,
+    rest: Some(Rest { from: 0, not: 4 }),
     first: &[(Task::Fill, Told::Done), (Task::Grow(1), Told::Done)],
     hands: &[
         &[(Task::Snapshot, Told::Done)],
@@ -63,14 +62,12 @@ const BOTH_HELD: [Hold; 2] = [
         point: Point::Surveyed { buckets: 2 },
         to: 1,
         until: 2,
-        not: None,
     },
     Hold {
         from: 1,
         point: Point::Surveyed { buckets: 2 },
         to: 2,
         until: 2,
-        not: None,
     },
 ];
 
@@ -98,20 +95,19 @@ const HELD_BEFORE_A_HAND_THAT_WAITS: [Hold; 2] = [
         point: Point::Holding { bucket: 1 },
         to: 1,
         until: 3,
-        not: Some(4),
     },
     Hold {
         from: 1,
         point: Point::Read,
         to: 2,
         until: 2,
-        not: None,
     },
 ];
 
 /// The snapshot has the old value or the new one.
 const BESIDE_A_HAND_THAT_WAITS: Scene = Scene {
     holds: &HELD_BEFORE_A_HAND_THAT_WAITS,
+    rest: Some(Rest { from: 0, not: 4 }),
     first: &[(Task::Fill, Told::Done), (Task::Grow(1), Told::Done)],
     hands: &[
         &[(Task::Search(b'b'), Told::Found(b'1'))],

@@ -1,10 +1,9 @@
 //! The points at which calls stand: those that are due, and no others.
 
-use super::rights::{BUSY, RIGHT};
 use super::scene::{ONE_BUCKET, Scene, perform};
-use super::stage::Hold;
-use super::tasks::{Task, Tasks, Told};
+use super::tasks::{Task, Tasks};
 use lh_file::{Point, Right};
+use lh_stage::{BUSY, FIRST_RIGHT, Hold, Told};
 use std::test::Fail;
 
 const RIGHTS: [Point; 8] = [
@@ -23,10 +22,10 @@ const RIGHTS_TWICE: Scene = Scene {
     points: &RIGHTS,
     first: &[
         (Task::Reach(1), Told::Done),
-        (Task::TryRight, RIGHT),
+        (Task::TryRight, FIRST_RIGHT),
         (Task::TryRight, BUSY),
         (Task::DropRight, Told::Done),
-        (Task::TryRight, RIGHT),
+        (Task::TryRight, FIRST_RIGHT),
         (Task::Split, Told::Done),
         (Task::Search(b'a'), Told::Absent),
     ],
@@ -136,7 +135,7 @@ const BESIDE_THE_RIGHT: Scene = Scene {
     first: &[],
     hands: &[
         &[
-            (Task::TryRight, RIGHT),
+            (Task::TryRight, FIRST_RIGHT),
             (Task::Reach(1), Told::Done),
             (Task::Wait(2), Told::Done),
             (Task::DropRight, Told::Done),
@@ -212,14 +211,12 @@ const HELD_BETWEEN_TWO_LEVELS: [Hold; 2] = [
         point: Point::Read,
         to: 2,
         until: 3,
-        not: None,
     },
     Hold {
         from: 3,
         point: Point::Released { bucket: 0 },
         to: 4,
         until: 5,
-        not: None,
     },
 ];
 

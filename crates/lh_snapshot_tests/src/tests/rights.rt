@@ -2,25 +2,11 @@
 ghost use Rattle.lh_file.specs.FileState.{IsOf};
 
 use super::scene::{EIGHT, ONE_BUCKET, Scene, perform};
-use super::tasks::{Task, Told};
+use super::tasks::Task;
 use lh_file::{FileBrand, Gate, Hand, HashFile, Mode, Right};
+use lh_stage::{BUSY, FIRST_RIGHT, Told, split_once};
 use std::sync::Wait;
 use std::test::Fail;
-
-/// Splits a bucket, where the right to do so is free: whether it was split.
-fn split_once<G: Gate, M: Mode, J: FileBrand, R: Wait>(
-    rt: &R,
-    file: &HashFile<G, M, J>,
-    hand: &mut Hand,
-) -> bool
-    requires { IsOf file.now.state hand.old }
-    ensures { IsOf file.now.state hand.new }
-{
-    if let Right::Got { .. } = file.try_split_right(hand) {
-        return file.split(rt, hand).is_ok();
-    }
-    false
-}
 
 /// Splits a bucket, where the right to do so is free: whether no fault was met.
 pub(crate) fn split_if_free<G: Gate, M: Mode, J: FileBrand, R: Wait>(
@@ -55,33 +41,6 @@ pub(crate) fn grow<G: Gate, M: Mode, J: FileBrand, R: Wait>(
     true
 }
 
-/// Splits, if the hand has the right: whether a bucket was split.
-pub(crate) fn split<G: Gate, M: Mode, J: FileBrand, R: Wait>(
-    rt: &R,
-    file: &HashFile<G, M, J>,
-    hand: &mut Hand,
-) -> bool
-    requires { IsOf file.now.state hand.old }
-    ensures { IsOf file.now.state hand.new }
-{
-    hand.has_right() && file.split(rt, hand).is_ok()
-}
-
-/// Drops the right, if the hand has it: whether it had it.
-pub(crate) fn drop_right<G: Gate, M: Mode, J: FileBrand>(
-    file: &HashFile<G, M, J>,
-    hand: &mut Hand,
-) -> bool
-    requires { IsOf file.now.state hand.old }
-    ensures { IsOf file.now.state hand.new }
-{
-    if !hand.has_right() {
-        return false;
-    }
-    file.drop_right(hand);
-    true
-}
-
 /// Asks for the right to split by a new hand, which is dropped.
 pub(crate) fn lose_right<G: Gate, M: Mode, J: FileBrand>(
     file: &HashFile<G, M, J>,
@@ -96,11 +55,6 @@ pub(crate) fn lose_right<G: Gate, M: Mode, J: FileBrand>(
     }
 }
 
-/// The right to split a file of one bucket, and what other hands are told while one has it.
-pub(crate) const RIGHT: Told = Told::Right(Right::Got { old: 0, new: 1 });
-
-pub(crate) const BUSY: Told = Told::Right(Right::Busy { seen: 3 });
-
 /// One hand has the right to split while another one takes a snapshot, and takes one itself. No stamp is drawn.
 const BESIDE_THE_RIGHT: Scene = Scene {
     hands: &[
@@ -113,7 +67,7 @@ const BESIDE_THE_RIGHT: Scene = Scene {
             (Task::Reach(2), Told::Done),
         ],
         &[
-            (Task::TryRight, RIGHT),
+            (Task::TryRight, FIRST_RIGHT),
             (Task::Reach(1), Told::Done),
             (Task::Wait(2), Told::Done),
             (Task::Snapshot, Told::Done),
@@ -154,7 +108,7 @@ fn a_full_file_gives_a_snapshot(rt: HostRuntime) -> Result<(), Fail> {
 const WITH_A_LOST_RIGHT: Scene = Scene {
     first: &[
         (Task::Fill, Told::Done),
-        (Task::LoseRight, RIGHT),
+        (Task::LoseRight, FIRST_RIGHT),
         (Task::Snapshot, Told::Done),
         (Task::TryRight, BUSY),
         (Task::WorksOn, Told::Done),

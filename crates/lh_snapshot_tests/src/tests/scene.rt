@@ -3,13 +3,14 @@ ghost use Rattle.std.specs.Prelude.{◌≡◌, true};
 ghost use Rattle.lh_file.specs.Buckets.Brands.{IsBrandOf};
 ghost use Rattle.lh_file.specs.FileState.{IsOf};
 
-use super::sound::{Buckets, fault_of, first_unsound};
-use super::stage::{Hold, Progress, Stage};
-use super::tasks::{Task, Tasks, Told, Worked, work};
+use super::sound::{Buckets, first_unsound};
+use super::stage::{Course, Rest, Stage};
+use super::tasks::{Task, Tasks, Worked, work};
 use super::threads::beside;
 use lh_addr::Config;
-use lh_bucket::{Listing, Memory};
+use lh_bucket::Listing;
 use lh_file::{FileBrand, Gate, Hand, HashFile, Mode, Opening, Point, SettleFault};
+use lh_stage::{Hold, Told, empty_again, settle_again};
 use std::alloc::Global;
 use std::marker::Brand;
 use std::process::Abort;
@@ -24,6 +25,8 @@ pub(crate) struct Scene {
     pub(crate) settings: [u32; 4],
     /// Where calls are held.
     pub(crate) holds: &'static [Hold],
+    /// Which of these holds goes on for some turns more, if one does.
+    pub(crate) rest: Option<Rest>,
     /// The points that are met from the first step on, in their order; none where that depends on the schedule.
     pub(crate) points: &'static [Point],
     /// Whether each call lets others go first at every point.
@@ -42,6 +45,7 @@ pub(crate) struct Scene {
 pub(crate) const ONE_BUCKET: Scene = Scene {
     settings: [1, 14, 100, 65536],
     holds: &[],
+    rest: None,
     points: &[],
     gives_way: false,
     first: &[(Task::Fill, Told::Done)],
@@ -72,7 +76,7 @@ fn ended<G: Gate + Drop, M: Mode, J: FileBrand, R: Wait>(
     alloc: Global,
     opening: &Listing,
     file: HashFile<G, M, J>,
-    progress: &Progress,
+    course: &Course,
     worked: Worked,
     scene: &Scene,
 ) -> Option<Outcome>
@@ -87,9 +91,9 @@ fn ended<G: Gate + Drop, M: Mode, J: FileBrand, R: Wait>(
     let (closed, acts) = file.close(rt, hand).ok()?;
     Some(Outcome {
         wrong,
-        has_failed: progress.has_failed(),
-        has_met_all: progress.has_compared(scene.points.len()),
-        is_settled: fault_of(alloc, opening, &closed, &acts) == fault,
+        has_failed: course.progress.has_failed(),
+        has_met_all: course.has_compared(scene.points.len()),
+        is_settled: settle_again(alloc, opening, &closed, &acts).err() == fault,
         snapshots: taken.len(),
         unsound: first_unsound(alloc, opening, &acts, taken, scene.taken),
     })
@@ -107,14 +111,14 @@ fn play<
     opening: &Listing,
     file: HashFile<G, M, J>,
     hand: Hand,
-    progress: &Progress,
+    course: &Course,
     scene: &Scene,
 ) -> Option<Outcome>
     requires { IsOf file.state hand }
 {
-    let first = work(rt, alloc, &file, progress, hand, scene.first);
-    let worked = beside(rt, alloc, &file, progress, first, scene.hands)?;
-    ended(rt, alloc, opening, file, progress, worked, scene)
+    let first = work(rt, alloc, &file, course, hand, scene.first);
+    let worked = beside(rt, alloc, &file, course, first, scene.hands)?;
+    ended(rt, alloc, opening, file, course, worked, scene)
 }
 
 /// Plays a scene in a traced file that is being opened.
@@ -123,13 +127,13 @@ fn play_traced<J: FileBrand + Send + Sync, R: Threads + Wait + Sync>(
     alloc: Global,
     listing: &Listing,
     opening: Opening<'_, Stage<'_>>,
-    progress: &Progress,
+    course: &Course,
     scene: &Scene,
 ) -> Option<Outcome>
     requires { IsBrandOf true J.named J.tables opening }
 {
     let (file, hand) = opening.file::<J>().ok()?;
-    play(rt, alloc, listing, file, hand, progress, scene)
+    play(rt, alloc, listing, file, hand, course, scene)
 }
 
 /// Plays a scene in a traced or in an untraced file. None where memory or a thread was wanted.
@@ -140,27 +144,20 @@ fn played<R: Threads + Wait + Sync>(
     scene: &Scene,
     is_traced: bool,
 ) -> Option<Outcome> {
-    let progress = Progress::new();
+    let course = Course::new();
     let gate = Stage {
         holds: scene.holds,
+        rest: scene.rest,
         points: scene.points,
-        progress: &progress,
+        course: &course,
         gives_way: scene.gives_way,
     };
     if is_traced {
         let opening = Opening::of(alloc, listing, true, gate).ok()?;
-        return play_traced::<Brand, _>(rt, alloc, listing, opening, &progress, scene);
+        return play_traced::<Brand, _>(rt, alloc, listing, opening, &course, scene);
     }
     let (file, hand) = HashFile::open_from(alloc, listing, true, gate).ok()?;
-    play(rt, alloc, listing, file, hand, &progress, scene)
-}
-
-/// An empty file's listing, asked for once more where memory was refused.
-fn empty(alloc: Global, config: Config) -> Result<Listing, Memory> {
-    match Listing::empty(alloc, config) {
-        Err(Memory) => Listing::empty(alloc, config),
-        listing => listing,
-    }
+    play(rt, alloc, listing, file, hand, &course, scene)
 }
 
 /// Plays a scene, and where requests are refused once more in another file, if opening or closing the first one was.
@@ -204,7 +201,7 @@ fn perform_as<R: Threads + Wait + Sync + Abort>(
 ) -> Result<(), Fail> {
     let [initial, capacity, load, max] = scene.settings;
     let config = Config::new(initial, capacity, load, max)?;
-    let listing = empty(alloc, config)?;
+    let listing = empty_again(alloc, config)?;
     let due = Outcome {
         wrong: None,
         has_failed: false,

@@ -1,10 +1,9 @@
 //! Snapshots of files that are split meanwhile.
 
-use super::rights::RIGHT;
 use super::scene::{ONE_BUCKET, Scene, perform};
-use super::stage::Hold;
-use super::tasks::{Task, Told};
+use super::tasks::Task;
 use lh_file::Point;
+use lh_stage::{FIRST_RIGHT, Hold, Told};
 use std::test::Fail;
 
 /// The split has moved its records, and is held until the snapshot is taken.
@@ -13,7 +12,6 @@ const HELD_BEFORE_THE_POINTER: [Hold; 1] = [Hold {
     point: Point::Moved { old: 0, new: 1 },
     to: 1,
     until: 2,
-    not: None,
 }];
 
 /// The snapshot has one bucket more than the root says, and all records.
@@ -21,7 +19,7 @@ const BEFORE_THE_POINTER: Scene = Scene {
     holds: &HELD_BEFORE_THE_POINTER,
     hands: &[
         &[
-            (Task::TryRight, RIGHT),
+            (Task::TryRight, FIRST_RIGHT),
             (Task::Split, Told::Done),
             (Task::Buckets, Told::Number(2)),
         ],
@@ -48,7 +46,6 @@ const HELD_WHILE_IT_GROWS: [Hold; 1] = [Hold {
     point: Point::Holding { bucket: 1 },
     to: 2,
     until: 4,
-    not: None,
 }];
 
 /// The file has six buckets when the snapshot begins. That waits for bucket 1 while buckets 2 and 3 are split, and has
@@ -92,7 +89,6 @@ const HELD_AT_ITS_SIZE: [Hold; 1] = [Hold {
     point: Point::Read,
     to: 2,
     until: 3,
-    not: None,
 }];
 
 /// The file has one bucket when the snapshot begins, which is split three times before the snapshot has its lock.

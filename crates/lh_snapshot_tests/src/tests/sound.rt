@@ -1,6 +1,6 @@
 //! Whether snapshots are what they have to be.
 use lh_bucket::{Listing, ListingFault};
-use lh_file::{Acts, Closed, SettleFault, settle, settle_snapshot};
+use lh_file::{Acts, Closed, SettleFault, settle_snapshot};
 use lh_page::Pair;
 use std::alloc::Global;
 
@@ -53,19 +53,6 @@ fn settles(alloc: Global, opening: &Listing, snapshot: &Closed, acts: &Acts) -> 
     match history {
         Ok(history) => history.len() as u64 == snapshot.stamps(),
         Err(_) => false,
-    }
-}
-
-/// Why a closed file is not settled, if it isn't. Asked for once more where memory was refused.
-pub(crate) fn fault_of(
-    alloc: Global,
-    opening: &Listing,
-    closed: &Closed,
-    acts: &Acts,
-) -> Option<SettleFault> {
-    match settle(alloc, opening, closed, acts) {
-        Err(SettleFault::Memory) => settle(alloc, opening, closed, acts).err(),
-        history => history.err(),
     }
 }
 

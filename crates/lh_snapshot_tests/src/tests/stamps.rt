@@ -1,9 +1,9 @@
 //! When a call draws its stamp, and when it is counted.
 
 use super::scene::{ONE_BUCKET, Scene, perform};
-use super::stage::Hold;
-use super::tasks::{Task, Told};
+use super::tasks::Task;
 use lh_file::Point;
+use lh_stage::{Hold, Told};
 use std::test::Fail;
 
 /// Each of eight calls has let its bucket go, and is held until the one after it has returned: so the last one returns
@@ -14,56 +14,48 @@ const HELD_IN_REVERSE: [Hold; 8] = [
         point: Point::Released { bucket: 0 },
         to: 2,
         until: 16,
-        not: None,
     },
     Hold {
         from: 2,
         point: Point::Released { bucket: 0 },
         to: 3,
         until: 15,
-        not: None,
     },
     Hold {
         from: 3,
         point: Point::Released { bucket: 0 },
         to: 4,
         until: 14,
-        not: None,
     },
     Hold {
         from: 4,
         point: Point::Released { bucket: 0 },
         to: 5,
         until: 13,
-        not: None,
     },
     Hold {
         from: 5,
         point: Point::Released { bucket: 0 },
         to: 6,
         until: 12,
-        not: None,
     },
     Hold {
         from: 6,
         point: Point::Released { bucket: 0 },
         to: 7,
         until: 11,
-        not: None,
     },
     Hold {
         from: 7,
         point: Point::Released { bucket: 0 },
         to: 8,
         until: 10,
-        not: None,
     },
     Hold {
         from: 8,
         point: Point::Released { bucket: 0 },
         to: 9,
         until: 9,
-        not: None,
     },
 ];
 
@@ -180,28 +172,24 @@ const HELD_AT_EACH_ACT: [Hold; 4] = [
         point: Point::Acted { bucket: 0 },
         to: 2,
         until: 3,
-        not: None,
     },
     Hold {
         from: 3,
         point: Point::Acted { bucket: 0 },
         to: 4,
         until: 5,
-        not: None,
     },
     Hold {
         from: 5,
         point: Point::Acted { bucket: 0 },
         to: 6,
         until: 7,
-        not: None,
     },
     Hold {
         from: 7,
         point: Point::Acted { bucket: 0 },
         to: 8,
         until: 9,
-        not: None,
     },
 ];
 

@@ -5,10 +5,11 @@ use super::calls::{call, draw_calls, fill, works_on};
 use super::lean::{Lean, lean_again};
 use super::looks::{image, keep_snapshot};
 use super::memory::fill_and_grow;
-use super::rights::{drop_right, grow, lose_right, split};
+use super::rights::{grow, lose_right};
 use super::scans::{for_each, scan};
-use super::stage::Progress;
-use lh_file::{Closed, FileBrand, FileFault, Gate, Hand, HashFile, Mode, Right};
+use super::stage::Course;
+use lh_file::{Closed, FileBrand, Gate, Hand, HashFile, Mode};
+use lh_stage::{Progress, Told, done, drop_right, split};
 use std::alloc::Global;
 use std::sync::Wait;
 
@@ -56,31 +57,8 @@ pub(crate) enum Task {
     Rest(u64),
 }
 
-/// What came of it.
-#[derive(Clone, Copy, Debug, PartialEq, Eq)]
-pub(crate) enum Told {
-    /// The first byte of the value that was found.
-    Found(u8),
-    Absent,
-    Inserted,
-    Exists,
-    Deleted,
-    Replaced,
-    Fault(FileFault),
-    Number(u64),
-    /// How many inserts have added a record, and how many deletes have removed one.
-    Load(u64, u64),
-    Right(Right),
-    Done,
-    /// Something else than what a task is about.
-    Wrong,
-}
-
 /// What a hand is to do, and each answer that is due.
 pub(crate) type Tasks = &'static [(Task, Told)];
-
-/// The answer to a call for which there was no memory.
-pub(crate) const REFUSED: Told = Told::Fault(FileFault::Memory);
 
 /// A hand that has done its tasks, the snapshots that it took, and the first answer that was not the one that was due,
 /// if there was one.
@@ -89,11 +67,6 @@ pub(crate) struct Worked {
     pub(crate) hand: Hand,
     pub(crate) taken: Vec<Closed>,
     pub(crate) wrong: Option<Told>,
-}
-
-/// Done, or wrong.
-pub(crate) fn done(is_well: bool) -> Told {
-    if is_well { Told::Done } else { Told::Wrong }
 }
 
 /// How many inserts and deletes the file counts.
@@ -110,7 +83,7 @@ fn one<G: Gate, M: Mode, J: FileBrand, R: Wait>(
     rt: &R,
     alloc: Global,
     file: &HashFile<G, M, J>,
-    progress: &Progress,
+    course: &Course,
     hand: &mut Hand,
     taken: &mut Vec<Closed>,
     task: Task,
@@ -125,20 +98,20 @@ fn one<G: Gate, M: Mode, J: FileBrand, R: Wait>(
         Task::Fill => done(fill(rt, file, hand)),
         Task::WorksOn => done(works_on(rt, file, hand)),
         Task::Calls(number) => done(draw_calls(rt, file, hand, number)),
-        Task::FillAndGrow => done(fill_and_grow(rt, file, progress, hand)),
+        Task::FillAndGrow => done(fill_and_grow(rt, file, course, hand)),
         Task::Buckets => Told::Number(u64::from(file.buckets(hand))),
         Task::Load => load(file, hand),
         Task::Told => Told::Number(file.told(hand)),
         Task::TryRight => Told::Right(file.try_split_right(hand)),
         Task::DropRight => done(drop_right(file, hand)),
-        Task::Split => done(split(rt, file, hand)),
+        Task::Split => split(rt, file, hand),
         Task::LoseRight => lose_right(file, hand),
         Task::Grow(count) => done(grow(rt, file, hand, count)),
         Task::Snapshot => keep_snapshot(rt, file, hand, taken),
         Task::Image => image(rt, alloc, file, hand),
         Task::Scan(splits) => done(scan(rt, alloc, file, hand, splits)),
         Task::ForEach => done(for_each(rt, alloc, file, hand)),
-        Task::Reach(_) | Task::Wait(_) | Task::Rest(_) => turn(progress, task),
+        Task::Reach(_) | Task::Wait(_) | Task::Rest(_) => turn(&course.progress, task),
     }
 }
 
@@ -158,7 +131,7 @@ pub(crate) fn work<G: Gate, M: Mode, J: FileBrand, R: Wait>(
     rt: &R,
     alloc: Global,
     file: &HashFile<G, M, J>,
-    progress: &Progress,
+    course: &Course,
     mut hand: Hand,
     tasks: &[(Task, Told)],
 ) -> Worked
@@ -168,7 +141,7 @@ pub(crate) fn work<G: Gate, M: Mode, J: FileBrand, R: Wait>(
     let mut taken = Vec::new(alloc);
     let mut wrong = None;
     for (task, due) in tasks {
-        let told = one(rt, alloc, file, progress, &mut hand, &mut taken, *task);
+        let told = one(rt, alloc, file, course, &mut hand, &mut taken, *task);
         if told != *due && wrong.is_none() {
             wrong = Some(told);
         }

@@ -2,9 +2,10 @@
 ghost use Rattle.std.specs.Prelude.{◌≡◌, All, IfSome};
 ghost use Rattle.lh_file.specs.FileState.{IsOf};
 
-use super::stage::Progress;
-use super::tasks::{Task, Told, Worked, work};
+use super::stage::Course;
+use super::tasks::{Task, Worked, work};
 use lh_file::{FileBrand, Gate, HashFile, Mode};
+use lh_stage::Told;
 use std::alloc::Global;
 use std::sync::Wait;
 use std::thread;
@@ -75,7 +76,7 @@ pub(crate) fn beside<
     rt: &R,
     alloc: Global,
     file: &HashFile<G, M, J>,
-    progress: &Progress,
+    course: &Course,
     first: Worked,
     hands: &[&[(Task, Told)]],
 ) -> Option<Worked>
@@ -99,7 +100,7 @@ pub(crate) fn beside<
                         move || -> Worked
                             requires { IsOf file.now.state hand }
                             ensures { IsOf file.entry.now.state result.hand }
-                        { work(rt, alloc, file, progress, hand, tasks) },
+                        { work(rt, alloc, file, course, hand, tasks) },
                     )
                     .ok()?;
                 if !keep(file, &mut workers, worker) {

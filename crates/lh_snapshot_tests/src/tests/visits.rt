@@ -1,9 +1,10 @@
 //! What visits and snapshots hold, and how long.
 
 use super::scene::{ONE_BUCKET, Scene, perform};
-use super::stage::Hold;
-use super::tasks::{Task, Told};
+use super::stage::Rest;
+use super::tasks::Task;
 use lh_file::Point;
+use lh_stage::{Hold, Told};
 use std::test::Fail;
 
 /// A visit has the lock of its bucket, and is held until a search there is answered.
@@ -12,7 +13,6 @@ const HELD_AT_ITS_BUCKET: [Hold; 1] = [Hold {
     point: Point::Holding { bucket: 0 },
     to: 2,
     until: 3,
-    not: None,
 }];
 
 const VISIT_AND_SEARCH: Scene = Scene {
@@ -39,7 +39,6 @@ const HELD_BEHIND_ITS_BUCKET: [Hold; 1] = [Hold {
     point: Point::Released { bucket: 0 },
     to: 2,
     until: 3,
-    not: None,
 }];
 
 const VISIT_AND_WRITE: Scene = Scene {
@@ -83,11 +82,11 @@ const HELD_BETWEEN_TWO_COPIES: [Hold; 1] = [Hold {
     point: Point::Copied { bucket: 0 },
     to: 2,
     until: 3,
-    not: Some(4),
 }];
 
 const SNAPSHOT_AND_WRITES: Scene = Scene {
     holds: &HELD_BETWEEN_TWO_COPIES,
+    rest: Some(Rest { from: 1, not: 4 }),
     first: &[(Task::Fill, Told::Done), (Task::Grow(1), Told::Done)],
     hands: &[
         &[(Task::Reach(1), Told::Done), (Task::Snapshot, Told::Done)],

@@ -1,10 +1,9 @@
 //! What a hand sees of what others did: the size, the right to split, and how many records there are.
 
-use super::rights::{BUSY, RIGHT};
 use super::scene::{ONE_BUCKET, Scene, perform};
-use super::stage::Hold;
-use super::tasks::{Task, Told};
+use super::tasks::Task;
 use lh_file::{Point, Right};
+use lh_stage::{BUSY, FIRST_RIGHT, Hold, Told};
 use std::test::Fail;
 
 /// The right to split a file that began with one bucket, before its second and its fourth split.
@@ -19,14 +18,12 @@ const HELD_ROUND_THE_POINTER: [Hold; 2] = [
         point: Point::Moved { old: 0, new: 1 },
         to: 2,
         until: 3,
-        not: None,
     },
     Hold {
         from: 3,
         point: Point::Pointed { buckets: 2 },
         to: 4,
         until: 5,
-        not: None,
     },
 ];
 
@@ -36,7 +33,7 @@ const ROUND_THE_POINTER: Scene = Scene {
         &[
             (Task::Buckets, Told::Number(1)),
             (Task::Reach(1), Told::Done),
-            (Task::TryRight, RIGHT),
+            (Task::TryRight, FIRST_RIGHT),
             (Task::Split, Told::Done),
             (Task::Buckets, Told::Number(2)),
         ],
