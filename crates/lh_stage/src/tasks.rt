@@ -107,9 +107,9 @@ pub fn asked<G: Gate, M: Mode, J: FileBrand, R: Wait>(
 }
 
 /// Makes the call of a task.
-fn call<G: Gate, R: Wait>(
+fn call<G: Gate, M: Mode, J: FileBrand, R: Wait>(
     rt: &R,
-    file: &HashFile<G>,
+    file: &HashFile<G, M, J>,
     hand: &mut Hand,
     task: Task,
     letter: u8,
@@ -161,9 +161,9 @@ pub fn drop_right<G: Gate, M: Mode, J: FileBrand>(file: &HashFile<G, M, J>, hand
 }
 
 /// Does one task.
-pub fn one<G: Gate, R: Wait>(
+pub fn one<G: Gate, M: Mode, J: FileBrand, R: Wait>(
     rt: &R,
-    file: &HashFile<G>,
+    file: &HashFile<G, M, J>,
     progress: &Progress,
     hand: &mut Hand,
     task: Task,
@@ -194,7 +194,7 @@ pub fn one<G: Gate, R: Wait>(
 }
 
 /// Asks for the right to split.
-fn try_right<G: Gate>(file: &HashFile<G>, hand: &mut Hand) -> Told
+fn try_right<G: Gate, M: Mode, J: FileBrand>(file: &HashFile<G, M, J>, hand: &mut Hand) -> Told
     requires { IsOf file.now.state hand.old }
     ensures { IsOf file.now.state hand.new }
 {

@@ -5,7 +5,7 @@ ghost use Rattle.lh_file.specs.FileState.{IsOf};
 use super::stage::{Log, Stage};
 use lh_addr::Config;
 use lh_expect::{expect, expect_eq};
-use lh_file::{Gate, Hand, HashFile, Point};
+use lh_file::{FileBrand, Gate, Hand, HashFile, Mode, Point};
 use lh_stage::{Hold, Progress, Task, Told, closed, made, one, second_of, settled_acts};
 use std::alloc::Global;
 use std::process::Abort;
@@ -39,9 +39,9 @@ pub(crate) struct Both {
 /// A hand that has done its tasks, and the first answer that was not the one that was due, if there was
 /// one.
 #[derive(Drop)]
-struct Worked {
+pub(crate) struct Worked {
     hand: Hand,
-    wrong: Option<Told>,
+    pub(crate) wrong: Option<Told>,
 }
 
 /// The hand that comes back is one of this file.
@@ -53,9 +53,9 @@ impl<'a, G: Gate> Promise<Worked> for OfFile<'a, G> {
 }
 
 /// Does tasks one after another, each beside the answer that is due.
-fn work<G: Gate, R: Wait>(
+pub(crate) fn work<G: Gate, M: Mode, J: FileBrand, R: Wait>(
     rt: &R,
-    file: &HashFile<G>,
+    file: &HashFile<G, M, J>,
     progress: &Progress,
     mut hand: Hand,
     tasks: &[(Task, Told)],

@@ -1,95 +1,41 @@
 //! Traced files, whose calls stand at the points at which those of untraced ones stand.
 ghost use Rattle.std.specs.Prelude.{◌≡◌, true};
 ghost use Rattle.lh_file.specs.Buckets.Brands.{IsBrandOf};
-ghost use Rattle.lh_file.specs.FileState.{IsOf};
 
+use super::play::work;
 use super::stage::{Log, Stage};
 use lh_addr::Config;
-use lh_bucket::{Answer, Listing, Reply};
+use lh_bucket::Listing;
 use lh_expect::{expect, expect_eq};
-use lh_file::{FileBrand, FileFault, Gate, Hand, HashFile, Mode, Opening, Point};
-use lh_page::{Key, Value};
-use lh_stage::{Progress, made, split_once};
+use lh_file::{FileBrand, Opening, Point};
+use lh_stage::{Progress, SECOND_RIGHT, Task, Told, made};
 use std::marker::Brand;
 use std::sync::Wait;
 use std::test::Fail;
 
-/// Inserts a record by one letter. The reply.
-fn insert<G: Gate, M: Mode, J: FileBrand, R: Wait>(
+/// Three inserts, a call of each other kind by the second letter, one that misses it, and a split.
+const CALLS: [(Task, Told); 9] = [
+    (Task::Insert(b'a'), Told::Inserted),
+    (Task::Insert(b'b'), Told::Inserted),
+    (Task::Insert(b'c'), Told::Inserted),
+    (Task::Search(b'b'), Told::Found(b'1')),
+    (Task::Replace(b'b'), Told::Replaced),
+    (Task::Delete(b'b'), Told::Deleted),
+    (Task::Search(b'b'), Told::Absent),
+    (Task::TryRight, SECOND_RIGHT),
+    (Task::Split, Told::Done),
+];
+
+/// The first answer to those calls that is not due, in a file that is being opened.
+fn told_of<J: FileBrand, R: Wait>(
     rt: &R,
-    file: &HashFile<G, M, J>,
-    hand: &mut Hand,
-    letter: u8,
-) -> Option<Reply>
-    requires { IsOf file.now.state hand.old }
-    ensures { IsOf file.now.state hand.new }
-{
-    let (key, value) = (Key::new(&[letter]).ok()?, Value::new(b"1").ok()?);
-    Some(file.insert(rt, hand, key, value).ok()?.reply())
-}
-
-/// Inserts three records by one letter each, the last of which splits a bucket. The replies.
-fn inserts<G: Gate, M: Mode, J: FileBrand, R: Wait>(
-    rt: &R,
-    file: &HashFile<G, M, J>,
-    hand: &mut Hand,
-) -> Option<[Reply; 3]>
-    requires { IsOf file.now.state hand.old }
-    ensures { IsOf file.now.state hand.new }
-{
-    let first = insert(rt, file, hand, b'a')?;
-    let second = insert(rt, file, hand, b'b')?;
-    Some([first, second, insert(rt, file, hand, b'c')?])
-}
-
-/// The reply of a call that was answered.
-fn reply_of(answer: Result<Answer, FileFault>) -> Option<Reply> {
-    Some(answer.ok()?.reply())
-}
-
-/// A call of each other kind by the second letter, and one that misses it. The replies.
-fn others<G: Gate, M: Mode, J: FileBrand, R: Wait>(
-    rt: &R,
-    file: &HashFile<G, M, J>,
-    hand: &mut Hand,
-) -> Option<[Reply; 4]>
-    requires { IsOf file.now.state hand.old }
-    ensures { IsOf file.now.state hand.new }
-{
-    let (key, value) = (Key::new(b"b").ok()?, Value::new(b"2").ok()?);
-    let found = reply_of(file.search(rt, hand, key))?;
-    let replaced = reply_of(file.replace(rt, hand, key, value))?;
-    let deleted = reply_of(file.delete(rt, hand, key))?;
-    Some([
-        found,
-        replaced,
-        deleted,
-        reply_of(file.search(rt, hand, key))?,
-    ])
-}
-
-/// What the calls of one hand were told, and whether the split after them was one.
-type Told = ([Reply; 3], [Reply; 4], bool);
-
-/// Three inserts, a call of each other kind, and a split.
-fn told<G: Gate, M: Mode, J: FileBrand, R: Wait>(
-    rt: &R,
-    file: &HashFile<G, M, J>,
-    mut hand: Hand,
-) -> Option<Told>
-    requires { IsOf file.now.state hand }
-{
-    let three = inserts(rt, file, &mut hand)?;
-    let four = others(rt, file, &mut hand)?;
-    Some((three, four, split_once(rt, file, &mut hand)))
-}
-
-/// The same in a file that is being opened.
-fn told_of<J: FileBrand, R: Wait>(rt: &R, opening: Opening<'_, Stage<'_>>) -> Option<Told>
+    opening: Opening<'_, Stage<'_>>,
+    progress: &Progress,
+) -> Option<Option<Told>>
     requires { IsBrandOf true J.named J.tables opening }
 {
     let (file, hand) = opening.file::<J>().ok()?;
-    told(rt, &file, hand)
+    Some(work(rt, &file, progress, hand, &CALLS).wrong)
 }
 
 /// The points of those calls. A record with the second letter goes to bucket 1 with the first split.
@@ -130,20 +76,6 @@ const POINTS: [Point; 34] = [
     Point::Pointed { buckets: 3 },
 ];
 
-/// What the calls are told where each is answered as it is due.
-fn due() -> Result<Told, Fail> {
-    Ok((
-        [Reply::Inserted, Reply::Inserted, Reply::Inserted],
-        [
-            Reply::Found(Value::new(b"1")?),
-            Reply::Replaced,
-            Reply::Deleted,
-            Reply::Absent,
-        ],
-        true,
-    ))
-}
-
 #[test]
 fn calls_of_an_untraced_file_pass_these_points(rt: HostRuntime) -> Result<(), Fail> {
     let (progress, log) = (Progress::new(), Log::new());
@@ -153,7 +85,7 @@ fn calls_of_an_untraced_file_pass_these_points(rt: HostRuntime) -> Result<(), Fa
         log: &log,
     };
     let (file, hand) = made(rt.alloc(), Config::new(1, 2, 100, 65536)?, gate)?;
-    expect_eq!(&rt, told(&rt, &file, hand), Some(due()?));
+    expect_eq!(&rt, work(&rt, &file, &progress, hand, &CALLS).wrong, None);
     expect!(&rt, log.is_just(&POINTS));
     Ok(())
 }
@@ -166,10 +98,9 @@ fn calls_of_a_traced_file_pass_the_same_points(rt: HostRuntime) -> Result<(), Fa
         progress: &progress,
         log: &log,
     };
-    let due = due()?;
     let listing = Listing::empty(rt.alloc(), Config::new(1, 2, 100, 65536)?)?;
     let opening = Opening::of(rt.alloc(), &listing, true, gate)?;
-    assert_eq!(rt; told_of::<Brand, _>(&rt, opening), Some(due));
+    assert_eq!(rt; told_of::<Brand, _>(&rt, opening, &progress), Some(None));
     expect!(&rt, log.is_just(&POINTS));
     Ok(())
 }
