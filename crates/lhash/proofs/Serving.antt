@@ -14,6 +14,7 @@ use Rattle.lh_options.specs.Options.{number_given, settings_given, settings_type
 use Rattle.lh_options.specs.Options.{version_numbered}
 use Rattle.lh_options.specs.AskingLaws.{apply, asked_named, build, commands, drive, get, load, refused_alone}
 use Rattle.lh_options.specs.AskingLaws.{refuses_setting, replay, serves_file, serves_image, steps, unapplied, undriven}
+use Rattle.lh_options.specs.declared.options.ImageVersion.{ImageVersion}
 use Rattle.lh_options.specs.declared.options.Request.{Request}
 use Rattle.lh_options.specs.declared.options.Request.TheVariants as request
 use Rattle.lh_script.specs.declared.fault.ScriptFault.{ScriptFault}
@@ -28,8 +29,9 @@ use Rattle.lh_serving.specs.Answers.{first_file}
 use Rattle.lh_serving.specs.Conversations.{Beginning, beginning}
 use Rattle.lh_subcommands.specs.Serve.{EndsGoingOn, EndsServing, EndsServingFrom}
 use Rattle.lhash.specs.Serving.{Ending, EndsCommands, EndsDrivingIn, EndsTold, IsRun, IsWordsOf}
-use Rattle.lhash.specs.Serving.{RefusesBelow, RefusesBeside, RefusesSnapshots, IsPerformed, ServesApply, ServesClient}
-use Rattle.lhash.specs.Serving.{ServesDrive, ServesDump, ServesFile, ServesFilled, ServesFrom, ServesGet}
+use Rattle.lhash.specs.Serving.{RefusesBelow, RefusesBeside, RefusesSnapshots, IsPerformed, IsPerformedOn}
+use Rattle.lhash.specs.Serving.{ServesApply, ServesClient, ServesDrive, ServesDump, ServesFile, ServesFilled}
+use Rattle.lhash.specs.Serving.{ServesFrom, ServesGet}
 use Rattle.lhash.specs.Serving.{ServesImage, below_initial, beside_image, dumped_due, snapshots_of_shards}
 use Rattle.lhash.specs.Serving.{IsNotationOf, notation_by, notation_given, wanted_version}
 use Rattle.lh_subcommands.specs.declared.status.Status.{Status}
@@ -41,6 +43,21 @@ pub served_as : (k : Notation) (t : Bool) {r asked : Request} → r ≡ asked �
     IsPerformed k t asked status left rest before now → IsPerformed k t r status left rest before now
 served_as k t is status left rest before now =
     subst (λ (r : Request). IsPerformed k t r status left rest before now) (sym is)
+
+-- a request that is none of `query`, `apply` and `serve --image` is performed on its file as on a whole input, where
+-- the reader keeps what it had
+pub performed_on_whole : (k : Notation) (t : Bool) (r : Request) → ¬ (r ≡ request.Query) →
+    ((version : ImageVersion) → ¬ (r ≡ request.Apply version)) → ¬ (r ≡ request.ServeImage) → (status : Status)
+    (held kept left rest before now : Option (List ℕ)) →
+    IsPerformed k t r status held kept before now → Keeps left rest →
+    IsPerformedOn k t r status held kept left rest before now
+performed_on_whole k t request.Query query apply image status held kept left rest before now performed keeps =
+    absurd (query refl)
+performed_on_whole k t (request.Apply version) query apply image status held kept left rest before now performed keeps =
+    absurd (apply version refl)
+performed_on_whole k t request.ServeImage query apply image status held kept left rest before now performed keeps =
+    absurd (image refl)
+performed_on_whole k t r query apply image status held kept left rest before now performed keeps = (performed, keeps)
 
 -- a run for accepted words is one in the notation that they give
 abbrev IsPerformedBy : Bool → List Text → Request → Status → Option (List ℕ) → Option (List ℕ) → Option (List ℕ) →
