@@ -37,7 +37,7 @@ module _ (g : Over) (c : goal.After-ended g) where
 
   least : config.initial ≤ length row
   least =
-      let own = ap (λ (f : FileState). f.config.initial) c.words.view_is in
+      let own = ap (λ (s : Settings). s.initial) same in
       omega (arith, long, c.in_ok-guards.ensures.least, c.buckets-buckets.ensures.range.0, own)
 
   size : buckets_of c.ended.result.root ≡ length row
