@@ -144,7 +144,8 @@ fn counted<J: FileBrand + Send + Sync, R: Threads + Wait + Sync>(
 
 fn main(rt: HostRuntime) -> anyhow::Result<()> {
     let alloc = rt.alloc();
-    let empty = Listing::empty(alloc, Config::default().with_capacity(2)?)?;
+    // Each of these words has a bucket to itself, so whichever thread comes first, they are told in one order.
+    let empty = Listing::empty(alloc, Config::default().with_initial(16)?)?;
     let opening = Opening::of(alloc, &empty, true, NoGate)?;
     let words = counted::<Brand, _>(&rt, opening)?.into_listing()?;
     for bucket in 0..words.buckets() {
